@@ -1,0 +1,4 @@
+# The two commands of the README.
+.PHONY: test
+test:
+	rt ci

@@ -1,0 +1,4 @@
+pub mod Fillings
+pub mod Stops
+pub mod Overwrite
+pub mod Parts

@@ -1,0 +1,55 @@
+-- Areas that keep a layout whatever a stop leaves.
+use Rattle.std.specs.Prelude.{ℕ, List, [], ◌∷◌, ◌++◌, length}
+use Rattle.std.specs.List.{AllByRecursion}
+use Rattle.disk.specs.Areas.{AreaState, Areas, MayLeave}
+use Rattle.disk.specs.Parts.{IsSettled}
+use Rattle.wire.specs.Spelling.{IsSpelled}
+use Rattle.wire.specs.declared.slot.Slot.{Slot}
+use Rattle.status.specs.Log.{body_at, IsLog, IsOldOrNew}
+use Rattle.reading.specs.Extents.{Extent, KeepsExtent}
+use Rattle.reading.specs.Runs.{StoredRun, KeepsRun}
+use Rattle.reading.specs.Layouts.{Layout, live}
+
+-- whatever a stop may leave of the area has P
+abbrev pub LeavesOnly : (List ℕ → Type 0) → AreaState → Type 0
+LeavesOnly P a = (content : List ℕ) → MayLeave a content → P content
+
+-- ---- the status area, at rest or with one slot in the writing
+
+pub record StatusRests (count : ℕ) (slots : List Slot) (a : AreaState) : Type 0 where
+  pub settled : IsSettled a
+  pub log : IsLog count a.bytes slots
+
+-- the body is written behind the closed gate, and may be torn
+pub record IsBodyWritten (count : ℕ) (slots : List Slot) (slot : Slot) (a : AreaState) : Type 0 where
+  pub log : IsLog count a.bytes slots
+  pub body : IsSpelled (length slots) (body_at a.bytes (length slots)) slot
+  pub left : LeavesOnly (λ bytes. IsLog count bytes slots) a
+
+-- the body stands whole behind the closed gate
+pub record IsBodySynced (count : ℕ) (slots : List Slot) (slot : Slot) (a : AreaState) : Type 0 where
+  pub rests : StatusRests count slots a
+  pub body : IsSpelled (length slots) (body_at a.bytes (length slots)) slot
+
+-- the gate is written, and may be torn
+pub record IsGateWritten (count : ℕ) (slots : List Slot) (slot : Slot) (a : AreaState) : Type 0 where
+  pub log : IsLog count a.bytes (slots ++ slot ∷ [])
+  pub left : LeavesOnly (IsOldOrNew count slots slot) a
+
+-- ---- the other areas: they may be in the writing elsewhere
+
+abbrev pub KeepsExtents : List Extent → AreaState → Type 0
+KeepsExtents extents a = AllByRecursion (KeepsExtent a) extents
+
+abbrev pub KeepsRuns : List StoredRun → AreaState → Type 0
+KeepsRuns runs a = AllByRecursion (KeepsRun a) runs
+
+-- both keep what the layout names
+pub record KeepsParts (layout : Layout) (areas : Areas) : Type 0 where
+  pub extents : KeepsExtents (live layout) areas.heap
+  pub runs : KeepsRuns layout.runs areas.archive
+
+-- no slot is in the writing, and the other areas keep what the log names
+pub record RestsAs (count : ℕ) (layout : Layout) (areas : Areas) : Type 0 where
+  pub status : StatusRests count layout.slots areas.status
+  pub parts : KeepsParts layout areas

@@ -1,0 +1,139 @@
+-- How the bytes of an image spell its reading: which slots, extents and runs.
+use Rattle.std.specs.Prelude.{◌≡◌, ℕ, nat_lt, List, [], ◌∷◌, ◌++◌, map, filter, flat_map, None}
+use Rattle.std.specs.List.{AllByRecursion}
+use Rattle.disk.specs.Areas.{Image}
+use Rattle.wire.specs.declared.slot.Member.{Member as Entry}
+use Rattle.wire.specs.declared.slot.Run.{Run}
+use Rattle.wire.specs.declared.slot.Anchors.{Anchors}
+use Rattle.wire.specs.declared.slot.Body.{Body}
+use Rattle.wire.specs.declared.slot.Body.TheVariants.{Commit, Archived, Reclaimed, Floor}
+use Rattle.wire.specs.declared.slot.Slot.{Slot}
+use Rattle.status.specs.Log.{IsLog}
+use Rattle.history.specs.Commits.{History}
+use Rattle.image.specs.Reading as readings
+use Rattle.image.specs.Log.{reclaim_mark}
+use Rattle.image.specs.StandsFor.{StandsFor}
+use Rattle.reading.specs.Records.{record_bytes, old_bytes, IsRecord, IsOldRecord}
+use Rattle.reading.specs.Extents.{Extent, IsChain, HoldsExtent, AreDistinct}
+use Rattle.reading.specs.Runs.{StoredRun, IsStoredRun, HoldsRun, AreInRow}
+
+-- a commit that a slot names, with its records and the extents of its chain
+pub record StoredMember : Type 0 where
+  pub entry : Entry
+  pub member : readings.Member
+  pub extents : List Extent
+
+abbrev pub head_of : Entry → readings.Head
+head_of entry = record { time = entry.time; label = entry.label }
+
+pub record IsStoredMember (s : StoredMember) : Type 0 where
+  pub head_is : s.member.head ≡ head_of s.entry
+  pub chain : IsChain s.entry.first s.entry.extents s.entry.records s.extents (map record_bytes s.member.records)
+  pub each : AllByRecursion IsRecord s.member.records
+
+-- what stands where: the slots of the log, the extents of the anchor chain, the members later than R, and the runs
+pub record Layout : Type 0 where
+  pub slots : List Slot
+  pub anchors : List Extent
+  pub members : List StoredMember
+  pub runs : List StoredRun
+
+-- the extents of members
+abbrev pub extents_of : List StoredMember → List Extent
+extents_of members = flat_map (λ s. s.extents) members
+
+-- the extents of all live chains
+abbrev pub live : Layout → List Extent
+live layout = layout.anchors ++ extents_of layout.members
+
+-- ---- what the slots name
+
+-- a slot of the reading
+abbrev pub slot_of : Body → readings.Slot
+slot_of (Commit members) = readings.Commits (map head_of members.items)
+slot_of (Archived run) = readings.Archived run.upto
+slot_of (Reclaimed anchors) = readings.Reclaimed anchors.upto
+slot_of (Floor floor) = readings.Floor None floor
+
+abbrev pub entries_in : Body → List Entry
+entries_in (Commit members) = members.items
+entries_in (Archived run) = []
+entries_in (Reclaimed anchors) = []
+entries_in (Floor floor) = []
+
+-- the members of all slots, in order
+abbrev pub entries_of : List Slot → List Entry
+entries_of slots = flat_map (λ s. entries_in s.body) slots
+
+-- those later than a mark
+abbrev pub later_than : ℕ → List Entry → List Entry
+later_than mark entries = filter (λ entry. nat_lt mark entry.time) entries
+
+abbrev pub runs_in : Body → List Run
+runs_in (Commit members) = []
+runs_in (Archived run) = run ∷ []
+runs_in (Reclaimed anchors) = []
+runs_in (Floor floor) = []
+
+abbrev pub runs_of : List Slot → List Run
+runs_of slots = flat_map (λ s. runs_in s.body) slots
+
+abbrev pub no_anchors : Anchors
+no_anchors = record { upto = 0; first = 0; extents = 0; records = 0 }
+
+abbrev pub anchors_in : Anchors → Body → Anchors
+anchors_in before (Commit members) = before
+anchors_in before (Archived run) = before
+anchors_in before (Reclaimed anchors) = anchors
+anchors_in before (Floor floor) = before
+
+-- the anchor chain of the last reclaimed slot, or what it was before
+abbrev pub anchors_after : Anchors → List Slot → Anchors
+anchors_after before [] = before
+anchors_after before (s ∷ slots) = anchors_after (anchors_in before s.body) slots
+
+-- ---- what a layout spells
+
+-- the anchor chain of these numbers, in these extents, has these records
+pub record IsAnchorChain (anchors : Anchors) (chain : List Extent) (list : List readings.OldRecord) : Type 0 where
+  pub is_chain : IsChain anchors.first anchors.extents anchors.records chain (map old_bytes list)
+  pub each : AllByRecursion IsOldRecord list
+
+-- The layout of an area of this many slots spells this reading. Nothing here speaks of bytes on a disk.
+pub record IsLayoutOf (count : ℕ) (layout : Layout) (reading : readings.Reading) : Type 0 where
+  pub profile_is : reading.profile ≡ 1
+  pub slots_are : reading.slots ≡ count
+  pub no_open_slot : reading.open_slots_behind ≡ 0
+  pub no_open_piece : reading.open_pieces_behind ≡ 0
+  pub log_is : map (λ s. slot_of s.body) layout.slots ≡ reading.log
+  -- the members
+  pub members_are : map (λ s. s.member) layout.members ≡ reading.members
+  pub entries_are : map (λ s. s.entry) layout.members ≡ later_than (reclaim_mark reading.log) (entries_of layout.slots)
+  pub each_member : AllByRecursion IsStoredMember layout.members
+  -- the anchors
+  pub anchors_are : IsAnchorChain (anchors_after no_anchors layout.slots) layout.anchors reading.anchors
+  -- no extent lies in two live chains
+  pub apart : AreDistinct (live layout)
+  -- the runs
+  pub runs_are : map (λ s. s.records) layout.runs ≡ reading.runs
+  pub run_entries_are : map (λ s. s.entry) layout.runs ≡ runs_of layout.slots
+  pub each_run : AllByRecursion IsStoredRun layout.runs
+  pub in_row : AreInRow 0 (runs_of layout.slots)
+
+-- the bytes of the image hold the layout, and no gate behind its log is open
+pub record HoldsLayout (count : ℕ) (image : Image) (layout : Layout) : Type 0 where
+  pub log : IsLog count image.status layout.slots
+  pub extents : AllByRecursion (HoldsExtent image.heap) (live layout)
+  pub runs : AllByRecursion (HoldsRun image.archive) layout.runs
+
+-- the image reads so
+pub record IsReadingOf (count : ℕ) (image : Image) (reading : readings.Reading) : Type 0 where
+  pub layout : Layout
+  pub is_layout : IsLayoutOf count layout reading
+  pub held : HoldsLayout count image layout
+
+-- the image stands for this history with these floors
+pub record ImageStandsFor (count : ℕ) (image : Image) (h : History readings.Value) (floors : ℕ → ℕ) : Type 0 where
+  pub reading : readings.Reading
+  pub reads_as : IsReadingOf count image reading
+  pub stands : StandsFor reading h floors

@@ -1,0 +1,46 @@
+-- Contents that have the same header and slots, and no open gate behind them, hold the same log.
+use Rattle.std.proofs.Common.{◌≡◌, ℕ, ◌+◌, ◌<◌, ◌≤◌, List, length, get_or, take, drop, Some, sym, ◌∙◌, arith}
+use Rattle.std.specs.Prelude.{slice_get}
+use Rattle.std.proofs.lemmas.List.{length-take, length-drop, get_or-take, get_or-drop, ext_get_or}
+use Rattle.std.proofs.lemmas.Option.{slice_get_within}
+use Rattle.wire.specs.declared.slot.Slot.{Slot}
+use Rattle.status.specs.Log.{slot_start, body_at, IsLog, HasLogOf}
+
+same_bytes : (at n : ℕ) (old new : List ℕ) → at + n ≤ length old → at + n ≤ length new
+    → ((k : ℕ) → at ≤ k → k < at + n → get_or new k 0 ≡ get_or old k 0) → take n (drop at new) ≡ take n (drop at old)
+same_bytes at n old new in_old in_new same =
+    let long_old : length (take n (drop at old)) ≡ n = omega (arith, length-take n (drop at old), length-drop at old) in
+    let long_new : length (take n (drop at new)) ≡ n = omega (arith, length-take n (drop at new), length-drop at new) in
+    ext_get_or 0 (take n (drop at new)) (take n (drop at old)) (omega arith) (λ i lt.
+    let within : i < n = omega arith in
+    get_or-take n (drop at new) i 0 within
+    ∙ get_or-drop at new i 0
+    ∙ same (at + i) (omega arith) (omega arith)
+    ∙ sym (get_or-drop at old i 0)
+    ∙ sym (get_or-take n (drop at old) i 0 within))
+
+module _ (count : ℕ) (slots : List Slot) (old new : List ℕ) (log : IsLog count old slots) (has : HasLogOf count slots old new) where
+  below : (n : ℕ) (slot : Slot) → slice_get slots n ≡ Some slot → slot_start n + 512 ≤ slot_start (length slots)
+  below n slot is = let within : n < length slots = slice_get_within slots n slot is in omega arith
+
+  body_same : (n : ℕ) (slot : Slot) → slice_get slots n ≡ Some slot → body_at new n ≡ body_at old n
+  body_same n slot is =
+      let end = below n slot is in
+      let fits = log.opens.fits in
+      same_bytes (slot_start n + 1) 511 old new (omega (arith, log.opens.header_is.room)) (omega (arith, has.long)) (λ k low high. has.same k (omega arith))
+
+  pub same_log : IsLog count new slots
+  same_log = record {
+    opens = record {
+      header_is = record {
+        front = same_bytes 0 512 old new (omega (arith, log.opens.header_is.room)) (omega (arith, has.long)) (λ k low high. has.same k (omega arith)) ∙ log.opens.header_is.front;
+        many = log.opens.header_is.many;
+        few = log.opens.header_is.few;
+        room = has.long;
+      };
+      fits = log.opens.fits;
+      each_open = λ n slot is. let end = below n slot is in has.same (slot_start n) (omega arith) ∙ log.opens.each_open n slot is;
+      each_spelled = λ n slot is. rw (body_same n slot is) (log.opens.each_spelled n slot is);
+    };
+    closed = has.shut;
+  }
