@@ -38,14 +38,14 @@ pub archive_beside : (count : ℕ) (layout : Layout) (reading : Reading) (at n :
     → row_end 0 (runs_of layout.slots) ≤ at → IsLoosened at n old.archive archive → KeepsParts layout old → KeepsParts layout (record old { archive = archive })
 archive_beside count layout reading at n old archive laid sound behind loose keeps =
     let runs : List Run = map (λ (s : StoredRun). s.entry) layout.runs in
-    let row : AreInRow 0 runs = subst (AreInRow 0) (sym laid.run_entries_are) laid.in_row in
-    let end : row_end 0 runs ≤ at = rw laid.run_entries_are behind in
+    let row : AreInRow 0 runs = subst (AreInRow 0) (sym laid.runs.entries_are) laid.heap.in_row in
+    let end : row_end 0 runs ≤ at = rw laid.runs.entries_are behind in
     record {
       extents = keeps.extents;
       runs =
           three IsStoredRun (λ s. s.entry.start + s.entry.len ≤ row_end 0 (map (λ (s : StoredRun). s.entry) layout.runs)) (KeepsRun old.archive) (KeepsRun archive) layout.runs
           (λ s stored by kept. kept_by_write at n s.entry.start (run_bytes s.records) old.archive archive (sound Archive) kept (inl (omega (arith, stored.length_is, by, end))) loose)
-          laid.each_run (row_ends 0 layout.runs row) keeps.runs;
+          laid.runs.each_run (row_ends 0 layout.runs row) keeps.runs;
     }
 
 pub turn_beside_write : (count : ℕ) (old : Layout) (slot : Slot) (new : Layout) (stage : SlotStage) (e : Extent) (areas : Areas) (heap : AreaState) → AllByRecursion IsExtent (live old) → AllByRecursion IsExtent (live new) → IsExtent e

@@ -147,20 +147,24 @@ group_ends done (e ∷ rest) (a ∷ states) n = group_ends (done ++ e ∷ []) re
 
 pub empty_laid : (count : ℕ) → IsLayoutOf count (record { slots = []; anchors = []; members = []; runs = [] }) (empty_reading 1 count)
 empty_laid count = record {
-  profile_is = refl;
-  slots_are = refl;
-  no_open_slot = refl;
-  no_open_piece = refl;
-  log_is = refl;
-  members_are = refl;
-  entries_are = refl;
-  each_member = tt;
-  anchors_are = record { is_chain = record { first_is = refl; extents_are = refl; records_are = refl; linked = tt; each = tt; bodies_are = refl }; each = tt };
-  apart = tt;
-  runs_are = refl;
-  run_entries_are = refl;
-  each_run = tt;
-  in_row = tt;
+  heap = record {
+    profile_is = refl;
+    slots_are = refl;
+    no_open_slot = refl;
+    no_open_piece = refl;
+    log_is = refl;
+    members_are = refl;
+    entries_are = refl;
+    each_member = tt;
+    anchors_are = record { is_chain = record { first_is = refl; extents_are = refl; records_are = refl; linked = tt; each = tt; bodies_are = refl }; each = tt };
+    apart = tt;
+    in_row = tt;
+  };
+  runs = record {
+    runs_are = refl;
+    entries_are = refl;
+    each_run = tt;
+  };
 }
 
 pub empty_image_stands : (count : ℕ) (image : Image) → IsLog count image.status [] → ImageStandsFor count image [] (λ relation. 0)

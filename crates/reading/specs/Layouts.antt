@@ -99,8 +99,8 @@ pub record IsAnchorChain (anchors : Anchors) (chain : List Extent) (list : List 
   pub is_chain : IsChain anchors.first anchors.extents anchors.records chain (map old_bytes list)
   pub each : AllByRecursion IsOldRecord list
 
--- The layout of an area of this many slots spells this reading. Nothing here speaks of bytes on a disk.
-pub record IsLayoutOf (count : ℕ) (layout : Layout) (reading : readings.Reading) : Type 0 where
+-- The layout of an area of this many slots spells the log of this reading, its members and its anchors. Nothing here speaks of bytes on a disk.
+pub record LaysOutHeap (count : ℕ) (layout : Layout) (reading : readings.Reading) : Type 0 where
   pub profile_is : reading.profile ≡ 1
   pub slots_are : reading.slots ≡ count
   pub no_open_slot : reading.open_slots_behind ≡ 0
@@ -114,11 +114,19 @@ pub record IsLayoutOf (count : ℕ) (layout : Layout) (reading : readings.Readin
   pub anchors_are : IsAnchorChain (anchors_after no_anchors layout.slots) layout.anchors reading.anchors
   -- no extent lies in two live chains
   pub apart : AreDistinct (live layout)
-  -- the runs
-  pub runs_are : map (λ s. s.records) layout.runs ≡ reading.runs
-  pub run_entries_are : map (λ s. s.entry) layout.runs ≡ runs_of layout.slots
-  pub each_run : AllByRecursion IsStoredRun layout.runs
+  -- each run starts where the one before it ends
   pub in_row : AreInRow 0 (runs_of layout.slots)
+
+-- and it spells the runs of the reading
+pub record LaysOutRuns (layout : Layout) (reading : readings.Reading) : Type 0 where
+  pub runs_are : map (λ s. s.records) layout.runs ≡ reading.runs
+  pub entries_are : map (λ s. s.entry) layout.runs ≡ runs_of layout.slots
+  pub each_run : AllByRecursion IsStoredRun layout.runs
+
+-- The layout spells this reading. Opening an image reads its heap, but no records of runs.
+pub record IsLayoutOf (count : ℕ) (layout : Layout) (reading : readings.Reading) : Type 0 where
+  pub heap : LaysOutHeap count layout reading
+  pub runs : LaysOutRuns layout reading
 
 -- the bytes of the image hold the layout, and no gate behind its log is open
 pub record HoldsLayout (count : ℕ) (image : Image) (layout : Layout) : Type 0 where
