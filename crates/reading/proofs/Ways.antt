@@ -8,7 +8,7 @@ use Rattle.wire.specs.Spelling.{IsSpelled}
 use Rattle.status.specs.Log.{IsLog}
 use Rattle.status.proofs.Frame.{same_log}
 use Rattle.status.proofs.Agreement.{then_new}
-use Rattle.history.specs.Commits.{History}
+use Rattle.history.specs.Histories.{History}
 use Rattle.history.proofs.Filters.{AllByRecursion-append}
 use Rattle.image.specs.Reading.{Value, Reading}
 use Rattle.image.specs.StandsFor.{StandsFor}

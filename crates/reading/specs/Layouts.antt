@@ -9,7 +9,7 @@ use Rattle.wire.specs.declared.slot.Body.{Body}
 use Rattle.wire.specs.declared.slot.Body.TheVariants.{Commit, Archived, Reclaimed, Floor}
 use Rattle.wire.specs.declared.slot.Slot.{Slot}
 use Rattle.status.specs.Log.{IsLog}
-use Rattle.history.specs.Commits.{History}
+use Rattle.history.specs.Histories.{History}
 use Rattle.image.specs.Reading as readings
 use Rattle.image.specs.Log.{reclaim_mark}
 use Rattle.image.specs.StandsFor.{StandsFor}
