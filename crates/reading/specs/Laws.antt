@@ -5,7 +5,8 @@ use Rattle.disk.specs.declared.area.DeviceFault.{DeviceFault}
 use Rattle.wire.specs.Spelling.{IsSpelled}
 use Rattle.status.specs.Log.{IsLog}
 use Rattle.history.specs.Histories.{History}
-use Rattle.image.specs.Reading.{Value, Reading}
+use Rattle.image.specs.Values.{Value}
+use Rattle.image.specs.Reading.{Reading}
 use Rattle.image.specs.StandsFor.{StandsFor}
 use Rattle.reading.specs.Layouts.{Layout, IsLayoutOf, HoldsLayout, ImageStandsFor, extents_of}
 use Rattle.reading.specs.Keeping.{RestsAs}
