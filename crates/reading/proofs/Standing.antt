@@ -2,8 +2,9 @@
 use Rattle.std.proofs.Common.{inl, inr, ℕ, List}
 use Rattle.std.specs.List.{AllByRecursion}
 use Rattle.disk.specs.Areas.{AreaState, Areas, Image, MayLeave, LeavesImage}
-use Rattle.history.specs.Commits.{History}
-use Rattle.image.specs.Reading.{Value, Reading}
+use Rattle.history.specs.Histories.{History}
+use Rattle.image.specs.Values.{Value}
+use Rattle.image.specs.Reading.{Reading}
 use Rattle.image.specs.StandsFor.{StandsFor}
 use Rattle.status.specs.Log.{IsLog}
 use Rattle.reading.specs.Extents.{Extent, HoldsExtent, KeepsExtent}

@@ -7,8 +7,8 @@ use Rattle.wire.specs.declared.slot.Slot.{Slot}
 use Rattle.wire.proofs.Again.{one_slot}
 use Rattle.status.specs.Log.{body_at, IsOpen, IsLog}
 use Rattle.disk.specs.Areas.{Image}
-use Rattle.history.specs.Commits.{History}
-use Rattle.image.specs.Reading.{Value}
+use Rattle.history.specs.Histories.{History}
+use Rattle.image.specs.Values.{Value}
 use Rattle.reading.specs.Layouts.{ImageStandsFor}
 use Rattle.std.specs.List.{AllByRecursion}
 use Rattle.std.proofs.lemmas.List.{take_at}

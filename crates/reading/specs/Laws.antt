@@ -4,8 +4,9 @@ use Rattle.disk.specs.Areas.{Areas, Image, AreSound, LeavesImage, settled_on}
 use Rattle.disk.specs.declared.area.DeviceFault.{DeviceFault}
 use Rattle.wire.specs.Spelling.{IsSpelled}
 use Rattle.status.specs.Log.{IsLog}
-use Rattle.history.specs.Commits.{History}
-use Rattle.image.specs.Reading.{Value, Reading}
+use Rattle.history.specs.Histories.{History}
+use Rattle.image.specs.Values.{Value}
+use Rattle.image.specs.Reading.{Reading}
 use Rattle.image.specs.StandsFor.{StandsFor}
 use Rattle.reading.specs.Layouts.{Layout, IsLayoutOf, HoldsLayout, ImageStandsFor, extents_of}
 use Rattle.reading.specs.Keeping.{RestsAs}

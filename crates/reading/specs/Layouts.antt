@@ -9,7 +9,8 @@ use Rattle.wire.specs.declared.slot.Body.{Body}
 use Rattle.wire.specs.declared.slot.Body.TheVariants.{Commit, Archived, Reclaimed, Floor}
 use Rattle.wire.specs.declared.slot.Slot.{Slot}
 use Rattle.status.specs.Log.{IsLog}
-use Rattle.history.specs.Commits.{History}
+use Rattle.history.specs.Histories.{History}
+use Rattle.image.specs.Values.{Value}
 use Rattle.image.specs.Reading as readings
 use Rattle.image.specs.Log.{reclaim_mark}
 use Rattle.image.specs.StandsFor.{StandsFor}
@@ -86,9 +87,8 @@ pub record IsAnchorChain (anchors : Anchors) (chain : List Extent) (list : List 
 -- The layout of an area of this many slots spells the log of this reading, its members and its anchors. Nothing here speaks of bytes on a disk.
 pub record LaysOutHeap (header : Header) (layout : Layout) (reading : readings.Reading) : Type 0 where
   pub profile_is : reading.profile ≡ header.profile
-  pub slots_are : reading.slots ≡ total header
-  pub no_open_slot : reading.open_slots_behind ≡ 0
-  pub no_open_piece : reading.open_pieces_behind ≡ 0
+  pub slots_are : reading.slots ≡ header.slots
+  pub pieces_are : reading.pieces ≡ header.pieces
   pub log_is : map (λ s. slot_of s.body) layout.slots ≡ reading.log
   -- the members
   pub members_are : map (λ s. s.member) layout.members ≡ reading.members
@@ -125,7 +125,7 @@ pub record IsReadingOf (header : Header) (image : Image) (reading : readings.Rea
   pub held : HoldsLayout header image layout
 
 -- the image stands for this history with these floors
-pub record ImageStandsFor (header : Header) (image : Image) (h : History readings.Value) (floors : ℕ → ℕ) : Type 0 where
+pub record ImageStandsFor (header : Header) (image : Image) (h : History Value) (floors : ℕ → ℕ) : Type 0 where
   pub reading : readings.Reading
   pub reads_as : IsReadingOf header image reading
   pub stands : StandsFor reading h floors

@@ -5,8 +5,8 @@ use Rattle.wire.specs.declared.slot.Slot.{Slot}
 use Rattle.status.specs.Log.{body_at, IsOpen, IsLog}
 use Rattle.wire.specs.Spelling.{IsSpelled}
 use Rattle.disk.specs.Areas.{Image}
-use Rattle.history.specs.Commits.{History}
-use Rattle.image.specs.Reading.{Value}
+use Rattle.history.specs.Histories.{History}
+use Rattle.image.specs.Values.{Value}
 use Rattle.reading.specs.Layouts.{ImageStandsFor}
 use Rattle.reading.specs.Extents.{Extent, IsChain, HoldsExtent}
 use Rattle.status.specs.declared.header.Header.{Header}
