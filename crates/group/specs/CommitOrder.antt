@@ -8,6 +8,8 @@ pub record CommitOrderValue : Type 0 where
   pub heads : List CommitHead
   -- how many of them are published
   pub published : ℕ
+  -- how many more there is memory for
+  pub room : ℕ
 
 -- the time of the last of these commits, or what it was before
 abbrev pub last_time_after : ℕ → List CommitHead → ℕ
@@ -23,9 +25,16 @@ abbrev pub IsRisingAfter : ℕ → List CommitHead → Type 0
 IsRisingAfter time [] = Unit {0}
 IsRisingAfter time (head ∷ heads) = (time < head.time) × (head.time < 2 ^ 63) × IsRisingAfter head.time heads
 
-pub record IsCommitOrder (v : CommitOrderValue) : Type 0 where
-  pub within : v.published ≤ length v.heads
-  pub rising : IsRisingAfter 0 v.heads
+-- these heads are in their order, and that many of them are published
+pub record AreHeads (heads : List CommitHead) (published : ℕ) : Type 0 where
+  pub within : published ≤ length heads
+  pub rising : IsRisingAfter 0 heads
+
+-- the same commits, with at least as much memory for more
+pub record HasRoom (old new : CommitOrderValue) : Type 0 where
+  pub heads : new.heads ≡ old.heads
+  pub published : new.published ≡ old.published
+  pub room : old.room ≤ new.room
 
 abbrev pub published_heads : CommitOrderValue → List CommitHead
 published_heads v = take v.published v.heads

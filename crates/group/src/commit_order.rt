@@ -1,6 +1,6 @@
 //! The commit order: what is published, and then what waits.
-ghost use Rattle.std.specs.Prelude.{◌≡◌, ◌<◌, ◌≤◌, ◌^◌, ◌+◌, ◌↔◌, ◌∷◌, ◌++◌, [], length, IfOk, OnErr, OnOk, MatchOption, map, filter, ◌==◌};
-ghost use Rattle.group.specs.CommitOrder.{last_published, last_assigned, times_of, standing_of, after_redeem, IsRisingAfter, HasNone, IsPlaceOf};
+ghost use Rattle.std.specs.Prelude.{◌≡◌, ◌<◌, ◌≤◌, ◌^◌, ◌+◌, ◌-◌, ◌↔◌, ◌∷◌, ◌++◌, [], length, IfOk, OnErr, OnOk, MatchOption, map, filter, ◌==◌};
+ghost use Rattle.group.specs.CommitOrder.{last_published, last_assigned, times_of, standing_of, after_redeem, IsRisingAfter, HasNone, IsPlaceOf, HasRoom};
 
 use std::alloc::{AllocError, Global};
 use std::marker::Model;
@@ -22,24 +22,37 @@ pub struct CommitOrder {
 }
 
 impl Model for CommitOrder {
-    ghost use Rattle.group.specs.CommitOrder.{CommitOrderValue, IsCommitOrder};
+    ghost use Rattle.std.specs.Prelude.{◌-◌};
+    ghost use Rattle.std.specs.Vec.{vec_capacity, vec_len};
+    ghost use Rattle.group.specs.CommitOrder.{CommitOrderValue, AreHeads};
 
     ghost Value = { CommitOrderValue };
 
-    ghost view = { λ o. record { heads = o.heads.items; published = o.published } };
+    ghost view = { λ o. record { heads = o.heads.items; published = o.published; room = vec_capacity o.heads - vec_len o.heads } };
 
-    ghost invariant = { λ o. IsCommitOrder (record { heads = o.heads.items; published = o.published }) };
+    ghost invariant = { λ o. AreHeads o.heads.items o.published };
 }
 
 impl CommitOrder {
     /// No commit.
     pub fn new(alloc: Global) -> Self
-        ensures { result ≡ record { heads = []; published = 0 } }
+        ensures heads { result.heads ≡ [] }
+        ensures published { result.published ≡ 0 }
     {
         CommitOrder {
             heads: Vec::new(alloc),
             published: 0,
         }
+    }
+
+    /// These commits, all of them published.
+    pub fn of_published(heads: Vec<CommitHead>) -> Self
+        requires { IsRisingAfter 0 heads.items }
+        ensures heads { result.heads ≡ heads.items }
+        ensures published { result.published ≡ length heads.items }
+    {
+        let published = heads.len();
+        CommitOrder { heads, published }
     }
 
     /// The time of the last published commit, 0 for none.
@@ -57,6 +70,7 @@ impl CommitOrder {
     pub fn last_assigned(&self) -> u64
         ensures is { result ≡ last_assigned self.now }
         ensures in_range { result < 2 ^ 63 }
+        ensures rising { IsRisingAfter 0 self.now.heads }
     {
         let count = self.heads.len();
         if count == 0 {
@@ -65,15 +79,24 @@ impl CommitOrder {
         self.heads[count - 1].time
     }
 
-    /// One more commit waits.
-    pub fn push(&mut self, head: CommitHead) -> Result<(), AllocError>
-        requires later { last_assigned self.old < head.time }
-        requires in_range { head.time < 2 ^ 63 }
-        ensures ok { OnOk result (self.new ≡ record self.old { heads = self.old.heads ++ head ∷ [] }) }
+    /// Makes room for that many more commits.
+    pub fn reserve(&mut self, count: usize) -> Result<(), AllocError>
+        ensures ok { OnOk result (count ≤ self.new.room) }
+        ensures same { HasRoom self.old self.new }
         ensures err { OnErr result (self.new ≡ self.old) }
     {
-        self.heads.push(head)?;
+        self.heads.reserve(count)?;
         Ok(())
+    }
+
+    /// One more commit waits. It takes no memory.
+    pub fn push_reserved(&mut self, head: CommitHead)
+        requires later { last_assigned self.old < head.time }
+        requires in_range { head.time < 2 ^ 63 }
+        requires room { 0 < self.old.room }
+        ensures { self.new ≡ record self.old { heads = self.old.heads ++ head ∷ []; room = self.old.room - 1 } }
+    {
+        self.heads.push_reserved(head);
     }
 
     /// The first of those that wait are published.
@@ -88,6 +111,7 @@ impl CommitOrder {
     pub fn published(&self) -> usize
         ensures is { result ≡ self.now.published }
         ensures within { result ≤ length self.now.heads }
+        ensures rising { IsRisingAfter 0 self.now.heads }
     {
         self.published
     }
