@@ -3,7 +3,7 @@ use Rattle.std.specs.Prelude.{ℕ, ◌≡◌, ◌==◌, Bool, true, false, nat_l
 use Rattle.snapshot.specs.OpenTable.{snapshot_of, with_opened}
 use Rattle.snapshot.specs.Txn.{TxnValue}
 use Rattle.group.specs.CommitOrder as orders
-use Rattle.group.specs.Ticket.{TicketValue}
+use Rattle.group.specs.Tickets.{TicketValue}
 use Rattle.group.specs.declared.commit_order.Standing.TheVariants as standing
 use Rattle.group.specs.declared.commit_order.Standing.{Standing}
 use Rattle.group.specs.declared.answers.BeginFault.{BeginFault}
@@ -14,7 +14,7 @@ use Rattle.transactions.specs.Values.{TransactionsValue, is_own, over}
 
 -- the commit order of these transactions
 abbrev pub order_of : TransactionsValue → orders.CommitOrderValue
-order_of v = record { heads = v.heads; published = v.published }
+order_of v = record { heads = v.heads; published = v.published; room = 0 }
 
 -- the time of the last published commit, 0 for none
 abbrev pub last : TransactionsValue → ℕ
