@@ -5,7 +5,6 @@ use Rattle.std.proofs.lemmas.List.{length-take, length-drop, get_or-take, get_or
 use Rattle.std.proofs.lemmas.Option.{slice_get_within}
 use Rattle.wire.specs.declared.slot.Slot.{Slot}
 use Rattle.status.specs.declared.header.Header.{Header}
-use Rattle.status.specs.Header.{total}
 use Rattle.status.specs.Log.{slot_start, body_at, IsLog, HasLogOf}
 
 same_bytes : (at n : ℕ) (old new : List ℕ) → at + n ≤ length old → at + n ≤ length new

@@ -1,6 +1,6 @@
 -- The log's own rules: which slot may follow others.
-use Rattle.std.specs.Prelude.{◌≡◌, ℕ, ◌+◌, ◌==◌, ◌&&◌, Bool, IsTrue, List, [], ◌∷◌, map, flat_map, length, take, slice_get, Some, None}
-use Rattle.wire.specs.Spelling.{kind_of, IsSpelled}
+use Rattle.std.specs.Prelude.{◌≡◌, ℕ, ◌+◌, ◌==◌, ◌&&◌, Bool, IsTrue, List, [], ◌∷◌, map, flat_map, take, slice_get, Some}
+use Rattle.wire.specs.Spelling.{kind_of}
 use Rattle.wire.specs.declared.slot.Member.{Member as Entry}
 use Rattle.wire.specs.declared.slot.Run.{Run}
 use Rattle.wire.specs.declared.slot.Body.{Body}
@@ -8,9 +8,6 @@ use Rattle.wire.specs.declared.slot.Body.TheVariants.{Commit, Archived, Reclaime
 use Rattle.wire.specs.declared.slot.Slot.{Slot}
 use Rattle.image.specs.Reading as readings
 use Rattle.image.specs.Log.{MayCome}
-use Rattle.status.specs.declared.header.Header.{Header}
-use Rattle.status.specs.Log.{body_at, IsOpen, OpensWith}
-use Rattle.status.specs.Header.{total}
 
 -- Which kinds of slot are built, in which profiles. A store of a profile is read once its commits are built.
 abbrev pub is_built : ℕ → ℕ → Bool
@@ -26,7 +23,7 @@ abbrev pub slot_of : Body → readings.Slot
 slot_of (Commit members) = readings.Commits (map head_of members.items)
 slot_of (Archived run) = readings.Archived run.upto
 slot_of (Reclaimed anchors) = readings.Reclaimed anchors.upto
-slot_of (Floor floor) = readings.Floor None floor
+slot_of (Floor relation floor) = readings.Floor relation floor
 
 abbrev pub log_of : List Slot → List readings.Slot
 log_of slots = map (λ s. slot_of s.body) slots
@@ -37,7 +34,7 @@ abbrev pub runs_in : Body → List Run
 runs_in (Commit members) = []
 runs_in (Archived run) = run ∷ []
 runs_in (Reclaimed anchors) = []
-runs_in (Floor floor) = []
+runs_in (Floor relation floor) = []
 
 abbrev pub runs_of : List Slot → List Run
 runs_of slots = flat_map (λ s. runs_in s.body) slots

@@ -1,5 +1,5 @@
 -- The four device calls that write a slot.
-use Rattle.std.specs.Prelude.{ℕ, ◌+◌, List, [], ◌∷◌, Result}
+use Rattle.std.specs.Prelude.{ℕ, ◌+◌, List, [], ◌∷◌, Result, Ok, Err}
 use Rattle.disk.specs.Areas.{Areas}
 use Rattle.disk.specs.Calls.{Writes, Syncs}
 use Rattle.disk.specs.declared.area.Area.TheVariants.{Status}
@@ -28,3 +28,8 @@ slot_stage_after BodyWritten = BodySynced
 slot_stage_after BodySynced = GateWritten
 slot_stage_after GateWritten = Opened
 slot_stage_after Opened = Opened
+
+-- an answer without its value
+abbrev pub answer_of : {T E : Type 0} → Result T E → Result (Unit {0}) E
+answer_of (Ok value) = Ok tt
+answer_of (Err fault) = Err fault
