@@ -6,7 +6,7 @@ use Rattle.std.proofs.lemmas.Bool.Decides.{nat_tests}
 use Rattle.std.proofs.lemmas.List.{get_or-append_right, get_or-drop, get_or-replicate, length-replicate, get_or_past}
 use Rattle.byteorder.specs.Endian.{little_bytes, little_number}
 use Rattle.byteorder.specs.Numbers.{little_from-bytes}
-use Rattle.status.specs.Header.{zeros_from, IsHeader, IsFront, header_front, new_header}
+use Rattle.status.specs.Header.{zeros_from, HasNumbers, IsFront, header_front, new_header}
 
 get_or-zeros : (n i : ℕ) → get_or {A = ℕ} (replicate n 0) i 0 ≡ 0
 get_or-zeros n i = elim (cases_lt i n) [
@@ -28,13 +28,13 @@ zeros_from-low : (profile : ℕ) → 16 ≤ zeros_from profile
 zeros_from-low profile = grind (arith, nat_tests)
 
 pub new_front : (profile slots : ℕ) (rest : List ℕ) → ((k : ℕ) → 16 ≤ k → slice_index (header_front profile slots ++ rest) k ≡ 0)
-    → IsHeader (new_header profile slots) → IsFront (new_header profile slots) (header_front profile slots ++ rest)
+    → HasNumbers (new_header profile slots) → IsFront (new_header profile slots) (header_front profile slots ++ rest)
 new_front profile slots rest zeros numbers = record {
   numbers = numbers;
   name = refl;
   says = record {
-    profile = number_4 profile (little_bytes 4 slots ++ rest) (omega (arith, numbers.profile_high));
-    slots = number_4 slots rest (omega (arith, numbers.few));
+    profile = number_4 profile (little_bytes 4 slots ++ rest) (omega (arith, numbers.highest));
+    slots = number_4 slots rest (omega (arith, numbers.total));
     few_pieces = omega arith;
     open_pieces = λ i lt. absurd (omega arith);
     next_piece = λ lt is_open. absurd (let zero = zeros 16 (omega arith) in cc);

@@ -1,6 +1,7 @@
 -- The header of a status area: what its first 512 bytes say.
 use Rattle.std.specs.Prelude.{◌≡◌, ◌≢◌, ℕ, ◌+◌, ◌*◌, ◌<◌, ◌≤◌, ◌==◌, if◌then◌else◌, List, take, drop, ◌++◌, slice_index, codes}
 use Rattle.byteorder.specs.Endian.{little_number, little_bytes}
+use Rattle.image.specs.StandsFor.{IsHeader}
 use Rattle.status.specs.declared.header.Header.{Header}
 
 -- the slots of a store: those that it was made with, and 256 for each open piece
@@ -15,12 +16,9 @@ piece_gate front i = slice_index front (16 + i)
 abbrev pub zeros_from : ℕ → ℕ
 zeros_from profile = if profile == 1 then 16 else 271
 
--- the numbers that a header may have
-pub record IsHeader (h : Header) : Type 0 where
-  pub profile_low : 1 ≤ h.profile
-  pub profile_high : h.profile ≤ 3
-  pub many : 16 ≤ h.slots
-  pub few : total h ≤ 65536
+-- the numbers are those of a header
+abbrev pub HasNumbers : Header → Type 0
+HasNumbers h = IsHeader h.profile h.slots h.pieces
 
 -- 512 bytes have these numbers at their places
 pub record Says (h : Header) (front : List ℕ) : Type 0 where
@@ -33,7 +31,7 @@ pub record Says (h : Header) (front : List ℕ) : Type 0 where
 
 -- and so they are a header
 pub record IsFront (h : Header) (front : List ℕ) : Type 0 where
-  pub numbers : IsHeader h
+  pub numbers : HasNumbers h
   pub name : take 8 front ≡ codes "NOOVER01"
   pub says : Says h front
   pub zeros : (k : ℕ) → zeros_from h.profile ≤ k → k < 512 → slice_index front k ≡ 0

@@ -1,7 +1,7 @@
 //! The front of a status area as bytes.
 ghost use Rattle.std.specs.Prelude.{◌≡◌, ◌≢◌, ◌↔◌, ℕ, ◌<◌, ◌≤◌, ◌++◌, length, take, drop, slice_index, codes, IsTrue, IfSome, IfNone};
 ghost use Rattle.byteorder.specs.Endian.{little_number, little_bytes};
-ghost use Rattle.status.specs.Header.{zeros_from, IsHeader, Says, IsFront, header_front, new_header};
+ghost use Rattle.status.specs.Header.{zeros_from, HasNumbers, Says, IsFront, header_front, new_header};
 
 use crate::header::Header;
 use crate::turn::OPEN;
@@ -41,9 +41,13 @@ fn are_zeros(bytes: &[u8]) -> bool
 }
 
 fn is_header(header: &Header) -> bool
-    ensures { IsTrue result ↔ IsHeader header.now }
+    ensures { IsTrue result ↔ HasNumbers header.now }
 {
-    1 <= header.profile && header.profile <= 3 && 16 <= header.slots && header.total() <= 65_536
+    1 <= header.profile
+        && header.profile <= 3
+        && 16 <= header.slots
+        && (header.profile != 1 || header.pieces == 0)
+        && header.total() <= 65_536
 }
 
 fn zeros_follow(profile: u32, front: &[u8; 512]) -> bool
@@ -104,7 +108,7 @@ fn put_front(bytes: &mut [u8], front: &[u8])
 
 /// The first 512 bytes of a new status area: no piece is open.
 pub fn encode_header(profile: u32, slots: u32) -> [u8; 512]
-    ensures is { IsHeader (new_header profile slots) → IsFront (new_header profile slots) result }
+    ensures is { HasNumbers (new_header profile slots) → IsFront (new_header profile slots) result }
     ensures zeros { (k : ℕ) → 16 ≤ k → slice_index result k ≡ 0 }
 {
     let mut bytes = [0; 512];
