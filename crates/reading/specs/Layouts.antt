@@ -1,5 +1,5 @@
 -- How the bytes of an image spell its reading: which slots, extents and runs.
-use Rattle.std.specs.Prelude.{◌≡◌, ℕ, nat_lt, List, [], ◌∷◌, ◌++◌, map, filter, flat_map, None}
+use Rattle.std.specs.Prelude.{◌≡◌, ℕ, nat_lt, List, [], ◌∷◌, ◌++◌, map, filter, flat_map}
 use Rattle.std.specs.List.{AllByRecursion}
 use Rattle.disk.specs.Areas.{Image}
 use Rattle.wire.specs.declared.slot.Member.{Member as Entry}
@@ -53,7 +53,7 @@ abbrev pub entries_in : Body → List Entry
 entries_in (Commit members) = members.items
 entries_in (Archived run) = []
 entries_in (Reclaimed anchors) = []
-entries_in (Floor floor) = []
+entries_in (Floor relation floor) = []
 
 -- the members of all slots, in order
 abbrev pub entries_of : List Slot → List Entry
@@ -70,7 +70,7 @@ abbrev pub anchors_in : Anchors → Body → Anchors
 anchors_in before (Commit members) = before
 anchors_in before (Archived run) = before
 anchors_in before (Reclaimed anchors) = anchors
-anchors_in before (Floor floor) = before
+anchors_in before (Floor relation floor) = before
 
 -- the anchor chain of the last reclaimed slot, or what it was before
 abbrev pub anchors_after : Anchors → List Slot → Anchors
