@@ -6,9 +6,7 @@ use history::TimedWrite;
 use std::alloc::AllocError;
 
 /// The same write, with its value shared.
-pub(crate) fn share_write(
-    write: &Option<SharedValue>,
-) -> Result<Option<SharedValue>, AllocError>
+pub(crate) fn share_write(write: &Option<SharedValue>) -> Result<Option<SharedValue>, AllocError>
     ensures { IfOk result (λ w. w ≡ write.now) }
 {
     match write {
