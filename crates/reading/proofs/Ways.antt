@@ -30,7 +30,7 @@ use Rattle.reading.proofs.Standing.{held_stands, may_at, may_within}
 use Rattle.reading.proofs.SlotTurns.{opened_rests}
 use Rattle.reading.proofs.Groups.{group_holds, group_call_holds, group_call_leads}
 use Rattle.status.specs.declared.header.Header.{Header}
-use Rattle.status.specs.Header.{total, zeros_from, IsFront}
+use Rattle.status.specs.Header.{zeros_from, IsFront}
 use Rattle.status.specs.SlotCalls.{Begun, Opened}
 
 -- ---- frames
