@@ -96,7 +96,7 @@ module _ (header : Header) (layout : Layout) (group : Group) (room : length layo
   group_holds (Storing done rest) areas image at left = rests_hold header layout areas image at.rests left
   group_holds (Turning stage) areas image at left = turn_holds header layout group.slot (laid_out layout group) adds stage areas image at left
 
-  module _ (body : List ℕ) (long : length body ≡ 511) (spelled : IsSpelled (length layout.slots) body group.slot) where
+  module _ (body : List ℕ) (long : length body ≡ 511) (spelled : IsSpelled header.profile (length layout.slots) body group.slot) where
     pub group_call_holds : (stage : Stage) (result : Result (Unit {0}) DeviceFault) (old new : Areas) (image : Image) → IsAt header layout group stage old → AreSound old
         → IsCallOf layout body stage result old new → LeavesImage new image → MayBecome stage (HoldsLayout header image layout) (HoldsLayout header image (laid_out layout group))
     group_call_holds (Storing done (e ∷ rest)) result old new image at sound call left =

@@ -53,7 +53,7 @@ read_first file at byte =
     ∙ ap (λ (xs : List ℕ). get_or xs 0 0) (slice_range-overlaid_same file at (byte ∷ []))
 
 -- after the body's write
-body_done : (header : Header) (slots : List Slot) (slot : Slot) (body : List ℕ) (a : AreaState) → length slots < total header → length body ≡ 511 → IsSpelled (length slots) body slot
+body_done : (header : Header) (slots : List Slot) (slot : Slot) (body : List ℕ) (a : AreaState) → length slots < total header → length body ≡ 511 → IsSpelled header.profile (length slots) body slot
     → StatusRests header slots a → LeavesOnly (λ bytes. IsLog header bytes slots) (written (slot_start (length slots) + 1) body a)
     → IsBodyWritten header slots slot (written (slot_start (length slots) + 1) body a)
 body_done header slots slot body a room long spelled rests left =
@@ -105,7 +105,7 @@ module _ (header : Header) (old_layout : Layout) (slot : Slot) (new_layout : Lay
   pub opened_rests : (areas : Areas) → IsTurnAt header old_layout slot new_layout Opened areas → RestsAs header new_layout areas
   opened_rests areas at = record { status = rw adds.slots_are at.status; parts = at.new_parts }
 
-  module _ (body : List ℕ) (long : length body ≡ 511) (spelled : IsSpelled (length old_layout.slots) body slot) where
+  module _ (body : List ℕ) (long : length body ≡ 511) (spelled : IsSpelled header.profile (length old_layout.slots) body slot) where
     place : ℕ
     place = length old_layout.slots
 

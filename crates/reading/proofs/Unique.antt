@@ -121,16 +121,16 @@ one_log header bytes a b log_a log_b =
     let within : n < length a = slice_get_within a n x is_x in
     let fits = log_a.opens.fits in
     let few = log_a.opens.has_room.few in
-    one_slot n (body_at bytes n) x y (omega arith) (log_a.opens.each_spelled n x is_x) (log_b.opens.each_spelled n y is_y))
+    one_slot header.profile n (body_at bytes n) x y (omega arith) (log_a.opens.each_spelled n x is_x) (log_b.opens.each_spelled n y is_y))
 
 -- ---- what stands for nothing
 
-no_log : (header : Header) (n : ℕ) (bytes : List ℕ) (slots : List Slot) → n < total header → IsOpen bytes n → ((slot : Slot) → ¬ IsSpelled n (body_at bytes n) slot) → ¬ IsLog header bytes slots
+no_log : (header : Header) (n : ℕ) (bytes : List ℕ) (slots : List Slot) → n < total header → IsOpen bytes n → ((slot : Slot) → ¬ IsSpelled header.profile n (body_at bytes n) slot) → ¬ IsLog header bytes slots
 no_log header n bytes slots within is_open none log = elim (cases_lt n (length slots)) [
   | inl named ↦ let there = slot_within slots n named in none there.0 (log.opens.each_spelled n there.0 there.1)
   | inr behind ↦ log.closed n behind within is_open
 ]
 
-pub torn_is_none : (header : Header) (n : ℕ) (image : Image) (h : History Value) (floors : ℕ → ℕ) → n < total header → IsOpen image.status n → ((slot : Slot) → ¬ IsSpelled n (body_at image.status n) slot)
+pub torn_is_none : (header : Header) (n : ℕ) (image : Image) (h : History Value) (floors : ℕ → ℕ) → n < total header → IsOpen image.status n → ((slot : Slot) → ¬ IsSpelled header.profile n (body_at image.status n) slot)
     → ¬ ImageStandsFor header image h floors
 torn_is_none header n image h floors within is_open none stands = no_log header n image.status stands.reads_as.layout.slots within is_open none stands.reads_as.held.log

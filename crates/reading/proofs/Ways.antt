@@ -69,7 +69,7 @@ synced_rests header layout image held =
 module _ (header : Header) (layout : Layout) (reading : Reading) (h next : History Value) (floors : ℕ → ℕ) (group : Group)
     (laid : IsLayoutOf header layout reading) (stands : StandsFor reading h floors) (joins : MayJoin header layout reading h next group) where
   -- one slot more
-  pub slot_stands : (old new : Image) → HoldsLayout header old layout → HasGroupToo layout group old new → ImageStandsFor header new (h ++ next) floors
+  pub slot_stands : (old new : Image) → HoldsLayout header old layout → HasGroupToo header layout group old new → ImageStandsFor header new (h ++ next) floors
   slot_stands old new held has = record {
     reading = with_group reading (members_of group);
     reads_as = record {
@@ -111,7 +111,7 @@ module _ (header : Header) (layout : Layout) (reading : Reading) (h next : Histo
   group_are : AllByRecursion IsExtent (extents_of group.members)
   group_are = group_extents_are group.members joins.each
 
-  module _ (body : List ℕ) (long : length body ≡ 511) (spelled : IsSpelled (length layout.slots) body group.slot) where
+  module _ (body : List ℕ) (long : length body ≡ 511) (spelled : IsSpelled header.profile (length layout.slots) body group.slot) where
     -- where the calls that were answered Ok lead
     reached : (stage : Stage) (old : Areas) (states : List Areas) → IsAt header layout group stage old → Goes layout body stage old states
         → IsAt header layout group (stage_after_all stage states) (last_of old states) × AreSound (last_of old states)

@@ -33,9 +33,9 @@ pub record HasLayoutOf (header : Header) (layout : Layout) (old new : Image) : T
   pub parts : HasPartsOf layout old new
 
 -- new has all of that and, behind the log, the group's slot with its gate open, and the group's extents
-pub record HasGroupToo (layout : Layout) (group : Group) (old new : Image) : Type 0 where
+pub record HasGroupToo (header : Header) (layout : Layout) (group : Group) (old new : Image) : Type 0 where
   pub elsewhere : Agrees (slot_start (length layout.slots)) 512 old.status new.status
   pub is_open : IsOpen new.status (length layout.slots)
-  pub spelled : IsSpelled (length layout.slots) (body_at new.status (length layout.slots)) group.slot
+  pub spelled : IsSpelled header.profile (length layout.slots) (body_at new.status (length layout.slots)) group.slot
   pub extents : AllByRecursion (HoldsExtent new.heap) (extents_of group.members)
   pub parts : HasPartsOf layout old new

@@ -24,13 +24,13 @@ pub record StatusRests (header : Header) (slots : List Slot) (a : AreaState) : T
 -- the body is written behind the closed gate, and may be torn
 pub record IsBodyWritten (header : Header) (slots : List Slot) (slot : Slot) (a : AreaState) : Type 0 where
   pub log : IsLog header a.bytes slots
-  pub body : IsSpelled (length slots) (body_at a.bytes (length slots)) slot
+  pub body : IsSpelled header.profile (length slots) (body_at a.bytes (length slots)) slot
   pub left : LeavesOnly (λ bytes. IsLog header bytes slots) a
 
 -- the body stands whole behind the closed gate
 pub record IsBodySynced (header : Header) (slots : List Slot) (slot : Slot) (a : AreaState) : Type 0 where
   pub rests : StatusRests header slots a
-  pub body : IsSpelled (length slots) (body_at a.bytes (length slots)) slot
+  pub body : IsSpelled header.profile (length slots) (body_at a.bytes (length slots)) slot
 
 -- the gate is written, and may be torn
 pub record IsGateWritten (header : Header) (slots : List Slot) (slot : Slot) (a : AreaState) : Type 0 where

@@ -25,7 +25,7 @@ FrameReads = (header : Header) (layout : Layout) (old new : Image) → HoldsLayo
 abbrev pub SlotStands : Type 0
 SlotStands = (header : Header) (layout : Layout) (reading : Reading) (h next : History Value) (floors : ℕ → ℕ) (group : Group) (old new : Image)
     → IsLayoutOf header layout reading → StandsFor reading h floors → HoldsLayout header old layout → MayJoin header layout reading h next group
-    → HasGroupToo layout group old new → ImageStandsFor header new (h ++ next) floors
+    → HasGroupToo header layout group old new → ImageStandsFor header new (h ++ next) floors
 
 -- areas at rest leave only images that stand for the history
 abbrev pub RestStands : Type 0
@@ -50,7 +50,7 @@ pub record IsSlotWay (header : Header) (old : Layout) (slot : Slot) (new : Layou
 -- so it is for a slot of any kind
 abbrev pub SlotGoes : Type 0
 SlotGoes = (header : Header) (old : Layout) (slot : Slot) (new : Layout) (body : List ℕ) (stage : SlotStage) (areas : Areas)
-    → Adds header old slot new → length body ≡ 511 → IsSpelled (length old.slots) body slot → AreSound areas
+    → Adds header old slot new → length body ≡ 511 → IsSpelled header.profile (length old.slots) body slot → AreSound areas
     → IsTurnAt header old slot new stage areas → IsSlotWay header old slot new body stage areas
 
 -- calls that were answered Ok, each by the areas after it, from these areas on
@@ -80,7 +80,7 @@ pub record IsGroupWay (header : Header) (layout : Layout) (h next : History Valu
 abbrev pub GroupGoes : Type 0
 GroupGoes = (header : Header) (layout : Layout) (reading : Reading) (h next : History Value) (floors : ℕ → ℕ) (group : Group) (body : List ℕ) (start : Areas) (states : List Areas)
     → IsLayoutOf header layout reading → StandsFor reading h floors → RestsAs header layout start → MayJoin header layout reading h next group
-    → length body ≡ 511 → IsSpelled (length layout.slots) body group.slot
+    → length body ≡ 511 → IsSpelled header.profile (length layout.slots) body group.slot
     → Goes layout body (Storing [] (extents_of group.members)) start states
     → IsGroupWay header layout h next floors group body (stage_after_all (Storing [] (extents_of group.members)) states) (last_of start states)
 
@@ -97,4 +97,4 @@ pub record IsTurnWay (header : Header) (old : Layout) (body : List ℕ) (stage :
 abbrev pub TurnStands : Type 0
 TurnStands = (header : Header) (old : Layout) (slot : Slot) (new : Layout) (reading reading' : Reading) (h h' : History Value) (floors floors' : ℕ → ℕ) (body : List ℕ) (stage : SlotStage) (areas : Areas)
     → Adds header old slot new → IsLayoutOf header old reading → StandsFor reading h floors → IsLayoutOf header new reading' → StandsFor reading' h' floors'
-    → length body ≡ 511 → IsSpelled (length old.slots) body slot → AreSound areas → IsTurnAt header old slot new stage areas → IsTurnWay header old body stage areas h h' floors floors'
+    → length body ≡ 511 → IsSpelled header.profile (length old.slots) body slot → AreSound areas → IsTurnAt header old slot new stage areas → IsTurnWay header old body stage areas h h' floors floors'

@@ -51,7 +51,7 @@ abbrev pub entries_in : Body → List Entry
 entries_in (Commit members) = members.items
 entries_in (Archived run) = []
 entries_in (Reclaimed anchors) = []
-entries_in (Floor floor) = []
+entries_in (Floor relation floor) = []
 
 -- the members of all slots, in order
 abbrev pub entries_of : List Slot → List Entry
@@ -68,7 +68,7 @@ abbrev pub anchors_in : Anchors → Body → Anchors
 anchors_in before (Commit members) = before
 anchors_in before (Archived run) = before
 anchors_in before (Reclaimed anchors) = anchors
-anchors_in before (Floor floor) = before
+anchors_in before (Floor relation floor) = before
 
 -- the anchor chain of the last reclaimed slot, or what it was before
 abbrev pub anchors_after : Anchors → List Slot → Anchors

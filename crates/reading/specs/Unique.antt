@@ -23,5 +23,5 @@ OneLog = (header : Header) (bytes : List ℕ) (a b : List Slot) → IsLog header
 
 -- an open gate before bytes that are no slot: such an image stands for nothing
 abbrev pub TornIsNone : Type 0
-TornIsNone = (header : Header) (n : ℕ) (image : Image) (h : History Value) (floors : ℕ → ℕ) → n < total header → IsOpen image.status n → ((slot : Slot) → ¬ IsSpelled n (body_at image.status n) slot)
+TornIsNone = (header : Header) (n : ℕ) (image : Image) (h : History Value) (floors : ℕ → ℕ) → n < total header → IsOpen image.status n → ((slot : Slot) → ¬ IsSpelled header.profile n (body_at image.status n) slot)
     → ¬ ImageStandsFor header image h floors

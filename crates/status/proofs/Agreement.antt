@@ -68,7 +68,7 @@ module _ (header : Header) (slots : List Slot) (old new : List ℕ) (log : IsLog
   open_kept : (n : ℕ) (slot : Slot) → slice_get slots n ≡ Some slot → IsOpen new n
   open_kept n slot is = let at = before n slot is in gate_kept n at.0 at.1 ∙ log.opens.each_open n slot is
 
-  spelled_kept : (n : ℕ) (slot : Slot) → slice_get slots n ≡ Some slot → IsSpelled n (body_at new n) slot
+  spelled_kept : (n : ℕ) (slot : Slot) → slice_get slots n ≡ Some slot → IsSpelled header.profile n (body_at new n) slot
   spelled_kept n slot is = let at = before n slot is in rw (body_kept n at.0 at.1) (log.opens.each_spelled n slot is)
 
   -- with its gate closed the slot counts for nothing
@@ -84,7 +84,7 @@ module _ (header : Header) (slots : List Slot) (old new : List ℕ) (log : IsLog
   }
 
   -- with its gate open it is the last slot
-  pub then_new : (slot : Slot) → length slots < total header → IsOpen new (length slots) → IsSpelled (length slots) (body_at new (length slots)) slot
+  pub then_new : (slot : Slot) → length slots < total header → IsOpen new (length slots) → IsSpelled header.profile (length slots) (body_at new (length slots)) slot
       → IsLog header new (slots ++ slot ∷ [])
   then_new slot within is_open spelled = record {
     header_is = header_kept;

@@ -1,5 +1,5 @@
 -- The log's own rules: which slot may follow others.
-use Rattle.std.specs.Prelude.{◌≡◌, ℕ, ◌+◌, ◌==◌, ◌&&◌, Bool, IsTrue, List, [], ◌∷◌, map, flat_map, take, slice_get, Some, None}
+use Rattle.std.specs.Prelude.{◌≡◌, ℕ, ◌+◌, ◌==◌, ◌&&◌, Bool, IsTrue, List, [], ◌∷◌, map, flat_map, take, slice_get, Some}
 use Rattle.wire.specs.Spelling.{kind_of}
 use Rattle.wire.specs.declared.slot.Member.{Member as Entry}
 use Rattle.wire.specs.declared.slot.Run.{Run}
@@ -23,7 +23,7 @@ abbrev pub slot_of : Body → readings.Slot
 slot_of (Commit members) = readings.Commits (map head_of members.items)
 slot_of (Archived run) = readings.Archived run.upto
 slot_of (Reclaimed anchors) = readings.Reclaimed anchors.upto
-slot_of (Floor floor) = readings.Floor None floor
+slot_of (Floor relation floor) = readings.Floor relation floor
 
 abbrev pub log_of : List Slot → List readings.Slot
 log_of slots = map (λ s. slot_of s.body) slots
@@ -34,7 +34,7 @@ abbrev pub runs_in : Body → List Run
 runs_in (Commit members) = []
 runs_in (Archived run) = run ∷ []
 runs_in (Reclaimed anchors) = []
-runs_in (Floor floor) = []
+runs_in (Floor relation floor) = []
 
 abbrev pub runs_of : List Slot → List Run
 runs_of slots = flat_map (λ s. runs_in s.body) slots

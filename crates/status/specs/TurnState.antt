@@ -9,6 +9,7 @@ pub record TurnState : Type 0 where
   pub stage : SlotStage
 
 pub record LogState : Type 0 where
+  pub profile : ℕ
   pub slots : ℕ
   pub used : ℕ
   pub writing : Bool

@@ -25,6 +25,7 @@ pub enum SlotFault {
 /// a refused device call leaves it there for ever.
 #[derive(Drop)]
 pub struct StatusLog {
+    profile: u32,
     slots: u32,
     used: u32,
     is_writing: bool,
@@ -36,7 +37,7 @@ impl Model for StatusLog {
 
     ghost Value = { LogState };
 
-    ghost view = { λ l. record { slots = l.slots; used = l.used; writing = l.is_writing } };
+    ghost view = { λ l. record { profile = l.profile; slots = l.slots; used = l.used; writing = l.is_writing } };
 
     ghost invariant = { λ l. l.slots ≤ 65536 };
 }
@@ -44,9 +45,10 @@ impl Model for StatusLog {
 impl StatusLog {
     /// The log of an area with this header, of which so many slots are used; it has at most 65,536.
     pub fn new(header: &Header, used: u32) -> StatusLog
-        ensures { result ≡ record { slots = min (total header.now) 65536; used = used; writing = false } }
+        ensures { result ≡ record { profile = header.now.profile; slots = min (total header.now) 65536; used = used; writing = false } }
     {
         StatusLog {
+            profile: header.profile,
             slots: header.total().min(65_536) as u32,
             used,
             is_writing: false,
@@ -73,12 +75,11 @@ impl StatusLog {
 
     /// Begins to write the slot that comes next.
     pub fn begin_slot(&mut self, body: Body) -> Result<SlotTurn, SlotFault>
-        requires { InRange body }
         ensures stage { IfOk result (λ turn. turn.stage ≡ Begun) }
         ensures number { IfOk result (λ turn. turn.number ≡ self.old.used) }
-        ensures bytes { IfOk result (λ turn. turn.body ≡ spelling (record { number = self.old.used; body = body })) }
+        ensures bytes { IfOk result (λ turn. turn.body ≡ spelling self.old.profile (record { number = self.old.used; body = body })) }
         ensures long { IfOk result (λ turn. length turn.body ≡ 511) }
-        ensures spelled { InRange body → IfOk result (λ turn. IsSpelled self.old.used turn.body (record { number = self.old.used; body = body })) }
+        ensures spelled { InRange self.old.profile body → IfOk result (λ turn. IsSpelled self.old.profile self.old.used turn.body (record { number = self.old.used; body = body })) }
         ensures room { OnOk result (self.old.used < self.old.slots) }
         ensures writing { OnOk result (self.new ≡ record self.old { writing = true }) }
         ensures busy { (result ≡ Err SlotFault.Busy) ↔ (self.old.writing ≡ true) }
@@ -96,7 +97,7 @@ impl StatusLog {
             number: self.used,
             body,
         };
-        Ok(SlotTurn::begin(self.used, encode_slot(&slot)))
+        Ok(SlotTurn::begin(self.used, encode_slot(self.profile, &slot)))
     }
 
     /// The next device call of the slot in the writing.
