@@ -66,7 +66,7 @@ one_held_log header bytes a b log_a log_b =
     let within : n < length a = slice_get_within a n x is_x in
     let fits = log_a.opens.fits in
     let few = log_a.opens.has_room.few in
-    one_slot n (body_at bytes n) x y (omega arith) (log_a.opens.each_spelled n x is_x) (log_b.opens.each_spelled n y is_y))
+    one_slot header.profile n (body_at bytes n) x y (omega arith) (log_a.opens.each_spelled n x is_x) (log_b.opens.each_spelled n y is_y))
 
 -- ---- the records of a chain
 
