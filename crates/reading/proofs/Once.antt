@@ -30,8 +30,8 @@ use Rattle.reading.proofs.Unique.{one_chain, slot_within, same_slots}
 
 no_fewer : (h h' : Header) (front : List ℕ) → IsFront h front → IsFront h' front → h.pieces < h'.pieces → ⊥
 no_fewer h h' front is is' fewer =
-    let few = is'.numbers.few in
-    is.next_piece (omega arith) (is'.open_pieces h.pieces fewer)
+    let few = is'.says.few_pieces in
+    is.says.next_piece (omega arith) (is'.says.open_pieces h.pieces fewer)
 
 pub one_header : (h h' : Header) (front : List ℕ) → IsFront h front → IsFront h' front → h ≡ h'
 one_header h h' front is is' =
@@ -42,8 +42,8 @@ one_header h h' front is is' =
         | inr same ↦ omega arith
       ]
     ] in
-    let profile : h.profile ≡ h'.profile = sym is.profile ∙ is'.profile in
-    let slots : h.slots ≡ h'.slots = sym is.slots ∙ is'.slots in
+    let profile : h.profile ≡ h'.profile = sym is.says.profile ∙ is'.says.profile in
+    let slots : h.slots ≡ h'.slots = sym is.says.slots ∙ is'.says.slots in
     λ i. record { profile = profile i; slots = slots i; pieces = pieces i }
 
 -- ---- the log
