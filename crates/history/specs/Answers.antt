@@ -18,13 +18,13 @@ pub data QueryRefusal : Type 0 where
   -- there is no time from a to b
   EmptyInterval : QueryRefusal
 
--- the first test that fails, of a query at a time
-abbrev pub time_refusal : {V : Type 0} → History V → ℕ → ℕ → Option QueryRefusal
-time_refusal h floor time = if nat_lt time floor then Some (BeforeKept floor) else if nat_lt (last h) time then Some (NotYet (last h)) else None
+-- the first test that fails, of a query at a time, where the last commit is of this time
+abbrev pub time_refusal : ℕ → ℕ → ℕ → Option QueryRefusal
+time_refusal newest floor time = if nat_lt time floor then Some (BeforeKept floor) else if nat_lt newest time then Some (NotYet newest) else None
 
 -- and of a query of an interval
-abbrev pub interval_refusal : {V : Type 0} → History V → ℕ → ℕ → ℕ → Option QueryRefusal
-interval_refusal h floor a b = if nat_lt (min a b) floor then Some (BeforeKept floor) else if nat_lt (last h + 1) b then Some (NotYet (last h)) else if nat_le b a then Some EmptyInterval else None
+abbrev pub interval_refusal : ℕ → ℕ → ℕ → ℕ → Option QueryRefusal
+interval_refusal newest floor a b = if nat_lt (min a b) floor then Some (BeforeKept floor) else if nat_lt (newest + 1) b then Some (NotYet newest) else if nat_le b a then Some EmptyInterval else None
 
 abbrev pub unless_refused : {X : Type 0} → Option QueryRefusal → X → Result X QueryRefusal
 unless_refused (Some refusal) answer = Err refusal
@@ -32,11 +32,11 @@ unless_refused None answer = Ok answer
 
 -- the value of a key at a time
 abbrev pub at_answer : {V : Type 0} → History V → (ℕ → ℕ) → Key → ℕ → Result (Option V) QueryRefusal
-at_answer h floors key time = unless_refused (time_refusal h (floors key.relation) time) (state h time key)
+at_answer h floors key time = unless_refused (time_refusal (last h) (floors key.relation) time) (state h time key)
 
 -- the rows of a key from a to b
 abbrev pub between_answer : {V : Type 0} → History V → (ℕ → ℕ) → Key → ℕ → ℕ → Result (List (Version V)) QueryRefusal
-between_answer h floors key a b = unless_refused (interval_refusal h (floors key.relation) a b) (between h key a b)
+between_answer h floors key a b = unless_refused (interval_refusal (last h) (floors key.relation) a b) (between h key a b)
 
 -- a scan's answer: what is found, where nothing is refused
 abbrev pub IsScanAnswer : {X : Type 0} → Option QueryRefusal → (X → Type 0) → Result X QueryRefusal → Type 0
@@ -45,11 +45,11 @@ IsScanAnswer refusal IsFound (Err why) = refusal ≡ Some why
 
 -- the values of a relation at a time
 abbrev pub IsScanAtAnswer : {V : Type 0} → History V → (ℕ → ℕ) → ℕ → ℕ → Result (List (ℕ × V)) QueryRefusal → Type 0
-IsScanAtAnswer h floors relation time answer = IsScanAnswer (time_refusal h (floors relation) time) (IsScanAt h relation time) answer
+IsScanAtAnswer h floors relation time answer = IsScanAnswer (time_refusal (last h) (floors relation) time) (IsScanAt h relation time) answer
 
 -- the rows of a relation from a to b
 abbrev pub IsScanBetweenAnswer : {V : Type 0} → History V → (ℕ → ℕ) → ℕ → ℕ → ℕ → Result (List (ℕ × Version V)) QueryRefusal → Type 0
-IsScanBetweenAnswer h floors relation a b answer = IsScanAnswer (interval_refusal h (floors relation) a b) (IsScanBetween h relation a b) answer
+IsScanBetweenAnswer h floors relation a b answer = IsScanAnswer (interval_refusal (last h) (floors relation) a b) (IsScanBetween h relation a b) answer
 
 -- ---- commits
 
