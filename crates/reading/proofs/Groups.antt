@@ -12,13 +12,16 @@ use Rattle.wire.specs.Spelling.{IsSpelled}
 use Rattle.reading.specs.Extents.{Extent, IsExtent, AreDistinct, KeepsExtent, extent_start, extent_bytes}
 use Rattle.reading.specs.Layouts.{Layout, live, extents_of, HoldsLayout}
 use Rattle.reading.specs.Keeping.{KeepsExtents, KeepsParts}
-use Rattle.reading.specs.SlotTurns.{Begun, Adds, IsTurnAt}
+use Rattle.reading.specs.SlotTurns.{Adds, IsTurnAt}
 use Rattle.reading.specs.Turn.{Group, laid_out, Stage, Storing, Turning, IsCallOf, stage_after, IsStoring, IsAt, MayBe, MayBecome}
 use Rattle.reading.proofs.Lists.{all_of_front, all_of_back, others}
 use Rattle.reading.proofs.Extents.{others_kept, one_more_held, loosened_is, written_is, extents_kept_by_sync, extents_synced}
 use Rattle.reading.proofs.Layouts.{live_more}
 use Rattle.reading.proofs.Standing.{rests_leave, parts_hold, rests_hold}
 use Rattle.reading.proofs.SlotTurns.{turn_holds, turn_call_holds, turn_call_leads}
+use Rattle.status.specs.declared.header.Header.{Header}
+use Rattle.status.specs.Header.{total}
+use Rattle.status.specs.SlotCalls.{Begun}
 
 -- the write of an extent that no live chain has keeps the layout's parts
 pub parts_kept : (layout : Layout) (e : Extent) (old : Areas) (heap : AreaState) → AllByRecursion IsExtent (live layout) → IsExtent e → AllByRecursion (λ (f : Extent). f.number ≢ e.number) (live layout)
@@ -28,9 +31,9 @@ parts_kept layout e old heap are is apart sound loose keeps = record {
   runs = keeps.runs;
 }
 
-module _ (count : ℕ) (layout : Layout) (group : Group) (room : length layout.slots < count) (live_are : AllByRecursion IsExtent (live layout)) (group_are : AllByRecursion IsExtent (extents_of group.members))
+module _ (header : Header) (layout : Layout) (group : Group) (room : length layout.slots < total header) (live_are : AllByRecursion IsExtent (live layout)) (group_are : AllByRecursion IsExtent (extents_of group.members))
     (free : AreDistinct (live layout ++ extents_of group.members)) where
-  adds : Adds count layout group.slot (laid_out layout group)
+  adds : Adds header layout group.slot (laid_out layout group)
   adds = record { slots_are = refl; room = room }
 
   -- ---- one extent of the group
@@ -56,8 +59,8 @@ module _ (count : ℕ) (layout : Layout) (group : Group) (room : length layout.s
     done_apart : AllByRecursion (λ (f : Extent). f.number ≢ e.number) done
     done_apart = all_of_back (λ (f : Extent). f.number ≢ e.number) (live layout) done others_apart
 
-  stored_one : (done : List Extent) (e : Extent) (rest : List Extent) (old : Areas) → IsStoring count layout group done (e ∷ rest) old → AreSound old
-      → IsStoring count layout group (done ++ e ∷ []) rest (record old { heap = written (extent_start e.number) (extent_bytes e) old.heap })
+  stored_one : (done : List Extent) (e : Extent) (rest : List Extent) (old : Areas) → IsStoring header layout group done (e ∷ rest) old → AreSound old
+      → IsStoring header layout group (done ++ e ∷ []) rest (record old { heap = written (extent_start e.number) (extent_bytes e) old.heap })
   stored_one done e rest old at sound =
       let parts = at.parts_are in
       let is = is_extent done e rest parts in
@@ -71,8 +74,8 @@ module _ (count : ℕ) (layout : Layout) (group : Group) (room : length layout.s
         written = one_more_held e is done (done_are done e rest parts) (done_apart done e rest parts) old.heap.bytes at.written;
       }
 
-  all_synced : (done : List Extent) (old : Areas) → IsStoring count layout group done [] old → AreSound old
-      → IsTurnAt count layout group.slot (laid_out layout group) Begun (record old { heap = synced old.heap })
+  all_synced : (done : List Extent) (old : Areas) → IsStoring header layout group done [] old → AreSound old
+      → IsTurnAt header layout group.slot (laid_out layout group) Begun (record old { heap = synced old.heap })
   all_synced done old at sound =
       let all : done ≡ extents_of group.members = sym (append-nil done) ∙ at.parts_are in
       let was : KeepsExtents (live layout) (synced old.heap) = extents_kept_by_sync (live layout) old.heap (sound Heap) at.rests.parts.extents in
@@ -88,31 +91,31 @@ module _ (count : ℕ) (layout : Layout) (group : Group) (room : length layout.s
 
   -- ---- what a stop may leave
 
-  pub group_holds : (stage : Stage) (areas : Areas) (image : Image) → IsAt count layout group stage areas → LeavesImage areas image
-      → MayBe stage (HoldsLayout count image layout) (HoldsLayout count image (laid_out layout group))
-  group_holds (Storing done rest) areas image at left = rests_hold count layout areas image at.rests left
-  group_holds (Turning stage) areas image at left = turn_holds count layout group.slot (laid_out layout group) adds stage areas image at left
+  pub group_holds : (stage : Stage) (areas : Areas) (image : Image) → IsAt header layout group stage areas → LeavesImage areas image
+      → MayBe stage (HoldsLayout header image layout) (HoldsLayout header image (laid_out layout group))
+  group_holds (Storing done rest) areas image at left = rests_hold header layout areas image at.rests left
+  group_holds (Turning stage) areas image at left = turn_holds header layout group.slot (laid_out layout group) adds stage areas image at left
 
-  module _ (body : List ℕ) (long : length body ≡ 511) (spelled : IsSpelled (length layout.slots) body group.slot) where
-    pub group_call_holds : (stage : Stage) (result : Result (Unit {0}) DeviceFault) (old new : Areas) (image : Image) → IsAt count layout group stage old → AreSound old
-        → IsCallOf layout body stage result old new → LeavesImage new image → MayBecome stage (HoldsLayout count image layout) (HoldsLayout count image (laid_out layout group))
+  module _ (body : List ℕ) (long : length body ≡ 511) (spelled : IsSpelled header.profile (length layout.slots) body group.slot) where
+    pub group_call_holds : (stage : Stage) (result : Result (Unit {0}) DeviceFault) (old new : Areas) (image : Image) → IsAt header layout group stage old → AreSound old
+        → IsCallOf layout body stage result old new → LeavesImage new image → MayBecome stage (HoldsLayout header image layout) (HoldsLayout header image (laid_out layout group))
     group_call_holds (Storing done (e ∷ rest)) result old new image at sound call left =
         let at_e = extent_start e.number in
         let n = length (extent_bytes e) in
         let before = (left_by_write Heap at_e (extent_bytes e) result old new call sound).each image left in
         let torn : AreaState = loosened at_e n old.heap.bytes old.heap in
-        parts_hold count layout (record old { heap = torn }) image
+        parts_hold header layout (record old { heap = torn }) image
         (parts_kept layout e old torn live_are (is_extent done e rest at.parts_are) (live_apart done e rest at.parts_are) (sound Heap) (loosened_is at_e n old.heap) at.rests.parts)
-        (rests_leave count old.status image.status layout.slots at.rests.status before.status) before.heap before.archive
+        (rests_leave header old.status image.status layout.slots at.rests.status before.status) before.heap before.archive
     group_call_holds (Storing done []) result old new image at sound call left =
-        rests_hold count layout old image at.rests ((left_by_sync Heap result old new call sound).each image left)
+        rests_hold header layout old image at.rests ((left_by_sync Heap result old new call sound).each image left)
     group_call_holds (Turning stage) result old new image at sound call left =
-        turn_call_holds count layout group.slot (laid_out layout group) adds body long spelled stage result old new image at sound call left
+        turn_call_holds header layout group.slot (laid_out layout group) adds body long spelled stage result old new image at sound call left
 
     -- ---- where a call that is answered Ok leads
 
-    pub group_call_leads : (stage : Stage) (old new : Areas) → IsAt count layout group stage old → AreSound old
-        → IsCallOf layout body stage (Ok tt) old new → IsAt count layout group (stage_after stage) new
+    pub group_call_leads : (stage : Stage) (old new : Areas) → IsAt header layout group stage old → AreSound old
+        → IsCallOf layout body stage (Ok tt) old new → IsAt header layout group (stage_after stage) new
     group_call_leads (Storing done (e ∷ rest)) old new at sound call = rw call.written (stored_one done e rest old at sound)
     group_call_leads (Storing done []) old new at sound call = rw call.synced (all_synced done old at sound)
-    group_call_leads (Turning stage) old new at sound call = turn_call_leads count layout group.slot (laid_out layout group) adds body long spelled stage old new at sound call
+    group_call_leads (Turning stage) old new at sound call = turn_call_leads header layout group.slot (laid_out layout group) adds body long spelled stage old new at sound call

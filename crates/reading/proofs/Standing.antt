@@ -2,16 +2,19 @@
 use Rattle.std.proofs.Common.{inl, inr, ℕ, List}
 use Rattle.std.specs.List.{AllByRecursion}
 use Rattle.disk.specs.Areas.{AreaState, Areas, Image, MayLeave, LeavesImage}
-use Rattle.history.specs.Commits.{History}
-use Rattle.image.specs.Reading.{Value, Reading}
+use Rattle.history.specs.Histories.{History}
+use Rattle.image.specs.Values.{Value}
+use Rattle.image.specs.Reading.{Reading}
 use Rattle.image.specs.StandsFor.{StandsFor}
 use Rattle.status.specs.Log.{IsLog}
 use Rattle.reading.specs.Extents.{Extent, HoldsExtent, KeepsExtent}
 use Rattle.reading.specs.Runs.{StoredRun, HoldsRun, KeepsRun}
 use Rattle.reading.specs.Layouts.{Layout, live, IsLayoutOf, HoldsLayout, ImageStandsFor}
 use Rattle.reading.specs.Keeping.{StatusRests, KeepsExtents, KeepsRuns, KeepsParts, RestsAs}
-use Rattle.reading.specs.SlotTurns.{SlotStage, Begun, BodyWritten, BodySynced, GateWritten, Opened, MayAt, MayWithin}
+use Rattle.reading.specs.SlotTurns.{MayAt, MayWithin}
 use Rattle.reading.proofs.Lists.{weaker}
+use Rattle.status.specs.declared.header.Header.{Header}
+use Rattle.status.specs.SlotCalls.{SlotStage, Begun, BodyWritten, BodySynced, GateWritten, Opened}
 
 -- what is kept is in what a stop leaves
 extents_left : (es : List Extent) (a : AreaState) (content : List ℕ) → KeepsExtents es a → MayLeave a content → AllByRecursion (HoldsExtent content) es
@@ -21,26 +24,26 @@ runs_left : (runs : List StoredRun) (a : AreaState) (content : List ℕ) → Kee
 runs_left runs a content keeps left = weaker (KeepsRun a) (HoldsRun content) runs (λ s kept. kept.left content left) keeps
 
 -- a resting status area leaves its log alone
-pub rests_leave : (count : ℕ) (a : AreaState) (content : List ℕ) (slots : _) → StatusRests count slots a → MayLeave a content → IsLog count content slots
-rests_leave count a content slots rests left = rw (left.settled rests.settled.loose) rests.log
+pub rests_leave : (header : Header) (a : AreaState) (content : List ℕ) (slots : _) → StatusRests header slots a → MayLeave a content → IsLog header content slots
+rests_leave header a content slots rests left = rw (left.settled rests.settled.loose) rests.log
 
 -- what is kept of a layout's parts, with its log, is the layout
-pub parts_hold : (count : ℕ) (layout : Layout) (areas : Areas) (image : Image) → KeepsParts layout areas → IsLog count image.status layout.slots
-    → MayLeave areas.heap image.heap → MayLeave areas.archive image.archive → HoldsLayout count image layout
-parts_hold count layout areas image keeps log left_heap left_archive = record {
+pub parts_hold : (header : Header) (layout : Layout) (areas : Areas) (image : Image) → KeepsParts layout areas → IsLog header image.status layout.slots
+    → MayLeave areas.heap image.heap → MayLeave areas.archive image.archive → HoldsLayout header image layout
+parts_hold header layout areas image keeps log left_heap left_archive = record {
   log = log;
   extents = extents_left (live layout) areas.heap image.heap keeps.extents left_heap;
   runs = runs_left layout.runs areas.archive image.archive keeps.runs left_archive;
 }
 
-pub rests_hold : (count : ℕ) (layout : Layout) (areas : Areas) (image : Image) → RestsAs count layout areas → LeavesImage areas image → HoldsLayout count image layout
-rests_hold count layout areas image rests left =
-    parts_hold count layout areas image rests.parts (rests_leave count areas.status image.status layout.slots rests.status left.status) left.heap left.archive
+pub rests_hold : (header : Header) (layout : Layout) (areas : Areas) (image : Image) → RestsAs header layout areas → LeavesImage areas image → HoldsLayout header image layout
+rests_hold header layout areas image rests left =
+    parts_hold header layout areas image rests.parts (rests_leave header areas.status image.status layout.slots rests.status left.status) left.heap left.archive
 
 -- an image that holds a layout stands for what its reading stands for
-pub held_stands : (count : ℕ) (layout : Layout) (reading : Reading) (h : History Value) (floors : ℕ → ℕ) (image : Image)
-    → IsLayoutOf count layout reading → StandsFor reading h floors → HoldsLayout count image layout → ImageStandsFor count image h floors
-held_stands count layout reading h floors image laid stands held = record {
+pub held_stands : (header : Header) (layout : Layout) (reading : Reading) (h : History Value) (floors : ℕ → ℕ) (image : Image)
+    → IsLayoutOf header layout reading → StandsFor reading h floors → HoldsLayout header image layout → ImageStandsFor header image h floors
+held_stands header layout reading h floors image laid stands held = record {
   reading = reading;
   reads_as = record { layout = layout; is_layout = laid; held = held };
   stands = stands;

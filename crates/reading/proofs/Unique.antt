@@ -7,8 +7,8 @@ use Rattle.wire.specs.declared.slot.Slot.{Slot}
 use Rattle.wire.proofs.Again.{one_slot}
 use Rattle.status.specs.Log.{body_at, IsOpen, IsLog}
 use Rattle.disk.specs.Areas.{Image}
-use Rattle.history.specs.Commits.{History}
-use Rattle.image.specs.Reading.{Value}
+use Rattle.history.specs.Histories.{History}
+use Rattle.image.specs.Values.{Value}
 use Rattle.reading.specs.Layouts.{ImageStandsFor}
 use Rattle.std.specs.List.{AllByRecursion}
 use Rattle.std.proofs.lemmas.List.{take_at}
@@ -17,6 +17,8 @@ use Rattle.byteorder.specs.Numbers.{little_from-bytes}
 use Rattle.wire.specs.Spelling.{u32_bytes, IsSpelled}
 use Rattle.reading.specs.Extents.{Extent, IsExtent, IsChain, AreLinked, HoldsExtent, first_of, extent_start, extent_bytes}
 use Rattle.reading.proofs.Extents.{extent-length}
+use Rattle.status.specs.declared.header.Header.{Header}
+use Rattle.status.specs.Header.{total}
 
 number_of : List ℕ → ℕ
 number_of bytes = little_from 0 4 bytes
@@ -92,8 +94,8 @@ slot_within [] n lt = absurd (omega arith)
 slot_within (s ∷ slots) zero lt = (s, refl)
 slot_within (s ∷ slots) (suc n) lt = slot_within slots n (omega arith)
 
-no_longer : (count : ℕ) (bytes : List ℕ) (a b : List Slot) → IsLog count bytes a → IsLog count bytes b → length a < length b → ⊥
-no_longer count bytes a b log_a log_b shorter =
+no_longer : (header : Header) (bytes : List ℕ) (a b : List Slot) → IsLog header bytes a → IsLog header bytes b → length a < length b → ⊥
+no_longer header bytes a b log_a log_b shorter =
     let there = slot_within b (length a) shorter in
     log_a.closed (length a) (omega arith) (let fits = log_b.opens.fits in omega arith) (log_b.opens.each_open (length a) there.0 there.1)
 
@@ -106,29 +108,29 @@ same_slots (x ∷ a) (y ∷ b) long same =
     let rest : a ≡ b = same_slots a b (omega arith) (λ n s t is_s is_t. same (suc n) s t is_s is_t) in
     λ i. first i ∷ rest i
 
-pub one_log : (count : ℕ) (bytes : List ℕ) (a b : List Slot) → IsLog count bytes a → IsLog count bytes b → a ≡ b
-one_log count bytes a b log_a log_b =
+pub one_log : (header : Header) (bytes : List ℕ) (a b : List Slot) → IsLog header bytes a → IsLog header bytes b → a ≡ b
+one_log header bytes a b log_a log_b =
     let long : length a ≡ length b = elim (cases_lt (length a) (length b)) [
-      | inl shorter ↦ absurd (no_longer count bytes a b log_a log_b shorter)
+      | inl shorter ↦ absurd (no_longer header bytes a b log_a log_b shorter)
       | inr others ↦ elim (cases_lt (length b) (length a)) [
-        | inl longer ↦ absurd (no_longer count bytes b a log_b log_a longer)
+        | inl longer ↦ absurd (no_longer header bytes b a log_b log_a longer)
         | inr same ↦ omega arith
       ]
     ] in
     same_slots a b long (λ n x y is_x is_y.
     let within : n < length a = slice_get_within a n x is_x in
     let fits = log_a.opens.fits in
-    let few = log_a.opens.header_is.few in
-    one_slot n (body_at bytes n) x y (omega arith) (log_a.opens.each_spelled n x is_x) (log_b.opens.each_spelled n y is_y))
+    let few = log_a.opens.has_room.few in
+    one_slot header.profile n (body_at bytes n) x y (omega arith) (log_a.opens.each_spelled n x is_x) (log_b.opens.each_spelled n y is_y))
 
 -- ---- what stands for nothing
 
-no_log : (count n : ℕ) (bytes : List ℕ) (slots : List Slot) → n < count → IsOpen bytes n → ((slot : Slot) → ¬ IsSpelled n (body_at bytes n) slot) → ¬ IsLog count bytes slots
-no_log count n bytes slots within is_open none log = elim (cases_lt n (length slots)) [
+no_log : (header : Header) (n : ℕ) (bytes : List ℕ) (slots : List Slot) → n < total header → IsOpen bytes n → ((slot : Slot) → ¬ IsSpelled header.profile n (body_at bytes n) slot) → ¬ IsLog header bytes slots
+no_log header n bytes slots within is_open none log = elim (cases_lt n (length slots)) [
   | inl named ↦ let there = slot_within slots n named in none there.0 (log.opens.each_spelled n there.0 there.1)
   | inr behind ↦ log.closed n behind within is_open
 ]
 
-pub torn_is_none : (count n : ℕ) (image : Image) (h : History Value) (floors : ℕ → ℕ) → n < count → IsOpen image.status n → ((slot : Slot) → ¬ IsSpelled n (body_at image.status n) slot)
-    → ¬ ImageStandsFor count image h floors
-torn_is_none count n image h floors within is_open none stands = no_log count n image.status stands.reads_as.layout.slots within is_open none stands.reads_as.held.log
+pub torn_is_none : (header : Header) (n : ℕ) (image : Image) (h : History Value) (floors : ℕ → ℕ) → n < total header → IsOpen image.status n → ((slot : Slot) → ¬ IsSpelled header.profile n (body_at image.status n) slot)
+    → ¬ ImageStandsFor header image h floors
+torn_is_none header n image h floors within is_open none stands = no_log header n image.status stands.reads_as.layout.slots within is_open none stands.reads_as.held.log

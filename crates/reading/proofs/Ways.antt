@@ -1,24 +1,26 @@
 -- A group's way to the disk.
-use Rattle.std.proofs.Common.{◌≡◌, ℕ, ◌+◌, ◌≤◌, List, [], ◌∷◌, ◌++◌, length, refl, sym, subst, arith}
+use Rattle.std.proofs.Common.{◌≡◌, ℕ, ◌+◌, ◌<◌, ◌≤◌, List, [], ◌∷◌, ◌++◌, length, take, refl, sym, subst, arith, ⊎_elim}
+use Rattle.std.specs.Prelude.{slice_index}
+use Rattle.std.proofs.lemmas.Bool.{cases_lt}
 use Rattle.std.specs.List.{AllByRecursion}
 use Rattle.disk.specs.Areas.{AreaState, Areas, Image, AreSound, settled_on, settled_area}
 use Rattle.disk.specs.Parts.{HoldsPart}
 use Rattle.disk.proofs.Parts.{held_again, synced_part}
 use Rattle.wire.specs.Spelling.{IsSpelled}
-use Rattle.status.specs.Log.{IsLog}
+use Rattle.status.specs.Log.{IsLog, HasHeader}
 use Rattle.status.proofs.Frame.{same_log}
 use Rattle.status.proofs.Agreement.{then_new}
-use Rattle.history.specs.Commits.{History}
+use Rattle.history.specs.Histories.{History}
 use Rattle.history.proofs.Filters.{AllByRecursion-append}
-use Rattle.image.specs.Reading.{Value, Reading}
-use Rattle.image.specs.StandsFor.{StandsFor}
+use Rattle.image.specs.Values.{Value}
+use Rattle.image.specs.Reading.{Reading}
+use Rattle.image.specs.StandsFor.{IsHeader, StandsFor}
 use Rattle.image.specs.Plans.{with_group, empty_reading}
 use Rattle.image.proofs.Empty.{empty-stands_for}
 use Rattle.reading.specs.Extents.{Extent, IsExtent, HoldsExtent, KeepsExtent, extent_start, extent_bytes}
 use Rattle.reading.specs.Runs.{StoredRun, HoldsRun, KeepsRun, run_bytes}
 use Rattle.reading.specs.Layouts.{Layout, live, extents_of, IsLayoutOf, HoldsLayout, ImageStandsFor}
 use Rattle.reading.specs.Keeping.{RestsAs}
-use Rattle.reading.specs.SlotTurns.{Begun, Opened}
 use Rattle.reading.specs.Turn.{Group, Stage, Storing, Turning, members_of, laid_out, MayJoin, stage_after, IsAt, MayBe, MayBecome}
 use Rattle.reading.specs.Frames.{HasPartOf, HasExtentOf, HasRunOf, HasLayoutOf, HasGroupToo}
 use Rattle.reading.specs.Laws.{Goes, stage_after_all, last_of, IsGroupWay}
@@ -27,6 +29,9 @@ use Rattle.reading.proofs.Layouts.{laid_more, stands_more, live_more, live_exten
 use Rattle.reading.proofs.Standing.{held_stands, may_at, may_within}
 use Rattle.reading.proofs.SlotTurns.{opened_rests}
 use Rattle.reading.proofs.Groups.{group_holds, group_call_holds, group_call_leads}
+use Rattle.status.specs.declared.header.Header.{Header}
+use Rattle.status.specs.Header.{total, zeros_from, IsFront}
+use Rattle.status.specs.SlotCalls.{Begun, Opened}
 
 -- ---- frames
 
@@ -41,16 +46,16 @@ runs_again : (runs : List StoredRun) (old new : List ℕ) → AllByRecursion (Ho
 runs_again runs old new held has =
     both (HoldsRun old) (HasRunOf old new) (HoldsRun new) runs (λ s was same. part_again s.entry.start (run_bytes s.records) old new was same) held has
 
-pub layout_again : (count : ℕ) (layout : Layout) (old new : Image) → HoldsLayout count old layout → HasLayoutOf count layout old new → HoldsLayout count new layout
-layout_again count layout old new held has = record {
-  log = same_log count layout.slots old.status new.status held.log has.log;
+pub layout_again : (header : Header) (layout : Layout) (old new : Image) → HoldsLayout header old layout → HasLayoutOf header layout old new → HoldsLayout header new layout
+layout_again header layout old new held has = record {
+  log = same_log header layout.slots old.status new.status held.log has.log;
   extents = extents_again (live layout) old.heap new.heap held.extents has.parts.extents;
   runs = runs_again layout.runs old.archive new.archive held.runs has.parts.runs;
 }
 
 -- what was synced is kept
-pub synced_rests : (count : ℕ) (layout : Layout) (image : Image) → HoldsLayout count image layout → RestsAs count layout (settled_on image)
-synced_rests count layout image held =
+pub synced_rests : (header : Header) (layout : Layout) (image : Image) → HoldsLayout header image layout → RestsAs header layout (settled_on image)
+synced_rests header layout image held =
     let heap : AreaState = settled_area image.heap in
     let archive : AreaState = settled_area image.archive in
     record {
@@ -61,70 +66,70 @@ synced_rests count layout image held =
       };
     }
 
-module _ (count : ℕ) (layout : Layout) (reading : Reading) (h next : History Value) (floors : ℕ → ℕ) (group : Group)
-    (laid : IsLayoutOf count layout reading) (stands : StandsFor reading h floors) (joins : MayJoin count layout reading h next group) where
+module _ (header : Header) (layout : Layout) (reading : Reading) (h next : History Value) (floors : ℕ → ℕ) (group : Group)
+    (laid : IsLayoutOf header layout reading) (stands : StandsFor reading h floors) (joins : MayJoin header layout reading h next group) where
   -- one slot more
-  pub slot_stands : (old new : Image) → HoldsLayout count old layout → HasGroupToo layout group old new → ImageStandsFor count new (h ++ next) floors
+  pub slot_stands : (old new : Image) → HoldsLayout header old layout → HasGroupToo header layout group old new → ImageStandsFor header new (h ++ next) floors
   slot_stands old new held has = record {
     reading = with_group reading (members_of group);
     reads_as = record {
       layout = laid_out layout group;
-      is_layout = laid_more count layout reading h next floors group laid stands joins;
+      is_layout = laid_more header layout reading h next floors group laid stands joins;
       held = record {
-        log = then_new count layout.slots old.status new.status held.log has.elsewhere group.slot joins.room has.is_open has.spelled;
+        log = then_new header layout.slots old.status new.status held.log has.elsewhere group.slot joins.room has.is_open has.spelled;
         extents = subst (AllByRecursion (HoldsExtent new.heap)) (sym (live_more layout group))
             (AllByRecursion-append (HoldsExtent new.heap) (live layout) (extents_of group.members) (extents_again (live layout) old.heap new.heap held.extents has.parts.extents) has.extents);
         runs = runs_again layout.runs old.archive new.archive held.runs has.parts.runs;
       };
     };
-    stands = stands_more count layout reading h next floors group laid stands joins;
+    stands = stands_more header layout reading h next floors group laid stands joins;
   }
 
   -- ---- the way
 
-  old_stands : (image : Image) → HoldsLayout count image layout → ImageStandsFor count image h floors
-  old_stands image held = held_stands count layout reading h floors image laid stands held
+  old_stands : (image : Image) → HoldsLayout header image layout → ImageStandsFor header image h floors
+  old_stands image held = held_stands header layout reading h floors image laid stands held
 
-  new_stands : (image : Image) → HoldsLayout count image (laid_out layout group) → ImageStandsFor count image (h ++ next) floors
+  new_stands : (image : Image) → HoldsLayout header image (laid_out layout group) → ImageStandsFor header image (h ++ next) floors
   new_stands image held =
-      held_stands count (laid_out layout group) (with_group reading (members_of group)) (h ++ next) floors image
-      (laid_more count layout reading h next floors group laid stands joins) (stands_more count layout reading h next floors group laid stands joins) held
+      held_stands header (laid_out layout group) (with_group reading (members_of group)) (h ++ next) floors image
+      (laid_more header layout reading h next floors group laid stands joins) (stands_more header layout reading h next floors group laid stands joins) held
 
-  may_be : (stage : Stage) (image : Image) → MayBe stage (HoldsLayout count image layout) (HoldsLayout count image (laid_out layout group))
-      → MayBe stage (ImageStandsFor count image h floors) (ImageStandsFor count image (h ++ next) floors)
+  may_be : (stage : Stage) (image : Image) → MayBe stage (HoldsLayout header image layout) (HoldsLayout header image (laid_out layout group))
+      → MayBe stage (ImageStandsFor header image h floors) (ImageStandsFor header image (h ++ next) floors)
   may_be (Storing done rest) image may = old_stands image may
   may_be (Turning stage) image may = may_at stage _ _ _ _ (old_stands image) (new_stands image) may
 
-  may_become : (stage : Stage) (image : Image) → MayBecome stage (HoldsLayout count image layout) (HoldsLayout count image (laid_out layout group))
-      → MayBecome stage (ImageStandsFor count image h floors) (ImageStandsFor count image (h ++ next) floors)
+  may_become : (stage : Stage) (image : Image) → MayBecome stage (HoldsLayout header image layout) (HoldsLayout header image (laid_out layout group))
+      → MayBecome stage (ImageStandsFor header image h floors) (ImageStandsFor header image (h ++ next) floors)
   may_become (Storing done rest) image may = old_stands image may
   may_become (Turning stage) image may = may_within stage _ _ _ _ (old_stands image) (new_stands image) may
 
   live_are : AllByRecursion IsExtent (live layout)
-  live_are = live_extents_are count layout reading laid
+  live_are = live_extents_are header layout reading laid
 
   group_are : AllByRecursion IsExtent (extents_of group.members)
   group_are = group_extents_are group.members joins.each
 
-  module _ (body : List ℕ) (long : length body ≡ 511) (spelled : IsSpelled (length layout.slots) body group.slot) where
+  module _ (body : List ℕ) (long : length body ≡ 511) (spelled : IsSpelled header.profile (length layout.slots) body group.slot) where
     -- where the calls that were answered Ok lead
-    reached : (stage : Stage) (old : Areas) (states : List Areas) → IsAt count layout group stage old → Goes layout body stage old states
-        → IsAt count layout group (stage_after_all stage states) (last_of old states) × AreSound (last_of old states)
+    reached : (stage : Stage) (old : Areas) (states : List Areas) → IsAt header layout group stage old → Goes layout body stage old states
+        → IsAt header layout group (stage_after_all stage states) (last_of old states) × AreSound (last_of old states)
     reached stage old [] at goes = (at, goes)
     reached stage old (new ∷ more) at goes =
-        reached (stage_after stage) new more (group_call_leads count layout group joins.room live_are group_are joins.free body long spelled stage old new at goes.0 goes.1) goes.2
+        reached (stage_after stage) new more (group_call_leads header layout group joins.room live_are group_are joins.free body long spelled stage old new at goes.0 goes.1) goes.2
 
-    pub group_goes : (start : Areas) (states : List Areas) → RestsAs count layout start → Goes layout body (Storing [] (extents_of group.members)) start states
-        → IsGroupWay count layout h next floors group body (stage_after_all (Storing [] (extents_of group.members)) states) (last_of start states)
+    pub group_goes : (start : Areas) (states : List Areas) → RestsAs header layout start → Goes layout body (Storing [] (extents_of group.members)) start states
+        → IsGroupWay header layout h next floors group body (stage_after_all (Storing [] (extents_of group.members)) states) (last_of start states)
     group_goes start states rests goes =
         let stage : Stage = stage_after_all (Storing [] (extents_of group.members)) states in
         let areas : Areas = last_of start states in
-        let begun : IsAt count layout group (Storing [] (extents_of group.members)) start = record { rests = rests; parts_are = refl; written = tt } in
+        let begun : IsAt header layout group (Storing [] (extents_of group.members)) start = record { rests = rests; parts_are = refl; written = tt } in
         let here = reached (Storing [] (extents_of group.members)) start states begun goes in
         record {
-          before = λ image left. may_be stage image (group_holds count layout group joins.room live_are group_are joins.free stage areas image here.0 left);
-          within = λ result new image call left. may_become stage image (group_call_holds count layout group joins.room live_are group_are joins.free body long spelled stage result areas new image here.0 here.1 call left);
-          rests = λ end. opened_rests count layout group.slot (laid_out layout group) (record { slots_are = refl; room = joins.room }) areas (subst (λ (s : Stage). IsAt count layout group s areas) end here.0);
+          before = λ image left. may_be stage image (group_holds header layout group joins.room live_are group_are joins.free stage areas image here.0 left);
+          within = λ result new image call left. may_become stage image (group_call_holds header layout group joins.room live_are group_are joins.free body long spelled stage result areas new image here.0 here.1 call left);
+          rests = λ end. opened_rests header layout group.slot (laid_out layout group) (record { slots_are = refl; room = joins.room }) areas (subst (λ (s : Stage). IsAt header layout group s areas) end here.0);
         }
 
 opened_stays : (states : List Areas) → stage_after_all (Turning Opened) states ≡ Turning Opened
@@ -145,13 +150,12 @@ group_ends done (e ∷ rest) (a ∷ states) n = group_ends (done ++ e ∷ []) re
 
 -- ---- the empty image
 
-pub empty_laid : (count : ℕ) → IsLayoutOf count (record { slots = []; anchors = []; members = []; runs = [] }) (empty_reading 1 count)
-empty_laid count = record {
+pub empty_laid : (header : Header) → IsLayoutOf header (record { slots = []; anchors = []; members = []; runs = [] }) (empty_reading header.profile header.slots header.pieces)
+empty_laid header = record {
   heap = record {
     profile_is = refl;
     slots_are = refl;
-    no_open_slot = refl;
-    no_open_piece = refl;
+    pieces_are = refl;
     log_is = refl;
     members_are = refl;
     entries_are = refl;
@@ -167,13 +171,33 @@ empty_laid count = record {
   };
 }
 
-pub empty_image_stands : (count : ℕ) (image : Image) → IsLog count image.status [] → ImageStandsFor count image [] (λ relation. 0)
-empty_image_stands count image log = record {
-  reading = empty_reading 1 count;
+-- no piece of the first profile is open
+no_pieces : (header : Header) (front : List ℕ) → IsFront header front → header.profile ≡ 1 → header.pieces ≡ 0
+no_pieces header front is first =
+    ⊎_elim
+    (λ (some : 0 < header.pieces).
+    let zero : slice_index front 16 ≡ 0 = is.zeros 16 (subst (λ p. zeros_from p ≤ 16) (sym first) (omega arith)) (omega arith) in
+    let gate : slice_index front 16 ≡ 0xC7 = is.open_pieces 0 some in
+    absurd (omega (arith, zero, gate)))
+    (λ (none : header.pieces ≤ 0). omega (arith, none))
+    (cases_lt 0 header.pieces)
+
+header_numbers : (header : Header) (bytes : List ℕ) → HasHeader header bytes → IsHeader header.profile header.slots header.pieces
+header_numbers header bytes has = record {
+  lowest = omega (arith, has.front.numbers.profile_low);
+  highest = has.front.numbers.profile_high;
+  some = has.front.numbers.many;
+  whole = no_pieces header (take 512 bytes) has.front;
+  total = has.front.numbers.few;
+}
+
+pub empty_image_stands : (header : Header) (image : Image) → IsLog header image.status [] → ImageStandsFor header image [] (λ relation. 0)
+empty_image_stands header image log = record {
+  reading = empty_reading header.profile header.slots header.pieces;
   reads_as = record {
     layout = record { slots = []; anchors = []; members = []; runs = [] };
-    is_layout = empty_laid count;
+    is_layout = empty_laid header;
     held = record { log = log; extents = tt; runs = tt };
   };
-  stands = empty-stands_for 1 count;
+  stands = empty-stands_for header.profile header.slots header.pieces (header_numbers header image.status log.header_is);
 }

@@ -9,6 +9,7 @@ use Rattle.reading.specs.Extents.{Extent, HoldsExtent, extent_start, extent_byte
 use Rattle.reading.specs.Runs.{StoredRun, run_bytes}
 use Rattle.reading.specs.Layouts.{Layout, live, extents_of}
 use Rattle.reading.specs.Turn.{Group}
+use Rattle.status.specs.declared.header.Header.{Header}
 
 -- new has the bytes of old at n places from `at` on
 pub record HasPartOf (at n : ℕ) (old new : List ℕ) : Type 0 where
@@ -27,14 +28,14 @@ pub record HasPartsOf (layout : Layout) (old new : Image) : Type 0 where
   pub runs : AllByRecursion (HasRunOf old.archive new.archive) layout.runs
 
 -- new has the header, the slots, the live extents and the runs of old, and no gate behind the log is open
-pub record HasLayoutOf (count : ℕ) (layout : Layout) (old new : Image) : Type 0 where
-  pub log : HasLogOf count layout.slots old.status new.status
+pub record HasLayoutOf (header : Header) (layout : Layout) (old new : Image) : Type 0 where
+  pub log : HasLogOf header layout.slots old.status new.status
   pub parts : HasPartsOf layout old new
 
 -- new has all of that and, behind the log, the group's slot with its gate open, and the group's extents
-pub record HasGroupToo (layout : Layout) (group : Group) (old new : Image) : Type 0 where
+pub record HasGroupToo (header : Header) (layout : Layout) (group : Group) (old new : Image) : Type 0 where
   pub elsewhere : Agrees (slot_start (length layout.slots)) 512 old.status new.status
   pub is_open : IsOpen new.status (length layout.slots)
-  pub spelled : IsSpelled (length layout.slots) (body_at new.status (length layout.slots)) group.slot
+  pub spelled : IsSpelled header.profile (length layout.slots) (body_at new.status (length layout.slots)) group.slot
   pub extents : AllByRecursion (HoldsExtent new.heap) (extents_of group.members)
   pub parts : HasPartsOf layout old new

@@ -9,6 +9,7 @@ use Rattle.status.specs.Log.{body_at, IsLog, IsOldOrNew}
 use Rattle.reading.specs.Extents.{Extent, KeepsExtent}
 use Rattle.reading.specs.Runs.{StoredRun, KeepsRun}
 use Rattle.reading.specs.Layouts.{Layout, live}
+use Rattle.status.specs.declared.header.Header.{Header}
 
 -- whatever a stop may leave of the area has P
 abbrev pub LeavesOnly : (List ℕ → Type 0) → AreaState → Type 0
@@ -16,25 +17,25 @@ LeavesOnly P a = (content : List ℕ) → MayLeave a content → P content
 
 -- ---- the status area, at rest or with one slot in the writing
 
-pub record StatusRests (count : ℕ) (slots : List Slot) (a : AreaState) : Type 0 where
+pub record StatusRests (header : Header) (slots : List Slot) (a : AreaState) : Type 0 where
   pub settled : IsSettled a
-  pub log : IsLog count a.bytes slots
+  pub log : IsLog header a.bytes slots
 
 -- the body is written behind the closed gate, and may be torn
-pub record IsBodyWritten (count : ℕ) (slots : List Slot) (slot : Slot) (a : AreaState) : Type 0 where
-  pub log : IsLog count a.bytes slots
-  pub body : IsSpelled (length slots) (body_at a.bytes (length slots)) slot
-  pub left : LeavesOnly (λ bytes. IsLog count bytes slots) a
+pub record IsBodyWritten (header : Header) (slots : List Slot) (slot : Slot) (a : AreaState) : Type 0 where
+  pub log : IsLog header a.bytes slots
+  pub body : IsSpelled header.profile (length slots) (body_at a.bytes (length slots)) slot
+  pub left : LeavesOnly (λ bytes. IsLog header bytes slots) a
 
 -- the body stands whole behind the closed gate
-pub record IsBodySynced (count : ℕ) (slots : List Slot) (slot : Slot) (a : AreaState) : Type 0 where
-  pub rests : StatusRests count slots a
-  pub body : IsSpelled (length slots) (body_at a.bytes (length slots)) slot
+pub record IsBodySynced (header : Header) (slots : List Slot) (slot : Slot) (a : AreaState) : Type 0 where
+  pub rests : StatusRests header slots a
+  pub body : IsSpelled header.profile (length slots) (body_at a.bytes (length slots)) slot
 
 -- the gate is written, and may be torn
-pub record IsGateWritten (count : ℕ) (slots : List Slot) (slot : Slot) (a : AreaState) : Type 0 where
-  pub log : IsLog count a.bytes (slots ++ slot ∷ [])
-  pub left : LeavesOnly (IsOldOrNew count slots slot) a
+pub record IsGateWritten (header : Header) (slots : List Slot) (slot : Slot) (a : AreaState) : Type 0 where
+  pub log : IsLog header a.bytes (slots ++ slot ∷ [])
+  pub left : LeavesOnly (IsOldOrNew header slots slot) a
 
 -- ---- the other areas: they may be in the writing elsewhere
 
@@ -50,6 +51,6 @@ pub record KeepsParts (layout : Layout) (areas : Areas) : Type 0 where
   pub runs : KeepsRuns layout.runs areas.archive
 
 -- no slot is in the writing, and the other areas keep what the log names
-pub record RestsAs (count : ℕ) (layout : Layout) (areas : Areas) : Type 0 where
-  pub status : StatusRests count layout.slots areas.status
+pub record RestsAs (header : Header) (layout : Layout) (areas : Areas) : Type 0 where
+  pub status : StatusRests header layout.slots areas.status
   pub parts : KeepsParts layout areas

@@ -1,5 +1,5 @@
 -- How the bytes of an image spell its reading: which slots, extents and runs.
-use Rattle.std.specs.Prelude.{◌≡◌, ℕ, nat_lt, List, [], ◌∷◌, ◌++◌, map, filter, flat_map, None}
+use Rattle.std.specs.Prelude.{◌≡◌, ℕ, nat_lt, List, [], ◌∷◌, ◌++◌, map, filter, flat_map}
 use Rattle.std.specs.List.{AllByRecursion}
 use Rattle.disk.specs.Areas.{Image}
 use Rattle.wire.specs.declared.slot.Member.{Member as Entry}
@@ -9,22 +9,23 @@ use Rattle.wire.specs.declared.slot.Body.{Body}
 use Rattle.wire.specs.declared.slot.Body.TheVariants.{Commit, Archived, Reclaimed, Floor}
 use Rattle.wire.specs.declared.slot.Slot.{Slot}
 use Rattle.status.specs.Log.{IsLog}
-use Rattle.history.specs.Commits.{History}
+use Rattle.history.specs.Histories.{History}
+use Rattle.image.specs.Values.{Value}
 use Rattle.image.specs.Reading as readings
 use Rattle.image.specs.Log.{reclaim_mark}
 use Rattle.image.specs.StandsFor.{StandsFor}
 use Rattle.reading.specs.Records.{record_bytes, old_bytes, IsRecord, IsOldRecord}
 use Rattle.reading.specs.Extents.{Extent, IsChain, HoldsExtent, AreDistinct}
-use Rattle.reading.specs.Runs.{StoredRun, IsStoredRun, HoldsRun, AreInRow}
+use Rattle.reading.specs.Runs.{StoredRun, IsStoredRun, HoldsRun}
+use Rattle.status.specs.declared.header.Header.{Header}
+use Rattle.status.specs.Header.{total}
+use Rattle.status.specs.Rules.{AreInRow, slot_of, head_of, runs_of}
 
 -- a commit that a slot names, with its records and the extents of its chain
 pub record StoredMember : Type 0 where
   pub entry : Entry
   pub member : readings.Member
   pub extents : List Extent
-
-abbrev pub head_of : Entry → readings.Head
-head_of entry = record { time = entry.time; label = entry.label }
 
 pub record IsStoredMember (s : StoredMember) : Type 0 where
   pub head_is : s.member.head ≡ head_of s.entry
@@ -48,18 +49,11 @@ live layout = layout.anchors ++ extents_of layout.members
 
 -- ---- what the slots name
 
--- a slot of the reading
-abbrev pub slot_of : Body → readings.Slot
-slot_of (Commit members) = readings.Commits (map head_of members.items)
-slot_of (Archived run) = readings.Archived run.upto
-slot_of (Reclaimed anchors) = readings.Reclaimed anchors.upto
-slot_of (Floor floor) = readings.Floor None floor
-
 abbrev pub entries_in : Body → List Entry
 entries_in (Commit members) = members.items
 entries_in (Archived run) = []
 entries_in (Reclaimed anchors) = []
-entries_in (Floor floor) = []
+entries_in (Floor relation floor) = []
 
 -- the members of all slots, in order
 abbrev pub entries_of : List Slot → List Entry
@@ -69,15 +63,6 @@ entries_of slots = flat_map (λ s. entries_in s.body) slots
 abbrev pub later_than : ℕ → List Entry → List Entry
 later_than mark entries = filter (λ entry. nat_lt mark entry.time) entries
 
-abbrev pub runs_in : Body → List Run
-runs_in (Commit members) = []
-runs_in (Archived run) = run ∷ []
-runs_in (Reclaimed anchors) = []
-runs_in (Floor floor) = []
-
-abbrev pub runs_of : List Slot → List Run
-runs_of slots = flat_map (λ s. runs_in s.body) slots
-
 abbrev pub no_anchors : Anchors
 no_anchors = record { upto = 0; first = 0; extents = 0; records = 0 }
 
@@ -85,7 +70,7 @@ abbrev pub anchors_in : Anchors → Body → Anchors
 anchors_in before (Commit members) = before
 anchors_in before (Archived run) = before
 anchors_in before (Reclaimed anchors) = anchors
-anchors_in before (Floor floor) = before
+anchors_in before (Floor relation floor) = before
 
 -- the anchor chain of the last reclaimed slot, or what it was before
 abbrev pub anchors_after : Anchors → List Slot → Anchors
@@ -100,11 +85,10 @@ pub record IsAnchorChain (anchors : Anchors) (chain : List Extent) (list : List 
   pub each : AllByRecursion IsOldRecord list
 
 -- The layout of an area of this many slots spells the log of this reading, its members and its anchors. Nothing here speaks of bytes on a disk.
-pub record LaysOutHeap (count : ℕ) (layout : Layout) (reading : readings.Reading) : Type 0 where
-  pub profile_is : reading.profile ≡ 1
-  pub slots_are : reading.slots ≡ count
-  pub no_open_slot : reading.open_slots_behind ≡ 0
-  pub no_open_piece : reading.open_pieces_behind ≡ 0
+pub record LaysOutHeap (header : Header) (layout : Layout) (reading : readings.Reading) : Type 0 where
+  pub profile_is : reading.profile ≡ header.profile
+  pub slots_are : reading.slots ≡ header.slots
+  pub pieces_are : reading.pieces ≡ header.pieces
   pub log_is : map (λ s. slot_of s.body) layout.slots ≡ reading.log
   -- the members
   pub members_are : map (λ s. s.member) layout.members ≡ reading.members
@@ -124,24 +108,24 @@ pub record LaysOutRuns (layout : Layout) (reading : readings.Reading) : Type 0 w
   pub each_run : AllByRecursion IsStoredRun layout.runs
 
 -- The layout spells this reading. Opening an image reads its heap, but no records of runs.
-pub record IsLayoutOf (count : ℕ) (layout : Layout) (reading : readings.Reading) : Type 0 where
-  pub heap : LaysOutHeap count layout reading
+pub record IsLayoutOf (header : Header) (layout : Layout) (reading : readings.Reading) : Type 0 where
+  pub heap : LaysOutHeap header layout reading
   pub runs : LaysOutRuns layout reading
 
 -- the bytes of the image hold the layout, and no gate behind its log is open
-pub record HoldsLayout (count : ℕ) (image : Image) (layout : Layout) : Type 0 where
-  pub log : IsLog count image.status layout.slots
+pub record HoldsLayout (header : Header) (image : Image) (layout : Layout) : Type 0 where
+  pub log : IsLog header image.status layout.slots
   pub extents : AllByRecursion (HoldsExtent image.heap) (live layout)
   pub runs : AllByRecursion (HoldsRun image.archive) layout.runs
 
 -- the image reads so
-pub record IsReadingOf (count : ℕ) (image : Image) (reading : readings.Reading) : Type 0 where
+pub record IsReadingOf (header : Header) (image : Image) (reading : readings.Reading) : Type 0 where
   pub layout : Layout
-  pub is_layout : IsLayoutOf count layout reading
-  pub held : HoldsLayout count image layout
+  pub is_layout : IsLayoutOf header layout reading
+  pub held : HoldsLayout header image layout
 
 -- the image stands for this history with these floors
-pub record ImageStandsFor (count : ℕ) (image : Image) (h : History readings.Value) (floors : ℕ → ℕ) : Type 0 where
+pub record ImageStandsFor (header : Header) (image : Image) (h : History Value) (floors : ℕ → ℕ) : Type 0 where
   pub reading : readings.Reading
-  pub reads_as : IsReadingOf count image reading
+  pub reads_as : IsReadingOf header image reading
   pub stands : StandsFor reading h floors

@@ -34,8 +34,3 @@ HoldsRun archive s = HoldsPart s.entry.start (run_bytes s.records) archive
 -- whatever a stop may leave of the archive holds it
 abbrev pub KeepsRun : AreaState → StoredRun → Type 0
 KeepsRun a s = KeepsPart s.entry.start (run_bytes s.records) a
-
--- each run starts at the end of the one before it
-abbrev pub AreInRow : ℕ → List Run → Type 0
-AreInRow place [] = Unit {0}
-AreInRow place (run ∷ runs) = (run.start ≡ place) × AreInRow (run.start + run.len) runs

@@ -5,10 +5,12 @@ use Rattle.wire.specs.declared.slot.Slot.{Slot}
 use Rattle.status.specs.Log.{body_at, IsOpen, IsLog}
 use Rattle.wire.specs.Spelling.{IsSpelled}
 use Rattle.disk.specs.Areas.{Image}
-use Rattle.history.specs.Commits.{History}
-use Rattle.image.specs.Reading.{Value}
+use Rattle.history.specs.Histories.{History}
+use Rattle.image.specs.Values.{Value}
 use Rattle.reading.specs.Layouts.{ImageStandsFor}
 use Rattle.reading.specs.Extents.{Extent, IsChain, HoldsExtent}
+use Rattle.status.specs.declared.header.Header.{Header}
+use Rattle.status.specs.Header.{total}
 
 -- a slot names one chain of extents in a heap
 abbrev pub OneChain : Type 0
@@ -17,9 +19,9 @@ OneChain = (heap : List ℕ) (first extents records records' : ℕ) (a b : List 
 
 -- a status area is one log
 abbrev pub OneLog : Type 0
-OneLog = (count : ℕ) (bytes : List ℕ) (a b : List Slot) → IsLog count bytes a → IsLog count bytes b → a ≡ b
+OneLog = (header : Header) (bytes : List ℕ) (a b : List Slot) → IsLog header bytes a → IsLog header bytes b → a ≡ b
 
 -- an open gate before bytes that are no slot: such an image stands for nothing
 abbrev pub TornIsNone : Type 0
-TornIsNone = (count n : ℕ) (image : Image) (h : History Value) (floors : ℕ → ℕ) → n < count → IsOpen image.status n → ((slot : Slot) → ¬ IsSpelled n (body_at image.status n) slot)
-    → ¬ ImageStandsFor count image h floors
+TornIsNone = (header : Header) (n : ℕ) (image : Image) (h : History Value) (floors : ℕ → ℕ) → n < total header → IsOpen image.status n → ((slot : Slot) → ¬ IsSpelled header.profile n (body_at image.status n) slot)
+    → ¬ ImageStandsFor header image h floors

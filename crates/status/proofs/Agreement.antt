@@ -7,7 +7,9 @@ use Rattle.std.proofs.lemmas.Option.{slice_get_within}
 use Rattle.disk.specs.Parts.{IsOutside, Agrees}
 use Rattle.wire.specs.Spelling.{IsSpelled}
 use Rattle.wire.specs.declared.slot.Slot.{Slot}
-use Rattle.status.specs.Log.{slot_start, gate_at, body_at, IsOpen, HasHeader, IsLog}
+use Rattle.status.specs.declared.header.Header.{Header}
+use Rattle.status.specs.Header.{total, piece_gate}
+use Rattle.status.specs.Log.{slot_start, gate_at, body_at, IsOpen, HasHeader, HasRoom, IsLog}
 
 pub same_part : (at n : ℕ) (old new : List ℕ) → at + n ≤ length old → length old ≤ length new
     → ((k : ℕ) → at ≤ k → k < at + n → get_or new k 0 ≡ get_or old k 0) → take n (drop at new) ≡ take n (drop at old)
@@ -31,9 +33,9 @@ slice_get-push (z ∷ xs) y x (suc n) is = elim (slice_get-push xs y x n is) [
   | inr last ↦ inr (ap suc last.0, last.1)
 ]
 
-module _ (count : ℕ) (slots : List Slot) (old new : List ℕ) (log : IsLog count old slots) (agrees : Agrees (slot_start (length slots)) 512 old new) where
-  room : slot_start count ≤ length old
-  room = log.opens.header_is.room
+module _ (header : Header) (slots : List Slot) (old new : List ℕ) (log : IsLog header old slots) (agrees : Agrees (slot_start (length slots)) 512 old new) where
+  room : slot_start (total header) ≤ length old
+  room = log.header_is.room
 
   out_of_slot : (n k : ℕ) → n ≢ length slots → slot_start n ≤ k → k < slot_start n + 512 → IsOutside (slot_start (length slots)) 512 k
   out_of_slot n k other low high = elim (cases_lt n (length slots)) [
@@ -41,36 +43,40 @@ module _ (count : ℕ) (slots : List Slot) (old new : List ℕ) (log : IsLog cou
     | inr behind ↦ inr (omega arith)
   ]
 
-  gate_kept : (n : ℕ) → n ≢ length slots → n < count → gate_at new n ≡ gate_at old n
+  gate_kept : (n : ℕ) → n ≢ length slots → n < total header → gate_at new n ≡ gate_at old n
   gate_kept n other within = agrees.same (slot_start n) (omega (arith, room)) (out_of_slot n (slot_start n) other (omega arith) (omega arith))
 
-  body_kept : (n : ℕ) → n ≢ length slots → n < count → body_at new n ≡ body_at old n
+  body_kept : (n : ℕ) → n ≢ length slots → n < total header → body_at new n ≡ body_at old n
   body_kept n other within =
       same_part (slot_start n + 1) 511 old new (omega (arith, room)) agrees.no_shorter (λ k low high. agrees.same k (omega (arith, room)) (out_of_slot n k other (omega arith) (omega arith)))
 
-  header_kept : HasHeader count new
-  header_kept =
-      let old_header = log.opens.header_is in
-      record {
-        front = same_part 0 512 old new (omega (arith, room)) agrees.no_shorter (λ k low high. agrees.same k (omega (arith, room)) (inl (omega arith))) ∙ old_header.front;
-        many = old_header.many;
-        few = old_header.few;
-        room = omega (arith, room, agrees.no_shorter);
-      }
+  front_same : take 512 new ≡ take 512 old
+  front_same = same_part 0 512 old new (omega (arith, room)) agrees.no_shorter (λ k low high. agrees.same k (omega (arith, room)) (inl (omega arith)))
 
-  before : (n : ℕ) (slot : Slot) → slice_get slots n ≡ Some slot → (n ≢ length slots) × (n < count)
+  header_kept : HasHeader header new
+  header_kept = record { front = rw front_same log.header_is.front; room = omega (arith, room, agrees.no_shorter) }
+
+  room_kept : HasRoom header new
+  room_kept = record { few = log.opens.has_room.few; room = omega (arith, room, agrees.no_shorter) }
+
+  pieces_kept : (i : ℕ) → header.pieces ≤ i → i < 255 → piece_gate (take 512 new) i ≢ 0xC7
+  pieces_kept i behind within = rw front_same (log.pieces_closed i behind within)
+
+  before : (n : ℕ) (slot : Slot) → slice_get slots n ≡ Some slot → (n ≢ length slots) × (n < total header)
   before n slot is = let within : n < length slots = slice_get_within slots n slot is in (omega arith, omega (arith, log.opens.fits))
 
   open_kept : (n : ℕ) (slot : Slot) → slice_get slots n ≡ Some slot → IsOpen new n
   open_kept n slot is = let at = before n slot is in gate_kept n at.0 at.1 ∙ log.opens.each_open n slot is
 
-  spelled_kept : (n : ℕ) (slot : Slot) → slice_get slots n ≡ Some slot → IsSpelled n (body_at new n) slot
+  spelled_kept : (n : ℕ) (slot : Slot) → slice_get slots n ≡ Some slot → IsSpelled header.profile n (body_at new n) slot
   spelled_kept n slot is = let at = before n slot is in rw (body_kept n at.0 at.1) (log.opens.each_spelled n slot is)
 
   -- with its gate closed the slot counts for nothing
-  pub still_old : (length slots < count → ¬ IsOpen new (length slots)) → IsLog count new slots
+  pub still_old : (length slots < total header → ¬ IsOpen new (length slots)) → IsLog header new slots
   still_old shut = record {
-    opens = record { header_is = header_kept; fits = log.opens.fits; each_open = open_kept; each_spelled = spelled_kept };
+    header_is = header_kept;
+    pieces_closed = pieces_kept;
+    opens = record { has_room = room_kept; fits = log.opens.fits; each_open = open_kept; each_spelled = spelled_kept };
     closed = λ n behind within is_open. elim (cases_eq n (length slots)) [
       | inl here ↦ shut (omega arith) (subst (λ (m : ℕ). IsOpen new m) here is_open)
       | inr other ↦ log.closed n behind within (sym (gate_kept n other within) ∙ is_open)
@@ -78,11 +84,13 @@ module _ (count : ℕ) (slots : List Slot) (old new : List ℕ) (log : IsLog cou
   }
 
   -- with its gate open it is the last slot
-  pub then_new : (slot : Slot) → length slots < count → IsOpen new (length slots) → IsSpelled (length slots) (body_at new (length slots)) slot
-      → IsLog count new (slots ++ slot ∷ [])
+  pub then_new : (slot : Slot) → length slots < total header → IsOpen new (length slots) → IsSpelled header.profile (length slots) (body_at new (length slots)) slot
+      → IsLog header new (slots ++ slot ∷ [])
   then_new slot within is_open spelled = record {
+    header_is = header_kept;
+    pieces_closed = pieces_kept;
     opens = record {
-      header_is = header_kept;
+      has_room = room_kept;
       fits = omega (arith, length_push slots slot);
       each_open = λ n other is. elim (slice_get-push slots slot other n is) [
         | inl earlier ↦ open_kept n other earlier

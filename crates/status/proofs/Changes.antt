@@ -5,34 +5,36 @@ use Rattle.disk.specs.Parts.{Agrees}
 use Rattle.disk.proofs.Parts.{Agrees-wider}
 use Rattle.wire.specs.Spelling.{IsSpelled}
 use Rattle.wire.specs.declared.slot.Slot.{Slot}
+use Rattle.status.specs.declared.header.Header.{Header}
+use Rattle.status.specs.Header.{total}
 use Rattle.status.specs.Log.{slot_start, gate_at, body_at, IsLog, IsOldOrNew}
 use Rattle.status.proofs.Agreement.{same_part, still_old, then_new}
 
-module _ (count : ℕ) (slots : List Slot) (within : length slots < count) (old new : List ℕ) (log : IsLog count old slots) where
+module _ (header : Header) (slots : List Slot) (within : length slots < total header) (old new : List ℕ) (log : IsLog header old slots) where
   -- the body may change behind its closed gate
-  pub body_changes : Agrees (slot_start (length slots) + 1) 511 old new → IsLog count new slots
+  pub body_changes : Agrees (slot_start (length slots) + 1) 511 old new → IsLog header new slots
   body_changes agrees =
-      still_old count slots old new log (Agrees-wider (slot_start (length slots) + 1) 511 (slot_start (length slots)) 512 old new (omega arith) (omega arith) agrees)
+      still_old header slots old new log (Agrees-wider (slot_start (length slots) + 1) 511 (slot_start (length slots)) 512 old new (omega arith) (omega arith) agrees)
       (λ _ is_open. log.closed (length slots) (omega arith) within
-      (sym (agrees.same (slot_start (length slots)) (omega (arith, log.opens.header_is.room)) (inl (omega arith))) ∙ is_open))
+      (sym (agrees.same (slot_start (length slots)) (omega (arith, log.header_is.room)) (inl (omega arith))) ∙ is_open))
 
   body_same : Agrees (slot_start (length slots)) 1 old new → body_at new (length slots) ≡ body_at old (length slots)
   body_same agrees =
-      same_part (slot_start (length slots) + 1) 511 old new (omega (arith, log.opens.header_is.room)) agrees.no_shorter
-      (λ k low high. agrees.same k (omega (arith, log.opens.header_is.room)) (inr (omega arith)))
+      same_part (slot_start (length slots) + 1) 511 old new (omega (arith, log.header_is.room)) agrees.no_shorter
+      (λ k low high. agrees.same k (omega (arith, log.header_is.room)) (inr (omega arith)))
 
   -- whatever the gate is, the log is the old one or has the slot
-  pub gate_changes : (slot : Slot) → IsSpelled (length slots) (body_at old (length slots)) slot → Agrees (slot_start (length slots)) 1 old new → IsOldOrNew count slots slot new
+  pub gate_changes : (slot : Slot) → IsSpelled header.profile (length slots) (body_at old (length slots)) slot → Agrees (slot_start (length slots)) 1 old new → IsOldOrNew header slots slot new
   gate_changes slot spelled agrees =
       let wide = Agrees-wider (slot_start (length slots)) 1 (slot_start (length slots)) 512 old new (omega arith) (omega arith) agrees in
       elim (cases_eq (gate_at new (length slots)) 0xC7) [
-        | inl is_open ↦ inr (then_new count slots old new log wide slot within is_open (rw (body_same agrees) spelled))
-        | inr shut ↦ inl (still_old count slots old new log wide (λ _. shut))
+        | inl is_open ↦ inr (then_new header slots old new log wide slot within is_open (rw (body_same agrees) spelled))
+        | inr shut ↦ inl (still_old header slots old new log wide (λ _. shut))
       ]
 
   -- with the gate open it has the slot
-  pub gate_opens : (slot : Slot) → IsSpelled (length slots) (body_at old (length slots)) slot → Agrees (slot_start (length slots)) 1 old new → gate_at new (length slots) ≡ 0xC7
-      → IsLog count new (slots ++ slot ∷ [])
+  pub gate_opens : (slot : Slot) → IsSpelled header.profile (length slots) (body_at old (length slots)) slot → Agrees (slot_start (length slots)) 1 old new → gate_at new (length slots) ≡ 0xC7
+      → IsLog header new (slots ++ slot ∷ [])
   gate_opens slot spelled agrees is_open =
       let wide = Agrees-wider (slot_start (length slots)) 1 (slot_start (length slots)) 512 old new (omega arith) (omega arith) agrees in
-      then_new count slots old new log wide slot within is_open (rw (body_same agrees) spelled)
+      then_new header slots old new log wide slot within is_open (rw (body_same agrees) spelled)

@@ -4,6 +4,7 @@ use Rattle.std.specs.Prelude.{slice_get}
 use Rattle.std.proofs.lemmas.List.{length-take, length-drop, get_or-take, get_or-drop, ext_get_or}
 use Rattle.std.proofs.lemmas.Option.{slice_get_within}
 use Rattle.wire.specs.declared.slot.Slot.{Slot}
+use Rattle.status.specs.declared.header.Header.{Header}
 use Rattle.status.specs.Log.{slot_start, body_at, IsLog, HasLogOf}
 
 same_bytes : (at n : ℕ) (old new : List ℕ) → at + n ≤ length old → at + n ≤ length new
@@ -19,7 +20,7 @@ same_bytes at n old new in_old in_new same =
     ∙ sym (get_or-drop at old i 0)
     ∙ sym (get_or-take n (drop at old) i 0 within))
 
-module _ (count : ℕ) (slots : List Slot) (old new : List ℕ) (log : IsLog count old slots) (has : HasLogOf count slots old new) where
+module _ (header : Header) (slots : List Slot) (old new : List ℕ) (log : IsLog header old slots) (has : HasLogOf header slots old new) where
   below : (n : ℕ) (slot : Slot) → slice_get slots n ≡ Some slot → slot_start n + 512 ≤ slot_start (length slots)
   below n slot is = let within : n < length slots = slice_get_within slots n slot is in omega arith
 
@@ -27,20 +28,20 @@ module _ (count : ℕ) (slots : List Slot) (old new : List ℕ) (log : IsLog cou
   body_same n slot is =
       let end = below n slot is in
       let fits = log.opens.fits in
-      same_bytes (slot_start n + 1) 511 old new (omega (arith, log.opens.header_is.room)) (omega (arith, has.long)) (λ k low high. has.same k (omega arith))
+      same_bytes (slot_start n + 1) 511 old new (omega (arith, log.header_is.room)) (omega (arith, has.long)) (λ k low high. has.same k (omega arith))
 
-  pub same_log : IsLog count new slots
+  front_same : take 512 new ≡ take 512 old
+  front_same = same_bytes 0 512 old new (omega (arith, log.header_is.room)) (omega (arith, has.long)) (λ k low high. has.same k (omega arith))
+
+  pub same_log : IsLog header new slots
   same_log = record {
+    header_is = record { front = rw front_same log.header_is.front; room = has.long };
     opens = record {
-      header_is = record {
-        front = same_bytes 0 512 old new (omega (arith, log.opens.header_is.room)) (omega (arith, has.long)) (λ k low high. has.same k (omega arith)) ∙ log.opens.header_is.front;
-        many = log.opens.header_is.many;
-        few = log.opens.header_is.few;
-        room = has.long;
-      };
+      has_room = record { few = log.opens.has_room.few; room = has.long };
       fits = log.opens.fits;
       each_open = λ n slot is. let end = below n slot is in has.same (slot_start n) (omega arith) ∙ log.opens.each_open n slot is;
       each_spelled = λ n slot is. rw (body_same n slot is) (log.opens.each_spelled n slot is);
     };
     closed = has.shut;
+    pieces_closed = λ i behind within. rw front_same (log.pieces_closed i behind within);
   }

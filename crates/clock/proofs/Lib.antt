@@ -1,0 +1,4 @@
+mod Days
+mod Digits
+mod Times
+mod Texts

@@ -1,0 +1,12 @@
+//! Commit times, and the text of an instant.
+#![tactic(auto)]
+
+mod commit;
+mod instant;
+pub mod laws;
+
+pub use commit::{ClockEnd, CommitClock, LAST_TIME};
+pub use instant::{BadInstant, Moment, read_instant, read_instant_bytes, show_instant};
+
+#[cfg(test)]
+mod tests;

@@ -1,0 +1,22 @@
+//! What the front of a status area says.
+ghost use Rattle.std.specs.Prelude.{◌≡◌};
+
+/// The layout's profile, the slots that the store was made with, and how many pieces of 256
+/// slots more are open.
+#[derive(Clone, Copy, Debug, PartialEq, Eq)]
+pub struct Header {
+    pub profile: u32,
+    pub slots: u32,
+    pub pieces: u32,
+}
+
+impl Header {
+    ghost use Rattle.status.specs.Header.{total};
+
+    /// The slots that the store has.
+    pub fn total(&self) -> u64
+        ensures { result ≡ total self.now }
+    {
+        self.slots as u64 + 256 * self.pieces as u64
+    }
+}

@@ -1,0 +1,120 @@
+//! Which slots are used, and whether one is in the writing.
+ghost use Rattle.std.specs.Prelude.{◌≡◌, ◌↔◌, ◌≤◌, ◌<◌, length, min, true, false, IsTrue, IfOk, OnOk, OnErr};
+ghost use Rattle.disk.specs.Calls.{Counts};
+ghost use Rattle.wire.specs.Spelling.{spelling, InRange, IsSpelled};
+ghost use Rattle.status.specs.Header.{total};
+ghost use Rattle.status.specs.SlotCalls.{Begun, IsSlotCall, answer_of};
+ghost use Rattle.status.specs.Turn.{IsStepOf, moved};
+
+use crate::header::Header;
+use crate::turn::{SlotTurn, Step, advance};
+use disk::{DeviceFault, Disk};
+use std::marker::Model;
+use wire::{Body, Slot, encode_slot};
+
+/// Why no slot is begun.
+#[derive(Clone, Copy, Debug, PartialEq, Eq)]
+pub enum SlotFault {
+    /// A slot is in the writing.
+    Busy = 1,
+    /// Every slot is used.
+    StatusFull = 2,
+}
+
+/// The slots of a store, of which the first ones are used. One slot is in the writing at a time;
+/// a refused device call leaves it there for ever.
+#[derive(Drop)]
+pub struct StatusLog {
+    profile: u32,
+    slots: u32,
+    used: u32,
+    is_writing: bool,
+}
+
+impl Model for StatusLog {
+    ghost use Rattle.std.specs.Prelude.{◌≤◌};
+    ghost use Rattle.status.specs.TurnState.{LogState};
+
+    ghost Value = { LogState };
+
+    ghost view = { λ l. record { profile = l.profile; slots = l.slots; used = l.used; writing = l.is_writing } };
+
+    ghost invariant = { λ l. l.slots ≤ 65536 };
+}
+
+impl StatusLog {
+    /// The log of an area with this header, of which so many slots are used; it has at most 65,536.
+    pub fn new(header: &Header, used: u32) -> StatusLog
+        ensures { result ≡ record { profile = header.now.profile; slots = min (total header.now) 65536; used = used; writing = false } }
+    {
+        StatusLog {
+            profile: header.profile,
+            slots: header.total().min(65_536) as u32,
+            used,
+            is_writing: false,
+        }
+    }
+
+    pub fn slots(&self) -> u32
+        ensures { result ≡ self.now.slots }
+    {
+        self.slots
+    }
+
+    pub fn used(&self) -> u32
+        ensures { result ≡ self.now.used }
+    {
+        self.used
+    }
+
+    pub fn is_writing(&self) -> bool
+        ensures { result ≡ self.now.writing }
+    {
+        self.is_writing
+    }
+
+    /// Begins to write the slot that comes next.
+    pub fn begin_slot(&mut self, body: Body) -> Result<SlotTurn, SlotFault>
+        ensures stage { IfOk result (λ turn. turn.stage ≡ Begun) }
+        ensures number { IfOk result (λ turn. turn.number ≡ self.old.used) }
+        ensures bytes { IfOk result (λ turn. turn.body ≡ spelling self.old.profile (record { number = self.old.used; body = body })) }
+        ensures long { IfOk result (λ turn. length turn.body ≡ 511) }
+        ensures spelled { InRange self.old.profile body → IfOk result (λ turn. IsSpelled self.old.profile self.old.used turn.body (record { number = self.old.used; body = body })) }
+        ensures room { OnOk result (self.old.used < self.old.slots) }
+        ensures writing { OnOk result (self.new ≡ record self.old { writing = true }) }
+        ensures busy { (result ≡ Err SlotFault.Busy) ↔ (self.old.writing ≡ true) }
+        ensures full { (result ≡ Err SlotFault.StatusFull) ↔ ((self.old.writing ≡ false) × (self.old.slots ≤ self.old.used)) }
+        ensures err { OnErr result (self.new ≡ self.old) }
+    {
+        if self.is_writing {
+            return Err(SlotFault::Busy);
+        }
+        if self.slots <= self.used {
+            return Err(SlotFault::StatusFull);
+        }
+        self.is_writing = true;
+        let slot = Slot {
+            number: self.used,
+            body,
+        };
+        Ok(SlotTurn::begin(self.used, encode_slot(self.profile, &slot)))
+    }
+
+    /// The next device call of the slot in the writing.
+    pub fn advance<D: Disk>(&mut self, turn: SlotTurn, disk: &mut D) -> Result<Step, DeviceFault>
+        ensures call { IsTrue D.tells → IsSlotCall turn.number turn.body turn.stage (answer_of result) (D.state disk.old).areas (D.state disk.new).areas }
+        ensures counts { Counts result (D.state disk.old) (D.state disk.new) }
+        ensures steps { IfOk result (IsStepOf turn) }
+        ensures moves { IfOk result (λ step. self.new ≡ moved step self.old) }
+        ensures err { OnErr result (self.new ≡ self.old) }
+    {
+        match advance(turn, disk)? {
+            Step::More(next) => Ok(Step::More(next)),
+            Step::Open(number) => {
+                self.used = number + 1;
+                self.is_writing = false;
+                Ok(Step::Open(number))
+            }
+        }
+    }
+}

@@ -1,0 +1,46 @@
+-- Fields and their one spelling.
+use Rattle.std.specs.Prelude.{◌≡◌, ℕ, zero, suc, ◌<◌, ◌≤◌, List, [], ◌∷◌, length, take, drop, All}
+use Rattle.std.specs.List.{flat_map, AllByRecursion}
+
+-- a field is its length and its bytes
+abbrev pub field_bytes : List ℕ → List ℕ
+field_bytes field = length field ∷ field
+
+abbrev pub fields_bytes : List (List ℕ) → List ℕ
+fields_bytes fields = flat_map field_bytes fields
+
+-- reading that many fields: whether they are there, which they are, and what follows them
+abbrev pub HasFields : ℕ → List ℕ → Type 0
+HasFields zero bytes = Unit {0}
+HasFields (suc n) [] = ⊥
+HasFields (suc n) (len ∷ bytes) = (len ≤ length bytes) × HasFields n (drop len bytes)
+
+abbrev pub fields_at : ℕ → List ℕ → List (List ℕ)
+fields_at zero bytes = []
+fields_at (suc n) [] = []
+fields_at (suc n) (len ∷ bytes) = take len bytes ∷ fields_at n (drop len bytes)
+
+abbrev pub rest_at : ℕ → List ℕ → List ℕ
+rest_at zero bytes = bytes
+rest_at (suc n) [] = []
+rest_at (suc n) (len ∷ bytes) = rest_at n (drop len bytes)
+
+-- a field of a value: 0 to 255 bytes
+pub record IsField (field : List ℕ) : Type 0 where
+  pub short : length field < 256
+  pub are_bytes : All (λ b. b < 256) field
+
+abbrev pub AreAllFields : List (List ℕ) → Type 0
+AreAllFields fields = AllByRecursion IsField fields
+
+-- of at most 255 bytes each
+abbrev pub AreShort : List (List ℕ) → Type 0
+AreShort fields = AllByRecursion (λ (field : List ℕ). length field ≤ 255) fields
+
+-- the bytes are just that many fields, at most 16 of at most 255 bytes
+pub record AreFields (count : ℕ) (spelled : List ℕ) : Type 0 where
+  pub has : HasFields count spelled
+  pub all : rest_at count spelled ≡ []
+  pub few : count ≤ 16
+  pub short : length spelled ≤ 4096
+  pub each : AreAllFields (fields_at count spelled)

@@ -1,0 +1,226 @@
+//! The fields of a value, or some of them.
+
+ghost use Rattle.std.specs.Prelude.{◌≡◌, ◌≤◌, ℕ, length, MatchOption, IfOk, IfSome, IsTrue, ◌↔◌, [], ◌∷◌, ◌++◌, ◌+◌, ◌-◌, ◌<◌, ◌⊎◌, map};
+
+use std::alloc::{AllocError, Global};
+use std::marker::Model;
+
+/// 0 to 16 fields of 0 to 255 bytes. One piece of memory holds each as its length and its bytes.
+#[derive(Drop)]
+pub struct Fields {
+    count: u8,
+    spelled: Vec<u8>,
+}
+
+impl Model for Fields {
+    ghost use Rattle.std.specs.Prelude.{ℕ, List};
+    ghost use Rattle.wire.specs.Fields.{fields_at, AreFields};
+
+    ghost Value = { List (List ℕ) };
+
+    ghost view = { λ f. fields_at f.count f.spelled.items };
+
+    ghost invariant = { λ f. AreFields f.count f.spelled.items };
+}
+
+ghost use Rattle.wire.specs.Fields.{HasFields, fields_at, rest_at, AreShort};
+
+// What follows the first field.
+fn skip_field(bytes: &[u8]) -> Option<&[u8]>
+    ensures { MatchOption result (¬ HasFields 1 bytes.now) (λ rest. HasFields 1 bytes.now × (rest.now ≡ rest_at 1 bytes.now)) }
+{
+    let [len, after @ ..] = bytes else {
+        return None;
+    };
+    let len = *len as usize;
+    if after.len() < len {
+        return None;
+    }
+    Some(&after[len..])
+}
+
+// The first field, and the bytes behind it.
+fn split(count: u8, bytes: &[u8]) -> (&[u8], &[u8])
+    requires some { 0 < count }
+    requires has { HasFields count bytes.now }
+    ensures has { HasFields (count - 1) result.1.now }
+    ensures short { length result.0.now ≤ 255 }
+    ensures fields { fields_at count bytes.now ≡ result.0.now ∷ fields_at (count - 1) result.1.now }
+{
+    let len = bytes[0] as usize;
+    (&bytes[1..1 + len], &bytes[1 + len..])
+}
+
+// What follows that many fields.
+fn skip_fields(count: u8, bytes: &[u8]) -> Option<&[u8]>
+    ensures { MatchOption result (¬ HasFields count bytes.now) (λ rest. HasFields count bytes.now × (rest.now ≡ rest_at count bytes.now)) }
+{
+    let mut rest = bytes;
+    for _ in 0..count {
+        let Some(after) = skip_field(rest) else {
+            return None;
+        };
+        rest = after;
+    }
+    Some(rest)
+}
+
+fn are_same(a: &[u8], b: &[u8]) -> bool
+    ensures { IsTrue result ↔ (a.now ≡ b.now) }
+{
+    a == b
+}
+
+impl Fields {
+    ghost use Rattle.wire.specs.Fields.{fields_bytes, AreAllFields};
+
+    /// That many fields at the front, and what follows them; none where they aren't there, or are
+    /// more than 16.
+    pub fn take(
+        alloc: Global,
+        count: u8,
+        bytes: &[u8],
+    ) -> Result<Option<(Fields, &[u8])>, AllocError>
+        ensures { IfOk result (λ o. MatchOption o (¬ ((count ≤ 16) × HasFields count bytes.now))
+            (λ p. (count ≤ 16) × HasFields count bytes.now × (p.0 ≡ fields_at count bytes.now) × (p.1.now ≡ rest_at count bytes.now))) }
+    {
+        if count > 16 {
+            return Ok(None);
+        }
+        let Some(rest) = skip_fields(count, bytes) else {
+            return Ok(None);
+        };
+        let spelled = bytes[..bytes.len() - rest.len()].to_vec(alloc)?;
+        Ok(Some((Fields { count, spelled }, rest)))
+    }
+
+    /// How many fields there are: at most 16.
+    pub fn count(&self) -> u8
+        ensures is { result ≡ length self.now }
+        ensures few { result ≤ 16 }
+        ensures fields { AreAllFields self.now }
+    {
+        self.count
+    }
+
+    /// No field.
+    pub fn none(alloc: Global) -> Fields
+        ensures { result ≡ [] }
+    {
+        Fields {
+            count: 0,
+            spelled: Vec::new(alloc),
+        }
+    }
+
+    /// These fields, and one more; none where there are 16, or it has more than 255 bytes.
+    pub fn with(self, field: &[u8]) -> Result<Option<Fields>, AllocError>
+        ensures { IfOk result (λ o. MatchOption o ((16 ≤ length self) ⊎ (256 ≤ length field.now)) (λ fields. fields ≡ self ++ field.now ∷ [])) }
+    {
+        if self.count() >= 16 || field.len() > 255 {
+            return Ok(None);
+        }
+        Ok(Some(self.with_one(field)?))
+    }
+
+    fn with_one(self, field: &[u8]) -> Result<Fields, AllocError>
+        requires few { length self < 16 }
+        requires short { length field.now ≤ 255 }
+        ensures { IfOk result (λ fields. fields ≡ self ++ field.now ∷ []) }
+    {
+        let Fields { count, mut spelled } = self;
+        spelled.push(field.len() as u8)?;
+        spelled.extend_from_slice(field)?;
+        Ok(Fields {
+            count: count + 1,
+            spelled,
+        })
+    }
+
+    /// These fields, each copied.
+    pub(crate) fn gather(alloc: Global, parts: &[&[u8]]) -> Result<Fields, AllocError>
+        requires few { length parts.now ≤ 16 }
+        requires short { AreShort (map (λ part. part.now) parts.now) }
+        ensures { IfOk result (λ fields. fields ≡ map (λ part. part.now) parts.now) }
+    {
+        let mut fields = Fields::none(alloc);
+        let mut rest = parts;
+        while let [part, after @ ..] = rest {
+            fields = fields.with_one(part)?;
+            rest = after;
+        }
+        Ok(fields)
+    }
+
+    /// The same fields in memory of their own.
+    pub fn copy(&self, alloc: Global) -> Result<Fields, AllocError>
+        ensures { IfOk result (λ fields. fields ≡ self.now) }
+    {
+        Ok(Fields {
+            count: self.count,
+            spelled: self.spelled.as_slice().to_vec(alloc)?,
+        })
+    }
+
+    /// Whether the other has the same fields in the same order.
+    pub fn is_same(&self, other: &Fields) -> bool
+        ensures { IsTrue result ↔ (self.now ≡ other.now) }
+    {
+        if self.count() != other.count() {
+            return false;
+        }
+        are_same(self.spelled(), other.spelled())
+    }
+
+    /// The fields from the first on.
+    pub fn iter(&self) -> FieldsIter<'_>
+        ensures { result ≡ self.now }
+    {
+        FieldsIter {
+            count: self.count,
+            spelled: self.spelled.as_slice(),
+        }
+    }
+
+    /// Each field as its length and its bytes.
+    pub fn spelled(&self) -> &[u8]
+        ensures is { result.now ≡ fields_bytes self.now }
+        ensures short { length result.now ≤ 4096 }
+    {
+        self.spelled.as_slice()
+    }
+}
+
+/// The fields that are left of some, from the front.
+#[derive(Drop)]
+pub struct FieldsIter<'a> {
+    count: u8,
+    spelled: &'a [u8],
+}
+
+impl<'a> Model for FieldsIter<'a> {
+    ghost use Rattle.std.specs.Prelude.{ℕ, List};
+    ghost use Rattle.wire.specs.Fields.{fields_at, HasFields};
+
+    ghost Value = { List (List ℕ) };
+
+    ghost view = { λ f. fields_at f.count f.spelled.now };
+
+    ghost invariant = { λ f. HasFields f.count f.spelled.now };
+}
+
+impl<'a> FieldsIter<'a> {
+    /// The next field; none at the end.
+    pub fn take_field(&mut self) -> Option<&'a [u8]>
+        ensures short { IfSome result (λ field. length field.now ≤ 255) }
+        ensures next { MatchOption result ((self.old ≡ []) × (self.new ≡ [])) (λ field. self.old ≡ field.now ∷ self.new) }
+    {
+        if self.count == 0 {
+            return None;
+        }
+        let (field, rest) = split(self.count, self.spelled);
+        self.spelled = rest;
+        self.count -= 1;
+        Some(field)
+    }
+}
