@@ -4,10 +4,11 @@ use Rattle.std.specs.Prelude.{Contains}
 use Rattle.std.specs.List.{slice_range}
 use Rattle.std.proofs.lemmas.List.{drop-take, take-take}
 use Rattle.disk.specs.Parts.{HoldsPart}
-use Rattle.wire.specs.Spelling.{u64_bytes}
+use Rattle.wire.specs.Numbers.{u16_bytes, u64_bytes}
+use Rattle.wire.specs.Values.{value_bytes}
 use Rattle.image.specs.Reading.{ArchiveRecord}
 use Rattle.archive.specs.declared.run.RunEntry.{RunEntry}
-use Rattle.archive.specs.Records.{head_bytes, u16_bytes, value_bytes, fields_bytes}
+use Rattle.archive.specs.Records.{head_bytes}
 use Rattle.archive.specs.Parts.{IsPart, IsRight, EndBy}
 use Rattle.archive.specs.Runs.{HoldsRun, run_bytes, run_end, records_bytes, index_bytes}
 
@@ -61,5 +62,5 @@ two_records_bytes : run_bytes two_records ≡
     1 ∷ 0 ∷ 7 ∷ 0 ∷ 0 ∷ 0 ∷ 0 ∷ 0 ∷ 0 ∷ 0 ∷ 0x64 ∷ 0 ∷ 0 ∷ 0 ∷ 0 ∷ 0 ∷ 0 ∷ 0 ∷ 0x6e ∷ 0 ∷ 0 ∷ 0 ∷ 0 ∷ 0 ∷ 0 ∷ 0 ∷ 1 ∷ 1 ∷ 0x61
     ∷ 1 ∷ 0 ∷ 7 ∷ 0 ∷ 0 ∷ 0 ∷ 0 ∷ 0 ∷ 0 ∷ 0 ∷ 0x6e ∷ 0 ∷ 0 ∷ 0 ∷ 0 ∷ 0 ∷ 0 ∷ 0 ∷ 0x78 ∷ 0 ∷ 0 ∷ 0 ∷ 0 ∷ 0 ∷ 0 ∷ 0 ∷ 1 ∷ 1 ∷ 0x62
     ∷ 0 ∷ 0 ∷ 0 ∷ 0 ∷ 0 ∷ 0 ∷ 0 ∷ 0 ∷ 0x1d ∷ 0 ∷ 0 ∷ 0 ∷ 0 ∷ 0 ∷ 0 ∷ 0 ∷ []
-unfolding two_records records_bytes index_bytes head_bytes u16_bytes u64_bytes value_bytes fields_bytes
+unfolding two_records records_bytes index_bytes head_bytes u16_bytes u64_bytes
 two_records_bytes = refl

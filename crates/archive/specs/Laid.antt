@@ -2,7 +2,7 @@
 use Rattle.std.specs.Prelude.{◌≡◌, ◌⊎◌, ℕ, ◌+◌, ◌^◌, ◌<◌, ◌≤◌, List, [], ◌∷◌, length, slice_get, Some, slice_range}
 use Rattle.image.specs.Reading.{ArchiveRecord}
 use Rattle.archive.specs.declared.run.RunEntry.{RunEntry}
-use Rattle.archive.specs.Records.{IsValue}
+use Rattle.wire.specs.Values.{IsValue}
 use Rattle.archive.specs.Runs.{run_bytes, run_end}
 
 -- the ranges and the rules that the record meets by itself
