@@ -1,15 +1,12 @@
 -- A run is what its own bytes say, and an example of a run.
-use Rattle.std.proofs.Common.{◌≡◌, ℕ, ◌+◌, ◌-◌, ◌≤◌, List, [], ◌∷◌, ◌++◌, length, take, drop, refl, sym, ◌∙◌, ap, arith}
-use Rattle.std.specs.Prelude.{Contains}
+use Rattle.std.proofs.Common.{◌≡◌, ℕ, ◌+◌, ◌-◌, ◌≤◌, List, [], ◌∷◌, length, take, drop, refl, sym, ◌∙◌, ap, arith}
 use Rattle.std.specs.List.{slice_range}
 use Rattle.std.proofs.lemmas.List.{drop-take, take-take}
-use Rattle.disk.specs.Parts.{HoldsPart}
 use Rattle.wire.specs.Numbers.{u16_bytes, u64_bytes}
-use Rattle.wire.specs.Values.{value_bytes}
 use Rattle.image.specs.Reading.{ArchiveRecord}
 use Rattle.archive.specs.declared.run.RunEntry.{RunEntry}
 use Rattle.archive.specs.Records.{head_bytes}
-use Rattle.archive.specs.Parts.{IsPart, IsRight, EndBy}
+use Rattle.archive.specs.Parts.{IsRight, EndBy}
 use Rattle.archive.specs.Runs.{HoldsRun, run_bytes, run_end, records_bytes, index_bytes}
 
 -- areas that agree up to a place hold the same parts up to it

@@ -1,5 +1,5 @@
 -- A run by the places of its records, as a search sees it.
-use Rattle.std.specs.Prelude.{◌≡◌, ◌⊎◌, ℕ, ◌+◌, ◌^◌, ◌<◌, ◌≤◌, List, [], ◌∷◌, length, slice_get, Some, slice_range}
+use Rattle.std.specs.Prelude.{◌≡◌, ◌⊎◌, ℕ, ◌^◌, ◌<◌, ◌≤◌, List, [], ◌∷◌, length, slice_get, Some, slice_range}
 use Rattle.image.specs.Reading.{ArchiveRecord}
 use Rattle.archive.specs.declared.run.RunEntry.{RunEntry}
 use Rattle.wire.specs.Values.{IsValue}

@@ -1,4 +1,4 @@
-use Rattle.std.proofs.Common.{◌≡◌, ◌∙◌, ◌≤◌, ◌+◌, ap, sym, arith, length}
+use Rattle.std.proofs.Common.{◌≤◌, ◌+◌, arith, length}
 use Rattle.archive.specs.Parts.{parts_in}
 use Rattle.archive.specs.Searches.{archive_of}
 use Rattle.archive.proofs.Caching.{read_part_is, copied_from, keeps_one, keeps_later}

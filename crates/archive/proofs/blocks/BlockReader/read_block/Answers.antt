@@ -1,4 +1,4 @@
-use Rattle.std.proofs.Common.{◌+◌, ◌≤◌, ℕ, length, rules, ap, ◌∙◌}
+use Rattle.std.proofs.Common.{◌+◌, ℕ, rules, ap, ◌∙◌}
 use Rattle.std.specs.List.{slice_range}
 use Rattle.archive.specs.Parts.{Keeps, parts_in}
 use Rattle.archive.specs.Searches.{archive_of}
