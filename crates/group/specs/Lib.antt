@@ -1,0 +1,2 @@
+pub mod CommitOrder
+pub mod Tickets

@@ -1,0 +1,6 @@
+-- What a ticket says: which store gave it out, and the time of its commit.
+use Rattle.std.specs.Prelude.{ℕ}
+
+pub record TicketValue : Type 0 where
+  pub mark : ℕ
+  pub time : ℕ

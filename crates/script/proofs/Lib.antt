@@ -1,0 +1,3 @@
+mod FieldLemmas
+mod NumberLemmas
+mod WordLemmas

@@ -1,0 +1,19 @@
+-- Which transactions are open: the snapshot of each, at the place of its number.
+use Rattle.std.specs.Prelude.{ℕ, ◌≡◌, List, [], ◌∷◌, ◌++◌, length, slice_get, slice_set, nat_lt, Option, None, Some, if◌then◌else◌}
+
+-- what stands at a place that may be none
+abbrev pub joined : Option (Option ℕ) → Option ℕ
+joined None = None
+joined (Some place) = place
+
+-- the snapshot of the open transaction of this number
+abbrev pub snapshot_of : ℕ → List (Option ℕ) → Option ℕ
+snapshot_of number places = joined (slice_get places number)
+
+-- one more is open
+abbrev pub with_opened : List (Option ℕ) → ℕ → ℕ → List (Option ℕ)
+with_opened places number snapshot = if nat_lt number (length places) then slice_set places number (Some snapshot) else places ++ Some snapshot ∷ []
+
+-- that of this number is open no longer
+abbrev pub with_closed : List (Option ℕ) → ℕ → List (Option ℕ)
+with_closed places number = slice_set places number None
