@@ -1,1 +1,2 @@
 pub mod OpenTable
+pub mod WriteSets

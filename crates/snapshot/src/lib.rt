@@ -2,5 +2,6 @@
 #![tactic(auto)]
 
 mod open_table;
+mod write_set;
 
 pub use open_table::OpenTable;
