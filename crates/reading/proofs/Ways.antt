@@ -1,20 +1,18 @@
 -- A group's way to the disk.
-use Rattle.std.proofs.Common.{◌≡◌, ℕ, ◌+◌, ◌<◌, ◌≤◌, List, [], ◌∷◌, ◌++◌, length, take, refl, sym, subst, arith, ⊎_elim}
-use Rattle.std.specs.Prelude.{slice_index}
-use Rattle.std.proofs.lemmas.Bool.{cases_lt}
+use Rattle.std.proofs.Common.{◌≡◌, ℕ, ◌+◌, ◌≤◌, List, [], ◌∷◌, ◌++◌, length, refl, sym, subst, arith}
 use Rattle.std.specs.List.{AllByRecursion}
 use Rattle.disk.specs.Areas.{AreaState, Areas, Image, AreSound, settled_on, settled_area}
 use Rattle.disk.specs.Parts.{HoldsPart}
 use Rattle.disk.proofs.Parts.{held_again, synced_part}
 use Rattle.wire.specs.Spelling.{IsSpelled}
-use Rattle.status.specs.Log.{IsLog, HasHeader}
+use Rattle.status.specs.Log.{IsLog}
 use Rattle.status.proofs.Frame.{same_log}
 use Rattle.status.proofs.Agreement.{then_new}
 use Rattle.history.specs.Histories.{History}
 use Rattle.history.proofs.Filters.{AllByRecursion-append}
 use Rattle.image.specs.Values.{Value}
 use Rattle.image.specs.Reading.{Reading}
-use Rattle.image.specs.StandsFor.{IsHeader, StandsFor}
+use Rattle.image.specs.StandsFor.{StandsFor}
 use Rattle.image.specs.Plans.{with_group, empty_reading}
 use Rattle.image.proofs.Empty.{empty-stands_for}
 use Rattle.reading.specs.Extents.{Extent, IsExtent, HoldsExtent, KeepsExtent, extent_start, extent_bytes}
@@ -30,7 +28,6 @@ use Rattle.reading.proofs.Standing.{held_stands, may_at, may_within}
 use Rattle.reading.proofs.SlotTurns.{opened_rests}
 use Rattle.reading.proofs.Groups.{group_holds, group_call_holds, group_call_leads}
 use Rattle.status.specs.declared.header.Header.{Header}
-use Rattle.status.specs.Header.{total, zeros_from, IsFront}
 use Rattle.status.specs.SlotCalls.{Begun, Opened}
 
 -- ---- frames
@@ -171,26 +168,6 @@ empty_laid header = record {
   };
 }
 
--- no piece of the first profile is open
-no_pieces : (header : Header) (front : List ℕ) → IsFront header front → header.profile ≡ 1 → header.pieces ≡ 0
-no_pieces header front is first =
-    ⊎_elim
-    (λ (some : 0 < header.pieces).
-    let zero : slice_index front 16 ≡ 0 = is.zeros 16 (subst (λ p. zeros_from p ≤ 16) (sym first) (omega arith)) (omega arith) in
-    let gate : slice_index front 16 ≡ 0xC7 = is.open_pieces 0 some in
-    absurd (omega (arith, zero, gate)))
-    (λ (none : header.pieces ≤ 0). omega (arith, none))
-    (cases_lt 0 header.pieces)
-
-header_numbers : (header : Header) (bytes : List ℕ) → HasHeader header bytes → IsHeader header.profile header.slots header.pieces
-header_numbers header bytes has = record {
-  lowest = omega (arith, has.front.numbers.profile_low);
-  highest = has.front.numbers.profile_high;
-  some = has.front.numbers.many;
-  whole = no_pieces header (take 512 bytes) has.front;
-  total = has.front.numbers.few;
-}
-
 pub empty_image_stands : (header : Header) (image : Image) → IsLog header image.status [] → ImageStandsFor header image [] (λ relation. 0)
 empty_image_stands header image log = record {
   reading = empty_reading header.profile header.slots header.pieces;
@@ -199,5 +176,5 @@ empty_image_stands header image log = record {
     is_layout = empty_laid header;
     held = record { log = log; extents = tt; runs = tt };
   };
-  stands = empty-stands_for header.profile header.slots header.pieces (header_numbers header image.status log.header_is);
+  stands = empty-stands_for header.profile header.slots header.pieces log.header_is.front.numbers;
 }

@@ -1,7 +1,6 @@
 -- Writes beside what a layout names.
-use Rattle.std.specs.Prelude.{◌≢◌, ℕ, ◌+◌, ◌≤◌, List, [], ◌∷◌, length}
+use Rattle.std.specs.Prelude.{◌≢◌, ℕ, ◌≤◌, length}
 use Rattle.std.specs.List.{AllByRecursion}
-use Rattle.wire.specs.declared.slot.Run.{Run}
 use Rattle.wire.specs.declared.slot.Slot.{Slot}
 use Rattle.disk.specs.Areas.{AreaState, Areas, AreSound, synced}
 use Rattle.disk.specs.Parts.{IsLoosened}

@@ -3,7 +3,6 @@ use Rattle.std.specs.Prelude.{◌≡◌, ℕ, nat_lt, List, [], ◌∷◌, ◌++
 use Rattle.std.specs.List.{AllByRecursion}
 use Rattle.disk.specs.Areas.{Image}
 use Rattle.wire.specs.declared.slot.Member.{Member as Entry}
-use Rattle.wire.specs.declared.slot.Run.{Run}
 use Rattle.wire.specs.declared.slot.Anchors.{Anchors}
 use Rattle.wire.specs.declared.slot.Body.{Body}
 use Rattle.wire.specs.declared.slot.Body.TheVariants.{Commit, Archived, Reclaimed, Floor}
@@ -18,7 +17,6 @@ use Rattle.reading.specs.Records.{record_bytes, old_bytes, IsRecord, IsOldRecord
 use Rattle.reading.specs.Extents.{Extent, IsChain, HoldsExtent, AreDistinct}
 use Rattle.reading.specs.Runs.{StoredRun, IsStoredRun, HoldsRun}
 use Rattle.status.specs.declared.header.Header.{Header}
-use Rattle.status.specs.Header.{total}
 use Rattle.status.specs.Rules.{AreInRow, slot_of, head_of, runs_of}
 
 -- a commit that a slot names, with its records and the extents of its chain

@@ -1,11 +1,7 @@
 -- The writing of one slot, of any kind, between two layouts.
-use Rattle.std.specs.Prelude.{◌≡◌, ◌⊎◌, ℕ, ◌+◌, ◌<◌, List, [], ◌∷◌, ◌++◌, length, Result}
+use Rattle.std.specs.Prelude.{◌≡◌, ◌⊎◌, ◌<◌, List, [], ◌∷◌, ◌++◌, length}
 use Rattle.disk.specs.Areas.{AreaState, Areas}
-use Rattle.disk.specs.Calls.{Writes, Syncs}
-use Rattle.disk.specs.declared.area.Area.TheVariants.{Status}
-use Rattle.disk.specs.declared.area.DeviceFault.{DeviceFault}
 use Rattle.wire.specs.declared.slot.Slot.{Slot}
-use Rattle.status.specs.Log.{slot_start}
 use Rattle.reading.specs.Layouts.{Layout}
 use Rattle.reading.specs.Keeping.{StatusRests, IsBodyWritten, IsBodySynced, IsGateWritten, KeepsParts}
 use Rattle.status.specs.declared.header.Header.{Header}

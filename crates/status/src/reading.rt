@@ -1,0 +1,67 @@
+//! Reading the header.
+ghost use Rattle.std.specs.Prelude.{◌≡◌, ◌≤◌, ◌<◌, ◌↔◌, ℕ, length, take, true, IsTrue, IfOk, IfErr, IfSome, IfNone};
+ghost use Rattle.disk.specs.Calls.{looked};
+ghost use Rattle.status.specs.declared.header.Header.{Header};
+ghost use Rattle.status.specs.Rules.{is_built};
+ghost use Rattle.status.specs.Reading.{read_by, ReadsHeader, IsBuiltFront, IsHeaderOf, AnswersHeader, IsHeaderFault};
+
+use crate::fault::LogFault;
+use crate::front::decode_header;
+use crate::header::Header;
+use disk::{Area, DeviceFault, Disk};
+
+const COMMIT: u8 = 1;
+
+/// Whether slots of a kind are built in a profile. A store of a profile is read once its commits
+/// are built.
+pub fn is_built(profile: u32, kind: u8) -> bool
+    ensures { result ≡ is_built profile kind }
+{
+    profile == 1 && kind == COMMIT
+}
+
+// The header at the front of an area of this length.
+fn header_of(front: &[u8; 512], len: u64) -> Option<Header>
+    ensures found { IfSome result (IsBuiltFront front.now len) }
+    ensures none { IfNone result ((header : Header) → ¬ IsBuiltFront front.now len header) }
+{
+    let header = decode_header(front)?;
+    let fits = 512 + 512 * header.total() <= len;
+    if fits && is_built(header.profile, COMMIT) {
+        Some(header)
+    } else {
+        None
+    }
+}
+
+fn find_header<D: Disk>(disk: &mut D) -> Result<Option<Header>, DeviceFault>
+    ensures found { IsTrue D.tells → IfOk result (IsHeaderOf (D.state disk.old).areas.status.bytes) }
+    ensures same { D.state disk.new ≡ looked result (D.state disk.old) }
+{
+    let len = disk.len(Area::Status)?;
+    if len < 512 {
+        return Ok(None);
+    }
+    let mut front = [0; 512];
+    disk.read(Area::Status, 0, &mut front)?;
+    Ok(header_of(&front, len))
+}
+
+/// The header of the status area. It changes nothing.
+///
+/// # Errors
+///
+/// `NotAStore` where no header of a built profile stands there, or the area is too short for its
+/// slots; `Device` where the device refused a call.
+pub fn read_header<D: Disk>(disk: &mut D) -> Result<Header, LogFault>
+    ensures found { IsTrue D.tells → IfOk result (ReadsHeader (D.state disk.old).areas.status.bytes) }
+    ensures only { IsTrue D.tells → (header : Header) → ReadsHeader (D.state disk.old).areas.status.bytes header → AnswersHeader header result }
+    ensures fault { IfErr result IsHeaderFault }
+    ensures same { D.state disk.new ≡ read_by result (D.state disk.old) }
+{
+    match find_header(disk) {
+        Ok(Some(header)) => Ok(header),
+        Ok(None) => Err(LogFault::NotAStore),
+        Err(_) => Err(LogFault::Device),
+    }
+}
