@@ -100,7 +100,7 @@ rise-pair (w ∷ ws) (suc i) (suc j) d h low high = rise-pair ws i j d h.1 (omeg
 pub partitioned : {V : Type 0} (key : Key) (writes : List (KeyWrite V)) → AreRising writes → IsPartitionedBy (λ (w : KeyWrite V). key_lt w.key key) writes
 partitioned key writes rising i j d le high below =
     elim (cases_eq i j) [
-      inl same ↦ rw same below
+      | inl same ↦ rw same below
       | inr other ↦ key_lt-trans _ _ key (rise-pair writes i j d (rise-from writes rising) (omega (arith, other)) high) below
     ]
 
@@ -113,10 +113,10 @@ place_for key writes place rising high point here =
       within = high;
       lesser = λ k d low. point.0 k d (omega arith) low;
       greater = λ k d low within.
-        elim (cases_eq k place) [
-          inl same ↦ rw same (here d (omega (arith, same)))
-          | inr other ↦ key_lt-trans key (get_or writes place d).key (get_or writes k d).key (here d (omega arith)) (rise-pair writes place k d (rise-from writes rising) (omega (arith, other)) within)
-        ];
+          elim (cases_eq k place) [
+            | inl same ↦ rw same (here d (omega (arith, same)))
+            | inr other ↦ key_lt-trans key (get_or writes place d).key (get_or writes k d).key (here d (omega arith)) (rise-pair writes place k d (rise-from writes rising) (omega (arith, other)) within)
+          ];
     }
 
 pub place_of : {V : Type 0} (key : Key) (writes : List (KeyWrite V)) (place : ℕ) → place < length writes
@@ -228,12 +228,12 @@ pub write_in-with_write : {V : Type 0} (write : KeyWrite V) (writes : List (KeyW
 write_in-with_write write [] q = refl
 write_in-with_write {V} write (w ∷ ws) q =
     let Goal : Bool → Bool → Type 0 = λ a b. key_lt w.key write.key ≡ a → key_lt write.key w.key ≡ b
-        → write_in (cond a (w ∷ with_write ws write) (cond b (write ∷ w ∷ ws) (write ∷ ws))) q ≡ cond (same_key write.key q) (Some write.write) (write_in (w ∷ ws) q) in
+    → write_in (cond a (w ∷ with_write ws write) (cond b (write ∷ w ∷ ws) (write ∷ ws))) q ≡ cond (same_key write.key q) (Some write.write) (write_in (w ∷ ws) q) in
     let goal : Goal (key_lt w.key write.key) (key_lt write.key w.key) =
-      elim (key_lt w.key write.key) as (λ a. Goal a (key_lt write.key w.key)) [
-        true ↦ λ less _. written_behind write w ws (with_write ws write) q (same_key write.key q) refl less (write_in-with_write write ws q)
-        | false ↦ elim (key_lt write.key w.key) as (Goal false) [ true ↦ λ _ less. refl | false ↦ λ one two. written_in_place write w ws q (same_key write.key q) refl (neither-same w.key write.key one two) ]
-      ] in
+    elim (key_lt w.key write.key) as (λ a. Goal a (key_lt write.key w.key)) [
+      | true ↦ λ less _. written_behind write w ws (with_write ws write) q (same_key write.key q) refl less (write_in-with_write write ws q)
+      | false ↦ elim (key_lt write.key w.key) as (Goal false) [ true ↦ λ _ less. refl | false ↦ λ one two. written_in_place write w ws q (same_key write.key q) refl (neither-same w.key write.key one two) ]
+    ] in
     goal refl refl
 
 write_in-above : {V : Type 0} (key q : Key) (writes : List (KeyWrite V)) → AreAbove key writes → same_key key q ≡ true → write_in writes q ≡ None
@@ -247,16 +247,16 @@ without-by_key {V} key [] q rise = elim (same_key key q) as (λ b. let none : Op
 without-by_key {V} key (w ∷ ws) q rise =
     let Goal : Bool → Bool → Type 0 = λ a b. same_key w.key key ≡ a → same_key key q ≡ b → write_in (cond a ws (w ∷ without ws key)) q ≡ cond b None (write_in (w ∷ ws) q) in
     let goal : Goal (same_key w.key key) (same_key key q) =
-      elim (same_key w.key key) as (λ a. Goal a (same_key key q)) [
-        true ↦ elim (same_key key q) as (Goal true) [
-          true ↦ λ twin same. write_in-above w.key q ws rise.0 (same-trans w.key key q twin same)
-          | false ↦ λ twin other. let apart : same_key w.key q ≡ false = same_key-along w.key key q twin ∙ other in rw apart refl
-        ]
-        | false ↦ elim (same_key key q) as (Goal false) [
-          true ↦ λ apart same. let other : same_key w.key q ≡ false = differs apart same in rw other (without-by_key key ws q rise.1 ∙ rw same refl)
-          | false ↦ λ apart other. elim (same_key w.key q) as (λ b. cond b (Some w.write) (write_in (without ws key) q) ≡ cond b (Some w.write) (write_in ws q)) [ true ↦ refl | false ↦ without-by_key key ws q rise.1 ∙ rw other refl ]
-        ]
-      ] in
+    elim (same_key w.key key) as (λ a. Goal a (same_key key q)) [
+      | true ↦ elim (same_key key q) as (Goal true) [
+        | true ↦ λ twin same. write_in-above w.key q ws rise.0 (same-trans w.key key q twin same)
+        | false ↦ λ twin other. let apart : same_key w.key q ≡ false = same_key-along w.key key q twin ∙ other in rw apart refl
+      ]
+      | false ↦ elim (same_key key q) as (Goal false) [
+        | true ↦ λ apart same. let other : same_key w.key q ≡ false = differs apart same in rw other (without-by_key key ws q rise.1 ∙ rw same refl)
+        | false ↦ λ apart other. elim (same_key w.key q) as (λ b. cond b (Some w.write) (write_in (without ws key) q) ≡ cond b (Some w.write) (write_in ws q)) [ true ↦ refl | false ↦ without-by_key key ws q rise.1 ∙ rw other refl ]
+      ]
+    ] in
     goal refl refl
   where
     differs : same_key w.key key ≡ false → same_key key q ≡ true → same_key w.key q ≡ false
@@ -271,7 +271,7 @@ with_write-above : {V : Type 0} (key : Key) (write : KeyWrite V) (writes : List 
 with_write-above key write [] less above = (less, tt)
 with_write-above key write (w ∷ ws) less above =
     elim (key_lt w.key write.key) as (λ a. AreAbove key (cond a (w ∷ with_write ws write) (cond (key_lt write.key w.key) (write ∷ w ∷ ws) (write ∷ ws)))) [
-      true ↦ (above.0, with_write-above key write ws less above.1)
+      | true ↦ (above.0, with_write-above key write ws less above.1)
       | false ↦ elim (key_lt write.key w.key) as (λ b. AreAbove key (cond b (write ∷ w ∷ ws) (write ∷ ws))) [ true ↦ (less, above) | false ↦ (less, above.1) ]
     ]
 
@@ -280,13 +280,13 @@ with_write-rise write [] rise = (tt, tt)
 with_write-rise {V} write (w ∷ ws) rise =
     let Goal : Bool → Bool → Type 0 = λ a b. key_lt w.key write.key ≡ a → key_lt write.key w.key ≡ b → Rise (cond a (w ∷ with_write ws write) (cond b (write ∷ w ∷ ws) (write ∷ ws))) in
     let goal : Goal (key_lt w.key write.key) (key_lt write.key w.key) =
-      elim (key_lt w.key write.key) as (λ a. Goal a (key_lt write.key w.key)) [
-        true ↦ λ less _. (with_write-above w.key write ws less rise.0, with_write-rise write ws rise.1)
-        | false ↦ elim (key_lt write.key w.key) as (Goal false) [
-          true ↦ λ _ less. ((less, above-lower write.key w.key ws less rise.0), rise)
-          | false ↦ λ one two. (above-along write.key w.key ws (same-sym w.key write.key (neither-same w.key write.key one two)) rise.0, rise.1)
-        ]
-      ] in
+    elim (key_lt w.key write.key) as (λ a. Goal a (key_lt write.key w.key)) [
+      | true ↦ λ less _. (with_write-above w.key write ws less rise.0, with_write-rise write ws rise.1)
+      | false ↦ elim (key_lt write.key w.key) as (Goal false) [
+        | true ↦ λ _ less. ((less, above-lower write.key w.key ws less rise.0), rise)
+        | false ↦ λ one two. (above-along write.key w.key ws (same-sym w.key write.key (neither-same w.key write.key one two)) rise.0, rise.1)
+      ]
+    ] in
     goal refl refl
 
 pub with_write-rising : {V : Type 0} (write : KeyWrite V) (writes : List (KeyWrite V)) → AreRising writes → AreRising (with_write writes write)
@@ -311,7 +311,7 @@ pub length-with_write : {V : Type 0} (write : KeyWrite V) (writes : List (KeyWri
 length-with_write write [] = omega arith
 length-with_write write (w ∷ ws) =
     elim (key_lt w.key write.key) as (λ a. length (cond a (w ∷ with_write ws write) (cond (key_lt write.key w.key) (write ∷ w ∷ ws) (write ∷ ws))) ≤ length (w ∷ ws) + 1) [
-      true ↦ omega (arith, length-with_write write ws)
+      | true ↦ omega (arith, length-with_write write ws)
       | false ↦ elim (key_lt write.key w.key) as (λ b. length (cond b (write ∷ w ∷ ws) (write ∷ ws)) ≤ length (w ∷ ws) + 1) [ true ↦ omega arith | false ↦ omega arith ]
     ]
 
@@ -320,10 +320,41 @@ pub all-with_write : {V : Type 0} (P : KeyWrite V → Type 0) (write : KeyWrite 
 all-with_write P write [] one all = (one, tt)
 all-with_write P write (w ∷ ws) one all =
     elim (key_lt w.key write.key) as (λ a. AllByRecursion P (cond a (w ∷ with_write ws write) (cond (key_lt write.key w.key) (write ∷ w ∷ ws) (write ∷ ws)))) [
-      true ↦ (all.0, all-with_write P write ws one all.1)
+      | true ↦ (all.0, all-with_write P write ws one all.1)
       | false ↦ elim (key_lt write.key w.key) as (λ b. AllByRecursion P (cond b (write ∷ w ∷ ws) (write ∷ ws))) [ true ↦ (one, all) | false ↦ (one, all.1) ]
     ]
 
 pub all-without : {V : Type 0} (P : KeyWrite V → Type 0) (gone : Key) (writes : List (KeyWrite V)) → AllByRecursion P writes → AllByRecursion P (without writes gone)
 all-without P gone [] all = tt
 all-without P gone (w ∷ ws) all = elim (same_key w.key gone) as (λ b. AllByRecursion P (cond b ws (w ∷ without ws gone))) [ true ↦ all.1 | false ↦ (all.0, all-without P gone ws all.1) ]
+
+some-is_not-none : {A : Type 0} {x : A} → Some x ≡ None → ⊥
+some-is_not-none h = cc
+
+-- a write in place of another adds none
+found-length : {V : Type 0} (write : KeyWrite V) (writes : List (KeyWrite V)) (v : Option V) → Rise writes → write_in writes write.key ≡ Some v → length (with_write writes write) ≡ length writes
+found-length write [] v rise found = absurd (some-is_not-none (sym found))
+found-length {V} write (w ∷ ws) v rise found =
+    let Goal : Bool → Bool → Type 0 = λ a b. key_lt w.key write.key ≡ a → key_lt write.key w.key ≡ b → length (cond a (w ∷ with_write ws write) (cond b (write ∷ w ∷ ws) (write ∷ ws))) ≡ length (w ∷ ws) in
+    let goal : Goal (key_lt w.key write.key) (key_lt write.key w.key) =
+    elim (key_lt w.key write.key) as (λ a. Goal a (key_lt write.key w.key)) [
+      | true ↦ λ less _. let other : same_key w.key write.key ≡ false = key_lt-other w.key write.key less in ap suc (found-length write ws v rise.1 (rw other at found))
+      | false ↦ elim (key_lt write.key w.key) as (Goal false) [
+        | true ↦ λ _ less. absurd (not_there less)
+        | false ↦ λ one two. refl
+      ]
+    ] in
+    goal refl refl
+  where
+    not_there : key_lt write.key w.key ≡ true → ⊥
+    not_there less =
+        let none : write_in (w ∷ ws) write.key ≡ None = write_in-above write.key write.key (w ∷ ws) (less, above-lower write.key w.key ws less rise.0) (grind (arith, nat_tests)) in
+        some-is_not-none (sym found ∙ none)
+
+pub length-found : {V : Type 0} (write : KeyWrite V) (writes : List (KeyWrite V)) (v : Option V) → AreRising writes → write_in writes write.key ≡ Some v → length (with_write writes write) ≡ length writes
+length-found write writes v rising found = found-length write writes v (rise-from writes rising) found
+
+-- a key whose write stands at a place is written
+pub found-is_not-none : {V : Type 0} (key : Key) (writes : List (KeyWrite V)) (place : ℕ) → AreRising writes → IsPlaceOf key writes place → write_in writes key ≡ None → ⊥
+found-is_not-none key [] place rising found none = absurd (omega (arith, found.within))
+found-is_not-none key (w ∷ ws) place rising found none = some-is_not-none (sym (write_in-at key (w ∷ ws) place w rising found) ∙ none)

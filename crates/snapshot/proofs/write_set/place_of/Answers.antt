@@ -21,7 +21,7 @@ returns-else-place-writes g c =
     let key = c.args.key in
     let point = c.partition_point-place.ensures.partitioned (λ (w : KeyWrite g.row.V.Denot). key_lt w.key key) (always_returns_same _ _ _ (λ a r f k. search (rules, of_calls))) (partitioned key writes c.requires) in
     elim c.else-place-writes.branch [
-      else-place-writes-via-then-place-writes+else-not-is_before w ↦ place_for key writes c.partition_point-place.result c.requires c.partition_point-place.ensures.bound point
-        (λ d low. ap (λ (w : KeyWrite g.row.V.Denot). key_lt key w.key) (get_or_default writes c.partition_point-place.result d w.index-writes-place.result low) ∙ (sym w.is_before.ensures ∙ w.if-not-is_before.false))
+      | else-place-writes-via-then-place-writes+else-not-is_before w ↦ place_for key writes c.partition_point-place.result c.requires c.partition_point-place.ensures.bound point
+          (λ d low. ap (λ (w : KeyWrite g.row.V.Denot). key_lt key w.key) (get_or_default writes c.partition_point-place.result d w.index-writes-place.result low) ∙ (sym w.is_before.ensures ∙ w.if-not-is_before.false))
       | else-place-writes-via-else-place-writes w ↦ place_for key writes c.partition_point-place.result c.requires c.partition_point-place.ensures.bound point (λ d low. absurd (omega (arith, w.if-place-writes.false, low)))
     ]
