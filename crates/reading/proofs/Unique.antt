@@ -89,7 +89,7 @@ one_chain heap first extents records records' a b list list' is_a is_b held_a he
 
 -- ---- the log
 
-slot_within : (slots : List Slot) (n : ℕ) → n < length slots → (slot : Slot) × (slice_get slots n ≡ Some slot)
+pub slot_within : (slots : List Slot) (n : ℕ) → n < length slots → (slot : Slot) × (slice_get slots n ≡ Some slot)
 slot_within [] n lt = absurd (omega arith)
 slot_within (s ∷ slots) zero lt = (s, refl)
 slot_within (s ∷ slots) (suc n) lt = slot_within slots n (omega arith)
@@ -99,7 +99,7 @@ no_longer header bytes a b log_a log_b shorter =
     let there = slot_within b (length a) shorter in
     log_a.closed (length a) (omega arith) (let fits = log_b.opens.fits in omega arith) (log_b.opens.each_open (length a) there.0 there.1)
 
-same_slots : (a b : List Slot) → length a ≡ length b → ((n : ℕ) (x y : Slot) → slice_get a n ≡ Some x → slice_get b n ≡ Some y → x ≡ y) → a ≡ b
+pub same_slots : (a b : List Slot) → length a ≡ length b → ((n : ℕ) (x y : Slot) → slice_get a n ≡ Some x → slice_get b n ≡ Some y → x ≡ y) → a ≡ b
 same_slots [] [] long same = refl
 same_slots [] (y ∷ b) long same = absurd (omega arith)
 same_slots (x ∷ a) [] long same = absurd (omega arith)

@@ -1,0 +1,3 @@
+pub mod Walk
+pub mod Answers
+pub mod ReadChains
