@@ -1,3 +1,4 @@
 pub mod Walk
 pub mod Answers
 pub mod ReadChains
+pub mod Format

@@ -3,5 +3,7 @@
 
 mod chain;
 mod fault;
+mod formatting;
 
+pub use formatting::format;
 pub use fault::{FormatFault, OpenFault};
