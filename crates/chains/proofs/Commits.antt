@@ -43,6 +43,11 @@ last_time-upto (c ∷ cs) key =
       | false ↦ omega (arith, last_time-upto cs key)
     ]
 
+pub last_time-found : (m : List KeyWrites) (key : Key) (c : KeyWrites) → Some c ≡ find (is_of key) m → last_time c.writes ≤ latest m
+last_time-found m key c found =
+    let P : Option KeyWrites → Type 0 = λ o. last_time (writes_in o) ≤ latest m in
+    subst P (sym found) (last_time-upto m key)
+
 pub older-latest : (time : ℕ) (m : List KeyWrites) (ws : List (KeyWrite Value)) → latest m < time → AreOlder time m ws
 older-latest time m [] h = tt
 older-latest time m (w ∷ ws) h = (omega (arith, last_time-upto m w.key), older-latest time m ws h)

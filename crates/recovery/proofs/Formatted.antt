@@ -1,11 +1,9 @@
 -- The log that a format leaves.
-use Rattle.std.proofs.Common.{◌≡◌, ℕ, ◌+◌, ◌*◌, ◌<◌, ◌≤◌, List, [], ◌∷◌, ◌++◌, length, take, drop, replicate, refl, sym, ap, subst, ◌∙◌, arith, inr, Some}
+use Rattle.std.proofs.Common.{◌≡◌, ℕ, ◌+◌, ◌*◌, ◌<◌, ◌≤◌, List, [], length, take, drop, refl, sym, ap, subst, ◌∙◌, arith, inr}
 use Rattle.std.specs.Prelude.{slice_index}
 use Rattle.std.proofs.lemmas.List.{take_at}
 use Rattle.disk.specs.Areas.{Areas, AreaState, overlaid, written, synced}
-use Rattle.disk.specs.Parts.{IsOutside}
 use Rattle.disk.proofs.Parts.{overlaid_agrees, length-overlaid}
-use Rattle.image.specs.StandsFor.{IsHeader}
 use Rattle.status.specs.Header.{new_header, HasNumbers, IsFront, piece_gate}
 use Rattle.status.specs.Log.{slot_start, IsOpen, HasRoom, OpensWith, IsLog}
 use Rattle.recovery.specs.Format.{IsSlotCount, HasZeroSlots, IsFormatted}

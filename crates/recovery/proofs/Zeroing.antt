@@ -1,11 +1,11 @@
 -- Zeros that are written behind the front of the status area.
-use Rattle.std.proofs.Common.{◌≡◌, ◌⊎◌, inl, inr, ℕ, ◌+◌, ◌-◌, ◌<◌, ◌≤◌, max, List, [], ◌∷◌, length, get_or, refl, sym, ap, subst, ◌∙◌, arith}
-use Rattle.std.specs.Prelude.{slice_index, Result, OnOk}
+use Rattle.std.proofs.Common.{◌≡◌, inl, inr, ℕ, ◌+◌, ◌-◌, ◌<◌, ◌≤◌, List, ◌∷◌, length, get_or, refl, sym, ap, ◌∙◌, arith}
+use Rattle.std.specs.Prelude.{slice_index}
 use Rattle.std.proofs.lemmas.Bool.{cases_lt}
 use Rattle.std.proofs.lemmas.List.Edits.{get_or-between}
 use Rattle.disk.specs.declared.area.Area.TheVariants.{Status}
-use Rattle.disk.specs.Areas.{AreaState, Areas, MayLeave, IsSound, IsUntouched, IsApart, overlaid, written, loosened, with_area}
-use Rattle.disk.specs.Calls.{Writes, MadeInPart, Tears, IsTorn}
+use Rattle.disk.specs.Areas.{AreaState, Areas, IsSound, overlaid, written, loosened}
+use Rattle.disk.specs.Calls.{MadeInPart, IsTorn}
 use Rattle.disk.proofs.Stops.{IsTorn-overlaid, slice_range-overlaid_same}
 use Rattle.disk.proofs.Parts.{length-overlaid}
 use Rattle.recovery.specs.Format.{KeepsBefore, IsZeroed, KeepsFront}

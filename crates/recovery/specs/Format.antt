@@ -1,5 +1,5 @@
 -- What formatting makes of the status area.
-use Rattle.std.specs.Prelude.{◌≡◌, ◌⊎◌, ℕ, ◌+◌, ◌*◌, ◌<◌, ◌≤◌, List, [], length, slice_index, Result, Ok, Err}
+use Rattle.std.specs.Prelude.{◌≡◌, ◌⊎◌, ℕ, ◌+◌, ◌<◌, ◌≤◌, List, [], length, slice_index, Result, Ok, Err}
 use Rattle.disk.specs.Areas.{AreaState, Areas, MayLeave, IsUntouched}
 use Rattle.disk.specs.Parts.{IsSettled}
 use Rattle.disk.specs.Calls.{counted}

@@ -8,7 +8,7 @@ ghost use Rattle.recovery.specs.Format.{IsSlotCount, refusals_after, IsZeroed, K
 
 use crate::fault::FormatFault;
 use disk::{Area, DeviceFault, Disk};
-use status::{encode_header, read_header, LogFault};
+use status::{LogFault, encode_header, read_header};
 use std::alloc::{AllocError, Global};
 
 const FRONT_LEN: u64 = 512;

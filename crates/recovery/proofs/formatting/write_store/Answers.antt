@@ -1,4 +1,4 @@
-use Rattle.std.proofs.Common.{inl, inr}
+use Rattle.std.proofs.Common.{inr}
 use Rattle.recovery.proofs.formatting.write_store.Goals as goal
 
 pub returns-in_err-write_front-clause-stop : goal.returns-in_err-write_front-clause-stop

@@ -1,4 +1,4 @@
-use Rattle.std.proofs.Common.{◌≡◌, ◌-◌, ◌+◌, ◌<◌, ◌≤◌, ◌∙◌, ℕ, List, length, min, take, subst, arith}
+use Rattle.std.proofs.Common.{◌≡◌, ◌-◌, ◌+◌, ◌<◌, ◌∙◌, ℕ, List, length, min, take, subst, arith}
 use Rattle.std.specs.Prelude.{slice_index}
 use Rattle.std.proofs.lemmas.List.{length-take, get_or-take}
 use Rattle.recovery.specs.Format.{IsZeroed}
@@ -20,8 +20,7 @@ loop-at-preserved g c =
     let long : length bytes ≡ len = simp length-take (omega arith) in
     let more : c.loop-at.at < c.args.end = c.loop-at-test.true in
     let some : 0 < length bytes = let any = c.requires.some in omega arith in
-    let zeros : (k : ℕ) → k < length bytes → slice_index bytes k ≡ 0 = λ k below. get_or-take len c.args.zeros.now k 0 (omega arith) ∙ c.requires.zeros k in
-    (
+    let zeros : (k : ℕ) → k < length bytes → slice_index bytes k ≡ 0 = λ k below. get_or-take len c.args.zeros.now k 0 (omega arith) ∙ c.requires.zeros k in (
       omega arith,
       omega arith,
       c.in_ok-write_at.ensures.counts.refused ∙ c.loop-at.invariant.2,

@@ -1,5 +1,4 @@
 use Rattle.std.proofs.Common.{◌≡◌, ◌≤◌, ◌-◌, IsTrue}
-use Rattle.disk.specs.Areas.{Areas}
 use Rattle.recovery.specs.Format.{IsZeroed}
 use Rattle.recovery.proofs.formatting.zero_slots.Given as goal
 

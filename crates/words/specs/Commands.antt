@@ -1,0 +1,51 @@
+-- The command line as clap sees it.
+use Rattle.std.specs.Prelude.{◌≡◌, ◌∷◌, [], Some, codes, true, false, pos}
+use Rattle.clap.specs.Words.{App, Rule, Text, app_of, rule_of, new_app, new_rule, with_rule, with_subcommand}
+use Rattle.clap.specs.declared.builder.arg.Arg.{Arg}
+use Rattle.clap.specs.declared.builder.command.Command.{Command}
+use Rattle.clap.specs.declared.builder.command.Command.TheViews.{out-Command as fields_of}
+use Rattle.clap.specs.declared.builder.value_parser.ValueParser.TheVariants as parser
+
+-- an argument of one level, with this rule
+abbrev pub IsArg : Arg → Rule → Type 0
+IsArg a rule = (rule_of a ≡ rule) × (a.global ≡ false)
+
+-- a command with these rules, and no argument of several levels
+abbrev pub IsCommand : Command → App → Type 0
+IsCommand c app = (app_of c ≡ app) × ((fields_of c).has_globals ≡ false)
+
+-- an argument that has to be there, as text
+abbrev pub text : Text → Rule
+text name = record (new_rule name) { required = true }
+
+abbrev pub dir : Rule
+dir = text (codes "DIR")
+
+abbrev pub time : Rule
+time = text (codes "TIME")
+
+abbrev pub relation : Rule
+relation = record (text (codes "REL")) { parser = Some (parser.Signed (pos 0) (pos 65_535)) }
+
+abbrev pub record_number : Rule
+record_number = record (text (codes "REC")) { parser = Some (parser.Unsigned 0 18_446_744_073_709_551_615) }
+
+abbrev pub slots : Rule
+slots = record (new_rule (codes "slots")) {
+  long = Some (codes "slots");
+  value_names = 1;
+  parser = Some (parser.Signed (pos 0) (pos 4_294_967_295));
+  defaults = codes "1024" ∷ [];
+}
+
+abbrev pub format : App
+format = with_rule (with_rule (new_app (codes "format")) dir) slots
+
+abbrev pub run : App
+run = with_rule (new_app (codes "run")) dir
+
+abbrev pub at : App
+at = with_rule (with_rule (with_rule (with_rule (new_app (codes "at")) dir) relation) record_number) time
+
+abbrev pub timestore : App
+timestore = with_subcommand (with_subcommand (with_subcommand (new_app (codes "timestore")) format.top) run.top) at.top

@@ -1,0 +1,24 @@
+//! What the words of a command line ask for.
+use history::Key;
+
+/// What to do.
+#[derive(Clone, Copy, Debug, PartialEq, Eq)]
+pub enum Action<'a> {
+    /// No word: the script of standard input, on a new store of 16 slots in memory.
+    Example,
+    /// Makes an empty store of this many slots in a folder.
+    Format {
+        dir: &'a str,
+        slots: u32,
+    },
+    /// Runs the script of standard input on the store in a folder.
+    Run {
+        dir: &'a str,
+    },
+    /// Asks the store in a folder for a key's value at a time, which is as the words spell it.
+    At {
+        dir: &'a str,
+        key: Key,
+        time: &'a str,
+    },
+}

@@ -1,0 +1,139 @@
+//! The subcommands and their arguments, as `clap` reads them.
+ghost use Rattle.std.specs.Prelude.{◌≡◌, IfOk, codes, false, map};
+ghost use Rattle.clap.specs.Words.{FailsBy, fault_of, subcommand_of, subcommand_rows_of, app_of, rule_of, new_app, with_rule, with_subcommand};
+ghost use Rattle.clap.specs.declared.builder.command.Command.TheViews.{out-Command as fields_of};
+ghost use Rattle.words.specs.Commands as told;
+
+use clap::{Arg, ArgMatches, Command, Error, value_parser};
+use std::alloc::{AllocError, Global};
+
+/// The folder of a store.
+fn dir<'a>(alloc: Global) -> Arg<'a>
+    ensures { told.IsArg result told.dir }
+{
+    Arg::new(alloc, "DIR")
+        .required(true)
+        .help("The folder of the store's three files")
+}
+
+/// A time, which is read when the command is done.
+fn time<'a>(alloc: Global) -> Arg<'a>
+    ensures { told.IsArg result told.time }
+{
+    Arg::new(alloc, "TIME").required(true).help(
+        "The time, in microseconds since 1970 or as YYYY-MM-DDTHH:MM:SSZ",
+    )
+}
+
+/// A relation's number.
+fn relation<'a>(alloc: Global) -> Arg<'a>
+    ensures { told.IsArg result told.relation }
+{
+    Arg::new(alloc, "REL")
+        .required(true)
+        .value_parser(value_parser!(u16))
+        .help("The relation's number, 0 to 65535")
+}
+
+/// A record's number.
+fn record_number<'a>(alloc: Global) -> Arg<'a>
+    ensures { told.IsArg result told.record_number }
+{
+    Arg::new(alloc, "REC")
+        .required(true)
+        .value_parser(value_parser!(u64))
+        .help("The record's number in its relation")
+}
+
+/// How many slots a store is made with.
+fn slots<'a>(alloc: Global) -> Arg<'a>
+    ensures { told.IsArg result told.slots }
+{
+    Arg::new(alloc, "slots")
+        .long("slots")
+        .value_name("N")
+        .value_parser(value_parser!(u32))
+        .default_value("1024")
+        .help("The slots of the store's log, 16 to 65536")
+}
+
+/// A command with no argument yet.
+fn command<'a>(alloc: Global, name: &'a str, about: &'a str) -> Command<'a>
+    ensures app { app_of result ≡ new_app name.entry.now }
+    ensures local { (fields_of result).has_globals ≡ false }
+{
+    Command::new(alloc, name).about(about)
+}
+
+/// The command with one more argument.
+fn with_arg<'a>(command: Command<'a>, arg: Arg<'a>) -> Result<Command<'a>, AllocError>
+    requires { arg.global ≡ false }
+    ensures rules { IfOk result (λ c. app_of c ≡ with_rule (app_of command.entry) (rule_of arg.entry)) }
+    ensures local { (fields_of command.entry).has_globals ≡ false → IfOk result (λ c. (fields_of c).has_globals ≡ false) }
+{
+    command.arg(arg)
+}
+
+fn format<'a>(alloc: Global) -> Result<Command<'a>, AllocError>
+    ensures { IfOk result (λ c. told.IsCommand c told.format) }
+{
+    let command = command(alloc, "format", "Make an empty store");
+    let command = with_arg(command, dir(alloc))?;
+    with_arg(command, slots(alloc))
+}
+
+fn run<'a>(alloc: Global) -> Result<Command<'a>, AllocError>
+    ensures { IfOk result (λ c. told.IsCommand c told.run) }
+{
+    let command = command(alloc, "run", "Run the script of standard input on a store");
+    with_arg(command, dir(alloc))
+}
+
+fn at<'a>(alloc: Global) -> Result<Command<'a>, AllocError>
+    ensures { IfOk result (λ c. told.IsCommand c told.at) }
+{
+    let command = command(alloc, "at", "Show the value of a record at a time");
+    let command = with_arg(command, dir(alloc))?;
+    let command = with_arg(command, relation(alloc))?;
+    let command = with_arg(command, record_number(alloc))?;
+    with_arg(command, time(alloc))
+}
+
+/// The command with one more subcommand.
+fn with_command<'a>(command: Command<'a>, sub: Command<'a>) -> Result<Command<'a>, AllocError>
+    requires { (fields_of sub).has_globals ≡ false }
+    ensures rules { IfOk result (λ c. app_of c ≡ with_subcommand (app_of command.entry) (app_of sub.entry).top) }
+    ensures local { (fields_of command.entry).has_globals ≡ false → IfOk result (λ c. (fields_of c).has_globals ≡ false) }
+{
+    command.subcommand(sub)
+}
+
+/// The command with no subcommand yet, which help calls `timestore` whatever its file is called.
+fn top<'a>(alloc: Global) -> Result<Command<'a>, AllocError>
+    ensures { IfOk result (λ c. told.IsCommand c (new_app (codes "timestore"))) }
+{
+    command(
+        alloc,
+        "timestore",
+        "A store of records that keeps every version. Without a command it runs the script of \
+         standard input on a new store of 16 slots in memory",
+    )
+    .bin_name("timestore")
+}
+
+/// The whole command line.
+fn timestore<'a>(alloc: Global) -> Result<Command<'a>, AllocError>
+    ensures { IfOk result (λ c. told.IsCommand c told.timestore) }
+{
+    let command = with_command(top(alloc)?, format(alloc)?)?;
+    let command = with_command(command, run(alloc)?)?;
+    with_command(command, at(alloc)?)
+}
+
+/// What the words say, as `clap` reads them.
+pub fn matches<'a>(alloc: Global, words: &'a [&'a str]) -> Result<ArgMatches<'a>, Error>
+    ensures met { IfOk result (λ m. subcommand_rows_of m ≡ subcommand_of told.timestore (map (λ w. w.now) words.entry.now)) }
+    ensures faults { FailsBy (fault_of told.timestore (map (λ w. w.now) words.entry.now)) result }
+{
+    timestore(alloc)?.try_get_matches_from(words)
+}

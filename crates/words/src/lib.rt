@@ -1,0 +1,12 @@
+//! The command line of `timestore`.
+#![tactic(auto)]
+
+mod action;
+mod command;
+mod read;
+
+pub use action::Action;
+pub use read::{WordsFault, read_words};
+
+#[cfg(test)]
+mod tests;
