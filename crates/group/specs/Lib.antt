@@ -1,2 +1,4 @@
 pub mod CommitOrder
 pub mod Tickets
+pub mod Queued
+pub mod Taking

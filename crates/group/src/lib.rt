@@ -3,8 +3,14 @@
 
 mod answers;
 mod commit_order;
+mod conflict;
+mod queued;
+mod taking;
 mod ticket;
 
 pub use answers::{BeginFault, Did, PumpFault, Redeemed, SubmitFault, Submitted};
 pub use commit_order::{CommitHead, CommitOrder, Standing};
+pub use conflict::first_conflict;
+pub use queued::{Queued, QueuedParts, StoredExtent};
+pub use taking::{give_back_all, keep_all, take_extents};
 pub use ticket::Ticket;
