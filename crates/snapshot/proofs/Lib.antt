@@ -1,0 +1,3 @@
+pub mod WriteSetLemmas
+pub mod TxnLemmas
+pub mod ScanLemmas
