@@ -5,7 +5,7 @@ use Rattle.wire.specs.declared.slot.Member.{Member}
 use Rattle.history.specs.declared.key.Key.{Key}
 use Rattle.history.specs.declared.key.KeyWrite.{KeyWrite}
 use Rattle.history.specs.Time.{value_at}
-use Rattle.image.specs.Reading.{Value}
+use Rattle.image.specs.Values.{Value}
 use Rattle.chains.specs.KeyWrites.{KeyWrites, writes_of}
 use Rattle.extents.specs.declared.usage.Usage.{Usage}
 use Rattle.snapshot.specs.OpenTable.{snapshot_of, with_closed}
@@ -57,8 +57,12 @@ is_snapshot (Some snapshot) time = snapshot == time
 abbrev pub is_of_value : List KeyWrites → ℕ → KeyWrite Value → Bool
 is_of_value versions snapshot w = is_some w.write || is_some (value_at (writes_of versions w.key) snapshot)
 
+abbrev pub is_own_of : TransactionsValue → ℕ → ℕ → ℕ → List (KeyWrite Value) → Bool
+is_own_of v mark number snapshot writes =
+    if mark == v.mark then (if is_snapshot (snapshot_of number v.opened) snapshot then list_all (is_of_value v.versions snapshot) writes else false) else false
+
 abbrev pub is_own : TransactionsValue → TxnValue → Bool
-is_own v txn = (txn.mark == v.mark) && (is_snapshot (snapshot_of txn.number v.opened) txn.snapshot && list_all (is_of_value v.versions txn.snapshot) txn.writes)
+is_own v txn = is_own_of v txn.mark txn.number txn.snapshot txn.writes
 
 -- a transaction is over
 abbrev pub over : TransactionsValue → ℕ → TransactionsValue

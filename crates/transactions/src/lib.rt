@@ -6,8 +6,7 @@ mod stage;
 mod steps;
 mod submit;
 mod transactions;
-mod view;
 
 pub use stage::{GroupStage, NextStep};
+pub use steps::MOST_MEMBERS;
 pub use transactions::Transactions;
-pub use view::View;

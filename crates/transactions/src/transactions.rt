@@ -1,9 +1,10 @@
 //! What a store keeps in memory of its transactions.
-ghost use Rattle.std.specs.Prelude.{◌≡◌, IfOk, OnTrue, OnFalse};
-ghost use Rattle.transactions.specs.Values.{is_own, over, ordered};
+ghost use Rattle.std.specs.Prelude.{◌≡◌, IfOk, if◌then◌else◌};
+ghost use Rattle.transactions.specs.Values.{ordered, over, is_own_of};
 ghost use Rattle.transactions.specs.Calls.{Begins, Aborts, Redeems, last};
 
 use crate::stage::GroupStage;
+use crate::submit::gone_is_of_value;
 use chains::Frozen;
 use extents::Extents;
 use group::{BeginFault, CommitOrder, Queued, Redeemed, Standing, Ticket};
@@ -32,10 +33,13 @@ pub struct Transactions {
 
 impl Model for Transactions {
     ghost use Rattle.transactions.specs.Values.{TransactionsValue};
+    ghost use Rattle.transactions.specs.Order.{IsInOrder};
 
     ghost Value = { TransactionsValue };
 
     ghost view = { λ t. record { mark = t.mark; opened = t.opened; heads = t.order.heads; published = t.order.published; versions = t.versions; queue = t.queue.items; usages = t.extents; slots = t.slots; used = t.used; group = t.group; stage = t.stage; floor = t.floor; failed = t.failed } };
+
+    ghost invariant = { λ t. IsInOrder (record { mark = t.mark; opened = t.opened; heads = t.order.heads; published = t.order.published; versions = t.versions; queue = t.queue.items; usages = t.extents; slots = t.slots; used = t.used; group = t.group; stage = t.stage; floor = t.floor; failed = t.failed }) };
 }
 
 impl Transactions {
@@ -104,7 +108,10 @@ impl Transactions {
     }
 
     // Whether a transaction is the store's own; if so, it is over.
-    pub(crate) fn finish(&mut self, txn: &TxnParts) -> bool {
+    pub(crate) fn finish(&mut self, txn: &TxnParts) -> bool
+        ensures own { result ≡ is_own_of self.old txn.now.mark txn.now.number txn.now.snapshot txn.now.writes.items }
+        ensures new { self.new ≡ (if result then over self.old txn.now.number else self.old) }
+    {
         if !self.is_own(txn) {
             return false;
         }
@@ -112,7 +119,9 @@ impl Transactions {
         true
     }
 
-    fn is_own(&self, txn: &TxnParts) -> bool {
+    fn is_own(&self, txn: &TxnParts) -> bool
+        ensures { result ≡ is_own_of self.now txn.now.mark txn.now.number txn.now.snapshot txn.now.writes.items }
+    {
         if txn.mark != self.mark {
             return false;
         }
@@ -123,7 +132,9 @@ impl Transactions {
     }
 
     /// The versions after the whole commit order.
-    pub(crate) fn ordered(&self) -> &Frozen {
+    pub(crate) fn ordered(&self) -> &Frozen
+        ensures { result.now ≡ ordered self.now }
+    {
         match self.queue.back() {
             None => &self.versions,
             Some(queued) => queued.after(),
