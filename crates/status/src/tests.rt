@@ -32,11 +32,7 @@ fn commit(time: u64) -> Body {
 fn zeros(alloc: Global, len: usize) -> Result<MemDisk, Fail> {
     let mut bytes = Vec::new(alloc);
     bytes.resize(len, 0)?;
-    Ok(MemDisk::with_bytes(
-        bytes,
-        Vec::new(alloc),
-        Vec::new(alloc),
-    ))
+    Ok(MemDisk::with_bytes(bytes, Vec::new(alloc), Vec::new(alloc)))
 }
 
 // An empty store of so many slots.
