@@ -1,5 +1,8 @@
 //! What a store keeps in memory of its transactions.
-ghost use Rattle.std.specs.Prelude.{◌≡◌, IfOk, if◌then◌else◌};
+ghost use Rattle.std.specs.Prelude.{◌≡◌, ◌≤◌, [], length, false, IfOk, if◌then◌else◌};
+ghost use Rattle.chains.specs.KeyWrites.{latest};
+ghost use Rattle.group.specs.CommitOrder.{IsRisingAfter, last_time};
+ghost use Rattle.transactions.specs.declared.stage.GroupStage.TheVariants.{NoGroup};
 ghost use Rattle.transactions.specs.Values.{ordered, over, is_own_of};
 ghost use Rattle.transactions.specs.Calls.{Begins, Aborts, Redeems, last};
 
@@ -7,7 +10,9 @@ use crate::stage::GroupStage;
 use crate::submit::gone_is_of_value;
 use chains::Frozen;
 use extents::Extents;
-use group::{BeginFault, CommitOrder, Queued, Redeemed, Standing, Ticket};
+use group::{
+    BeginFault, CommitHead, CommitOrder, Queued, QueuedParts, Redeemed, Standing, Ticket, keep_all,
+};
 use snapshot::{OpenTable, Txn, TxnParts};
 use std::alloc::{AllocError, Global};
 use std::collections::VecDeque;
@@ -43,6 +48,67 @@ impl Model for Transactions {
 }
 
 impl Transactions {
+    /// Those of a store that was just opened: the published commits, the versions of each key, the
+    /// extents in use, the slots of the store and of its log, and the floor.
+    #[allow(clippy::too_many_arguments)]
+    pub fn of_recovered(
+        alloc: Global,
+        mark: u64,
+        heads: Vec<CommitHead>,
+        versions: Frozen,
+        extents: Extents,
+        slots: u32,
+        used: u32,
+        floor: u64,
+    ) -> Self
+        requires rising { IsRisingAfter 0 heads.items }
+        requires latest { latest versions ≤ last_time heads.items }
+        ensures { result ≡ record { mark = mark; opened = []; heads = heads.items; published = length heads.items; versions = versions; queue = []; usages = extents; slots = slots; used = used; group = 0; stage = NoGroup; floor = floor; failed = false } }
+    {
+        Transactions {
+            mark,
+            opened: OpenTable::new(alloc),
+            order: CommitOrder::of_published(heads),
+            versions,
+            queue: VecDeque::new(alloc),
+            extents,
+            slots,
+            used,
+            group: 0,
+            stage: GroupStage::NoGroup,
+            floor,
+            failed: false,
+        }
+    }
+
+    /// Gives up what waits: its commits are not published here any more.
+    pub fn spend(self) {
+        let Transactions {
+            mark: _,
+            opened: _,
+            order: _,
+            versions: _,
+            queue,
+            mut extents,
+            slots: _,
+            used: _,
+            group: _,
+            stage: _,
+            floor: _,
+            failed: _,
+        } = self;
+        let mut queue = queue;
+        while let Some(queued) = queue.pop_front() {
+            let QueuedParts {
+                entry: _,
+                after: _,
+                stored,
+            } = queued.spend();
+            keep_all(&mut extents, stored);
+        }
+        queue.destroy_empty();
+    }
+
     /// A transaction on what is published now.
     ///
     /// Answers `Failed` once a write or sync of the device was refused, before any growth.
