@@ -1,34 +1,63 @@
 -- A run is what its own bytes say, and an example of a run.
-use Rattle.std.proofs.Common.{◌≡◌, ℕ, ◌+◌, ◌≤◌, List, [], ◌∷◌, ◌++◌, length, replicate, refl, sym, ◌∙◌, ap}
+use Rattle.std.proofs.Common.{◌≡◌, ℕ, ◌+◌, ◌-◌, ◌≤◌, List, [], ◌∷◌, length, take, drop, refl, sym, ◌∙◌, ap, arith}
 use Rattle.std.specs.List.{slice_range}
-use Rattle.archive.specs.declared.record.Run.{Run}
-use Rattle.archive.specs.Records.{ArchiveRecord, head_bytes, u16_bytes, u64_bytes, packed, fields_bytes}
-use Rattle.archive.specs.Parts.{IsPart}
-use Rattle.archive.specs.Runs.{HoldsRun, run_spelling, records_bytes, index_bytes}
+use Rattle.std.proofs.lemmas.List.{drop-take, take-take}
+use Rattle.wire.specs.Numbers.{u16_bytes, u64_bytes}
+use Rattle.image.specs.Reading.{ArchiveRecord}
+use Rattle.archive.specs.declared.run.RunEntry.{RunEntry}
+use Rattle.archive.specs.Records.{head_bytes}
+use Rattle.archive.specs.Parts.{IsRight, EndBy}
+use Rattle.archive.specs.Runs.{HoldsRun, run_bytes, run_end, records_bytes, index_bytes}
 
--- bytes that agree with these from the run's start to its end hold the same run
-pub holds_again : (old new : List ℕ) (run : Run) (records : List ArchiveRecord) → HoldsRun old run records
-    → run.start + run.len ≤ length new → slice_range new run.start (run.start + run.len) ≡ slice_range old run.start (run.start + run.len) → HoldsRun new run records
-holds_again old new run records holds within same = record {
-  within = within;
-  short = holds.short;
-  spelled = same ∙ holds.spelled;
-  count = holds.count;
-  upto = holds.upto;
-  each = holds.each;
-  in_order = holds.in_order;
+-- areas that agree up to a place hold the same parts up to it
+pub same_part : (old new : List ℕ) (limit from to : ℕ) → from ≤ to → to ≤ limit → take limit new ≡ take limit old → slice_range new from to ≡ slice_range old from to
+same_part old new limit from to order within same =
+    sym (shown new) ∙ ap (λ (xs : List ℕ). take (to - from) (drop from xs)) same ∙ shown old
+  where
+    shown : (xs : List ℕ) → take (to - from) (drop from (take limit xs)) ≡ slice_range xs from to
+    shown xs =
+        let split : limit ≡ from + (limit - from) = omega arith in
+        ap (λ (n : ℕ). take (to - from) (drop from (take n xs))) split
+        ∙ ap (λ (ys : List ℕ). take (to - from) ys) (drop-take from (limit - from) xs)
+        ∙ take-take (to - from) (limit - from) (drop from xs) (omega arith)
+
+pub run_again : (old new : List ℕ) (run : RunEntry) (records : List ArchiveRecord) → HoldsRun old run records
+    → run_end run ≤ length new → take (run_end run) new ≡ take (run_end run) old → HoldsRun new run records
+run_again old new run records holds within same =
+    let size = holds.length_is in
+    record {
+      held = record {
+        inside = omega arith;
+        is = same_part old new (run_end run) run.slot.start (run.slot.start + length (run_bytes records)) (omega arith) (omega arith) same ∙ holds.held.is;
+      };
+      length_is = holds.length_is;
+      records_are = holds.records_are;
+      each = holds.each;
+      rules = holds.rules;
+    }
+
+pub kept_again : (limit : ℕ) (old new : List ℕ) (kept : List (ℕ × List ℕ)) → IsRight kept old → EndBy limit kept
+    → limit ≤ length new → take limit new ≡ take limit old → IsRight kept new
+kept_again limit old new kept right ends within same = record {
+  each = λ from bytes there.
+      let was = right.each from bytes there in
+      let end = ends.each from bytes there in
+      record {
+        within = omega arith;
+        same = was.same ∙ sym (same_part old new limit from (from + length bytes) (omega arith) end same);
+      };
 }
 
 two_records : List ArchiveRecord
 two_records =
-    record { key = record { relation = 1; «record» = 7 }; from = 100; to = 110; value = (97 ∷ []) ∷ [] }
-    ∷ record { key = record { relation = 1; «record» = 7 }; from = 110; to = 120; value = (98 ∷ []) ∷ [] }
+    record { key = record { relation = 1; «record» = 7 }; version = record { from = 100; to = 110; value = (97 ∷ []) ∷ [] } }
+    ∷ record { key = record { relation = 1; «record» = 7 }; version = record { from = 110; to = 120; value = (98 ∷ []) ∷ [] } }
     ∷ []
 
 -- a run of two records of one key, byte for byte
-two_records_bytes : run_spelling two_records ≡
+two_records_bytes : run_bytes two_records ≡
     1 ∷ 0 ∷ 7 ∷ 0 ∷ 0 ∷ 0 ∷ 0 ∷ 0 ∷ 0 ∷ 0 ∷ 0x64 ∷ 0 ∷ 0 ∷ 0 ∷ 0 ∷ 0 ∷ 0 ∷ 0 ∷ 0x6e ∷ 0 ∷ 0 ∷ 0 ∷ 0 ∷ 0 ∷ 0 ∷ 0 ∷ 1 ∷ 1 ∷ 0x61
     ∷ 1 ∷ 0 ∷ 7 ∷ 0 ∷ 0 ∷ 0 ∷ 0 ∷ 0 ∷ 0 ∷ 0 ∷ 0x6e ∷ 0 ∷ 0 ∷ 0 ∷ 0 ∷ 0 ∷ 0 ∷ 0 ∷ 0x78 ∷ 0 ∷ 0 ∷ 0 ∷ 0 ∷ 0 ∷ 0 ∷ 0 ∷ 1 ∷ 1 ∷ 0x62
     ∷ 0 ∷ 0 ∷ 0 ∷ 0 ∷ 0 ∷ 0 ∷ 0 ∷ 0 ∷ 0x1d ∷ 0 ∷ 0 ∷ 0 ∷ 0 ∷ 0 ∷ 0 ∷ 0 ∷ []
-unfolding two_records records_bytes index_bytes head_bytes u16_bytes u64_bytes packed fields_bytes
+unfolding two_records records_bytes index_bytes head_bytes u16_bytes u64_bytes
 two_records_bytes = refl

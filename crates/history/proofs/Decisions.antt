@@ -2,11 +2,13 @@
 use Rattle.std.proofs.Common.{◌≡◌, ℕ, ◌<◌, ◌≤◌, ◌^◌, ◌↔◌, min, nat_le, nat_lt, Bool, true, false, cond, IsTrue, List, [], ◌∷◌, ◌++◌, map, Option, Some, None, refl, ap, sym, subst, ◌∙◌, arith, ⊎_elim}
 use Rattle.std.specs.Prelude.{Contains, IsSome, find}
 use Rattle.std.specs.List.{AllByRecursion}
+use Rattle.std.specs.List.Sorted.{IsStrictlySortedBy}
+use Rattle.std.specs.declared.cmp.Ordering.TheVariants.{Less}
 use Rattle.std.proofs.lemmas.Bool.{cases_lt}
 use Rattle.std.proofs.lemmas.Bool.Decides.{nat_tests}
 use Rattle.history.specs.declared.key.Key.{Key}
 use Rattle.history.specs.declared.key.KeyWrite.{KeyWrite}
-use Rattle.history.specs.Key.{same_key, write_in}
+use Rattle.history.specs.Key.{key_cmp, same_key, write_in}
 use Rattle.history.specs.Floors.{Raising, covers, covered}
 use Rattle.history.specs.Histories.{Commit, History, last}
 use Rattle.history.specs.Conflicts.{IsConflict, is_written_after, first_conflict, conflict_with}
@@ -64,6 +66,49 @@ conflict-found h s writes = (
       record { commit = later.0; key = found.0; committed = later.1; later = later.2; written = later.3; shared = parts.0 },
   λ conflict. found-key h s writes conflict.key conflict.shared ((shared-written h s conflict.key).1 (conflict.commit, conflict.committed, conflict.later, conflict.written)),
 )
+
+-- no key before the one that is found is shared
+less-other : (a b key : Key) → key_cmp a b ≡ Less → same_key b key ≡ true → key_cmp key a ≡ Less → ⊥
+less-other a b key up same less = absurd (grind (arith, nat_tests))
+
+same-less : (a key : Key) → same_key a key ≡ true → key_cmp key a ≡ Less → ⊥
+same-less a key same less = absurd (grind (arith, nat_tests))
+
+has-above : {V : Type 0} (low key : Key) (ws : List (KeyWrite V)) → AllByRecursion (λ k. key_cmp low k ≡ Less) (map (λ w. w.key) ws) → IsSome (write_in ws key) → key_cmp key low ≡ Less → ⊥
+has-above low key [] above shared less = absurd (let none : false ≡ true = shared in cc)
+has-above {V} low key (w ∷ ws) above shared less =
+    let Goal : Bool → Type 0 = λ b. same_key w.key key ≡ b → IsSome (cond b (Some w.write) (write_in ws key)) → ⊥ in
+    let all : (b : Bool) → Goal b = λ b. elim b as Goal [
+      | true ↦ λ e has. less-other low w.key key above.0 e less
+      | false ↦ λ e has. has-above low key ws above.1 has less
+    ] in
+    all (same_key w.key key) refl shared
+
+pub conflict-least : {V : Type 0} (h : History V) (s : ℕ) (writes : List (KeyWrite V)) (key other : Key) → IsStrictlySortedBy key_cmp (map (λ w. w.key) writes) → conflict_with h s writes ≡ Some key
+    → IsSome (write_in writes other) → IsTrue (is_written_after h s other) → key_cmp other key ≡ Less → ⊥
+unfolding IsStrictlySortedBy
+conflict-least h s [] key other sorted is shared later less = absurd (let none : false ≡ true = shared in cc)
+conflict-least {V} h s (w ∷ ws) key other sorted is shared later less =
+    let Goal : Bool → Type 0 = λ b. is_written_after h s w.key ≡ b → cond b (Some w.key) (conflict_with h s ws) ≡ Some key → ⊥ in
+    let all : (b : Bool) → Goal b = λ b. elim b as Goal [
+      | true ↦ λ e is.
+          let head : w.key ≡ key = cc in
+          let below : key_cmp other w.key ≡ Less = subst (λ k. key_cmp other k ≡ Less) (sym head) less in
+          let In : Bool → Type 0 = λ c. same_key w.key other ≡ c → IsSome (cond c (Some w.write) (write_in ws other)) → ⊥ in
+          let at : (c : Bool) → In c = λ c. elim c as In [
+            | true ↦ λ same has. same-less w.key other same below
+            | false ↦ λ differs has. has-above w.key other ws sorted.0 has below
+          ] in
+          at (same_key w.key other) refl shared
+      | false ↦ λ e is.
+          let In : Bool → Type 0 = λ c. same_key w.key other ≡ c → IsSome (cond c (Some w.write) (write_in ws other)) → ⊥ in
+          let at : (c : Bool) → In c = λ c. elim c as In [
+            | true ↦ λ same has. absurd (let none : true ≡ false = sym later ∙ ap (is_written_after h s) (sym (same-keys w.key other same)) ∙ e in cc)
+            | false ↦ λ differs has. conflict-least h s ws key other sorted.1 is has later less
+          ] in
+          at (same_key w.key other) refl shared
+    ] in
+    all (is_written_after h s w.key) refl is
 
 timed-is : {V : Type 0} (c : Commit V) (key : Key) → timed c ≡ Conflicts key → ⊥
 timed-is {V} c key = elim (nat_lt c.time (2 ^ 63)) as (λ b. cond b (Queues c) Ends ≡ Conflicts key → ⊥) [ true ↦ λ e. absurd cc | false ↦ λ e. absurd cc ]

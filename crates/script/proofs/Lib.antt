@@ -1,3 +1,4 @@
 mod FieldLemmas
+mod InstantLemmas
 mod NumberLemmas
 mod WordLemmas

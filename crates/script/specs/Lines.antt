@@ -1,7 +1,8 @@
 -- The lines of a script.
-use Rattle.std.specs.Prelude.{ℕ, List, [], ◌∷◌, Option, Some, None, codes, if◌then◌else◌, option_map, option_and_then}
+use Rattle.std.specs.Prelude.{ℕ, List, [], ◌∷◌, Option, Some, None, codes, is_some, if◌then◌else◌, option_map, option_and_then}
 use Rattle.std.specs.Str.{bytes_eq}
 use Rattle.history.specs.declared.key.Key.{Key}
+use Rattle.script.specs.Instants.{instant_in}
 use Rattle.script.specs.Words.{Text, fields_in, name_in, number_in, words_of}
 use Rattle.script.specs.declared.line.Line.{Line}
 use Rattle.script.specs.declared.line.Line.TheVariants as line
@@ -15,9 +16,9 @@ abbrev pub key_in : Text → Text → Option Key
 key_in relation number =
     option_and_then (λ r. option_map (λ n. record { relation = r; «record» = n }) (number_in most number)) (number_in 65_535 relation)
 
--- microseconds since 1970
+-- microseconds since 1970: a number, or else an instant's text
 abbrev pub time_in : Text → Option ℕ
-time_in = number_in most
+time_in word = if is_some (number_in most word) then number_in most word else instant_in word
 
 -- the name of a line with a name alone
 abbrev pub only_name : List Text → Option Text

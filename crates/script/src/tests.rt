@@ -70,6 +70,23 @@ fn numbers_reach_the_ends_of_their_ranges(rt: HostRuntime) {
     assert!(rt; parse(b"get t 65536 0".as_slice()).is_none());
 }
 
+#[test]
+fn a_time_may_be_an_instant(rt: HostRuntime) {
+    assert_eq!(rt;
+        read_time(b"2001-09-09T01:46:40Z".as_slice()),
+        Some(1_000_000_000_000_000)
+    );
+    assert_eq!(rt; read_time(b"2001-02-29T00:00:00Z".as_slice()), None);
+    assert_eq!(rt; read_time(b"2001-09-09T01:46:40z".as_slice()), None);
+    assert!(rt;
+        matches!(
+            parse(b"at 1 7 1970-01-01T00:00:01Z".as_slice()),
+            Some(Line::At(KEY, 1_000_000))
+        )
+    );
+    assert!(rt; parse(b"times 1970-01-01T00:00:01Z".as_slice()).is_none());
+}
+
 fn is_bad(rt: &impl Abort, line: &str) {
     assert!(rt; parse(line.as_bytes()).is_none(), "{line}");
 }

@@ -1,0 +1,138 @@
+ghost use Rattle.std.specs.Prelude.{◌≡◌, ◌+◌, ◌≤◌, ◌<◌, IsTrue, IfOk, OnOk, [], length, take, slice_range};
+ghost use Rattle.disk.specs.Calls.{looked};
+ghost use Rattle.archive.specs.Parts.{IsRight, Keeps};
+ghost use Rattle.archive.specs.Runs.{run_end};
+ghost use Rattle.archive.specs.Searches.{archive_of};
+
+use crate::{BlockCache, RunEntry};
+use disk::{Area, DeviceFault, Disk};
+use std::alloc::{AllocError, Global};
+
+/// Reads parts of runs by blocks of 4,096 bytes, counted from the run's start.
+#[derive(Drop)]
+pub struct BlockReader {
+    cache: BlockCache,
+}
+
+impl BlockReader {
+    ghost use Rattle.archive.specs.Parts.{parts_in};
+
+    /// Keeps up to 64 blocks.
+    pub fn new(alloc: Global) -> Result<Self, AllocError>
+        ensures { IfOk result (λ r. parts_in r.cache.blocks ≡ []) }
+    {
+        Ok(BlockReader {
+            cache: BlockCache::new(alloc)?,
+        })
+    }
+
+    /// Keeps no block.
+    pub fn without_cache(alloc: Global) -> Self
+        ensures { parts_in result.cache.blocks ≡ [] }
+    {
+        BlockReader {
+            cache: BlockCache::none(alloc),
+        }
+    }
+
+    /// The bytes of a part of one block of the archive.
+    fn read_block<D: Disk>(
+        &mut self,
+        disk: &mut D,
+        start: u64,
+        len: usize,
+        skip: usize,
+        out: &mut [u8],
+    ) -> Result<(), DeviceFault>
+        requires small { len ≤ 4096 }
+        requires part { skip + length out.old ≤ len }
+        requires within { IsTrue D.tells → start + len ≤ length (archive_of (D.state disk.old)) }
+        ensures disk { D.state disk.new ≡ looked result (D.state disk.old) }
+        ensures kept { Keeps (start + len) D.tells (archive_of (D.state disk.old)) (parts_in self.old.cache.blocks) (parts_in self.new.cache.blocks) }
+        ensures only { IsTrue D.tells → IsRight (parts_in self.old.cache.blocks) (archive_of (D.state disk.old))
+            → OnOk result (out.new ≡ slice_range (archive_of (D.state disk.old)) (start + skip) (start + skip + length out.old)) }
+    {
+        if self.cache.copy(start, len, skip, out) {
+            return Ok(());
+        }
+        let mut bytes = [0; 4096];
+        self.fetch_block(disk, start, skip, &mut bytes[..len], out)?;
+        Ok(())
+    }
+
+    /// The same from the disk. The block is kept, if there is memory for it.
+    fn fetch_block<D: Disk>(
+        &mut self,
+        disk: &mut D,
+        start: u64,
+        skip: usize,
+        block: &mut [u8],
+        out: &mut [u8],
+    ) -> Result<(), DeviceFault>
+        requires part { skip + length out.old ≤ length block.old }
+        requires within { IsTrue D.tells → start + length block.old ≤ length (archive_of (D.state disk.old)) }
+        ensures disk { D.state disk.new ≡ looked result (D.state disk.old) }
+        ensures kept { Keeps (start + length block.old) D.tells (archive_of (D.state disk.old)) (parts_in self.old.cache.blocks) (parts_in self.new.cache.blocks) }
+        ensures only { IsTrue D.tells → IsRight (parts_in self.old.cache.blocks) (archive_of (D.state disk.old))
+            → OnOk result (out.new ≡ slice_range (archive_of (D.state disk.old)) (start + skip) (start + skip + length out.old)) }
+    {
+        disk.read(Area::Archive, start, block)?;
+        out.copy_from_slice(&block[skip..skip + out.len()]);
+        self.cache.keep(start, block);
+        Ok(())
+    }
+
+    /// The bytes from a place in the run on, as far as one block has them.
+    fn read_front<D: Disk>(
+        &mut self,
+        disk: &mut D,
+        run: &RunEntry,
+        at: u64,
+        out: &mut [u8],
+    ) -> Result<usize, DeviceFault>
+        requires some { 0 < length out.old }
+        requires inside { at + length out.old ≤ run.now.slot.len }
+        requires within { IsTrue D.tells → run_end run.now ≤ length (archive_of (D.state disk.old)) }
+        ensures disk { D.state disk.new ≡ looked result (D.state disk.old) }
+        ensures kept { Keeps (run_end run.now) D.tells (archive_of (D.state disk.old)) (parts_in self.old.cache.blocks) (parts_in self.new.cache.blocks) }
+        ensures some { IfOk result (λ n. 0 < n) }
+        ensures most { IfOk result (λ n. n ≤ length out.old) }
+        ensures only { IsTrue D.tells → IsRight (parts_in self.old.cache.blocks) (archive_of (D.state disk.old))
+            → IfOk result (λ n. take n out.new ≡ slice_range (archive_of (D.state disk.old)) (run.now.slot.start + at) (run.now.slot.start + at + n)) }
+    {
+        let skip = at % 4096;
+        let len = (run.slot.len - (at - skip)).min(4096) as usize;
+        let skip = skip as usize;
+        let n = out.len().min(len - skip);
+        self.read_block(
+            disk,
+            run.slot.start + at - skip as u64,
+            len,
+            skip,
+            &mut out[..n],
+        )?;
+        Ok(n)
+    }
+
+    /// The bytes of a part of the run.
+    pub fn read<D: Disk>(
+        &mut self,
+        disk: &mut D,
+        run: &RunEntry,
+        at: u64,
+        buf: &mut [u8],
+    ) -> Result<(), DeviceFault>
+        requires inside { at + length buf.old ≤ run.now.slot.len }
+        requires within { IsTrue D.tells → run_end run.now ≤ length (archive_of (D.state disk.old)) }
+        ensures disk { D.state disk.new ≡ looked result (D.state disk.old) }
+        ensures kept { Keeps (run_end run.now) D.tells (archive_of (D.state disk.old)) (parts_in self.old.cache.blocks) (parts_in self.new.cache.blocks) }
+        ensures only { IsTrue D.tells → IsRight (parts_in self.old.cache.blocks) (archive_of (D.state disk.old))
+            → OnOk result (buf.new ≡ slice_range (archive_of (D.state disk.old)) (run.now.slot.start + at) (run.now.slot.start + at + length buf.old)) }
+    {
+        let mut done = 0;
+        while done < buf.len() {
+            done += self.read_front(disk, run, at + done as u64, &mut buf[done..])?;
+        }
+        Ok(())
+    }
+}
