@@ -1,1 +1,6 @@
 pub mod Format
+pub mod Walk
+pub mod ReadChains
+pub mod Answers
+pub mod Resolving
+pub mod Names
