@@ -10,6 +10,7 @@ use Rattle.history.specs.Histories.{History, last, state, between, HasRisingTime
 use Rattle.history.specs.Queries.{IsScan, IsScanOfRows}
 use Rattle.history.specs.Answers.{QueryRefusal, BeforeKept, NotYet, EmptyInterval, time_refusal, interval_refusal, IsScanAnswer, IsScanAtAnswer, IsScanBetweenAnswer}
 use Rattle.history.specs.Views.{View, IsViewOf, kept_in, IsScanAtView, IsScanBetweenView}
+use Rattle.history.proofs.Orders.{not_lt, not_le}
 use Rattle.history.proofs.Views.{at-kept, between-kept, in-range}
 
 -- a scan is of the values of its relation alone
@@ -46,7 +47,7 @@ scan_of_rows-same f g relation found same scan = record {
 }
 
 -- what the tests say where none refuses
-kept-time : (newest floor t : ℕ) → time_refusal newest floor t ≡ None → (floor ≤ t) × (t ≤ newest)
+pub kept-time : (newest floor t : ℕ) → time_refusal newest floor t ≡ None → (floor ≤ t) × (t ≤ newest)
 kept-time newest floor t =
     let Goal : Bool → Bool → Type 0 = λ a b. nat_lt t floor ≡ a → nat_lt newest t ≡ b → cond a (Some (BeforeKept floor)) (cond b (Some (NotYet newest)) None) ≡ None → (floor ≤ t) × (t ≤ newest) in
     let all : (a b : Bool) → Goal a b = λ a b. elim a as (λ a. Goal a b) [
@@ -66,6 +67,37 @@ kept-start newest floor a b =
       | false ↦ λ e is. grind (arith, nat_tests)
     ] in
     all (nat_lt (min a b) floor) refl
+
+pub time-kept : (newest floor t : ℕ) → floor ≤ t → t ≤ newest → time_refusal newest floor t ≡ None
+time-kept newest floor t from upto =
+    let early : nat_lt t floor ≡ false = not_lt from in
+    let late : nat_lt newest t ≡ false = not_lt upto in
+    ap (λ a. cond a (Some (BeforeKept floor)) (cond (nat_lt newest t) (Some (NotYet newest)) None)) early ∙ ap (λ b. cond b (Some (NotYet newest)) None) late
+
+pub kept-interval : (newest floor a b : ℕ) → interval_refusal newest floor a b ≡ None → (floor ≤ a) × (a < b) × (b ≤ newest + 1)
+kept-interval newest floor a b =
+    let test : Bool → Bool → Bool → Option QueryRefusal = λ p q r. cond p (Some (BeforeKept floor)) (cond q (Some (NotYet newest)) (cond r (Some EmptyInterval) None)) in
+    let Goal : Bool → Bool → Bool → Type 0 = λ p q r. nat_lt (min a b) floor ≡ p → nat_lt (newest + 1) b ≡ q → nat_le b a ≡ r → test p q r ≡ None → (floor ≤ a) × (a < b) × (b ≤ newest + 1) in
+    let all : (p q r : Bool) → Goal p q r = λ p q r. elim p as (λ p. Goal p q r) [
+      | true ↦ λ e k l is. absurd cc
+      | false ↦ elim q as (λ q. Goal false q r) [
+        | true ↦ λ e k l is. absurd cc
+        | false ↦ elim r as (λ r. Goal false false r) [
+          | true ↦ λ e k l is. absurd cc
+          | false ↦ λ e k l is. (grind (arith, nat_tests), grind (arith, nat_tests), grind (arith, nat_tests))
+        ]
+      ]
+    ] in
+    all (nat_lt (min a b) floor) (nat_lt (newest + 1) b) (nat_le b a) refl refl refl
+
+pub interval-kept : (newest floor a b : ℕ) → floor ≤ a → a < b → b ≤ newest + 1 → interval_refusal newest floor a b ≡ None
+interval-kept newest floor a b from some upto =
+    let early : nat_lt (min a b) floor ≡ false = not_lt (omega arith) in
+    let late : nat_lt (newest + 1) b ≡ false = not_lt upto in
+    let empty : nat_le b a ≡ false = not_le some in
+    ap (λ p. cond p (Some (BeforeKept floor)) (cond (nat_lt (newest + 1) b) (Some (NotYet newest)) (cond (nat_le b a) (Some EmptyInterval) None))) early
+    ∙ ap (λ q. cond q (Some (NotYet newest)) (cond (nat_le b a) (Some EmptyInterval) None)) late
+    ∙ ap (λ r. cond r (Some EmptyInterval) None) empty
 
 module _ {V : Type 0} (view : View V) (h : History V) (is : IsViewOf view h) (up : HasRisingTimes 0 h) (relation : ℕ) where
   pub view-scans : (t : ℕ) (answer : Result (List (ℕ × V)) QueryRefusal) → IsScanAtView view relation t answer ↔ IsScanAtAnswer h view.floors relation t answer

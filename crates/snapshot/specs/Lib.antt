@@ -1,1 +1,4 @@
 pub mod OpenTable
+pub mod WriteSets
+pub mod Txn
+pub mod TxnFaults

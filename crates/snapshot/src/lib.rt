@@ -2,5 +2,9 @@
 #![tactic(auto)]
 
 mod open_table;
+mod txn;
+mod write_set;
 
 pub use open_table::OpenTable;
+pub use txn::{Txn, TxnFault, TxnParts};
+pub use write_set::MOST_KEYS;

@@ -1,0 +1,2 @@
+pub mod WriteSetLemmas
+pub mod TxnLemmas

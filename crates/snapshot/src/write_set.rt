@@ -1,0 +1,71 @@
+//! Writes in the order of their keys.
+ghost use Rattle.std.specs.Prelude.{◌≡◌, ◌≤◌, ◌<◌, length, MatchOption, OnOk, OnErr, None};
+ghost use Rattle.history.specs.Key.{write_in};
+ghost use Rattle.snapshot.specs.WriteSets.{AreRising, IsPlace, IsPlaceOf, with_write, without};
+
+use chains::SharedValue;
+use history::{Key, KeyWrite};
+use std::alloc::AllocError;
+
+/// The most keys that a transaction writes.
+pub const MOST_KEYS: usize = 1024;
+
+// Where the write of a key stands, or else where it is to stand.
+pub fn place_of<V>(writes: &[KeyWrite<V>], key: Key) -> Result<usize, usize>
+    requires { AreRising writes.now }
+    ensures { IsPlace key writes.now result }
+{
+    let place = writes.partition_point(|w| w.key.is_before(key));
+    if place < writes.len() && !key.is_before(writes[place].key) {
+        Ok(place)
+    } else {
+        Err(place)
+    }
+}
+
+// The same; none where a write more is one too many.
+pub fn place_with_room<V>(writes: &[KeyWrite<V>], key: Key) -> Option<Result<usize, usize>>
+    requires rising { AreRising writes.now }
+    requires few { length writes.now ≤ 1024 }
+    ensures full { MatchOption result ((write_in writes.now key ≡ None) × (length writes.now ≡ 1024)) (λ place. (write_in writes.now key ≡ None → length writes.now < 1024)) }
+    ensures place { MatchOption result (Unit {0}) (IsPlace key writes.now) }
+{
+    match place_of(writes, key) {
+        Ok(place) => Some(Ok(place)),
+        Err(place) if writes.len() < MOST_KEYS => Some(Err(place)),
+        Err(_) => None,
+    }
+}
+
+// Puts a write at its place. An error leaves the writes as they are.
+pub fn put_at(
+    writes: &mut Vec<KeyWrite<SharedValue>>,
+    place: Result<usize, usize>,
+    write: KeyWrite<SharedValue>,
+) -> Result<(), AllocError>
+    requires rising { AreRising writes.old.items }
+    requires place { IsPlace write.key writes.old.items place }
+    ensures ok { OnOk result (writes.new.items ≡ with_write writes.old.items write) }
+    ensures err { OnErr result (writes.new.items ≡ writes.old.items) }
+{
+    match place {
+        Ok(place) => {
+            writes[place] = write;
+            Ok(())
+        }
+        Err(place) => match writes.insert(place, write) {
+            Ok(()) => Ok(()),
+            Err(_) => Err(AllocError),
+        },
+    }
+}
+
+// Takes the write of a key away, if it has one.
+pub fn remove_write(writes: &mut Vec<KeyWrite<SharedValue>>, key: Key)
+    requires { AreRising writes.old.items }
+    ensures { writes.new.items ≡ without writes.old.items key }
+{
+    if let Ok(place) = place_of(writes, key) {
+        let _removed = writes.remove(place);
+    }
+}

@@ -1,0 +1,64 @@
+-- The reading of slots, one after the other.
+use Rattle.std.specs.Prelude.{◌≡◌, ◌≢◌, ◌<◌, ℕ, Bool, true, false, List, [], ◌∷◌, ◌++◌, length, drop, slice_index, Result, Ok, Err}
+use Rattle.wire.specs.Spelling.{IsSpelled}
+use Rattle.wire.specs.declared.slot.Member.{Member}
+use Rattle.wire.specs.declared.slot.Slot.{Slot}
+use Rattle.image.specs.Log.{last_time}
+use Rattle.status.specs.declared.header.Header.{Header}
+use Rattle.status.specs.declared.fault.LogFault.{LogFault}
+use Rattle.status.specs.declared.fault.LogFault.TheVariants.{NotAStore, Damaged, Device, NoMemory}
+use Rattle.status.specs.Header.{total}
+use Rattle.status.specs.Log.{IsOpen, OpensWith}
+use Rattle.status.specs.Rules.{log_of, MayFollow}
+use Rattle.status.specs.Reading.{AreSlots, IsLogFault}
+
+-- the first of these commits is later than a time
+abbrev pub StartsAfter : ℕ → List Member → Type 0
+StartsAfter time [] = ⊥
+StartsAfter time (m ∷ ms) = time < m.time
+
+-- these slots were read, and this is the time of their last commit
+pub record IsWalk (profile : ℕ) (slots : List Slot) (last : ℕ) : Type 0 where
+  pub are_slots : AreSlots profile slots
+  pub last_is : last ≡ last_time (log_of slots)
+
+-- what 512 bytes add to the slots before them: nothing where their gate is closed, else the slot that they are
+abbrev pub Takes : ℕ → List Slot → List ℕ → Bool → List Slot → Type 0
+Takes profile before bytes false after = (slice_index bytes 0 ≢ 0xC7) × (after ≡ before)
+Takes profile before bytes true after = (slice_index bytes 0 ≡ 0xC7) × ((slot : Slot) × IsSpelled profile (length before) (drop 1 bytes) slot × (after ≡ before ++ slot ∷ []))
+
+-- why they add none
+abbrev pub IsTakeFault : ℕ → List Slot → List ℕ → LogFault → Type 0
+IsTakeFault profile before bytes NotAStore = ⊥
+IsTakeFault profile before bytes (Damaged n) = (n ≡ length before) × (slice_index bytes 0 ≡ 0xC7) × ((slot : Slot) → IsSpelled profile n (drop 1 bytes) slot → ¬ MayFollow profile before slot)
+IsTakeFault profile before bytes Device = ⊥
+IsTakeFault profile before bytes NoMemory = Unit {0}
+
+-- the area opens with these slots; the next gate is closed, if the reading does not go on
+abbrev pub Goes : Header → List ℕ → Bool → List Slot → Type 0
+Goes header bytes true slots = OpensWith header bytes slots
+Goes header bytes false slots = OpensWith header bytes slots × ¬ IsOpen bytes (length slots)
+
+-- so it is for an area that opens with the slots before
+abbrev pub IsReadOn : Header → List ℕ → List Slot → Result Bool LogFault → List Slot → Type 0
+IsReadOn header bytes before (Ok on) after = OpensWith header bytes before → Goes header bytes on after
+IsReadOn header bytes before (Err fault) after = OpensWith header bytes before → IsLogFault header bytes fault
+
+-- without the device only memory and a bad slot end the reading
+abbrev pub IsWalkFault : LogFault → Type 0
+IsWalkFault NotAStore = ⊥
+IsWalkFault (Damaged n) = Unit {0}
+IsWalkFault Device = ⊥
+IsWalkFault NoMemory = Unit {0}
+
+-- with it the device may refuse too
+abbrev pub IsSlotsFault : LogFault → Type 0
+IsSlotsFault NotAStore = ⊥
+IsSlotsFault (Damaged n) = Unit {0}
+IsSlotsFault Device = Unit {0}
+IsSlotsFault NoMemory = Unit {0}
+
+-- the area opens with these slots and no more, if it opens with the slots before
+abbrev pub HasReadAll : Header → List ℕ → List Slot → Result (Unit {0}) LogFault → List Slot → Type 0
+HasReadAll header bytes before (Ok x) after = OpensWith header bytes before → OpensWith header bytes after × (length after < total header → ¬ IsOpen bytes (length after))
+HasReadAll header bytes before (Err fault) after = OpensWith header bytes before → IsLogFault header bytes fault
