@@ -1,4 +1,4 @@
-use Rattle.std.proofs.Common.{◌≡◌, ◌<◌, ◌≤◌, length, IfOk}
+use Rattle.std.proofs.Common.{◌<◌, ◌≤◌, length, IfOk}
 use Rattle.chains.specs.Shapes.{IsJoined}
 use Rattle.chains.proofs.Forks.{if_joined-is, if_ok-is, forgotten_some, forgotten_none}
 use Rattle.chains.proofs.chain_tree.Tree+Chain.+forget.Goals as goal

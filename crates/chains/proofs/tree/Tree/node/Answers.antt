@@ -1,4 +1,4 @@
-use Rattle.std.proofs.Common.{◌≡◌, ◌≤◌, length, rules}
+use Rattle.std.proofs.Common.{◌≤◌, length, rules}
 use Rattle.chains.specs.Shapes.{fewest}
 use Rattle.chains.proofs.Heights.{fewest-in}
 use Rattle.chains.proofs.tree.Tree.node.Goals as goal
