@@ -42,7 +42,7 @@ synced_part at part a held = record {
 pub kept_by_sync : (at : ℕ) (part : List ℕ) (a : AreaState) → IsSound a → KeepsPart at part a → KeepsPart at part (synced a)
 kept_by_sync at part a sound keeps = synced_part at part a (read_part at part a sound keeps)
 
-length-overlaid : (file : List ℕ) (at : ℕ) (bytes : List ℕ) → length (overlaid file at bytes) ≡ max (length file) (at + length bytes)
+pub length-overlaid : (file : List ℕ) (at : ℕ) (bytes : List ℕ) → length (overlaid file at bytes) ≡ max (length file) (at + length bytes)
 length-overlaid file at bytes = simp (length-append, length-take, length-drop, length-replicate) (omega arith)
 
 -- what is written is read

@@ -1,3 +1,1 @@
-pub mod Walk
-pub mod Answers
-pub mod ReadChains
+pub mod Format

@@ -59,3 +59,25 @@ impl From<DeviceFault> for OpenFault {
         OpenFault::Device
     }
 }
+
+impl From<AllocError> for FormatFault {
+    ghost use Rattle.std.specs.Prelude.{◌≡◌};
+    ghost use Rattle.recovery.specs.declared.fault.FormatFault.TheVariants as faults;
+
+    ghost from_gives = { λ e r. r ≡ faults.NoMemory };
+
+    fn from(_: AllocError) -> Self {
+        FormatFault::NoMemory
+    }
+}
+
+impl From<DeviceFault> for FormatFault {
+    ghost use Rattle.std.specs.Prelude.{◌≡◌};
+    ghost use Rattle.recovery.specs.declared.fault.FormatFault.TheVariants as faults;
+
+    ghost from_gives = { λ e r. r ≡ faults.Device };
+
+    fn from(_: DeviceFault) -> Self {
+        FormatFault::Device
+    }
+}

@@ -1,7 +1,11 @@
 //! Making the image of a new store, and reading the image of one.
 #![tactic(auto)]
 
-mod chain;
 mod fault;
+mod formatting;
 
 pub use fault::{FormatFault, OpenFault};
+pub use formatting::format;
+
+#[cfg(test)]
+mod tests;
