@@ -26,7 +26,10 @@ fn seal_images(alloc: Global, extents: &[Extent], bodies: &[Body]) -> Result<Vec
     let mut images = Vec::new(alloc);
     let mut numbers = extents;
     let mut rest = bodies;
-    while let ([extent, after @ ..], [body, behind @ ..]) = (numbers, rest) {
+    while let [extent, after @ ..] = numbers {
+        let [body, behind @ ..] = rest else {
+            return Ok(images);
+        };
         images.push(seal(alloc, extent.number(), next_number(after), body)?)?;
         numbers = after;
         rest = behind;
