@@ -20,7 +20,6 @@ fn key(record: u64) -> Key {
 }
 
 // What is published after one more commit of one key.
-#[tactic(auto, unfolding(std::specs::List::Sorted::IsStrictlySortedBy))]
 fn committed(
     alloc: Global,
     before: &Frozen,
