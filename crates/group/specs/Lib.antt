@@ -2,3 +2,4 @@ pub mod CommitOrder
 pub mod Tickets
 pub mod Queued
 pub mod Taking
+pub mod Sealing

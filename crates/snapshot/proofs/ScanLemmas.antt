@@ -66,7 +66,7 @@ above-lower : {V : Type 0} (low high : ℕ) (ps : List (ℕ × V)) → low ≤ h
 above-lower low high [] le h = tt
 above-lower low high (p ∷ ps) le h = (omega (arith, h.0), above-lower low high ps le h.1)
 
-none-above : {V : Type 0} (n k : ℕ) (ps : List (ℕ × V)) → n ≤ k → Above k ps → looked_up n ps ≡ None
+pub none-above : {V : Type 0} (n k : ℕ) (ps : List (ℕ × V)) → n ≤ k → Above k ps → looked_up n ps ≡ None
 none-above n k [] le h = refl
 none-above n k (p ∷ ps) le h = let greater : k < p.0 = h.0 in let apart : (p.0 == n) ≡ false = grind (arith, nat_tests) in rw apart (none-above n k ps le h.1)
 

@@ -20,7 +20,6 @@ fn key(record: u64) -> Key {
 }
 
 // What is published after one more commit of one key.
-#[tactic(auto, unfolding(std::specs::List::Sorted::IsStrictlySortedBy))]
 fn committed(
     alloc: Global,
     before: &Frozen,
@@ -119,5 +118,23 @@ fn numbers_are_given_again(rt: HostRuntime) -> Result<(), Fail> {
     assert_eq!(rt; open.open(140)?, first);
     assert_eq!(rt; open.snapshot_of(first), Some(140));
     assert_eq!(rt; open.snapshot_of(7), None);
+    Ok(())
+}
+
+#[test]
+fn a_scan_shows_own_writes(rt: HostRuntime) -> Result<(), Fail> {
+    let alloc = rt.alloc();
+    let first = committed(alloc, &Frozen::new(), 100, key(3), b"x")?;
+    let second = committed(alloc, &first, 110, SEVEN, b"a")?;
+    let mut txn = Txn::new(alloc, 1, 0, 110, second);
+    assert!(rt; txn.put(alloc, key(5), &[b"y".as_slice()]).is_ok());
+    assert_eq!(rt; txn.delete(SEVEN), Ok(()));
+    let found = txn.scan(alloc, 1);
+    let none = txn.scan(alloc, 2);
+    let _over = txn.spend();
+    let found = found?;
+    assert_eq!(rt; found.len(), 2);
+    assert_eq!(rt; (found[0].0, found[1].0), (3, 5));
+    assert!(rt; none?.is_empty());
     Ok(())
 }
