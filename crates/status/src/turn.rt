@@ -63,6 +63,17 @@ impl SlotTurn {
     }
 }
 
+impl SlotTurn {
+    /// Lets the slot be, with no device call: it stays in the writing.
+    pub fn give_up(self) {
+        let SlotTurn {
+            number: _,
+            body: _,
+            stage: _,
+        } = self;
+    }
+}
+
 pub fn slot_place(number: u32) -> u64
     ensures { result ≡ slot_start number }
 {

@@ -1,0 +1,82 @@
+use Rattle.std.proofs.Common.{◌≡◌, ◌≢◌, ℕ, List, ◌∙◌, ◌+◌, ◌-◌, ◌≤◌, ◌<◌, ◌++◌, ◌∷◌, [], length, take, ap, sym, subst, true, false, Some, arith, append_assoc, ◌==◌}
+use Rattle.std.specs.List.{flat_map}
+use Rattle.std.proofs.lemmas.List.{append-nil}
+use Rattle.std.proofs.lemmas.Result.{err_from_is_err_and}
+use Rattle.history.specs.declared.time.Version.{Version}
+use Rattle.image.specs.Values.{Value}
+use Rattle.archive.specs.Answers.{head_of, precedes, row_of}
+use Rattle.archive.proofs.Searching.{reads_again, keeps_on_state, some_record}
+use Rattle.archive.proofs.Walking.{more, scan_begin, scan_end_past, scan_end_other}
+use Rattle.archive.proofs.reader.ArchiveReader.add_scan_rows.Goals as goal
+
+pub loop-number-init : goal.loop-number-init
+loop-number-init g c = record {
+  within = c.in_ok-bound.ensures.few;
+  disk = c.in_ok-bound.ensures.disk;
+  kept = c.in_ok-bound.ensures.kept;
+  after = λ records reads i r from at. (c.in_ok-bound.ensures.only records reads).0.after i r from at;
+  seen = λ records reads. (c.in_ok-bound.ensures.only records reads).1;
+  shown = λ records reads.
+      sym (append-nil c.args.rows.now.items)
+      ∙ ap (λ (vs : List (ℕ × Version Value)). c.args.rows.now.items ++ vs)
+      (sym (scan_begin _ c.args.run.now records reads.laid c.args.relation c.args.a c.args.b c.in_ok-bound.bound.number (c.in_ok-bound.ensures.only records reads).0));
+}
+
+pub returns-in_err-placed-clause-only : goal.returns-in_err-placed-clause-only
+returns-in_err-placed-clause-only g c = λ records reads.
+    let later = reads_again reads c.loop-number.invariant.disk c.loop-number.invariant.kept in
+    let found = some_record _ c.args.run.now records reads.laid c.loop-number.number c.loop-number-test.true in
+    let refusal = c.in_err-placed.ensures.only records found.0 later found.1 (c.loop-number.invariant.seen records reads) in
+    let p = err_from_is_err_and c.from_residual-in_err-placed.result c.from_residual-in_err-placed.ensures.1 in
+    rw (p.1, p.2) refusal
+
+pub returns-in_err-add_scan_row-clause-only : goal.returns-in_err-add_scan_row-clause-only
+returns-in_err-add_scan_row-clause-only g c = λ records reads.
+    let later = reads_again reads c.loop-number.invariant.disk c.loop-number.invariant.kept in
+    let found = some_record _ c.args.run.now records reads.laid c.loop-number.number c.loop-number-test.true in
+    let placed = c.in_ok-placed.ensures.only records found.0 later found.1 (c.loop-number.invariant.seen records reads) in
+    let last = reads_again later c.in_ok-placed.ensures.disk c.in_ok-placed.ensures.kept in
+    let refusal = c.in_err-add_scan_row.ensures.only records found.0 last placed in
+    let p = err_from_is_err_and c.from_residual-in_err-add_scan_row.result c.from_residual-in_err-add_scan_row.ensures.1 in
+    rw (p.1, p.2) refusal
+
+pub loop-number-preserved : goal.loop-number-preserved
+loop-number-preserved g c = record {
+  within = omega arith;
+  disk = c.in_ok-add_scan_row.ensures.disk ∙ c.in_ok-placed.ensures.disk ∙ c.loop-number.invariant.disk;
+  kept = keeps_on_state (c.in_ok-placed.ensures.disk ∙ c.loop-number.invariant.disk) (keeps_on_state c.loop-number.invariant.disk c.loop-number.invariant.kept c.in_ok-placed.ensures.kept) c.in_ok-add_scan_row.ensures.kept;
+  after = λ records reads i r from at. c.loop-number.invariant.after records reads i r (omega arith) at;
+  seen = λ records reads.
+      let later = reads_again reads c.loop-number.invariant.disk c.loop-number.invariant.kept in
+      let found = some_record _ c.args.run.now records reads.laid c.loop-number.number c.loop-number-test.true in
+      (found.0, c.in_ok-placed.ensures.only records found.0 later found.1 (c.loop-number.invariant.seen records reads));
+  shown = λ records reads.
+      let later = reads_again reads c.loop-number.invariant.disk c.loop-number.invariant.kept in
+      let found = some_record _ c.args.run.now records reads.laid c.loop-number.number c.loop-number-test.true in
+      let placed = c.in_ok-placed.ensures.only records found.0 later found.1 (c.loop-number.invariant.seen records reads) in
+      let last = reads_again later c.in_ok-placed.ensures.disk c.in_ok-placed.ensures.kept in
+      let r = found.0 in
+      let before = c.loop-number.invariant.shown records reads in
+      let same : r.key.relation ≡ c.args.relation = sym (ap (λ h. h.key.relation) placed.head) ∙ c.if-placed-relation.false in
+      c.in_ok-add_scan_row.ensures.only records r last placed
+      ∙ ap (λ (n : ℕ). c.loop-number.rows.items ++ row_of n c.args.a c.args.b r) same
+      ∙ ap (λ (vs : List (ℕ × Version Value)). vs ++ row_of c.args.relation c.args.a c.args.b r) before
+      ∙ append_assoc c.args.rows.now.items (flat_map (row_of c.args.relation c.args.a c.args.b) (take c.loop-number.number records)) (row_of c.args.relation c.args.a c.args.b r)
+      ∙ ap (λ (vs : List (ℕ × Version Value)). c.args.rows.now.items ++ vs) (sym (more (row_of c.args.relation c.args.a c.args.b) records c.loop-number.number r found.1));
+}
+
+pub returns-after-loop-number-clause-only : goal.returns-after-loop-number-clause-only
+returns-after-loop-number-clause-only g c = λ records reads.
+    c.loop-number.invariant.shown records reads
+    ∙ ap (λ (vs : List (ℕ × Version Value)). c.args.rows.now.items ++ vs) (scan_end_past _ c.args.run.now records reads.laid c.args.relation c.args.a c.args.b c.loop-number.number c.loop-number-test.false)
+
+pub returns-then-placed-relation-clause-only : goal.returns-then-placed-relation-clause-only
+returns-then-placed-relation-clause-only g c = λ records reads.
+    let later = reads_again reads c.loop-number.invariant.disk c.loop-number.invariant.kept in
+    let found = some_record _ c.args.run.now records reads.laid c.loop-number.number c.loop-number-test.true in
+    let placed = c.in_ok-placed.ensures.only records found.0 later found.1 (c.loop-number.invariant.seen records reads) in
+    let relation : c.in_ok-placed.placed.head.key.relation ≡ found.0.key.relation = ap (λ h. h.key.relation) placed.head in
+    let other : found.0.key.relation ≢ c.args.relation = λ same. c.if-placed-relation.true (relation ∙ same) in
+    c.loop-number.invariant.shown records reads
+    ∙ ap (λ (vs : List (ℕ × Version Value)). c.args.rows.now.items ++ vs)
+    (scan_end_other _ c.args.run.now records reads.laid c.args.relation c.args.a c.args.b c.loop-number.number found.0 found.1 (c.loop-number.invariant.after records reads c.loop-number.number found.0 (omega arith) found.1) other)
