@@ -1,21 +1,20 @@
 -- The answers to a submission and to the start of a floor, exactly.
-use Rattle.std.proofs.Common.{◌≡◌, ℕ, ◌<◌, ◌≤◌, ◌^◌, ◌↔◌, min, nat_le, nat_lt, Bool, true, false, cond, IsTrue, List, [], ◌∷◌, ◌++◌, map, Option, Some, None, refl, ap, sym, subst, ◌∙◌, arith, ⊎_elim}
-use Rattle.std.specs.Prelude.{Contains, IsSome, find}
+use Rattle.std.proofs.Common.{◌≡◌, ℕ, ◌<◌, ◌≤◌, ◌^◌, ◌↔◌, min, nat_le, nat_lt, Bool, true, false, cond, IsTrue, List, [], ◌∷◌, map, Option, Some, None, refl, ap, sym, subst, ◌∙◌, arith}
+use Rattle.std.specs.Prelude.{IsSome}
 use Rattle.std.specs.List.{AllByRecursion}
 use Rattle.std.specs.List.Sorted.{IsStrictlySortedBy}
 use Rattle.std.specs.declared.cmp.Ordering.TheVariants.{Less}
-use Rattle.std.proofs.lemmas.Bool.{cases_lt}
 use Rattle.std.proofs.lemmas.Bool.Decides.{nat_tests}
 use Rattle.history.specs.declared.key.Key.{Key}
 use Rattle.history.specs.declared.key.KeyWrite.{KeyWrite}
 use Rattle.history.specs.Key.{key_cmp, same_key, write_in}
 use Rattle.history.specs.Floors.{Raising, covers, covered}
 use Rattle.history.specs.Histories.{Commit, History, last}
-use Rattle.history.specs.Conflicts.{IsConflict, is_written_after, first_conflict, conflict_with}
+use Rattle.history.specs.Conflicts.{IsConflict, is_written_after, conflict_with}
 use Rattle.history.specs.Machine.{Machine, commit_order, MayRaise}
-use Rattle.history.specs.Submissions.{Submission, Decision, Reads, Conflicts, Ends, Queues, commit_made, timed, unless_conflict, conflict_of, decision_on, decision}
-use Rattle.history.specs.FloorStarts.{FloorRefusal, NothingToDo, NotYet, InUse, least, in_use_below, in_use_refusal, floor_refusal}
-use Rattle.history.proofs.Orders.{is_lt, not_lt, is_le, not_le}
+use Rattle.history.specs.Submissions.{Submission, Conflicts, Ends, Queues, commit_made, timed, unless_conflict, conflict_of, decision_on, decision}
+use Rattle.history.specs.FloorStarts.{NothingToDo, NotYet, least, in_use_below, in_use_refusal, floor_refusal}
+use Rattle.history.proofs.Orders.{not_lt, not_le}
 use Rattle.history.proofs.Conflicts.{shared-written}
 
 -- ---- conflicts

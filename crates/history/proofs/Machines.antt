@@ -1,5 +1,5 @@
 -- What every run of the machine keeps.
-use Rattle.std.proofs.Common.{◌≡◌, ℕ, ◌<◌, ◌≤◌, ◌^◌, min, Bool, true, false, cond, IsTrue, List, [], ◌∷◌, ◌++◌, length, take, drop, Option, Some, None, refl, ap, sym, subst, ◌∙◌, arith, append_assoc, take-append-drop, length-append, ⊎_elim}
+use Rattle.std.proofs.Common.{◌≡◌, ℕ, ◌≤◌, Bool, true, false, cond, List, [], ◌∷◌, ◌++◌, length, take, drop, Option, Some, None, refl, ap, sym, subst, ◌∙◌, arith, take-append-drop, length-append, ⊎_elim}
 use Rattle.std.specs.Prelude.{Contains, IsPermutation, MatchOption}
 use Rattle.std.specs.List.{AllByRecursion}
 use Rattle.std.proofs.lemmas.List.{append-nil}
@@ -8,7 +8,7 @@ use Rattle.history.specs.Floors.{Raising, covers, raised}
 use Rattle.history.specs.Histories.{History, last_after, last, IsHistory, HasRisingTimes}
 use Rattle.history.specs.Machine.{Machine, commit_order, opened, IsRaisable, MayRaise, IsKeptSnapshot, IsMachine}
 use Rattle.history.specs.Submissions.{Decision, Reads, Conflicts, Ends, Queues}
-use Rattle.history.specs.Steps.{Event, Began, BeginRefused, Aborted, Decided, Refused, GroupBegan, Published, FloorStarted, FloorRefused, FloorPublished, Broke, begun, decided, grouped, group_published, floor_started, floor_published, broken, GivesUp, Step, Run, Failed, NoMemory, NoRoom}
+use Rattle.history.specs.Steps.{Event, Began, BeginRefused, Aborted, Decided, Refused, GroupBegan, Published, FloorStarted, FloorRefused, FloorPublished, Broke, begun, decided, grouped, group_published, floor_started, floor_published, broken, GivesUp, Step, Run}
 use Rattle.history.proofs.Members.{Contains-cons_cases, Contains-head, Contains-tail, Contains-nil}
 use Rattle.history.proofs.Histories.{last_after-append, rising-from_following}
 use Rattle.history.proofs.Runs.{last-later, step-history}

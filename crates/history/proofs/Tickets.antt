@@ -1,13 +1,12 @@
 -- A commit is acknowledged where it is published.
-use Rattle.std.proofs.Common.{◌≡◌, ℕ, ◌==◌, ◌↔◌, Bool, true, false, cond, IsTrue, List, [], ◌∷◌, ◌++◌, refl, ap, sym, subst, ◌∙◌, arith}
+use Rattle.std.proofs.Common.{◌≡◌, ℕ, ◌==◌, ◌↔◌, Bool, true, false, cond, IsTrue, List, refl, ap, sym, subst, arith}
 use Rattle.std.specs.Prelude.{Contains}
-use Rattle.std.specs.List.{list_any}
 use Rattle.std.proofs.lemmas.Bool.Decides.{nat_tests}
 use Rattle.std.proofs.lemmas.List.Elements.{Contains-append_left}
 use Rattle.history.specs.Histories.{Commit, History}
 use Rattle.history.specs.Machine.{Machine}
 use Rattle.history.specs.Steps.{Event, Run}
-use Rattle.history.specs.Answers.{Redeemed, Done, Waiting, InDoubt, is_published, redeemed_by}
+use Rattle.history.specs.Answers.{Done, Waiting, InDoubt, is_published, redeemed_by}
 use Rattle.history.proofs.Conflicts.{Decides-list_any}
 use Rattle.history.proofs.Runs.{run-shows}
 

@@ -1,6 +1,6 @@
 -- A view's scans are those of its history.
-use Rattle.std.proofs.Common.{◌≡◌, ◌≢◌, ℕ, ◌+◌, ◌<◌, ◌≤◌, ◌^◌, ◌↔◌, min, nat_le, nat_lt, Bool, true, false, cond, List, [], ◌∷◌, ◌++◌, map, Option, Some, None, refl, ap, sym, subst, ◌∙◌, arith}
-use Rattle.std.specs.Prelude.{flat_map, Contains, Result, Ok, Err}
+use Rattle.std.proofs.Common.{◌≡◌, ℕ, ◌+◌, ◌<◌, ◌≤◌, ◌↔◌, min, nat_le, nat_lt, Bool, true, false, cond, List, [], ◌∷◌, ◌++◌, map, Option, Some, None, refl, ap, sym, ◌∙◌, arith}
+use Rattle.std.specs.Prelude.{flat_map, Result, Ok, Err}
 use Rattle.std.proofs.lemmas.Bool.Decides.{nat_tests}
 use Rattle.history.specs.declared.key.Key.{Key}
 use Rattle.history.specs.declared.time.Version.{Version}
@@ -8,7 +8,7 @@ use Rattle.history.specs.Key.{key_of}
 use Rattle.history.specs.Versions.{standing_at, rows}
 use Rattle.history.specs.Histories.{History, last, state, between, HasRisingTimes}
 use Rattle.history.specs.Queries.{IsScan, IsScanOfRows}
-use Rattle.history.specs.Answers.{QueryRefusal, BeforeKept, NotYet, EmptyInterval, time_refusal, interval_refusal, IsScanAnswer, IsScanAtAnswer, IsScanBetweenAnswer}
+use Rattle.history.specs.Answers.{QueryRefusal, BeforeKept, NotYet, EmptyInterval, time_refusal, interval_refusal, IsScanAtAnswer, IsScanBetweenAnswer}
 use Rattle.history.specs.Views.{View, IsViewOf, kept_in, IsScanAtView, IsScanBetweenView}
 use Rattle.history.proofs.Orders.{not_lt, not_le}
 use Rattle.history.proofs.Views.{at-kept, between-kept, in-range}

@@ -1,12 +1,12 @@
 -- What is kept in both homes, put together: kept queries are answered as the write sets say.
-use Rattle.std.proofs.Common.{◌≡◌, ℕ, ◌+◌, ◌<◌, ◌≤◌, ◌^◌, min, nat_le, nat_lt, Bool, true, false, cond, List, [], ◌∷◌, ◌++◌, Option, Some, None, refl, ap, sym, ◌∙◌, arith}
-use Rattle.std.specs.Prelude.{filter, Result}
+use Rattle.std.proofs.Common.{◌≡◌, ℕ, ◌+◌, ◌<◌, ◌≤◌, ◌^◌, min, nat_le, nat_lt, Bool, true, false, cond, List, ◌++◌, Option, Some, None, refl, ap, sym, ◌∙◌, arith}
+use Rattle.std.specs.Prelude.{filter}
 use Rattle.std.proofs.lemmas.List.Elements.{filter-append}
 use Rattle.std.proofs.lemmas.Bool.Decides.{nat_tests}
 use Rattle.history.specs.declared.key.Key.{Key}
 use Rattle.history.specs.declared.time.Version.{Version}
 use Rattle.history.specs.Versions.{ends_after, ends_by, standing_at, rows}
-use Rattle.history.specs.Histories.{History, last, versions_of, writes_of, state, between, HasRisingTimes}
+use Rattle.history.specs.Histories.{History, versions_of, writes_of, state, between, HasRisingTimes}
 use Rattle.history.specs.Homes.{AreAtHome, kept_of}
 use Rattle.history.specs.Answers.{QueryRefusal, BeforeKept, NotYet, EmptyInterval, time_refusal, interval_refusal, unless_refused, at_answer, between_answer}
 use Rattle.history.specs.Views.{View, IsViewOf, kept_in, at_view, between_view, recent_at, recent_between}

@@ -1,5 +1,5 @@
 -- The steps of the machine: calls with their answers, and steps of the store's own.
-use Rattle.std.specs.Prelude.{ℕ, ◌≡◌, ◌≢◌, ◌<◌, min, List, [], ◌∷◌, ◌++◌, length, take, drop, Bool, true, false, IsPermutation, Option, None, Some}
+use Rattle.std.specs.Prelude.{ℕ, ◌≡◌, ◌≢◌, ◌<◌, min, List, [], ◌∷◌, ◌++◌, length, take, drop, true, false, IsPermutation, None, Some}
 use Rattle.history.specs.Floors.{Raising, raised}
 use Rattle.history.specs.Histories.{last}
 use Rattle.history.specs.Machine.{Machine, commit_order, MayRaise}

@@ -1,5 +1,5 @@
 -- The plans that are made are plans.
-use Rattle.std.proofs.Common.{◌≡◌, ℕ, ◌<◌, ◌≤◌, ◌^◌, max, nat_le, nat_lt, ◌&&◌, Bool, true, false, cond, List, [], ◌∷◌, ◌++◌, map, Option, Some, None, refl, ap, sym, subst, ◌∙◌, arith, ⊎_elim, inl, inr}
+use Rattle.std.proofs.Common.{◌≡◌, ℕ, ◌<◌, ◌≤◌, max, Bool, true, false, cond, List, [], ◌∷◌, ◌++◌, map, Option, Some, None, refl, ap, sym, subst, ◌∙◌, arith, inl, inr}
 use Rattle.std.specs.Prelude.{filter, filter_map, flat_map}
 use Rattle.std.specs.List.{AllByRecursion, cons_option}
 use Rattle.std.specs.List.Sorted.{IsStrictlySortedBy}
@@ -8,20 +8,19 @@ use Rattle.std.proofs.lemmas.List.{append-nil, map-append}
 use Rattle.std.proofs.lemmas.List.Elements.{filter_map-append}
 use Rattle.std.proofs.lemmas.Bool.Decides.{nat_tests}
 use Rattle.history.specs.declared.key.Key.{Key}
-use Rattle.history.specs.declared.time.TimedWrite.{TimedWrite}
 use Rattle.history.specs.declared.time.Version.{Version}
 use Rattle.history.specs.Key.{key_cmp, same_key, write_in}
 use Rattle.history.specs.Time.{IsRisingAfter}
 use Rattle.history.specs.Versions.{versions, ends_after, ends_by, stands_at, as_write, first_time, FollowOneAnotherFrom}
-use Rattle.history.specs.Histories.{Commit, History, writes_of, timed_write}
+use Rattle.history.specs.Histories.{writes_of}
 use Rattle.history.specs.Queries.{values_after}
 use Rattle.history.proofs.Filters.{AllByRecursion-append}
 use Rattle.history.proofs.Values.{versions-apart, apart-earlier, first_time-later, filter-standing}
 use Rattle.image.specs.Values.{Value}
 use Rattle.image.specs.Reading.{HeapRecord, Member, OldRecord, ArchiveRecord, Reading}
 use Rattle.image.specs.Log.{floor_of}
-use Rattle.image.specs.Facts.{commit_read, commits_from, write_of, old_write, old_writes, heap_commits, heap_facts, heap_versions, version_for, run_versions, values_at_mark}
-use Rattle.image.specs.StandsFor.{IsAnchorUpto, IsArchived, IsBefore, AreInOrder, IsRun, archived_upto}
+use Rattle.image.specs.Facts.{commit_read, commits_from, write_of, old_write, old_writes, heap_commits, heap_facts, heap_versions, version_for, values_at_mark}
+use Rattle.image.specs.StandsFor.{IsAnchorUpto, IsArchived, IsBefore, AreInOrder, archived_upto}
 use Rattle.image.specs.Plans.{IsArchivePlan, IsReclaimPlan}
 use Rattle.image.specs.PlansMade.{member_keys, heap_keys, to_archive, archive_record, archive_records, archive_plan, to_keep, old_record, old_records, reclaim_plan}
 use Rattle.image.proofs.KeysInOrder.{AreOthers, keys-sorted, others-sorted, others-behind}

@@ -7,7 +7,7 @@ use Rattle.history.specs.declared.time.Version.{Version}
 use Rattle.history.specs.Key.{key_cmp}
 use Rattle.history.specs.Versions.{ends_after, ends_by, stands_at}
 use Rattle.image.specs.Values.{Value}
-use Rattle.image.specs.Reading.{HeapRecord, Member, OldRecord, ArchiveRecord, Reading}
+use Rattle.image.specs.Reading.{Member, OldRecord, ArchiveRecord, Reading}
 use Rattle.image.specs.Log.{floor_of}
 use Rattle.image.specs.Facts.{heap_versions}
 use Rattle.image.specs.StandsFor.{archived_upto}

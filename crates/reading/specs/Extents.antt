@@ -1,29 +1,11 @@
--- Extents, chains of them, and what the heap's bytes hold.
-use Rattle.std.specs.Prelude.{◌≡◌, ◌≢◌, ℕ, ◌+◌, ◌-◌, ◌*◌, ◌<◌, ◌≤◌, nat_le, List, [], ◌∷◌, ◌++◌, length, replicate, map, if◌then◌else◌}
+-- What the heap's bytes hold of extents and of chains of them.
+use Rattle.std.specs.Prelude.{ℕ, List}
 use Rattle.std.specs.List.{AllByRecursion}
-use Rattle.wire.specs.Spelling.{u32_bytes}
 use Rattle.disk.specs.Areas.{AreaState}
 use Rattle.disk.specs.Parts.{HoldsPart, KeepsPart}
-
--- an extent of a chain: its number, that of the next one or 0, and the bytes of its records
-pub record Extent : Type 0 where
-  pub number : ℕ
-  pub next : ℕ
-  pub body : List ℕ
-
--- the place of an extent
-abbrev pub extent_start : ℕ → ℕ
-extent_start number = 8192 * (number - 1)
-
--- the 8,192 bytes of an extent
-unfoldable pub extent_bytes : Extent → List ℕ
-extent_bytes e = u32_bytes e.number ++ u32_bytes e.next ++ u32_bytes (length e.body) ++ u32_bytes 0 ++ e.body ++ replicate (8176 - length e.body) 0
-
-pub record IsExtent (e : Extent) : Type 0 where
-  pub low : 0 < e.number
-  pub high : e.number ≤ 65536
-  pub some : 0 < length e.body
-  pub fits : length e.body ≤ 8176
+pub use Rattle.deltas.specs.Packing.{bodies_from, bodies}
+pub use Rattle.deltas.specs.Extents.{Extent, extent_start, IsExtent, first_of, AreLinked, IsChain, AreDistinct}
+unfoldable pub use Rattle.deltas.specs.Extents.{extent_bytes}
 
 -- the heap's bytes hold the extent
 abbrev pub HoldsExtent : List ℕ → Extent → Type 0
@@ -33,43 +15,8 @@ HoldsExtent heap e = HoldsPart (extent_start e.number) (extent_bytes e) heap
 abbrev pub KeepsExtent : AreaState → Extent → Type 0
 KeepsExtent a e = KeepsPart (extent_start e.number) (extent_bytes e) a
 
--- ---- chains
-
-abbrev pub first_of : List Extent → ℕ
-first_of [] = 0
-first_of (e ∷ es) = e.number
-
--- each extent names the one behind it
-abbrev pub AreLinked : List Extent → Type 0
-AreLinked [] = Unit {0}
-AreLinked (e ∷ es) = (e.next ≡ first_of es) × AreLinked es
-
--- behind what the current body has, each record goes into it if it still fits, else begins the next body
-abbrev pub bodies_from : List ℕ → List (List ℕ) → List (List ℕ)
-bodies_from body [] = body ∷ []
-bodies_from body (r ∷ records) = if nat_le (length body + length r) 8176 then bodies_from (body ++ r) records else body ∷ bodies_from r records
-
--- records packed into bodies, each record as its bytes
-abbrev pub bodies : List (List ℕ) → List (List ℕ)
-bodies [] = []
-bodies (r ∷ records) = bodies_from r records
-
--- these extents, this many from this first one, are the chain of these records
-pub record IsChain (first extents records : ℕ) (chain : List Extent) (list : List (List ℕ)) : Type 0 where
-  pub first_is : first_of chain ≡ first
-  pub extents_are : length chain ≡ extents
-  pub records_are : length list ≡ records
-  pub linked : AreLinked chain
-  pub each : AllByRecursion IsExtent chain
-  pub bodies_are : map (λ e. e.body) chain ≡ bodies list
-
 -- the heap's bytes hold the chain of these records
 pub record HoldsChain (heap : List ℕ) (first extents records : ℕ) (list : List (List ℕ)) : Type 0 where
   pub chain : List Extent
   pub is_chain : IsChain first extents records chain list
   pub held : AllByRecursion (HoldsExtent heap) chain
-
--- no two of these have one number
-abbrev pub AreDistinct : List Extent → Type 0
-AreDistinct [] = Unit {0}
-AreDistinct (e ∷ es) = AllByRecursion (λ f. e.number ≢ f.number) es × AreDistinct es

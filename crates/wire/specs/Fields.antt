@@ -1,6 +1,7 @@
 -- Fields and their one spelling.
-use Rattle.std.specs.Prelude.{◌≡◌, ℕ, zero, suc, ◌<◌, ◌≤◌, List, [], ◌∷◌, length, take, drop, All}
+use Rattle.std.specs.Prelude.{◌≡◌, ℕ, zero, suc, ◌≤◌, List, [], ◌∷◌, length, take, drop}
 use Rattle.std.specs.List.{flat_map, AllByRecursion}
+pub use Rattle.image.specs.Values.{IsField}
 
 -- a field is its length and its bytes
 abbrev pub field_bytes : List ℕ → List ℕ
@@ -24,11 +25,6 @@ abbrev pub rest_at : ℕ → List ℕ → List ℕ
 rest_at zero bytes = bytes
 rest_at (suc n) [] = []
 rest_at (suc n) (len ∷ bytes) = rest_at n (drop len bytes)
-
--- a field of a value: 0 to 255 bytes
-pub record IsField (field : List ℕ) : Type 0 where
-  pub short : length field < 256
-  pub are_bytes : All (λ b. b < 256) field
 
 abbrev pub AreAllFields : List (List ℕ) → Type 0
 AreAllFields fields = AllByRecursion IsField fields

@@ -1,13 +1,7 @@
 -- Values, and their one spelling.
-use Rattle.std.specs.Prelude.{◌≡◌, ℕ, ◌<◌, ◌≤◌, List, ◌∷◌, length, All}
-use Rattle.std.specs.List.{AllByRecursion}
-use Rattle.wire.specs.Fields.{fields_bytes, IsField, AreShort}
-
--- 1 to 16 fields of 0 to 255 bytes
-pub record IsValue (value : List (List ℕ)) : Type 0 where
-  pub some : 0 < length value
-  pub few : length value ≤ 16
-  pub fields : AllByRecursion IsField value
+use Rattle.std.specs.Prelude.{ℕ, ◌<◌, ◌≤◌, List, ◌∷◌, length}
+pub use Rattle.image.specs.Values.{IsValue}
+use Rattle.wire.specs.Fields.{fields_bytes, AreShort}
 
 -- how many fields, and then each as its length and its bytes
 abbrev pub value_bytes : List (List ℕ) → List ℕ

@@ -1,6 +1,6 @@
 use Rattle.std.proofs.Common.{[]}
 use Rattle.history.specs.Histories.{writes_of, versions_of}
-use Rattle.history.specs.Sets.{Writes, IsSpan}
+use Rattle.history.specs.Sets.{Writes}
 use Rattle.history.proofs.Histories.{rising-from_following, writes_of-rising}
 use Rattle.history.proofs.Sets.{IsIn, writes-are, versions-are_spans, span-same, rows-are}
 use Rattle.history.proofs.laws.lists_are_sets.Goals as goal

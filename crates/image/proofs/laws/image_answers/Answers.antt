@@ -1,4 +1,4 @@
-use Rattle.std.proofs.Common.{◌≡◌, ℕ, ◌↔◌, ap, subst, ◌∙◌}
+use Rattle.std.proofs.Common.{ℕ, ◌↔◌, ap, subst, ◌∙◌}
 use Rattle.history.specs.Answers.{at_answer, between_answer, IsScanAtAnswer, IsScanBetweenAnswer}
 use Rattle.history.specs.Views.{IsScanAtView, IsScanBetweenView}
 use Rattle.history.proofs.Views.{view-at, view-between}

@@ -1,4 +1,4 @@
-use Rattle.std.proofs.Common.{◌≡◌, ◌≢◌, ℕ, List, ap, sym, ◌∙◌, subst}
+use Rattle.std.proofs.Common.{◌≡◌, ◌≢◌, List, ap, sym, subst}
 use Rattle.chains.specs.KeyWrites.{KeyWrites}
 use Rattle.chains.specs.Scans.{scanned}
 use Rattle.chains.proofs.Scans.{AreFrom, walk_from, scanned-from, walk-is_from, scanned-past, none_left, nothing_left}

@@ -1,5 +1,6 @@
 use Rattle.std.proofs.Common.{◌≡◌, ◌≤◌, List, arith, subst, ap, sym, ◌∙◌}
 use Rattle.chains.specs.KeyWrites.{KeyWrites, writes_of, with_commit, latest, IsOrdered, AreRising}
+use Rattle.chains.specs.Shapes.{Shape}
 use Rattle.chains.proofs.Commits.{MayAllFollow, older-latest, may-all-follow, writes_of-with_commit, latest-with_commit, commit_whole}
 use Rattle.history.specs.Versions.{versions}
 use Rattle.chains.specs.Writes.{written}
@@ -11,7 +12,7 @@ pub loop-w-init : goal.loop-w-init
 loop-w-init c =
     let m = c.args.self.now in
     let ws = c.args.writes.now in
-    let is : c.in_ok-share.field-0 ≡ m = c.in_ok-share.ensures ∙ c.self.view_is in
+    let is : c.in_ok-share.field-0.pieces ≡ m = ap (λ (t : Shape KeyWrites). t.pieces) c.in_ok-share.ensures ∙ c.self.view_is in
     let ordered : IsOrdered m = subst IsOrdered c.self.view_is c.self.invariant.0 in
     let follow : MayAllFollow c.args.time m ws = may-all-follow c.args.time m ws ordered (older-latest c.args.time m ws c.requires.later) c.requires.rising in
     record { same = ap (λ (l : List KeyWrites). with_commit l c.args.time ws) is; follow = subst (λ (l : List KeyWrites). MayAllFollow c.args.time l ws) (sym is) follow }
