@@ -4,3 +4,5 @@ pub mod ReadChains
 pub mod Answers
 pub mod Resolving
 pub mod Names
+pub mod Faults
+pub mod ReadsImage

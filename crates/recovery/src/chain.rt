@@ -1,9 +1,10 @@
 //! The extents of a chain, read from the heap.
 
-ghost use Rattle.std.specs.Prelude.{◌≡◌, ◌↔◌, ◌≤◌, ◌*◌, ◌+◌, IsTrue, IfOk, OnOk, MatchOption, length, map, if◌then◌else◌};
+ghost use Rattle.std.specs.Prelude.{◌≡◌, ◌↔◌, ◌≤◌, ◌*◌, ◌+◌, IsTrue, IfOk, IfErr, OnOk, MatchOption, length, map, if◌then◌else◌};
 ghost use Rattle.extents.specs.Usages.{IsFree, with_usage};
 ghost use Rattle.extents.specs.declared.usage.Usage.TheVariants.{Kept};
 ghost use Rattle.recovery.specs.Answers.{after_reads};
+ghost use Rattle.recovery.specs.Faults.{IsReadFault};
 ghost use Rattle.recovery.specs.Walk.{extent_at, numbers_at, IsThere, claimed, AreClaimable};
 ghost use Rattle.recovery.specs.ReadChains.{IsReadChain};
 
@@ -39,6 +40,7 @@ fn read_into<D: Disk>(disk: &mut D, number: u32, image: &mut [u8]) -> Result<(),
     requires len { length image.old ≡ 8192 }
     requires inside { IsTrue D.tells → number * 8192 ≤ length (D.state disk.old).areas.heap.bytes }
     ensures bytes { IsTrue D.tells → OnOk result (image.new ≡ extent_at (D.state disk.old).areas.heap.bytes number) }
+    ensures fault { IfErr result IsReadFault }
     ensures reads { D.state disk.new ≡ after_reads result (D.state disk.old) }
 {
     match disk.read(Area::Heap, (number as u64 - 1) * 8192, image) {
@@ -52,6 +54,7 @@ fn read_extent<D: Disk>(alloc: Global, disk: &mut D, number: u32) -> Result<Imag
     requires low { 1 ≤ number }
     requires inside { IsTrue D.tells → number * 8192 ≤ length (D.state disk.old).areas.heap.bytes }
     ensures bytes { IsTrue D.tells → IfOk result (λ image. image ≡ extent_at (D.state disk.old).areas.heap.bytes number) }
+    ensures fault { IfErr result IsReadFault }
     ensures reads { D.state disk.new ≡ after_reads result (D.state disk.old) }
 {
     let Ok(mut bytes) = room(alloc, EXTENT_LEN) else {
@@ -84,6 +87,7 @@ pub fn read_chain<D: Disk>(
 ) -> Result<Option<ReadChain>, OpenFault>
     requires { IsTrue D.tells → heap_len ≡ length (D.state disk.old).areas.heap.bytes }
     ensures chain { IsTrue D.tells → IfOk result (λ o. MatchOption o (¬ AreClaimable heap_len extents.old (numbers_at (D.state disk.old).areas.heap.bytes first count)) (IsReadChain (D.state disk.old).areas.heap.bytes heap_len extents.old first count extents.new)) }
+    ensures fault { IfErr result IsReadFault }
     ensures reads { D.state disk.new ≡ after_reads result (D.state disk.old) }
 {
     let mut numbers = Vec::new(alloc);

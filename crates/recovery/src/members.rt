@@ -1,10 +1,11 @@
 //! The chains of the log's commits.
 
-ghost use Rattle.std.specs.Prelude.{◌≡◌, ◌<◌, ◌≤◌, ◌^◌, [], IsTrue, IfOk, IfSome, map, length, replicate};
+ghost use Rattle.std.specs.Prelude.{◌≡◌, ◌<◌, ◌≤◌, ◌^◌, [], IsTrue, IfOk, IfErr, IfSome, map, length, replicate};
 ghost use Rattle.extents.specs.declared.usage.Usage.TheVariants.{Free};
 ghost use Rattle.image.specs.Log.{AreRisingAfter, last_time_after};
 ghost use Rattle.status.specs.Rules.{head_of};
 ghost use Rattle.recovery.specs.Answers.{after_reads};
+ghost use Rattle.recovery.specs.Faults.{IsReadFault, IsHeapFault};
 
 use crate::chain::read_chain;
 use crate::fault::OpenFault;
@@ -29,6 +30,7 @@ fn read_member<D: Disk>(
     requires later { heap.last < entry.now.time }
     requires in_range { entry.now.time < 2 ^ 63 }
     ensures last { IfOk result (λ o. IfSome o (λ next. next.last ≡ entry.now.time)) }
+    ensures fault { IfErr result IsReadFault }
     ensures reads { D.state disk.new ≡ after_reads result (D.state disk.old) }
 {
     let extents = &mut heap.extents;
@@ -73,6 +75,15 @@ fn nothing_read(alloc: Global) -> Result<HeapRead, AllocError>
     })
 }
 
+// A fault of reading is one of reading the heap.
+fn as_heap_fault(fault: OpenFault) -> OpenFault
+    requires { IsReadFault fault }
+    ensures same { result ≡ fault }
+    ensures heap { IsHeapFault result }
+{
+    fault
+}
+
 /// The chains of these commits, one after another.
 pub fn read_members<D: Disk>(
     alloc: Global,
@@ -83,15 +94,17 @@ pub fn read_members<D: Disk>(
     requires len { IsTrue D.tells → heap_len ≡ length (D.state disk.old).areas.heap.bytes }
     requires rising { AreRisingAfter 0 (map head_of entries.now) }
     ensures last { IfOk result (λ heap. heap.last ≡ last_time_after 0 (map head_of entries.now)) }
+    ensures fault { IfErr result IsHeapFault }
     ensures reads { D.state disk.new ≡ after_reads result (D.state disk.old) }
 {
     let mut heap = nothing_read(alloc)?;
     let mut rest = entries;
     while let [entry, after @ ..] = rest {
-        let Some(next) = read_member(alloc, disk, heap_len, heap, entry)? else {
-            return Err(OpenFault::Damaged(Area::Heap, entry.first as u64));
-        };
-        heap = next;
+        match read_member(alloc, disk, heap_len, heap, entry) {
+            Ok(Some(next)) => heap = next,
+            Ok(None) => return Err(OpenFault::Damaged(Area::Heap, entry.first as u64)),
+            Err(fault) => return Err(as_heap_fault(fault)),
+        }
         rest = after;
     }
     Ok(heap)

@@ -1,6 +1,6 @@
 //! Reading the image of a store.
 
-ghost use Rattle.std.specs.Prelude.{◌≡◌, ◌≤◌, ◌<◌, ◌^◌, IsTrue, IfOk, OnOk, OnErr, map, length, Err, flat_map};
+ghost use Rattle.std.specs.Prelude.{◌≡◌, ◌≤◌, ◌<◌, ◌^◌, IsTrue, IfOk, IfErr, OnOk, OnErr, map, length, Err, flat_map};
 ghost use Rattle.disk.specs.Areas.{image_of, settled_on};
 ghost use Rattle.disk.specs.Calls.{refusals};
 ghost use Rattle.image.specs.Log.{AreRisingAfter, last_time_after};
@@ -8,7 +8,10 @@ ghost use Rattle.status.specs.Header.{total};
 ghost use Rattle.status.specs.Rules.{head_of, KeepsRules};
 ghost use Rattle.reading.specs.Layouts.{entries_of};
 ghost use Rattle.chains.specs.KeyWrites.{latest};
+ghost use Rattle.status.specs.Reading.{ReadsHeader};
 ghost use Rattle.recovery.specs.Answers.{after_reads};
+ghost use Rattle.recovery.specs.Faults.{IsHeaderFault, IsImageFault};
+ghost use Rattle.recovery.specs.ReadsImage.{IsReadFrom};
 ghost use Rattle.recovery.specs.Names.{head_named, name_of, refusals_at_opening};
 
 use crate::fault::OpenFault;
@@ -70,6 +73,8 @@ fn settle<D: Disk>(disk: &mut D) -> Result<(), DeviceFault>
 
 // A header of at most 65,536 slots.
 fn find_header<D: Disk>(disk: &mut D) -> Result<Header, OpenFault>
+    ensures found { IsTrue D.tells → IfOk result (ReadsHeader (D.state disk.old).areas.status.bytes) }
+    ensures fault { IsTrue D.tells → IfErr result (IsHeaderFault (D.state disk.old).areas.status.bytes) }
     ensures few { IfOk result (λ header. total header ≤ 65536) }
     ensures reads { D.state disk.new ≡ after_reads result (D.state disk.old) }
 {
@@ -86,6 +91,8 @@ fn read_settled<D: Disk>(alloc: Global, disk: &mut D) -> Result<Recovered, OpenF
     ensures rising { IfOk result (λ r. AreRisingAfter 0 (map head_named r.commits.items)) }
     ensures last { IfOk result (λ r. r.last ≡ last_time_after 0 (map head_named r.commits.items)) }
     ensures latest { IfOk result (λ r. latest r.chains ≤ r.last) }
+    ensures found { IsTrue D.tells → IfOk result (IsReadFrom (D.state disk.old).areas.status.bytes) }
+    ensures fault { IsTrue D.tells → IfErr result (IsImageFault (D.state disk.old).areas.status.bytes) }
     ensures reads { D.state disk.new ≡ after_reads result (D.state disk.old) }
 {
     let header = find_header(disk)?;
@@ -118,6 +125,9 @@ pub fn read_image<D: Disk>(alloc: Global, disk: &mut D) -> Result<Recovered, Ope
     ensures rising { IfOk result (λ r. AreRisingAfter 0 (map head_named r.commits.items)) }
     ensures last { IfOk result (λ r. r.last ≡ last_time_after 0 (map head_named r.commits.items)) }
     ensures latest { IfOk result (λ r. latest r.chains ≤ r.last) }
+
+    ensures found { IsTrue D.tells → IfOk result (IsReadFrom (D.state disk.old).areas.status.bytes) }
+    ensures fault { IsTrue D.tells → IfErr result (IsImageFault (D.state disk.old).areas.status.bytes) }
 
     ensures settled { IsTrue D.tells → OnOk result ((D.state disk.new).areas ≡ settled_on (image_of (D.state disk.old).areas)) }
     ensures read { IsTrue D.tells → image_of (D.state disk.new).areas ≡ image_of (D.state disk.old).areas }

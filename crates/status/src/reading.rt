@@ -2,6 +2,7 @@
 ghost use Rattle.std.specs.Prelude.{◌≡◌, ◌≤◌, ◌<◌, ◌↔◌, ℕ, length, take, true, IsTrue, IfOk, IfErr, IfSome, IfNone};
 ghost use Rattle.disk.specs.Calls.{looked};
 ghost use Rattle.status.specs.declared.header.Header.{Header};
+ghost use Rattle.status.specs.Header.{HasNumbers};
 ghost use Rattle.status.specs.Rules.{is_built};
 ghost use Rattle.status.specs.Reading.{read_by, ReadsHeader, IsBuiltFront, IsHeaderOf, AnswersHeader, IsHeaderFault};
 
@@ -36,6 +37,8 @@ fn header_of(front: &[u8; 512], len: u64) -> Option<Header>
 
 fn find_header<D: Disk>(disk: &mut D) -> Result<Option<Header>, DeviceFault>
     ensures found { IsTrue D.tells → IfOk result (IsHeaderOf (D.state disk.old).areas.status.bytes) }
+    ensures numbers { IfOk result (λ found. IfSome found (λ header. HasNumbers header)) }
+    ensures built { IfOk result (λ found. IfSome found (λ header. IsTrue (is_built header.profile 1))) }
     ensures same { D.state disk.new ≡ looked result (D.state disk.old) }
 {
     let len = disk.len(Area::Status)?;
@@ -54,6 +57,8 @@ fn find_header<D: Disk>(disk: &mut D) -> Result<Option<Header>, DeviceFault>
 /// `NotAStore` where no header of a built profile stands there, or the area is too short for its
 /// slots; `Device` where the device refused a call.
 pub fn read_header<D: Disk>(disk: &mut D) -> Result<Header, LogFault>
+    ensures numbers { IfOk result (λ header. HasNumbers header) }
+    ensures built { IfOk result (λ header. IsTrue (is_built header.profile 1)) }
     ensures found { IsTrue D.tells → IfOk result (ReadsHeader (D.state disk.old).areas.status.bytes) }
     ensures only { IsTrue D.tells → (header : Header) → ReadsHeader (D.state disk.old).areas.status.bytes header → AnswersHeader header result }
     ensures fault { IfErr result IsHeaderFault }

@@ -1,4 +1,4 @@
-use Rattle.std.proofs.Common.{◌≡◌, ℕ, ◌+◌, List, ap, refl, ◌∙◌}
+use Rattle.std.proofs.Common.{◌≡◌, ℕ, List, ap, refl, ◌∙◌}
 use Rattle.disk.specs.Calls.{DiskState}
 use Rattle.recovery.specs.Walk.{extent_at}
 use Rattle.recovery.proofs.Walking.{walk_fails, walk_goes_on}

@@ -1,4 +1,4 @@
-use Rattle.std.proofs.Common.{◌≡◌, ap, sym, subst, ◌∙◌}
+use Rattle.std.proofs.Common.{◌∙◌}
 use Rattle.recovery.proofs.Stored.{rising_writes}
 use Rattle.recovery.proofs.members.read_member.Goals as goal
 

@@ -1,5 +1,4 @@
-use Rattle.std.proofs.Common.{◌≡◌, Option, Some, ap, sym, ◌∙◌}
-use Rattle.std.specs.Option.{option_copied}
+use Rattle.std.proofs.Common.{Option, ap, sym, ◌∙◌}
 use Rattle.image.specs.Values.{Value}
 use Rattle.image.specs.Facts.{stored, written}
 use Rattle.deltas.specs.Records.{content_of, heap_content}
