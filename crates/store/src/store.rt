@@ -1,6 +1,6 @@
 //! The store, and its calls that ask nothing of the disk.
 ghost use Rattle.std.specs.Prelude.{◌≡◌, IfOk};
-ghost use Rattle.transactions.specs.Calls.{Begins, Aborts, Redeems, last};
+ghost use Rattle.store.specs.Calls.{Begins, Aborts, Redeems, IsViewOf, IsTimesOf, last, floor};
 ghost use Rattle.store.specs.Values.{HasRest};
 
 use disk::Disk;
@@ -51,30 +51,28 @@ impl<D: Disk> Store<D> {
 
     /// The time of the last published commit in microseconds since 1970, 0 for none.
     pub fn last(&self) -> u64
-        ensures { result ≡ last self.now.transactions }
+        ensures { result ≡ last self.now }
     {
         self.transactions.last()
     }
 
     /// The time before which nothing is promised, 0 where all history is kept.
     pub fn floor(&self) -> u64
-        ensures { result ≡ self.now.transactions.floor }
+        ensures { result ≡ floor self.now }
     {
         self.transactions.floor()
     }
 
     /// A transaction on what is published now.
     pub fn begin(&mut self) -> Result<Txn, BeginFault>
-        ensures begins { Begins self.old.transactions result self.new.transactions }
-        ensures rest { HasRest self.old self.new }
+        ensures { Begins self.old result self.new }
     {
         self.transactions.begin(self.alloc)
     }
 
     /// Gives the transaction's snapshot up. A stranger is only spent.
     pub fn abort(&mut self, txn: Txn)
-        ensures aborts { Aborts self.old.transactions txn self.new.transactions }
-        ensures rest { HasRest self.old self.new }
+        ensures { Aborts self.old txn self.new }
     {
         self.transactions.abort(txn);
     }
@@ -90,20 +88,21 @@ impl<D: Disk> Store<D> {
 
     /// Whether the ticket's commit is published. Only `Waiting` gives the ticket back.
     pub fn redeem(&mut self, ticket: Ticket) -> Redeemed
-        ensures redeems { Redeems self.old.transactions ticket result self.new.transactions }
-        ensures rest { HasRest self.old self.new }
+        ensures { Redeems self.old ticket result self.new }
     {
         self.transactions.redeem(ticket)
     }
 
     /// The times of the published commits with a label, rising, in microseconds since 1970.
-    pub fn times_of(&self, label: u64) -> Result<Vec<u64>, AllocError> {
+    pub fn times_of(&self, label: u64) -> Result<Vec<u64>, AllocError>
+        ensures { IfOk result (λ times. IsTimesOf self.now label times.items) }
+    {
         self.transactions.times_of(self.alloc, label)
     }
 
     /// A view of what is published now, which later commits do not change.
     pub fn view(&self) -> Result<View, AllocError>
-        ensures { IfOk result (λ v. v ≡ record { mark = self.now.transactions.mark; last = last self.now.transactions; floor = self.now.transactions.floor; state = self.now.transactions.versions }) }
+        ensures { IfOk result (IsViewOf self.now) }
     {
         self.transactions.view()
     }

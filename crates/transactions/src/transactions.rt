@@ -1,10 +1,10 @@
 //! What a store keeps in memory of its transactions.
 ghost use Rattle.std.specs.Prelude.{◌≡◌, ◌≤◌, [], length, false, IfOk, if◌then◌else◌};
 ghost use Rattle.chains.specs.KeyWrites.{latest};
-ghost use Rattle.group.specs.CommitOrder.{IsRisingAfter, last_time};
+ghost use Rattle.group.specs.CommitOrder.{IsRisingAfter, last_time, times_of};
 ghost use Rattle.transactions.specs.declared.stage.GroupStage.TheVariants.{NoGroup};
 ghost use Rattle.transactions.specs.Values.{ordered, over, is_own_of};
-ghost use Rattle.transactions.specs.Calls.{Begins, Aborts, Redeems, last};
+ghost use Rattle.transactions.specs.Calls.{Begins, Aborts, Redeems, last, order_of};
 
 use crate::stage::GroupStage;
 use crate::submit::gone_is_of_value;
@@ -236,7 +236,9 @@ impl Transactions {
     }
 
     /// The times of the published commits with a label, rising, in microseconds since 1970.
-    pub fn times_of(&self, alloc: Global, label: u64) -> Result<Vec<u64>, AllocError> {
+    pub fn times_of(&self, alloc: Global, label: u64) -> Result<Vec<u64>, AllocError>
+        ensures { IfOk result (λ times. times.items ≡ times_of label (order_of self.now)) }
+    {
         self.order.times_of(alloc, label)
     }
 }

@@ -1,0 +1,231 @@
+-- One line of the script, on a store and the names in use.
+use Rattle.std.specs.Prelude.{◌≡◌, ◌≢◌, ℕ, zero, suc, ◌+◌, ◌<◌, ◌↔◌, Bool, true, false, not, ◌||◌, nat_lt, List, [], ◌∷◌, ◌++◌, length, Option, Some, None, Result, Ok, Err, IfOk, OnOk, OnErr, is_some, position, MatchOption, slice_get, remove}
+use Rattle.std.specs.Str.{bytes_eq}
+use Rattle.std.specs.declared.alloc.AllocError.{AllocError}
+use Rattle.disk.specs.Calls.{DiskState}
+use Rattle.history.specs.declared.key.Key.{Key}
+use Rattle.group.specs.declared.answers.BeginFault.{BeginFault}
+use Rattle.group.specs.declared.answers.Submitted.{Submitted}
+use Rattle.group.specs.declared.answers.Submitted.TheVariants as submitted_as
+use Rattle.group.specs.declared.answers.SubmitFault.{SubmitFault}
+use Rattle.group.specs.declared.answers.Did.{Did}
+use Rattle.group.specs.declared.answers.Did.TheVariants as did
+use Rattle.group.specs.declared.answers.PumpFault.{PumpFault}
+use Rattle.group.specs.declared.answers.Redeemed.{Redeemed}
+use Rattle.group.specs.declared.answers.Redeemed.TheVariants as redeemed_as
+use Rattle.snapshot.specs.Txn.{TxnValue, seen_by, with_put, with_delete, IsFullFor}
+use Rattle.snapshot.specs.declared.txn.TxnFault.{TxnFault}
+use Rattle.snapshot.specs.declared.txn.TxnFault.TheVariants as refuses
+use Rattle.timequery.specs.View.{ViewValue}
+use Rattle.timequery.specs.declared.fault.QueryFault.{QueryFault}
+use Rattle.timequery.specs.declared.fault.QueryFault.TheVariants as query
+use Rattle.recovery.specs.declared.fault.OpenFault.{OpenFault}
+use Rattle.store.specs.Values.{StoreValue, HasRest}
+use Rattle.store.specs.Calls as store
+use Rattle.script.specs.declared.line.Line.{Line}
+use Rattle.script.specs.declared.line.Line.TheVariants as line
+use Rattle.session.specs.declared.fault.Fault.TheVariants as fault
+use Rattle.session.specs.declared.names.OpenName.{OpenName}
+use Rattle.session.specs.declared.names.TicketName.{TicketName}
+use Rattle.session.specs.declared.reply.Reply.{Reply}
+use Rattle.session.specs.declared.reply.Reply.TheVariants as reply
+use Rattle.session.specs.Texts.{Text}
+
+pub record State : Type 0 where
+  pub store : StoreValue
+  -- the names of open transactions, and those of tickets
+  pub opened : List OpenName
+  pub tickets : List TicketName
+
+abbrev pub fresh : StoreValue → State
+fresh store = record { store = store; opened = []; tickets = [] }
+
+-- what a closed store gives back, and what a store is
+abbrev pub Given : Type 0
+Given = DiskState
+
+abbrev pub Stored : Type 0
+Stored = StoreValue
+
+abbrev pub names_txn : Text → OpenName → Bool
+names_txn name e = bytes_eq e.name name
+
+abbrev pub names_ticket : Text → TicketName → Bool
+names_ticket name e = bytes_eq e.name name
+
+abbrev pub txn_place : Text → State → Option ℕ
+txn_place name s = position (names_txn name) s.opened
+
+abbrev pub ticket_place : Text → State → Option ℕ
+ticket_place name s = position (names_ticket name) s.tickets
+
+-- a name in use is not given again, and at most 64 are in use
+abbrev pub is_taken : Text → State → Bool
+is_taken name s = is_some (txn_place name s) || (is_some (ticket_place name s) || not (nat_lt (length s.opened + length s.tickets) 64))
+
+-- nothing happens but that the name is refused
+abbrev pub RefusesName : State → Reply → State → Type 0
+RefusesName old r new = (r ≡ reply.Refused fault.Name) × (new ≡ old)
+
+-- the one where the test is true, the other where it is false
+abbrev pub IfTest : Bool → Type 0 → Type 0 → Type 0
+IfTest b P Q = (b ≡ true → P) × (b ≡ false → Q)
+
+abbrev pub begun : Result TxnValue BeginFault → Reply
+begun (Ok txn) = reply.Snapshot txn.snapshot
+begun (Err f) = reply.Refused (fault.Begin f)
+
+abbrev pub with_begun : Text → List OpenName → Result TxnValue BeginFault → List OpenName
+with_begun name opened (Ok txn) = opened ++ record { name = name; txn = txn } ∷ []
+with_begun name opened (Err f) = opened
+
+abbrev pub BeginStep : State → Text → Reply → State → Type 0
+BeginStep old name r new = (answer : Result TxnValue BeginFault) × store.Begins old.store answer new.store × (r ≡ begun answer)
+    × (new.opened ≡ with_begun name old.opened answer) × (new.tickets ≡ old.tickets)
+
+-- what a put answers
+pub record Puts (old : TxnValue) (key : Key) (fields : List Text) (answer : Result (Unit {0}) TxnFault) (new : TxnValue) : Type 0 where
+  pub ok : OnOk answer (new ≡ with_put old key fields)
+  pub missing : answer ≢ Err refuses.Missing
+  pub too_many : answer ≡ Err refuses.TooManyKeys → IsFullFor old.writes key
+  pub err : OnErr answer (new ≡ old)
+
+-- what a delete answers
+pub record Deletes (old : TxnValue) (key : Key) (answer : Result (Unit {0}) TxnFault) (new : TxnValue) : Type 0 where
+  pub ok : OnOk answer (new ≡ with_delete old key)
+  pub missing : (answer ≡ Err refuses.Missing) ↔ (seen_by old key ≡ None)
+  pub err : OnErr answer (new ≡ old)
+
+abbrev pub done : Result (Unit {0}) TxnFault → Reply
+done (Ok _) = reply.Ok
+done (Err f) = reply.Refused (fault.Txn f)
+
+-- the transaction of a name becomes another, and the name goes to the end of the list
+abbrev pub WithTxn : State → ℕ → OpenName → TxnValue → State → Type 0
+WithTxn old i e txn new = (slice_get old.opened i ≡ Some e) × (new.store ≡ old.store)
+    × (new.opened ≡ remove old.opened i ++ record e { txn = txn } ∷ []) × (new.tickets ≡ old.tickets)
+
+abbrev pub PutStep : State → ℕ → Key → List Text → Reply → State → Type 0
+PutStep old i key fields r new = (e : OpenName) × (txn : TxnValue) × (answer : Result (Unit {0}) TxnFault)
+    × WithTxn old i e txn new × Puts e.txn key fields answer txn × (r ≡ done answer)
+
+abbrev pub DeleteStep : State → ℕ → Key → Reply → State → Type 0
+DeleteStep old i key r new = (e : OpenName) × (txn : TxnValue) × (answer : Result (Unit {0}) TxnFault)
+    × WithTxn old i e txn new × Deletes e.txn key answer txn × (r ≡ done answer)
+
+abbrev pub seen : Result (Option (List Text)) AllocError → Reply
+seen (Ok value) = reply.Found value
+seen (Err e) = reply.Refused fault.NoMemory
+
+abbrev pub GetStep : State → ℕ → Key → Reply → State → Type 0
+GetStep old i key r new = (e : OpenName) × (answer : Result (Option (List Text)) AllocError) × (slice_get old.opened i ≡ Some e)
+    × IfOk answer (λ value. value ≡ seen_by e.txn key) × (r ≡ seen answer) × (new ≡ old)
+
+abbrev pub AbortStep : State → ℕ → Reply → State → Type 0
+AbortStep old i r new = (e : OpenName) × (slice_get old.opened i ≡ Some e) × store.Aborts old.store e.txn new.store × (r ≡ reply.Ok)
+    × (new.opened ≡ remove old.opened i) × (new.tickets ≡ old.tickets)
+
+abbrev pub submitted : Result Submitted SubmitFault → Reply
+submitted (Ok (submitted_as.ReadOnly t)) = reply.ReadOnly t
+submitted (Ok (submitted_as.Queued ticket)) = reply.Queued
+submitted (Err f) = reply.Refused (fault.Submit f)
+
+-- a queued commit's name stands for its ticket from then on; else it is free
+abbrev pub with_submitted : Text → List TicketName → Result Submitted SubmitFault → List TicketName
+with_submitted name tickets (Ok (submitted_as.ReadOnly t)) = tickets
+with_submitted name tickets (Ok (submitted_as.Queued ticket)) = tickets ++ record { name = name; ticket = ticket } ∷ []
+with_submitted name tickets (Err f) = tickets
+
+abbrev pub SubmitStep : State → ℕ → ℕ → ℕ → Reply → State → Type 0
+SubmitStep old i label now r new = (e : OpenName) × (answer : Result Submitted SubmitFault) × (slice_get old.opened i ≡ Some e)
+    × HasRest old.store new.store × (r ≡ submitted answer)
+    × (new.opened ≡ remove old.opened i) × (new.tickets ≡ with_submitted e.name old.tickets answer)
+
+abbrev pub redeemed : Redeemed → Reply
+redeemed (redeemed_as.Done t) = reply.Done t
+redeemed (redeemed_as.Waiting ticket) = reply.Waiting
+redeemed redeemed_as.InDoubt = reply.InDoubt
+redeemed redeemed_as.Stranger = reply.Refused fault.Stranger
+
+-- the name stays in use only while its commit waits
+abbrev pub with_redeemed : Text → List TicketName → Redeemed → List TicketName
+with_redeemed name tickets (redeemed_as.Done t) = tickets
+with_redeemed name tickets (redeemed_as.Waiting ticket) = tickets ++ record { name = name; ticket = ticket } ∷ []
+with_redeemed name tickets redeemed_as.InDoubt = tickets
+with_redeemed name tickets redeemed_as.Stranger = tickets
+
+abbrev pub RedeemStep : State → ℕ → Reply → State → Type 0
+RedeemStep old i r new = (e : TicketName) × (answer : Redeemed) × (slice_get old.tickets i ≡ Some e)
+    × store.Redeems old.store e.ticket answer new.store × (r ≡ redeemed answer)
+    × (new.tickets ≡ with_redeemed e.name (remove old.tickets i) answer) × (new.opened ≡ old.opened)
+
+abbrev pub pumped : Result Did PumpFault → Reply
+pumped (Ok step) = reply.Did step
+pumped (Err f) = reply.Refused (fault.Pump f)
+
+abbrev pub PumpStep : Bool → StoreValue → Reply → StoreValue → Type 0
+PumpStep tells old r new = (answer : Result Did PumpFault) × (r ≡ pumped answer)
+
+-- nothing is left to do, or the step was refused
+abbrev pub EndsFlush : Result Did PumpFault → Type 0
+EndsFlush (Ok step) = step ≡ did.Idle
+EndsFlush (Err f) = Unit {0}
+
+-- steps are taken until one ends the flush, which alone is answered
+abbrev pub Flushes : Bool → StoreValue → Reply → StoreValue → Type 0
+Flushes tells old r new = (answer : Result Did PumpFault) × EndsFlush answer × (r ≡ pumped answer)
+
+-- a view is taken, asked and ended; without memory for the view nothing is asked
+abbrev pub Asks : StoreValue → Key → ℕ → Result (Option (List Text)) QueryFault → StoreValue → Type 0
+Asks old key time answer new = (taken : Option ViewValue) × MatchOption taken ((answer ≡ Err query.NoMemory) × (new ≡ old))
+    (λ view. store.IsViewOf old view × (new ≡ old))
+
+abbrev pub found : Result (Option (List Text)) QueryFault → Reply
+found (Ok value) = reply.Found value
+found (Err f) = reply.Refused (fault.Query f)
+
+abbrev pub AtStep : StoreValue → Key → ℕ → Reply → StoreValue → Type 0
+AtStep old key time r new = (answer : Result (Option (List Text)) QueryFault) × Asks old key time answer new × (r ≡ found answer)
+
+-- the times of a label, or no memory for them
+abbrev pub TimesStep : StoreValue → ℕ → Reply → Type 0
+TimesStep store label (reply.Times times) = store.IsTimesOf store label times.items
+TimesStep store label r = r ≡ reply.Refused fault.NoMemory
+
+-- a step of the store alone
+abbrev pub KeepsNames : State → State → Type 0
+KeepsNames old new = (new.opened ≡ old.opened) × (new.tickets ≡ old.tickets)
+
+-- each open transaction is aborted, in the order of the list
+abbrev pub AbortsAll : StoreValue → List OpenName → StoreValue → Type 0
+AbortsAll old [] new = new ≡ old
+AbortsAll old (e ∷ rest) new = (mid : StoreValue) × store.Aborts old e.txn mid × AbortsAll mid rest new
+
+-- what is open is aborted, tickets are given up, and the store is closed
+abbrev pub Closes : State → DiskState → Type 0
+Closes old given = (end : StoreValue) × AbortsAll old.store old.opened end × (given ≡ end.disk)
+
+-- the store is closed and opened again
+abbrev pub Reopens : Bool → State → Reply → State → Type 0
+Reopens tells old r new = (given : DiskState) × Closes old given × (opened : StoreValue)
+    × (r ≡ reply.Opened (store.last opened) (store.floor opened)) × (new ≡ fresh opened)
+
+-- a line that ends the run: a `reopen` that is refused
+abbrev pub Refuses : Bool → State → Line → OpenFault → DiskState → Type 0
+Refuses tells old line.Reopen f disk = (given : DiskState) × Closes old given
+Refuses tells old _ f disk = ⊥
+
+-- from old, a line is answered so and leaves new
+abbrev pub Step : Bool → State → Line → Reply → State → Type 0
+Step tells old (line.Begin name) r new = IfTest (is_taken name old) (RefusesName old r new) (BeginStep old name r new)
+Step tells old (line.Put name key fields) r new = MatchOption (txn_place name old) (RefusesName old r new) (λ i. PutStep old i key fields r new)
+Step tells old (line.Delete name key) r new = MatchOption (txn_place name old) (RefusesName old r new) (λ i. DeleteStep old i key r new)
+Step tells old (line.Get name key) r new = MatchOption (txn_place name old) (RefusesName old r new) (λ i. GetStep old i key r new)
+Step tells old (line.Submit name label now) r new = MatchOption (txn_place name old) (RefusesName old r new) (λ i. SubmitStep old i label now r new)
+Step tells old (line.Abort name) r new = MatchOption (txn_place name old) (RefusesName old r new) (λ i. AbortStep old i r new)
+Step tells old (line.Redeem name) r new = MatchOption (ticket_place name old) (RefusesName old r new) (λ i. RedeemStep old i r new)
+Step tells old line.Pump r new = PumpStep tells old.store r new.store × KeepsNames old new
+Step tells old line.Flush r new = Flushes tells old.store r new.store × KeepsNames old new
+Step tells old (line.At key time) r new = AtStep old.store key time r new.store × KeepsNames old new
+Step tells old (line.Times label) r new = TimesStep old.store label r × (new ≡ old)
+Step tells old line.Reopen r new = Reopens tells old r new

@@ -1,0 +1,149 @@
+-- The texts of answers.
+use Rattle.std.specs.Prelude.{ℕ, ◌+◌, ◌/◌, ◌%◌, List, [], ◌∷◌, ◌++◌, Option, Some, None, codes, nat_lt, if◌then◌else◌}
+use Rattle.std.specs.List.{flat_map}
+use Rattle.std.specs.Fmt.{decimal}
+use Rattle.disk.specs.declared.area.Area.{Area}
+use Rattle.disk.specs.declared.area.Area.TheVariants as area
+use Rattle.group.specs.declared.answers.BeginFault.{BeginFault}
+use Rattle.group.specs.declared.answers.BeginFault.TheVariants as begin
+use Rattle.group.specs.declared.answers.SubmitFault.{SubmitFault}
+use Rattle.group.specs.declared.answers.SubmitFault.TheVariants as submit
+use Rattle.group.specs.declared.answers.Did.{Did}
+use Rattle.group.specs.declared.answers.Did.TheVariants as did
+use Rattle.group.specs.declared.answers.PumpFault.{PumpFault}
+use Rattle.group.specs.declared.answers.PumpFault.TheVariants as pump
+use Rattle.snapshot.specs.declared.txn.TxnFault.{TxnFault}
+use Rattle.snapshot.specs.declared.txn.TxnFault.TheVariants as txn
+use Rattle.timequery.specs.declared.fault.QueryFault.{QueryFault}
+use Rattle.timequery.specs.declared.fault.QueryFault.TheVariants as query
+use Rattle.recovery.specs.declared.fault.OpenFault.{OpenFault}
+use Rattle.recovery.specs.declared.fault.OpenFault.TheVariants as opening
+use Rattle.recovery.specs.declared.fault.FormatFault.{FormatFault}
+use Rattle.recovery.specs.declared.fault.FormatFault.TheVariants as format
+use Rattle.session.specs.declared.fault.Fault.{Fault}
+use Rattle.session.specs.declared.fault.Fault.TheVariants as fault
+use Rattle.session.specs.declared.reply.Reply.{Reply}
+use Rattle.session.specs.declared.reply.Reply.TheVariants as reply
+
+abbrev pub Text : Type 0
+Text = List ℕ
+
+abbrev pub hex_digit : ℕ → ℕ
+hex_digit n = if nat_lt n 10 then 48 + n else 87 + n
+
+abbrev pub byte_text : ℕ → Text
+byte_text b = hex_digit (b / 16) ∷ hex_digit (b % 16) ∷ []
+
+-- two digits a byte
+abbrev pub hex_text : Text → Text
+hex_text bytes = flat_map byte_text bytes
+
+abbrev pub field_text : Text → Text
+field_text [] = codes "-"
+field_text (b ∷ bs) = hex_text (b ∷ bs)
+
+-- each field after a space
+abbrev pub fields_text : List Text → Text
+fields_text fields = flat_map (λ f. codes " " ++ field_text f) fields
+
+abbrev pub value_text : List Text → Text
+value_text fields = codes "value" ++ fields_text fields ++ codes "\n"
+
+-- each number after a space
+abbrev pub numbers_text : List ℕ → Text
+numbers_text numbers = flat_map (λ n. codes " " ++ decimal n) numbers
+
+abbrev pub times_text : List ℕ → Text
+times_text times = codes "times" ++ numbers_text times ++ codes "\n"
+
+abbrev pub step_text : Did → Text
+step_text did.Idle = codes "idle\n"
+step_text did.WroteExtent = codes "wrote extent\n"
+step_text did.HeapSynced = codes "heap synced\n"
+step_text did.BodyWritten = codes "body written\n"
+step_text did.BodySynced = codes "body synced\n"
+step_text did.GateWritten = codes "gate written\n"
+step_text (did.Published count) = codes "published " ++ decimal count ++ codes "\n"
+
+abbrev pub begin_text : BeginFault → Text
+begin_text begin.NoMemory = codes "no memory"
+begin_text begin.Failed = codes "failed"
+
+abbrev pub txn_text : TxnFault → Text
+txn_text txn.Missing = codes "missing"
+txn_text txn.TooManyKeys = codes "too many keys"
+txn_text txn.BadValue = codes "bad value"
+txn_text txn.NoMemory = codes "no memory"
+
+abbrev pub pump_text : PumpFault → Text
+pump_text pump.Busy = codes "busy"
+pump_text pump.NoMemory = codes "no memory"
+pump_text pump.Failed = codes "failed"
+
+abbrev pub format_text : FormatFault → Text
+format_text format.BadSlots = codes "bad slots"
+format_text format.Occupied = codes "occupied"
+format_text format.Device = codes "device"
+format_text format.NoMemory = codes "no memory"
+
+abbrev pub damage_line : Area → ℕ → Text
+damage_line area.Status place = codes "refused: damaged status " ++ decimal place ++ codes "\n"
+damage_line area.Heap place = codes "refused: damaged heap " ++ decimal place ++ codes "\n"
+damage_line area.Archive place = codes "refused: damaged archive " ++ decimal place ++ codes "\n"
+
+abbrev pub refused : Text → Text
+refused text = codes "refused: " ++ text ++ codes "\n"
+
+abbrev pub submit_line : SubmitFault → Text
+submit_line (submit.Conflict key) = codes "refused: conflict " ++ (decimal key.relation ++ (codes " " ++ (decimal key.«record» ++ codes "\n")))
+submit_line submit.HeapFull = codes "refused: heap full\n"
+submit_line submit.StatusFull = codes "refused: status full\n"
+submit_line submit.ClockEnd = codes "refused: clock end\n"
+submit_line submit.NoMemory = codes "refused: no memory\n"
+submit_line submit.Failed = codes "refused: failed\n"
+submit_line submit.Stranger = codes "refused: stranger\n"
+
+abbrev pub query_line : QueryFault → Text
+query_line (query.BeforeKept floor) = codes "refused: before kept " ++ decimal floor ++ codes "\n"
+query_line (query.NotYet last) = codes "refused: not yet " ++ decimal last ++ codes "\n"
+query_line query.EmptyInterval = codes "refused: empty interval\n"
+query_line query.Device = codes "refused: device\n"
+query_line query.NoMemory = codes "refused: no memory\n"
+query_line (query.Damaged start) = codes "refused: damaged archive " ++ decimal start ++ codes "\n"
+query_line query.NeedsDisk = codes "refused: needs disk\n"
+query_line query.Stranger = codes "refused: stranger\n"
+
+abbrev pub open_line : OpenFault → Text
+open_line opening.NotAStore = codes "refused: not a store\n"
+open_line (opening.Damaged part place) = damage_line part place
+open_line opening.Device = codes "refused: device\n"
+open_line opening.NoMemory = codes "refused: no memory\n"
+
+abbrev pub refusal_line : Fault → Text
+refusal_line fault.Name = codes "refused: name\n"
+refusal_line fault.Time = codes "refused: bad time\n"
+refusal_line fault.NoMemory = codes "refused: no memory\n"
+refusal_line fault.Stranger = codes "refused: stranger\n"
+refusal_line (fault.Begin f) = refused (begin_text f)
+refusal_line (fault.Txn f) = refused (txn_text f)
+refusal_line (fault.Submit f) = submit_line f
+refusal_line (fault.Pump f) = refused (pump_text f)
+refusal_line (fault.Query f) = query_line f
+refusal_line (fault.Open f) = open_line f
+refusal_line (fault.Format f) = refused (format_text f)
+
+-- the line of an answer
+abbrev pub text_of : Reply → Text
+text_of (reply.Snapshot t) = codes "snapshot " ++ decimal t ++ codes "\n"
+text_of reply.Ok = codes "ok\n"
+text_of (reply.Found None) = codes "none\n"
+text_of (reply.Found (Some value)) = value_text value
+text_of reply.Queued = codes "queued\n"
+text_of (reply.ReadOnly t) = codes "readonly " ++ decimal t ++ codes "\n"
+text_of (reply.Done t) = codes "done " ++ decimal t ++ codes "\n"
+text_of reply.Waiting = codes "waiting\n"
+text_of reply.InDoubt = codes "in doubt\n"
+text_of (reply.Did step) = step_text step
+text_of (reply.Times times) = times_text times.items
+text_of (reply.Opened last floor) = codes "last " ++ (decimal last ++ (codes " floor " ++ (decimal floor ++ codes "\n")))
+text_of (reply.Refused f) = refusal_line f

@@ -1,0 +1,16 @@
+//! How a run ends.
+
+/// Why a script's run ended.
+#[derive(Clone, Copy, Debug, PartialEq, Eq)]
+pub enum Ending {
+    /// At the end of the input.
+    Whole,
+    /// At a line of no form.
+    BadLine,
+    /// At a `reopen` that the store refused.
+    NotOpened,
+    /// The reader refused, or there was no memory for a line.
+    InputRefused,
+    /// The writer refused.
+    OutputRefused,
+}

@@ -1,0 +1,151 @@
+//! What an action does.
+ghost use Rattle.std.specs.Prelude.{◌≡◌, ◌⊎◌, ◌≤◌, IfSome, Ok};
+ghost use Rattle.std.specs.Io.KnownBytes.{Appends};
+ghost use Rattle.session.specs.Texts.{Text};
+ghost use Rattle.session.specs.Session.{Stored, fresh};
+ghost use Rattle.session.specs.Run.{Run, lines_of};
+ghost use Rattle.session.specs.declared.ending.Ending.TheVariants.{Whole};
+
+use disk::Disk;
+use history::Key;
+use recovery::format;
+use script::{Line, read_time};
+use session::{Ending, Fault, MARK, Reply, Session, run, write_reply};
+use std::alloc::Global;
+use std::io::{BufRead, Write};
+use store::Store;
+use words::Action;
+
+/// The status of what was done and said in full.
+const DONE: u8 = 0;
+
+/// The status of what was refused, or could not be said.
+const REFUSED: u8 = 1;
+
+/// The slots of the store in memory.
+const EXAMPLE_SLOTS: u32 = 16;
+
+/// Says a refusal.
+fn refuse<W: Write>(output: &mut W, fault: Fault) -> u8
+    ensures { result ≡ 1 }
+{
+    let _ = write_reply(output, &Reply::Refused(fault));
+    REFUSED
+}
+
+/// Opens the store and runs the script on it.
+fn run_script<D: Disk, R: BufRead, W: Write>(
+    alloc: Global,
+    disk: D,
+    input: &mut R,
+    output: &mut W,
+) -> (u8, D)
+    ensures whole { result.0 ≡ 0 → (store : Stored) × IfSome (R.remaining input.old) (λ text. (out : Text)
+        × Run D.tells 1 (fresh store) (lines_of text) out (Whole, D.state result.1) × Appends (W.contents output.old) (W.contents output.new) out) }
+    ensures status { result.0 ≤ 1 }
+{
+    let store = match Store::open(alloc, disk, MARK) {
+        Ok(store) => store,
+        Err((fault, disk)) => return (refuse(output, Fault::Open(fault)), disk),
+    };
+    let session = match Session::new(alloc, store) {
+        Ok(session) => session,
+        Err(store) => return (refuse(output, Fault::NoMemory), store.close()),
+    };
+    match run(session, alloc, input, output) {
+        (Ending::Whole, disk) => (DONE, disk),
+        (_, disk) => (REFUSED, disk),
+    }
+}
+
+/// Whether a line was said in full.
+fn status_of<E: Drop>(said: Result<(), E>, status: u8) -> u8
+    requires { status ≤ 1 }
+    ensures { result ≤ 1 }
+{
+    match said {
+        Ok(()) => status,
+        Err(_) => REFUSED,
+    }
+}
+
+/// Makes an empty store.
+fn make<D: Disk, W: Write>(alloc: Global, disk: D, slots: u32, output: &mut W) -> (u8, D)
+    ensures { result.0 ≤ 1 }
+{
+    let mut disk = disk;
+    let status = match format(alloc, &mut disk, slots) {
+        Ok(()) => status_of(writeln!(output, "formatted {slots}"), DONE),
+        Err(fault) => refuse(output, Fault::Format(fault)),
+    };
+    (status, disk)
+}
+
+/// Makes a small store and runs the script on it.
+fn run_example<D: Disk, R: BufRead, W: Write>(
+    alloc: Global,
+    disk: D,
+    input: &mut R,
+    output: &mut W,
+) -> (u8, D)
+    ensures { result.0 ≤ 1 }
+{
+    let mut disk = disk;
+    match format(alloc, &mut disk, EXAMPLE_SLOTS) {
+        Ok(()) => run_script(alloc, disk, input, output),
+        Err(fault) => (refuse(output, Fault::Format(fault)), disk),
+    }
+}
+
+/// The status of a command that is answered with one reply.
+fn status_of_reply(reply: &Reply) -> u8
+    ensures { result ≤ 1 }
+{
+    match reply {
+        Reply::Refused(_) => REFUSED,
+        _ => DONE,
+    }
+}
+
+/// Asks for a key's value at a time, on a store opened for it.
+fn ask<D: Disk, W: Write>(alloc: Global, disk: D, key: Key, time: u64, output: &mut W) -> (u8, D)
+    ensures { result.0 ≤ 1 }
+{
+    let store = match Store::open(alloc, disk, MARK) {
+        Ok(store) => store,
+        Err((fault, disk)) => return (refuse(output, Fault::Open(fault)), disk),
+    };
+    let session = match Session::new(alloc, store) {
+        Ok(session) => session,
+        Err(store) => return (refuse(output, Fault::NoMemory), store.close()),
+    };
+    match session.answer(alloc, Line::At(key, time)) {
+        Ok((session, reply)) => {
+            let status = status_of(write_reply(output, &reply), status_of_reply(&reply));
+            (status, session.close())
+        }
+        Err((fault, disk)) => (refuse(output, Fault::Open(fault)), disk),
+    }
+}
+
+/// Does what the words asked for, on a disk, and gives the disk back with the status of the program:
+/// 0, or 1 where something was refused, the store, the input or the output.
+pub fn act<D: Disk, R: BufRead, W: Write>(
+    alloc: Global,
+    action: Action<'_>,
+    disk: D,
+    input: &mut R,
+    output: &mut W,
+) -> (u8, D)
+    ensures { result.0 ≤ 1 }
+{
+    match action {
+        Action::Example => run_example(alloc, disk, input, output),
+        Action::Format { dir: _, slots } => make(alloc, disk, slots, output),
+        Action::Run { dir: _ } => run_script(alloc, disk, input, output),
+        Action::At { dir: _, key, time } => match read_time(time.as_bytes()) {
+            Some(time) => ask(alloc, disk, key, time, output),
+            None => (refuse(output, Fault::Time), disk),
+        },
+    }
+}
