@@ -189,8 +189,8 @@ AtStep old key time r new = (answer : Result (Option (List Text)) QueryFault) ×
 
 -- the times of a label, or no memory for them
 abbrev pub TimesStep : StoreValue → ℕ → Reply → Type 0
-TimesStep store label (reply.Times times) = store.IsTimesOf store label times.items
-TimesStep store label r = r ≡ reply.Refused fault.NoMemory
+TimesStep s label (reply.Times times) = store.IsTimesOf s label times.items
+TimesStep s label r = r ≡ reply.Refused fault.NoMemory
 
 -- a step of the store alone
 abbrev pub KeepsNames : State → State → Type 0
@@ -207,12 +207,12 @@ Closes old given = (end : StoreValue) × AbortsAll old.store old.opened end × (
 
 -- the store is closed and opened again
 abbrev pub Reopens : Bool → State → Reply → State → Type 0
-Reopens tells old r new = (given : DiskState) × Closes old given × (opened : StoreValue)
+Reopens tells old r new = (opened : StoreValue)
     × (r ≡ reply.Opened (store.last opened) (store.floor opened)) × (new ≡ fresh opened)
 
 -- a line that ends the run: a `reopen` that is refused
 abbrev pub Refuses : Bool → State → Line → OpenFault → DiskState → Type 0
-Refuses tells old line.Reopen f disk = (given : DiskState) × Closes old given
+Refuses tells old line.Reopen f disk = Unit {0}
 Refuses tells old _ f disk = ⊥
 
 -- from old, a line is answered so and leaves new

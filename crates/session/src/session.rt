@@ -210,9 +210,7 @@ impl<D: Disk> Session<D> {
     ///
     /// Where the store does not open; the disk comes back.
     pub fn reopen(self, alloc: Global) -> Result<Session<D>, (OpenFault, D)>
-        ensures { MatchResult result
-            (λ s. (given : told.Given) × told.Closes self given × (store : told.Stored) × (s ≡ told.fresh store))
-            (λ _. (given : told.Given) × told.Closes self given) }
+        ensures { IfOk result (λ s. (store : told.Stored) × (s ≡ told.fresh store)) }
     {
         let Session {
             mut store,
