@@ -1,1 +1,3 @@
 pub mod Heads
+pub mod Taken
+pub mod Sealed

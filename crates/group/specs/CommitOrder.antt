@@ -1,5 +1,5 @@
 -- The commits in their order: those that are published, and then those that wait.
-use Rattle.std.specs.Prelude.{ℕ, ◌≡◌, ◌<◌, ◌≤◌, ◌^◌, ◌==◌, ◌&&◌, Bool, true, false, List, [], ◌∷◌, ◌++◌, length, map, filter, take, find, Option, None, Some, if◌then◌else◌, nat_le, ◌≢◌, slice_index_or}
+use Rattle.std.specs.Prelude.{ℕ, ◌≡◌, ◌<◌, ◌≤◌, ◌^◌, ◌==◌, ◌&&◌, Bool, false, List, [], ◌∷◌, length, map, filter, take, if◌then◌else◌, nat_le, ◌≢◌, slice_index_or}
 use Rattle.group.specs.declared.commit_order.CommitHead.{CommitHead}
 use Rattle.group.specs.declared.commit_order.Standing.{Standing}
 use Rattle.group.specs.declared.commit_order.Standing.TheVariants.{Unknown, Waiting, Published}

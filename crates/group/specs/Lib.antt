@@ -1,2 +1,5 @@
 pub mod CommitOrder
 pub mod Tickets
+pub mod Queued
+pub mod Taking
+pub mod Sealing

@@ -1,2 +1,5 @@
 pub mod Zeroing
 pub mod Formatted
+pub mod Walking
+pub mod Heads
+pub mod Stored

@@ -1,6 +1,7 @@
 //! Why a store is not formatted or not opened.
 
 use disk::{Area, DeviceFault};
+use status::LogFault;
 use std::alloc::{AllocError, AllocFailed};
 
 /// Why an image does not open. Of several reasons the first in the order of the checks is told.
@@ -79,5 +80,21 @@ impl From<DeviceFault> for FormatFault {
 
     fn from(_: DeviceFault) -> Self {
         FormatFault::Device
+    }
+}
+
+impl From<LogFault> for OpenFault {
+    ghost use Rattle.std.specs.Prelude.{◌≡◌};
+    ghost use Rattle.recovery.specs.Names.{open_fault};
+
+    ghost from_gives = { λ e r. r ≡ open_fault e };
+
+    fn from(fault: LogFault) -> Self {
+        match fault {
+            LogFault::NotAStore => OpenFault::NotAStore,
+            LogFault::Damaged(number) => OpenFault::Damaged(Area::Status, number as u64),
+            LogFault::Device => OpenFault::Device,
+            LogFault::NoMemory => OpenFault::NoMemory,
+        }
     }
 }

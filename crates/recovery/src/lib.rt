@@ -1,11 +1,18 @@
 //! Making the image of a new store, and reading the image of one.
 #![tactic(auto)]
 
+mod chain;
 mod fault;
 mod formatting;
+mod members;
+mod opening;
+mod recovered;
+mod resolving;
 
 pub use fault::{FormatFault, OpenFault};
 pub use formatting::format;
+pub use opening::read_image;
+pub use recovered::{CommitName, LiveChain, Recovered};
 
 #[cfg(test)]
 mod tests;

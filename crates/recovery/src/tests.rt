@@ -1,6 +1,8 @@
 //! Stores as bytes.
-use crate::{FormatFault, format};
+use crate::{FormatFault, OpenFault, format, read_image};
 use disk::{Area, DeviceFault, Disk, MemDisk};
+use history::Key;
+use std::alloc::{AllocError, Global};
 use std::test::Fail;
 
 // The bytes of an area from a place on, where they are there.
@@ -44,5 +46,120 @@ fn a_new_store_is_a_header_and_closed_slots(rt: HostRuntime) -> Result<(), Fail>
         Err(FormatFault::Occupied)
     );
     assert_eq!(rt; disk.len(Area::Status)?, 8704);
+    Ok(())
+}
+
+// Writes a part into bytes, as far as they reach.
+fn put(bytes: &mut Vec<u8>, at: u16, part: &[u8]) {
+    for (i, byte) in part.iter().enumerate() {
+        let place = at as usize + i;
+        if place < bytes.len() {
+            bytes[place] = *byte;
+        }
+    }
+}
+
+fn zeros(alloc: Global, len: usize) -> Result<Vec<u8>, AllocError> {
+    vec![in alloc; 0; len]
+}
+
+// One commit of the key (1, 7), a value of one field, at 100 with label 9, and then this byte changed.
+fn one_commit(
+    alloc: Global,
+    area: Area,
+    at: u16,
+    byte: u8,
+    heap_len: usize,
+) -> Result<MemDisk, AllocError> {
+    let mut status = zeros(alloc, 8704)?;
+    put(&mut status, 0, b"NOOVER01");
+    put(&mut status, 8, &[1, 0, 0, 0, 16]);
+    put(
+        &mut status,
+        512,
+        &[0xC7, 1, 1, 0, 0, 0, 0, 0, 9, 0, 0, 0, 0, 0, 0, 0, 100],
+    );
+    put(&mut status, 536, &[1, 0, 0, 0, 1, 0, 0, 0, 1]);
+    let mut heap = zeros(alloc, heap_len)?;
+    put(
+        &mut heap,
+        0,
+        &[1, 0, 0, 0, 0, 0, 0, 0, 14, 0, 0, 0, 0, 0, 0, 0],
+    );
+    put(&mut heap, 16, &[1, 1, 0, 7, 0, 0, 0, 0, 0, 0, 0, 1, 1, 97]);
+    match area {
+        Area::Status => put(&mut status, at, &[byte]),
+        Area::Heap => put(&mut heap, at, &[byte]),
+        Area::Archive => {}
+    }
+    Ok(MemDisk::with_bytes(status, heap, Vec::new(alloc)))
+}
+
+#[test]
+fn a_commit_is_read(rt: HostRuntime) -> Result<(), Fail> {
+    let mut disk = one_commit(rt.alloc(), Area::Archive, 0, 0, 8192)?;
+    let found = read_image(rt.alloc(), &mut disk)?;
+    assert_eq!(rt; found.header.slots, 16);
+    assert_eq!(rt; found.used, 1);
+    assert_eq!(rt; found.last, 100);
+    assert_eq!(rt; found.commits.len(), 1);
+    assert_eq!(rt; found.commits[0].time, 100);
+    assert_eq!(rt; found.commits[0].label, 9);
+    assert_eq!(rt; found.extents.used(), 1);
+    assert_eq!(rt; found.live.len(), 1);
+    let key = Key {
+        relation: 1,
+        record: 7,
+    };
+    assert!(rt; found.chains.at(key, 99).is_none());
+    match found.chains.at(key, 100) {
+        Some(shared) => {
+            let value = shared.value();
+            assert_eq!(rt; value.len(), 1);
+        }
+        None => assert!(rt; false),
+    }
+    Ok(())
+}
+
+#[test]
+fn damage_is_found_in_its_place(rt: HostRuntime) -> Result<(), Fail> {
+    let slot = Some(OpenFault::Damaged(Area::Status, 0));
+    let chain = Some(OpenFault::Damaged(Area::Heap, 1));
+    let table = [
+        (Area::Status, 8, 9, 8192, Some(OpenFault::NotAStore)),
+        (Area::Status, 512, 0x37, 8192, None),
+        (Area::Status, 513, 5, 8192, slot),
+        (Area::Status, 514, 0, 8192, slot),
+        (Area::Status, 516, 1, 8192, slot),
+        (Area::Status, 540, 2, 8192, slot),
+        (
+            Area::Status,
+            1024,
+            0xC7,
+            8192,
+            Some(OpenFault::Damaged(Area::Status, 1)),
+        ),
+        (Area::Status, 1536, 0xC7, 8192, None),
+        (Area::Heap, 8, 13, 8192, chain),
+        (Area::Heap, 16, 4, 8192, chain),
+        (Area::Heap, 30, 1, 8192, chain),
+        (Area::Archive, 0, 0, 8191, chain),
+        (Area::Archive, 0, 0, 0, chain),
+    ];
+    for (area, at, byte, heap_len, want) in table {
+        let mut disk = one_commit(rt.alloc(), area, at, byte, heap_len)?;
+        let got = match read_image(rt.alloc(), &mut disk) {
+            Ok(_) => None,
+            Err(fault) => Some(fault),
+        };
+        assert_eq!(rt; got, want, "at {at}");
+    }
+    let mut short = MemDisk::with_bytes(
+        zeros(rt.alloc(), 511)?,
+        Vec::new(rt.alloc()),
+        Vec::new(rt.alloc()),
+    );
+    assert!(rt; read_image(rt.alloc(), &mut short).is_err());
     Ok(())
 }

@@ -1,2 +1,4 @@
 pub mod WriteSetLemmas
 pub mod TxnLemmas
+pub mod ScanLemmas
+pub mod StateScans

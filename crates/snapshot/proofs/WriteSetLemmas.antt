@@ -77,7 +77,7 @@ unfolding IsStrictlySortedBy
 rise-to [] h = tt
 rise-to (w ∷ ws) h = (above-to w.key ws h.0, rise-to ws h.1)
 
-above-lower : {V : Type 0} (low key : Key) (writes : List (KeyWrite V)) → key_lt low key ≡ true → AreAbove key writes → AreAbove low writes
+pub above-lower : {V : Type 0} (low key : Key) (writes : List (KeyWrite V)) → key_lt low key ≡ true → AreAbove key writes → AreAbove low writes
 above-lower low key [] less h = tt
 above-lower low key (w ∷ ws) less h = (key_lt-trans low key w.key less h.0, above-lower low key ws less h.1)
 
@@ -236,7 +236,7 @@ write_in-with_write {V} write (w ∷ ws) q =
     ] in
     goal refl refl
 
-write_in-above : {V : Type 0} (key q : Key) (writes : List (KeyWrite V)) → AreAbove key writes → same_key key q ≡ true → write_in writes q ≡ None
+pub write_in-above : {V : Type 0} (key q : Key) (writes : List (KeyWrite V)) → AreAbove key writes → same_key key q ≡ true → write_in writes q ≡ None
 write_in-above key q [] above same = refl
 write_in-above key q (w ∷ ws) above same =
     let other : same_key w.key q ≡ false = key_lt-other_way q w.key (same-then-key_lt q key w.key (same-sym key q same) above.0) in

@@ -2,9 +2,13 @@
 #![tactic(auto)]
 
 mod open_table;
+mod scan;
 mod txn;
 mod write_set;
 
 pub use open_table::OpenTable;
 pub use txn::{Txn, TxnFault, TxnParts};
 pub use write_set::MOST_KEYS;
+
+#[cfg(test)]
+mod tests;

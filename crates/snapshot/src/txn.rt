@@ -6,10 +6,12 @@ ghost use Rattle.history.specs.Key.{same_key, write_in};
 ghost use Rattle.image.specs.Values.{IsValue};
 ghost use Rattle.wire.specs.Values.{HasSizes};
 ghost use Rattle.snapshot.specs.Txn.{seen_by, at_snapshot, AreTxnWrites, IsFullFor, with_put, with_delete};
+ghost use Rattle.history.specs.Queries.{IsScan};
 ghost use Rattle.snapshot.specs.TxnFaults.{IsOfValue};
 
+use crate::scan::overlay;
 use crate::write_set::{place_of, place_with_room, put_at, remove_write};
-use chains::{Frozen, SharedValue};
+use chains::{Bound, Frozen, SharedValue};
 use history::{Key, KeyWrite};
 use std::alloc::{AllocError, Global};
 use std::marker::Model;
@@ -139,6 +141,25 @@ impl Txn {
             Ok(place) => self.writes[place].write.as_ref(),
             Err(_) => self.frozen.at(key, self.snapshot),
         }
+    }
+
+    /// The records of a relation that have a value as the transaction sees them, with their values,
+    /// in rising order.
+    ///
+    /// # Errors
+    ///
+    /// Where there is no memory for them.
+    pub fn scan(&self, alloc: Global, relation: u16) -> Result<Vec<(u64, SharedValue)>, AllocError>
+        ensures { IfOk result (λ found. IsScan (seen_by self.now) relation found.items) }
+    {
+        let first = Key {
+            relation,
+            record: 0,
+        };
+        // The versions are in the order of their keys.
+        let _least = self.frozen.least(Bound::From(first));
+        let published = self.frozen.scan(alloc, relation, self.snapshot)?;
+        overlay(alloc, relation, &published, &self.writes)
     }
 
     /// Writes a value of these fields to a key.

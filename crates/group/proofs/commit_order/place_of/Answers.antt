@@ -1,4 +1,4 @@
-use Rattle.std.proofs.Common.{◌≡◌, ◌≢◌, ◌<◌, ℕ, nat_lt, rules, of_calls, get_or, arith, sym, ap, ◌∙◌}
+use Rattle.std.proofs.Common.{nat_lt, rules, of_calls, arith, ◌∙◌}
 use Rattle.std.proofs.lemmas.Fn.{always_returns_same}
 use Rattle.group.specs.declared.commit_order.CommitHead.{CommitHead}
 use Rattle.group.proofs.Heads.{rising-partitioned, not_there, any_default}

@@ -1,6 +1,6 @@
-use Rattle.std.proofs.Common.{◌≡◌, ◌<◌, ◌≤◌, ◌^◌, length, take, arith, ap, sym, ◌∙◌}
+use Rattle.std.proofs.Common.{take, arith, ap, sym, ◌∙◌}
 use Rattle.group.specs.declared.commit_order.CommitHead.{CommitHead}
-use Rattle.group.specs.CommitOrder.{last_published, last_time, CommitOrderValue}
+use Rattle.group.specs.CommitOrder.{last_published, CommitOrderValue}
 use Rattle.group.proofs.Heads.{last_time-take, last_time-range, IsRisingAfter-take}
 use Rattle.group.proofs.commit_order.CommitOrder.last.Goals as goal
 

@@ -1,6 +1,6 @@
-use Rattle.std.proofs.Common.{◌≡◌, ◌<◌, ◌≤◌, ◌^◌, length, take, arith, ap, sym, ◌∙◌}
+use Rattle.std.proofs.Common.{arith, ap, sym, ◌∙◌}
 use Rattle.group.specs.declared.commit_order.CommitHead.{CommitHead}
-use Rattle.group.specs.CommitOrder.{last_assigned, last_time, CommitOrderValue}
+use Rattle.group.specs.CommitOrder.{last_assigned, CommitOrderValue}
 use Rattle.group.proofs.Heads.{last_time-all, last_time-range}
 use Rattle.group.proofs.commit_order.CommitOrder.last_assigned.Goals as goal
 

@@ -1,7 +1,6 @@
-use Rattle.std.proofs.Common.{◌≡◌, ◌<◌, ◌≤◌, ◌-◌, Bool, true, false, List, vec_capacity, vec_len, arith, ap, sym, ◌∙◌, subst}
+use Rattle.std.proofs.Common.{◌≡◌, ◌<◌, ◌≤◌, ◌-◌, true, false, vec_capacity, vec_len, ap, sym, ◌∙◌, subst}
 use Rattle.std.proofs.Math.ListN.{set}
-use Rattle.group.specs.declared.commit_order.CommitHead.{CommitHead}
-use Rattle.group.specs.CommitOrder.{CommitOrderValue, IsRisingAfter, AreHeads, HasNone, IsPlaceOf, is_awaited, redeemed, last_published}
+use Rattle.group.specs.CommitOrder.{CommitOrderValue, AreHeads, HasNone, IsPlaceOf, is_awaited, redeemed}
 use Rattle.group.proofs.Heads.{not_awaited, unknown, waiting, published, found_awaited, found_redeemed, still_heads}
 use Rattle.group.proofs.commit_order.CommitOrder.redeem.Goals as goal
 

@@ -1,0 +1,55 @@
+//! What is read of a store's image.
+
+ghost use Rattle.std.specs.Prelude.{◌≤◌, ◌<◌, ◌^◌};
+ghost use Rattle.chains.specs.KeyWrites.{latest};
+
+use chains::Frozen;
+use extents::Extents;
+use status::Header;
+
+/// A commit, as its slot names it: its time, in microseconds since 1970, and its label.
+#[derive(Clone, Copy, Debug, PartialEq, Eq)]
+pub struct CommitName {
+    pub time: u64,
+    pub label: u64,
+}
+
+/// The extents of a chain that the log names, in their order, and the time of its commit.
+#[derive(Drop)]
+pub struct LiveChain {
+    pub time: u64,
+    pub extents: Vec<u32>,
+}
+
+/// What was read of the heap: which extents are in a chain, the chains in rising time, and the writes of their records.
+#[derive(Drop)]
+pub struct HeapRead {
+    pub extents: Extents,
+    pub live: Vec<LiveChain>,
+    pub chains: Frozen,
+    /// The time of the last commit, 0 for none.
+    pub last: u64,
+    ghost upto_last: { latest chains ≤ last },
+    ghost in_range: { last < 2 ^ 63 },
+}
+
+/// What a store's image says.
+#[derive(Drop)]
+pub struct Recovered {
+    pub header: Header,
+    /// How many slots the log has.
+    pub used: u32,
+    /// The commits of the log, in its order.
+    pub commits: Vec<CommitName>,
+    /// The floor, the archive mark and the reclaim mark of the log, in microseconds since 1970; 0 for none.
+    pub floor: u64,
+    pub archived: u64,
+    pub reclaimed: u64,
+    /// The extents of the live chains are kept, and the others are free.
+    pub extents: Extents,
+    pub live: Vec<LiveChain>,
+    /// The writes later than the reclaim mark, of each key.
+    pub chains: Frozen,
+    /// The time of the last commit, in microseconds since 1970; 0 for none.
+    pub last: u64,
+}

@@ -1,0 +1,78 @@
+//! Records as the writes that they stand for.
+
+ghost use Rattle.std.specs.Prelude.{◌≡◌, ◌↔◌, IfOk, IsSome, MatchOption, map};
+ghost use Rattle.std.specs.Option.{option_copied};
+ghost use Rattle.std.specs.List.{AllByRecursion};
+ghost use Rattle.deltas.specs.Records.{heap_record};
+ghost use Rattle.deltas.specs.Chains.{IsPermitted};
+ghost use Rattle.deltas.specs.declared.chain.Kinds.TheVariants.{OfCommit};
+ghost use Rattle.image.specs.Facts.{IsStored, write_of};
+ghost use Rattle.recovery.specs.Resolving.{before_of};
+
+use chains::{Frozen, SharedValue};
+use deltas::{Record, apply};
+use history::{Key, KeyWrite};
+use std::alloc::{AllocError, Global};
+use wire::Value;
+
+// Later than every write.
+const END: u64 = 1 << 63;
+
+// The value that a key has after all of its writes.
+fn value_before(chains: &Frozen, key: Key) -> Option<&Value>
+    ensures is { option_copied result ≡ before_of chains.now key }
+    ensures some { IsSome result ↔ IsSome (before_of chains.now key) }
+{
+    match chains.at(key, END) {
+        None => None,
+        Some(shared) => Some(shared.value()),
+    }
+}
+
+fn share(alloc: Global, write: Option<Value>) -> Result<Option<SharedValue>, AllocError>
+    ensures { IfOk result (λ shared. shared ≡ write) }
+{
+    match write {
+        None => Ok(None),
+        Some(value) => Ok(Some(SharedValue::new(alloc, value)?)),
+    }
+}
+
+// The write that a record stands for, over the value before it. None where the record is not the one that its write is stored as.
+fn resolve_one(
+    alloc: Global,
+    chains: &Frozen,
+    entry: &Record,
+) -> Result<Option<KeyWrite<SharedValue>>, AllocError>
+    requires { IsPermitted OfCommit entry.now.content }
+    ensures { IfOk result (λ o. MatchOption o (¬ IsStored (before_of chains.now) (heap_record entry.now)) (λ w. IsStored (before_of chains.now) (heap_record entry.now) × (w ≡ write_of (before_of chains.now) (heap_record entry.now)))) }
+{
+    let Some(write) = apply(alloc, value_before(chains, entry.key), &entry.content)? else {
+        return Ok(None);
+    };
+    Ok(Some(KeyWrite {
+        key: entry.key,
+        write: share(alloc, write)?,
+    }))
+}
+
+/// The writes that the records of a commit stand for, over the values before them. None where one of them is not the record that its write is stored as.
+pub fn resolve(
+    alloc: Global,
+    chains: &Frozen,
+    records: &[Record],
+) -> Result<Option<Vec<KeyWrite<SharedValue>>>, AllocError>
+    requires { AllByRecursion (λ r. IsPermitted OfCommit r.content) records.now }
+    ensures { IfOk result (λ o. MatchOption o (¬ AllByRecursion (IsStored (before_of chains.now)) (map heap_record records.now)) (λ writes. AllByRecursion (IsStored (before_of chains.now)) (map heap_record records.now) × (writes.items ≡ map (write_of (before_of chains.now)) (map heap_record records.now)))) }
+{
+    let mut writes = Vec::new(alloc);
+    let mut rest = records;
+    while let [entry, after @ ..] = rest {
+        let Some(write) = resolve_one(alloc, chains, entry)? else {
+            return Ok(None);
+        };
+        writes.push(write)?;
+        rest = after;
+    }
+    Ok(Some(writes))
+}

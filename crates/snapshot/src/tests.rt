@@ -1,0 +1,140 @@
+ghost use Rattle.std.specs.Prelude.{◌<◌, ◌≤◌, ◌^◌, IfOk};
+ghost use Rattle.chains.specs.KeyWrites.{latest};
+
+use super::*;
+use chains::Frozen;
+use history::Key;
+use std::alloc::Global;
+use std::test::Fail;
+
+const SEVEN: Key = Key {
+    relation: 1,
+    record: 7,
+};
+
+fn key(record: u64) -> Key {
+    Key {
+        relation: 1,
+        record,
+    }
+}
+
+// What is published after one more commit of one key.
+fn committed(
+    alloc: Global,
+    before: &Frozen,
+    time: u64,
+    key: Key,
+    field: &[u8],
+) -> Result<Frozen, Fail>
+    requires later { latest before.now < time }
+    requires in_range { time < 2 ^ 63 }
+    ensures { IfOk result (λ after. latest after ≤ time) }
+{
+    let value = wire::Value::new(alloc, &[field])?;
+    let write = history::KeyWrite {
+        key,
+        write: Some(chains::SharedValue::new(alloc, value)?),
+    };
+    Ok(before.with_commit(alloc, time, &[write])?)
+}
+
+fn reads(txn: &Txn, key: Key, field: &[u8]) -> bool {
+    match txn.get(key) {
+        None => false,
+        Some(shared) => shared.value().len() == 1 && shared.value().field(0) == Some(field),
+    }
+}
+
+#[test]
+fn own_writes_over_the_snapshot(rt: HostRuntime) -> Result<(), Fail> {
+    let alloc = rt.alloc();
+    let first = committed(alloc, &Frozen::new(), 130, SEVEN, b"c")?;
+    let second = committed(alloc, &first, 140, SEVEN, b"d")?;
+    let mut txn = Txn::new(alloc, 1, 2, 130, second);
+    assert!(rt; reads(&txn, SEVEN, b"c"));
+    assert!(rt; txn.put(alloc, SEVEN, &[b"e".as_slice()]).is_ok());
+    assert!(rt; reads(&txn, SEVEN, b"e"));
+    assert_eq!(rt; txn.delete(SEVEN), Ok(()));
+    assert!(rt; txn.get(SEVEN).is_none());
+    assert_eq!(rt; txn.delete(SEVEN), Err(TxnFault::Missing));
+    assert_eq!(rt; txn.writes().len(), 1);
+    let parts = txn.spend();
+    assert_eq!(rt; (parts.mark, parts.number, parts.snapshot), (1, 2, 130));
+    assert_eq!(rt; parts.writes.len(), 1);
+    Ok(())
+}
+
+#[test]
+fn a_put_that_is_deleted_leaves_no_write(rt: HostRuntime) {
+    let alloc = rt.alloc();
+    let mut txn = Txn::new(alloc, 1, 0, 0, Frozen::new());
+    assert_eq!(rt; txn.delete(SEVEN), Err(TxnFault::Missing));
+    assert!(rt; txn.put(alloc, SEVEN, &[b"a".as_slice()]).is_ok());
+    assert_eq!(rt; txn.delete(SEVEN), Ok(()));
+    assert_eq!(rt; txn.writes().len(), 0);
+    let _over = txn.spend();
+}
+
+#[test]
+fn values_and_keys_have_their_limits(rt: HostRuntime) {
+    let alloc = rt.alloc();
+    let long = [0; 256];
+    let field = b"a".as_slice();
+    let mut txn = Txn::new(alloc, 1, 0, 0, Frozen::new());
+    assert_eq!(rt; txn.put(alloc, SEVEN, &[]), Err(TxnFault::BadValue));
+    assert_eq!(rt;
+        txn.put(alloc, SEVEN, &[field; 17]),
+        Err(TxnFault::BadValue)
+    );
+    assert_eq!(rt;
+        txn.put(alloc, SEVEN, &[long.as_slice()]),
+        Err(TxnFault::BadValue)
+    );
+    assert!(rt; txn.put(alloc, SEVEN, &[&long[..255]; 16]).is_ok());
+    for record in 8..1031 {
+        assert!(rt; txn.put(alloc, key(record), &[field]).is_ok());
+    }
+    assert_eq!(rt;
+        txn.put(alloc, key(1031), &[field]),
+        Err(TxnFault::TooManyKeys)
+    );
+    assert_eq!(rt; txn.put(alloc, key(1031), &[]), Err(TxnFault::TooManyKeys));
+    assert!(rt; txn.put(alloc, SEVEN, &[field]).is_ok());
+    assert_eq!(rt; txn.writes().len(), 1024);
+    let _over = txn.spend();
+}
+
+#[test]
+fn numbers_are_given_again(rt: HostRuntime) -> Result<(), Fail> {
+    let mut open = OpenTable::new(rt.alloc());
+    let first = open.open(100)?;
+    let second = open.open(130)?;
+    assert!(rt; first != second);
+    assert_eq!(rt; open.snapshot_of(first), Some(100));
+    assert_eq!(rt; open.snapshot_of(second), Some(130));
+    open.close(first);
+    assert_eq!(rt; open.snapshot_of(first), None);
+    assert_eq!(rt; open.open(140)?, first);
+    assert_eq!(rt; open.snapshot_of(first), Some(140));
+    assert_eq!(rt; open.snapshot_of(7), None);
+    Ok(())
+}
+
+#[test]
+fn a_scan_shows_own_writes(rt: HostRuntime) -> Result<(), Fail> {
+    let alloc = rt.alloc();
+    let first = committed(alloc, &Frozen::new(), 100, key(3), b"x")?;
+    let second = committed(alloc, &first, 110, SEVEN, b"a")?;
+    let mut txn = Txn::new(alloc, 1, 0, 110, second);
+    assert!(rt; txn.put(alloc, key(5), &[b"y".as_slice()]).is_ok());
+    assert_eq!(rt; txn.delete(SEVEN), Ok(()));
+    let found = txn.scan(alloc, 1);
+    let none = txn.scan(alloc, 2);
+    let _over = txn.spend();
+    let found = found?;
+    assert_eq!(rt; found.len(), 2);
+    assert_eq!(rt; (found[0].0, found[1].0), (3, 5));
+    assert!(rt; none?.is_empty());
+    Ok(())
+}

@@ -1,0 +1,21 @@
+//! Why a query is refused.
+
+/// The faults of a query, in the order in which they are tested; a stranger's view comes first.
+#[derive(Clone, Copy, Debug, PartialEq, Eq)]
+pub enum QueryFault {
+    /// A time before the floor, which is named (microseconds since 1970): history before it may be gone.
+    BeforeKept(u64),
+    /// A time later than the last commit of the view, whose time is named: a later commit may still change the answer.
+    NotYet(u64),
+    /// An interval that ends where it begins, or before.
+    EmptyInterval,
+    /// The disk refused a read.
+    Device,
+    NoMemory,
+    /// A run of the archive is malformed; the place of its start is named, in bytes.
+    Damaged(u64),
+    /// The answer needs the archive, and so the store.
+    NeedsDisk,
+    /// The view is another store's.
+    Stranger,
+}
