@@ -1,5 +1,6 @@
 -- Extents taken one after another.
-use Rattle.std.proofs.Common.{◌≡◌, ℕ, ◌<◌, List, [], ◌∷◌, ◌++◌, length, get_or, refl, arith, ap, sym}
+use Rattle.std.proofs.Common.{◌≡◌, ℕ, ◌<◌, List, [], ◌∷◌, ◌++◌, length, get_or, refl, arith, ap, sym, ◌∙◌, Bool, true, ◌==◌}
+use Rattle.std.proofs.lemmas.Bool.Decides.{nat_tests}
 use Rattle.std.specs.List.{remove}
 use Rattle.extents.specs.declared.usage.Usage.{Usage}
 use Rattle.extents.specs.declared.usage.Usage.TheVariants.{Out}
@@ -17,3 +18,10 @@ AreLeastFree-push usages (m ∷ ms) n all least = (all.0, AreLeastFree-push (wit
 pub is_front : {A : Type 0} (xs : List A) (x : A) → 0 < length xs → x ≡ get_or xs 0 x → xs ≡ x ∷ remove xs 0
 is_front [] x some is = absurd (omega arith)
 is_front (y ∷ ys) x some is = ap (λ z. z ∷ ys) (sym is)
+
+pub empty_items : {A : Type 0} (xs : List A) → length xs ≡ 0 → xs ≡ []
+empty_items [] e = refl
+empty_items (x ∷ xs) e = absurd (omega arith)
+
+pub is_zero : {b : Bool} {n : ℕ} → b ≡ true → b ≡ (n == 0) → n ≡ 0
+is_zero {b} {n} zero is = let e : (n == 0) ≡ true = sym is ∙ zero in grind (arith, nat_tests)

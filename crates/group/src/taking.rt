@@ -29,8 +29,7 @@ pub fn take_extents(
 
 /// Gives extents back that were taken.
 pub fn give_back_all(extents: &mut Extents, taken: Vec<Extent>)
-    requires { AreOut extents.old taken.items }
-    ensures { extents.new ≡ with_usages extents.old taken.items Free }
+    ensures { AreOut extents.old taken.items → extents.new ≡ with_usages extents.old taken.items Free }
 {
     let mut taken = taken;
     while !taken.is_empty() {
@@ -42,8 +41,7 @@ pub fn give_back_all(extents: &mut Extents, taken: Vec<Extent>)
 
 /// Keeps the extents of a commit that is published.
 pub fn keep_all(extents: &mut Extents, stored: Vec<StoredExtent>)
-    requires { AreOut extents.old (map (λ s. s.extent) stored.items) }
-    ensures { extents.new ≡ with_usages extents.old (map (λ s. s.extent) stored.items) Kept }
+    ensures { AreOut extents.old (map (λ s. s.extent) stored.items) → extents.new ≡ with_usages extents.old (map (λ s. s.extent) stored.items) Kept }
 {
     let mut stored = stored;
     while !stored.is_empty() {

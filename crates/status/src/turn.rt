@@ -64,6 +64,16 @@ impl SlotTurn {
 }
 
 impl SlotTurn {
+    ghost use Rattle.std.specs.Prelude.{◌≡◌};
+    ghost use Rattle.status.specs.TurnStage.{stage_of};
+
+    /// What is done of the slot.
+    pub fn stage(&self) -> Stage
+        ensures { stage_of result ≡ self.now.stage }
+    {
+        self.stage
+    }
+
     /// Lets the slot be, with no device call: it stays in the writing.
     pub fn give_up(self) {
         let SlotTurn {

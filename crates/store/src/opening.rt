@@ -1,0 +1,65 @@
+//! Opening a store.
+ghost use Rattle.std.specs.Prelude.{◌≡◌, IfOk, map};
+ghost use Rattle.store.specs.Heads.{head_as};
+
+use crate::store::Store;
+use disk::Disk;
+use group::CommitHead;
+use recovery::{CommitName, OpenFault, Recovered, read_image};
+use status::StatusLog;
+use std::alloc::{AllocError, Global};
+use transactions::Transactions;
+
+// The commits of the log as they stand in the commit order.
+fn heads_of(alloc: Global, commits: &[CommitName]) -> Result<Vec<CommitHead>, AllocError>
+    ensures { IfOk result (λ heads. heads.items ≡ map head_as commits.now) }
+{
+    commits
+        .iter()
+        .map(|commit| CommitHead {
+            time: commit.time,
+            label: commit.label,
+            awaited: false,
+        })
+        .collect(alloc)
+}
+
+impl<D: Disk> Store<D> {
+    /// Opens the store that the disk holds. It first syncs the three areas, and then only reads. The
+    /// mark is a number of the caller's, which the store's transactions, tickets and views carry.
+    /// A refused opening hands the disk back.
+    pub fn open(alloc: Global, disk: D, mark: u64) -> Result<Store<D>, (OpenFault, D)> {
+        let mut disk = disk;
+        let recovered = match read_image(alloc, &mut disk) {
+            Ok(recovered) => recovered,
+            Err(fault) => return Err((fault, disk)),
+        };
+        let heads = match heads_of(alloc, &recovered.commits) {
+            Ok(heads) => heads,
+            Err(_) => return Err((OpenFault::NoMemory, disk)),
+        };
+        let log = StatusLog::new(&recovered.header, recovered.used);
+        let slots = log.slots();
+        let Recovered {
+            header: _,
+            used,
+            commits: _,
+            floor,
+            archived: _,
+            reclaimed: _,
+            extents,
+            live: _,
+            chains,
+            last: _,
+        } = recovered;
+        Ok(Store {
+            alloc,
+            transactions: Transactions::of_recovered(
+                alloc, mark, heads, chains, extents, slots, used, floor,
+            ),
+            log,
+            turn: None,
+            disk,
+        })
+    }
+}

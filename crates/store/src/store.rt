@@ -1,0 +1,117 @@
+//! The store, and its calls that ask nothing of the disk.
+ghost use Rattle.std.specs.Prelude.{◌≡◌, IfOk};
+ghost use Rattle.transactions.specs.Calls.{Begins, Aborts, Redeems, last};
+ghost use Rattle.store.specs.Values.{HasRest};
+
+use disk::Disk;
+use group::{BeginFault, Redeemed, SubmitFault, Submitted, Ticket};
+use snapshot::Txn;
+use status::{SlotTurn, StatusLog};
+use std::alloc::{AllocError, Global};
+use std::marker::Model;
+use timequery::View;
+use transactions::Transactions;
+
+/// A store over a disk of three areas. Each call but opening makes at most one write or sync of the
+/// disk. After a refused one the store is failed: it writes nothing more, and reading goes on.
+pub struct Store<D: Disk> {
+    pub(crate) alloc: Global,
+    pub(crate) transactions: Transactions,
+    pub(crate) log: StatusLog,
+    pub(crate) turn: Option<SlotTurn>,
+    pub(crate) disk: D,
+}
+
+impl<D: Disk> Model for Store<D> {
+    ghost use Rattle.store.specs.Values.{StoreValue};
+
+    ghost Value = { StoreValue };
+
+    ghost view = { λ s. record { transactions = s.transactions; log = s.log; turn = s.turn; disk = D.state s.disk } };
+}
+
+impl<D: Disk> Store<D> {
+    /// Ends the store and hands its disk back. What waits is not published.
+    pub fn close(self) -> D
+        ensures { D.state result ≡ self.disk }
+    {
+        let Store {
+            alloc: _,
+            transactions,
+            log: _,
+            turn,
+            disk,
+        } = self;
+        transactions.spend();
+        if let Some(turn) = turn {
+            turn.give_up();
+        }
+        disk
+    }
+
+    /// The time of the last published commit in microseconds since 1970, 0 for none.
+    pub fn last(&self) -> u64
+        ensures { result ≡ last self.now.transactions }
+    {
+        self.transactions.last()
+    }
+
+    /// The time before which nothing is promised, 0 where all history is kept.
+    pub fn floor(&self) -> u64
+        ensures { result ≡ self.now.transactions.floor }
+    {
+        self.transactions.floor()
+    }
+
+    /// A transaction on what is published now.
+    pub fn begin(&mut self) -> Result<Txn, BeginFault>
+        ensures begins { Begins self.old.transactions result self.new.transactions }
+        ensures rest { HasRest self.old self.new }
+    {
+        self.transactions.begin(self.alloc)
+    }
+
+    /// Gives the transaction's snapshot up. A stranger is only spent.
+    pub fn abort(&mut self, txn: Txn)
+        ensures aborts { Aborts self.old.transactions txn self.new.transactions }
+        ensures rest { HasRest self.old self.new }
+    {
+        self.transactions.abort(txn);
+    }
+
+    /// Queues the transaction's writes as a commit with this label, at the time `now` (microseconds
+    /// since 1970) or just after the last commit, whichever is later. The transaction is over in any
+    /// case. A transaction without writes is read-only, and over at once.
+    pub fn submit(&mut self, txn: Txn, label: u64, now: u64) -> Result<Submitted, SubmitFault>
+        ensures rest { HasRest self.old self.new }
+    {
+        self.transactions.submit(self.alloc, txn, label, now)
+    }
+
+    /// Whether the ticket's commit is published. Only `Waiting` gives the ticket back.
+    pub fn redeem(&mut self, ticket: Ticket) -> Redeemed
+        ensures redeems { Redeems self.old.transactions ticket result self.new.transactions }
+        ensures rest { HasRest self.old self.new }
+    {
+        self.transactions.redeem(ticket)
+    }
+
+    /// The times of the published commits with a label, rising, in microseconds since 1970.
+    pub fn times_of(&self, label: u64) -> Result<Vec<u64>, AllocError> {
+        self.transactions.times_of(self.alloc, label)
+    }
+
+    /// A view of what is published now, which later commits do not change.
+    pub fn view(&self) -> Result<View, AllocError>
+        ensures { IfOk result (λ v. v ≡ record { mark = self.now.transactions.mark; last = last self.now.transactions; floor = self.now.transactions.floor; state = self.now.transactions.versions }) }
+    {
+        self.transactions.view()
+    }
+
+    /// Ends a view.
+    pub fn end(&mut self, view: View)
+        ensures { self.new ≡ self.old }
+    {
+        view.spend();
+    }
+}

@@ -1,0 +1,85 @@
+-- What a clause sees of the transactions of a store.
+use Rattle.std.specs.Prelude.{ℕ, ◌≡◌, ◌<◌, ◌≤◌, ◌+◌, ◌-◌, ◌^◌, ◌==◌, ◌&&◌, ◌||◌, Bool, true, false, not, is_some, nat_lt, max, List, [], ◌∷◌, ◌++◌, length, map, find, take, drop, slice_get, Option, Some, None, if◌then◌else◌}
+use Rattle.std.specs.List.{list_all, flat_map, AllByRecursion}
+use Rattle.wire.specs.declared.slot.Member.{Member}
+use Rattle.history.specs.declared.key.Key.{Key}
+use Rattle.history.specs.declared.key.KeyWrite.{KeyWrite}
+use Rattle.history.specs.Time.{value_at}
+use Rattle.image.specs.Values.{Value}
+use Rattle.chains.specs.KeyWrites.{KeyWrites, writes_of}
+use Rattle.extents.specs.declared.usage.Usage.{Usage}
+use Rattle.snapshot.specs.OpenTable.{snapshot_of, with_closed}
+use Rattle.snapshot.specs.Txn.{TxnValue}
+use Rattle.group.specs.declared.commit_order.CommitHead.{CommitHead}
+use Rattle.group.specs.Queued.{QueuedValue}
+use Rattle.transactions.specs.declared.stage.GroupStage.{GroupStage}
+use Rattle.transactions.specs.declared.stage.GroupStage.TheVariants.{NoGroup, Storing, Stored, Turning}
+
+pub record TransactionsValue : Type 0 where
+  pub mark : ℕ
+  -- the snapshots of the open transactions, by number
+  pub opened : List (Option ℕ)
+  -- the commit order, and how many of it are published
+  pub heads : List CommitHead
+  pub published : ℕ
+  -- the versions of what is published
+  pub versions : List KeyWrites
+  -- the commits that wait
+  pub queue : List QueuedValue
+  pub usages : List Usage
+  -- the slots of the store, and how many of them the log has
+  pub slots : ℕ
+  pub used : ℕ
+  -- how many of the queue the group has, 0 where none stands, and what is done of it
+  pub group : ℕ
+  pub stage : GroupStage
+  pub floor : ℕ
+  pub failed : Bool
+
+-- ---- the commit order
+
+-- the versions after these waiting commits
+abbrev pub versions_after : List KeyWrites → List QueuedValue → List KeyWrites
+versions_after versions [] = versions
+versions_after versions (q ∷ qs) = versions_after q.after qs
+
+-- the versions after the whole commit order
+abbrev pub ordered : TransactionsValue → List KeyWrites
+ordered v = versions_after v.versions v.queue
+
+-- ---- transactions that are the store's own
+
+abbrev pub is_snapshot : Option ℕ → ℕ → Bool
+is_snapshot None time = false
+is_snapshot (Some snapshot) time = snapshot == time
+
+-- gone stands only where the key has a value at the snapshot
+abbrev pub is_of_value : List KeyWrites → ℕ → KeyWrite Value → Bool
+is_of_value versions snapshot w = is_some w.write || is_some (value_at (writes_of versions w.key) snapshot)
+
+abbrev pub is_own_of : TransactionsValue → ℕ → ℕ → ℕ → List (KeyWrite Value) → Bool
+is_own_of v mark number snapshot writes =
+    if mark == v.mark then (if is_snapshot (snapshot_of number v.opened) snapshot then list_all (is_of_value v.versions snapshot) writes else false) else false
+
+abbrev pub is_own : TransactionsValue → TxnValue → Bool
+is_own v txn = is_own_of v txn.mark txn.number txn.snapshot txn.writes
+
+-- a transaction is over
+abbrev pub over : TransactionsValue → ℕ → TransactionsValue
+over v number = record v { opened = with_closed v.opened number }
+
+-- ---- room in the log
+
+-- the slots that the waiting commits may still take: one for the group whose slot is in the writing, and one for each other
+abbrev pub claimed_by : GroupStage → ℕ → ℕ → ℕ
+claimed_by Turning group waiting = 1 + (waiting - group)
+claimed_by NoGroup group waiting = waiting
+claimed_by (Storing member extent) group waiting = waiting
+claimed_by Stored group waiting = waiting
+
+abbrev pub claimed : TransactionsValue → ℕ
+claimed v = claimed_by v.stage v.group (length v.queue)
+
+-- the slots that are left
+abbrev pub spare : TransactionsValue → ℕ
+spare v = v.slots - v.used - claimed v

@@ -1,0 +1,242 @@
+//! What a store keeps in memory of its transactions.
+ghost use Rattle.std.specs.Prelude.{◌≡◌, ◌≤◌, [], length, false, IfOk, if◌then◌else◌};
+ghost use Rattle.chains.specs.KeyWrites.{latest};
+ghost use Rattle.group.specs.CommitOrder.{IsRisingAfter, last_time};
+ghost use Rattle.transactions.specs.declared.stage.GroupStage.TheVariants.{NoGroup};
+ghost use Rattle.transactions.specs.Values.{ordered, over, is_own_of};
+ghost use Rattle.transactions.specs.Calls.{Begins, Aborts, Redeems, last};
+
+use crate::stage::GroupStage;
+use crate::submit::gone_is_of_value;
+use chains::Frozen;
+use extents::Extents;
+use group::{
+    BeginFault, CommitHead, CommitOrder, Queued, QueuedParts, Redeemed, Standing, Ticket, keep_all,
+};
+use snapshot::{OpenTable, Txn, TxnParts};
+use std::alloc::{AllocError, Global};
+use std::collections::VecDeque;
+use std::marker::Model;
+use timequery::View;
+
+/// The open transactions, the commit order with the versions of each key, the commits that wait and
+/// the group that stands, the use of the extents, and the room in the log.
+pub struct Transactions {
+    pub(crate) mark: u64,
+    pub(crate) opened: OpenTable,
+    pub(crate) order: CommitOrder,
+    pub(crate) versions: Frozen,
+    pub(crate) queue: VecDeque<Queued>,
+    pub(crate) extents: Extents,
+    pub(crate) slots: u32,
+    pub(crate) used: u32,
+    pub(crate) group: usize,
+    pub(crate) stage: GroupStage,
+    pub(crate) floor: u64,
+    pub(crate) failed: bool,
+}
+
+impl Model for Transactions {
+    ghost use Rattle.transactions.specs.Values.{TransactionsValue};
+    ghost use Rattle.transactions.specs.Order.{IsInOrder};
+
+    ghost Value = { TransactionsValue };
+
+    ghost view = { λ t. record { mark = t.mark; opened = t.opened; heads = t.order.heads; published = t.order.published; versions = t.versions; queue = t.queue.items; usages = t.extents; slots = t.slots; used = t.used; group = t.group; stage = t.stage; floor = t.floor; failed = t.failed } };
+
+    ghost invariant = { λ t. IsInOrder (record { mark = t.mark; opened = t.opened; heads = t.order.heads; published = t.order.published; versions = t.versions; queue = t.queue.items; usages = t.extents; slots = t.slots; used = t.used; group = t.group; stage = t.stage; floor = t.floor; failed = t.failed }) };
+}
+
+impl Transactions {
+    /// Those of a store that was just opened: the published commits, the versions of each key, the
+    /// extents in use, the slots of the store and of its log, and the floor.
+    #[allow(clippy::too_many_arguments)]
+    pub fn of_recovered(
+        alloc: Global,
+        mark: u64,
+        heads: Vec<CommitHead>,
+        versions: Frozen,
+        extents: Extents,
+        slots: u32,
+        used: u32,
+        floor: u64,
+    ) -> Self
+        requires rising { IsRisingAfter 0 heads.items }
+        requires latest { latest versions ≤ last_time heads.items }
+        ensures { result ≡ record { mark = mark; opened = []; heads = heads.items; published = length heads.items; versions = versions; queue = []; usages = extents; slots = slots; used = used; group = 0; stage = NoGroup; floor = floor; failed = false } }
+    {
+        Transactions {
+            mark,
+            opened: OpenTable::new(alloc),
+            order: CommitOrder::of_published(heads),
+            versions,
+            queue: VecDeque::new(alloc),
+            extents,
+            slots,
+            used,
+            group: 0,
+            stage: GroupStage::NoGroup,
+            floor,
+            failed: false,
+        }
+    }
+
+    /// Gives up what waits: its commits are not published here any more.
+    pub fn spend(self) {
+        let Transactions {
+            mark: _,
+            opened: _,
+            order: _,
+            versions: _,
+            queue,
+            mut extents,
+            slots: _,
+            used: _,
+            group: _,
+            stage: _,
+            floor: _,
+            failed: _,
+        } = self;
+        let mut queue = queue;
+        while let Some(queued) = queue.pop_front() {
+            let QueuedParts {
+                entry: _,
+                after: _,
+                stored,
+            } = queued.spend();
+            keep_all(&mut extents, stored);
+        }
+        queue.destroy_empty();
+    }
+
+    /// A transaction on what is published now.
+    ///
+    /// Answers `Failed` once a write or sync of the device was refused, before any growth.
+    pub fn begin(&mut self, alloc: Global) -> Result<Txn, BeginFault>
+        ensures { Begins self.old result self.new }
+    {
+        if self.failed {
+            return Err(BeginFault::Failed);
+        }
+        let snapshot = self.order.last();
+        let Ok(state) = self.versions.share() else {
+            return Err(BeginFault::NoMemory);
+        };
+        match self.opened.open(snapshot) {
+            Err(AllocError) => Err(BeginFault::NoMemory),
+            Ok(number) => Ok(Txn::new(alloc, self.mark, number, snapshot, state)),
+        }
+    }
+
+    /// Gives the transaction's snapshot up. A stranger is only spent.
+    pub fn abort(&mut self, txn: Txn)
+        ensures { Aborts self.old txn self.new }
+    {
+        let parts = txn.spend();
+        let _own = self.finish(&parts);
+    }
+
+    /// Whether the ticket's commit is published. Only `Waiting` gives the ticket back.
+    pub fn redeem(&mut self, ticket: Ticket) -> Redeemed
+        ensures { Redeems self.old ticket result self.new }
+    {
+        if ticket.mark() != self.mark {
+            ticket.give_up();
+            return Redeemed::Stranger;
+        }
+        let time = ticket.time();
+        match self.order.redeem(time) {
+            Standing::Published => {
+                ticket.give_up();
+                Redeemed::Done(time)
+            }
+            Standing::Unknown => {
+                ticket.give_up();
+                Redeemed::Stranger
+            }
+            Standing::Waiting => {
+                if self.failed {
+                    ticket.give_up();
+                    Redeemed::InDoubt
+                } else {
+                    Redeemed::Waiting(ticket)
+                }
+            }
+        }
+    }
+
+    /// A view of what is published now.
+    pub fn view(&self) -> Result<View, AllocError>
+        ensures { IfOk result (λ v. v ≡ record { mark = self.now.mark; last = last self.now; floor = self.now.floor; state = self.now.versions }) }
+    {
+        let state = self.versions.share()?;
+        Ok(View::new(self.mark, self.order.last(), self.floor, state))
+    }
+
+    // Whether a transaction is the store's own; if so, it is over.
+    pub(crate) fn finish(&mut self, txn: &TxnParts) -> bool
+        ensures own { result ≡ is_own_of self.old txn.now.mark txn.now.number txn.now.snapshot txn.now.writes.items }
+        ensures new { self.new ≡ (if result then over self.old txn.now.number else self.old) }
+    {
+        if !self.is_own(txn) {
+            return false;
+        }
+        self.opened.close(txn.number);
+        true
+    }
+
+    fn is_own(&self, txn: &TxnParts) -> bool
+        ensures { result ≡ is_own_of self.now txn.now.mark txn.now.number txn.now.snapshot txn.now.writes.items }
+    {
+        if txn.mark != self.mark {
+            return false;
+        }
+        if self.opened.snapshot_of(txn.number) != Some(txn.snapshot) {
+            return false;
+        }
+        gone_is_of_value(&self.versions, txn.snapshot, &txn.writes)
+    }
+
+    /// The versions after the whole commit order.
+    pub(crate) fn ordered(&self) -> &Frozen
+        ensures { result.now ≡ ordered self.now }
+    {
+        match self.queue.back() {
+            None => &self.versions,
+            Some(queued) => queued.after(),
+        }
+    }
+
+    /// The mark that its transactions, tickets and views carry.
+    pub fn mark(&self) -> u64
+        ensures { result ≡ self.now.mark }
+    {
+        self.mark
+    }
+
+    /// The time of the last published commit in microseconds since 1970, 0 for none.
+    pub fn last(&self) -> u64
+        ensures { result ≡ last self.now }
+    {
+        self.order.last()
+    }
+
+    /// The time before which nothing is promised, 0 where all history is kept.
+    pub fn floor(&self) -> u64
+        ensures { result ≡ self.now.floor }
+    {
+        self.floor
+    }
+
+    /// Whether the device refused a write or a sync: nothing is written any more.
+    pub fn has_failed(&self) -> bool
+        ensures { result ≡ self.now.failed }
+    {
+        self.failed
+    }
+
+    /// The times of the published commits with a label, rising, in microseconds since 1970.
+    pub fn times_of(&self, alloc: Global, label: u64) -> Result<Vec<u64>, AllocError> {
+        self.order.times_of(alloc, label)
+    }
+}
