@@ -29,6 +29,8 @@ fn a_stop_tears_what_was_written(rt: HostRuntime) -> Result<(), Fail> {
     let mut disk = four(rt.alloc())?;
     disk.write_at(Area::Status, 1, b"xy")?;
     let mut left = disk.left(rt.alloc(), 0xc7, b"z")?;
+    let len = left.len(Area::Status)?;
+    assert_eq!(rt; len, 5);
     let mut buf = [0; 5];
     left.read(Area::Status, 0, &mut buf)?;
     assert_eq!(rt; buf.as_slice(), b"a\xc7\xc7dz".as_slice());
