@@ -446,20 +446,52 @@ impl<D: Disk> Session<D> {
     ) -> Result<(Session<D>, Reply), (OpenFault, D)>
         ensures { MatchResult result (λ p. told.Step D.tells self line.entry p.1 p.0) (λ p. told.Refuses D.tells self line.entry p.0 (D.state p.1)) }
     {
-        let reply = match line {
-            Line::Begin(name) => self.begin(name),
-            Line::Put(name, key, fields) => self.put(alloc, &name, key, fields),
-            Line::Delete(name, key) => self.delete(&name, key),
-            Line::Get(name, key) => self.get(&name, key),
-            Line::Submit(name, label, now) => self.submit(&name, label, now),
-            Line::Abort(name) => self.abort(&name),
-            Line::Redeem(name) => self.redeem(&name),
-            Line::Pump => self.pump(),
-            Line::Flush => self.flush(),
-            Line::At(key, time) => self.at(key, time),
-            Line::Times(label) => self.times(label),
-            Line::Reopen => return reopened(self.reopen(alloc)),
-        };
-        Ok((self, reply))
+        match line {
+            Line::Begin(name) => {
+                let reply = self.begin(name);
+                Ok((self, reply))
+            }
+            Line::Put(name, key, fields) => {
+                let reply = self.put(alloc, &name, key, fields);
+                Ok((self, reply))
+            }
+            Line::Delete(name, key) => {
+                let reply = self.delete(&name, key);
+                Ok((self, reply))
+            }
+            Line::Get(name, key) => {
+                let reply = self.get(&name, key);
+                Ok((self, reply))
+            }
+            Line::Submit(name, label, now) => {
+                let reply = self.submit(&name, label, now);
+                Ok((self, reply))
+            }
+            Line::Abort(name) => {
+                let reply = self.abort(&name);
+                Ok((self, reply))
+            }
+            Line::Redeem(name) => {
+                let reply = self.redeem(&name);
+                Ok((self, reply))
+            }
+            Line::Pump => {
+                let reply = self.pump();
+                Ok((self, reply))
+            }
+            Line::Flush => {
+                let reply = self.flush();
+                Ok((self, reply))
+            }
+            Line::At(key, time) => {
+                let reply = self.at(key, time);
+                Ok((self, reply))
+            }
+            Line::Times(label) => {
+                let reply = self.times(label);
+                Ok((self, reply))
+            }
+            Line::Reopen => reopened(self.reopen(alloc)),
+        }
     }
 }
