@@ -6,7 +6,7 @@ use Rattle.archive.specs.Runs.{HoldRuns, RunsEndBy}
 use Rattle.archive.specs.Answers.{run_rows}
 use Rattle.archive.specs.Readers.{kept_of}
 use Rattle.archive.specs.Searches.{archive_of}
-use Rattle.archive.proofs.reader.ArchiveReader.scan.Given as goal
+use Rattle.archive.proofs.reader.ArchiveReader.scan_runs.Given as goal
 
 abbrev pub invariant-loop-run : goal.invariant-loop-run
 invariant-loop-run g l = record {
