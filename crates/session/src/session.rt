@@ -10,7 +10,7 @@ use crate::names::{OpenName, TicketName};
 use crate::reply::Reply;
 use chains::SharedValue;
 use disk::Disk;
-use group::{Did, PumpFault, Redeemed, Submitted};
+use group::{Did, Redeemed, Submitted};
 use history::Key;
 use recovery::OpenFault;
 use script::{Fields, Line, Name};
@@ -89,28 +89,17 @@ fn seen(txn: &Txn, key: Key) -> Result<Option<SharedValue>, AllocError>
     }
 }
 
-/// Whether a step found nothing to do.
-fn is_idle(step: Did) -> bool
-    ensures { IsTrue result ↔ (step ≡ Did.Idle) }
-{
-    matches!(step, Did::Idle)
-}
-
 /// Takes steps until nothing is left to do, or one is refused.
 fn flush<D: Disk>(store: &mut Store<D>) -> Reply
     ensures { told.Flushes D.tells store.old result store.new }
 {
-    for _ in 0..u64::MAX {
+    loop {
         match store.pump() {
-            Ok(step) => {
-                if is_idle(step) {
-                    return Reply::Did(step);
-                }
-            }
+            Ok(Did::Idle) => return Reply::Did(Did::Idle),
+            Ok(_) => {}
             Err(fault) => return Reply::Refused(Fault::Pump(fault)),
         }
     }
-    Reply::Refused(Fault::Pump(PumpFault::Busy))
 }
 
 /// Asks for a key's value at a time by a view of now.
@@ -210,7 +199,7 @@ impl<D: Disk> Session<D> {
     ///
     /// Where the store does not open; the disk comes back.
     pub fn reopen(self, alloc: Global) -> Result<Session<D>, (OpenFault, D)>
-        ensures { IfOk result (λ s. (store : told.Stored) × (s ≡ told.fresh store)) }
+        ensures { MatchResult result (λ s. told.Reopens D.tells self (Opened (last s.store) (floor s.store)) s) (λ e. told.DoesNotReopen D.tells self e.0 (D.state e.1)) }
     {
         let Session {
             mut store,
