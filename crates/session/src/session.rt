@@ -1,5 +1,5 @@
 //! A store and the names in use.
-ghost use Rattle.std.specs.Prelude.{◌≡◌, ◌↔◌, ◌<◌, ◌+◌, ◌≤◌, ◌||◌, ◌++◌, ◌∷◌, [], not, nat_lt, length, map, position, MatchOption, MatchResult, IfOk, IfErr, IsTrue, Ok, Err, vec_capacity};
+ghost use Rattle.std.specs.Prelude.{◌≡◌, ◌↔◌, ◌<◌, ◌+◌, ◌≤◌, ◌||◌, ◌++◌, ◌∷◌, [], not, nat_lt, length, map, position, MatchOption, MatchResult, IfOk, IfErr, IfSome, IsTrue, Ok, Err, Some, slice_get, remove, vec_capacity};
 ghost use Rattle.snapshot.specs.Txn.{seen_by};
 ghost use Rattle.store.specs.Calls.{last, floor};
 ghost use Rattle.session.specs.declared.reply.Reply.TheVariants.{Opened};
@@ -89,14 +89,24 @@ fn seen(txn: &Txn, key: Key) -> Result<Option<SharedValue>, AllocError>
     }
 }
 
+/// Whether a step found nothing to do.
+fn is_idle(step: Did) -> bool
+    ensures { IsTrue result ↔ (step ≡ Did.Idle) }
+{
+    matches!(step, Did::Idle)
+}
+
 /// Takes steps until nothing is left to do, or one is refused.
 fn flush<D: Disk>(store: &mut Store<D>) -> Reply
     ensures { told.Flushes D.tells store.old result store.new }
 {
     loop {
         match store.pump() {
-            Ok(Did::Idle) => return Reply::Did(Did::Idle),
-            Ok(_) => {}
+            Ok(step) => {
+                if is_idle(step) {
+                    return Reply::Did(step);
+                }
+            }
             Err(fault) => return Reply::Refused(Fault::Pump(fault)),
         }
     }
@@ -230,7 +240,8 @@ impl<D: Disk> Session<D> {
     }
 
     fn txn_place(&self, name: &Name) -> Option<usize>
-        ensures { result ≡ told.txn_place name.now self.now }
+        ensures is { result ≡ told.txn_place name.now self.now }
+        ensures within { IfSome result (λ at. at < length self.now.opened) }
     {
         self.opened
             .iter()
@@ -269,6 +280,16 @@ impl<D: Disk> Session<D> {
         }
     }
 
+    /// Takes the name at a place off the list.
+    fn take_opened(&mut self, at: usize) -> OpenName
+        requires { at < length self.old.opened }
+        ensures found { slice_get self.old.opened at ≡ Some result }
+        ensures new { self.new ≡ record self.old { opened = remove self.old.opened at } }
+        ensures room { length self.new.opened + length self.new.tickets < 64 }
+    {
+        self.opened.remove(at)
+    }
+
     fn add_ticket(&mut self, entry: TicketName)
         requires { length self.old.opened + length self.old.tickets < 64 }
         ensures { self.new ≡ record self.old { tickets = self.old.tickets ++ entry ∷ [] } }
@@ -300,7 +321,7 @@ impl<D: Disk> Session<D> {
     {
         match self.txn_place(name) {
             Some(at) => {
-                let OpenName { name, mut txn } = self.opened.remove(at);
+                let OpenName { name, mut txn } = self.take_opened(at);
                 let answer = put_fields(&mut txn, alloc, key, fields);
                 self.add_opened(OpenName { name, txn });
                 done(answer)
@@ -314,7 +335,7 @@ impl<D: Disk> Session<D> {
     {
         match self.txn_place(name) {
             Some(at) => {
-                let OpenName { name, mut txn } = self.opened.remove(at);
+                let OpenName { name, mut txn } = self.take_opened(at);
                 let answer = txn.delete(key);
                 self.add_opened(OpenName { name, txn });
                 done(answer)
@@ -340,7 +361,7 @@ impl<D: Disk> Session<D> {
     {
         match self.txn_place(name) {
             Some(at) => {
-                let OpenName { name: _, txn } = self.opened.remove(at);
+                let OpenName { name: _, txn } = self.take_opened(at);
                 self.store.abort(txn);
                 Reply::Ok
             }
@@ -353,7 +374,7 @@ impl<D: Disk> Session<D> {
     {
         match self.txn_place(name) {
             Some(at) => {
-                let OpenName { name, txn } = self.opened.remove(at);
+                let OpenName { name, txn } = self.take_opened(at);
                 match self.store.submit(txn, label, now) {
                     Ok(Submitted::ReadOnly(time)) => Reply::ReadOnly(time),
                     Ok(Submitted::Queued(ticket)) => {
