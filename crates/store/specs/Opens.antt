@@ -24,13 +24,13 @@ opened_on mark r disk = record {
 -- the disk is synced and then only read, and the store holds what was read
 pub record Opens (tells : Bool) (old : DiskState) (mark : ℕ) (v : StoreValue) : Type 0 where
   pub recovered : Recovered
-  pub read : IsTrue tells → IsReadFrom old.areas.status.bytes recovered
+  pub read : IsTrue tells → IsReadFrom (image_of old.areas) recovered
   pub new_is : v ≡ opened_on mark recovered v.disk
   pub settled : IsTrue tells → v.disk.areas ≡ settled_on (image_of old.areas)
   pub refused : v.disk.refused ≡ old.refused
 
 -- the disk holds what it held
 pub record OpenRefuses (tells : Bool) (old : DiskState) (why : OpenFault) (new : DiskState) : Type 0 where
-  pub fault : IsTrue tells → IsImageFault old.areas.status.bytes why
+  pub fault : IsTrue tells → IsImageFault (image_of old.areas) why
   pub image : IsTrue tells → image_of new.areas ≡ image_of old.areas
   pub refused : new.refused ≡ refusals_at_opening {T = Unit {0}} (Err why) old.refused

@@ -1,7 +1,5 @@
-use Rattle.std.proofs.Common.{◌≡◌, ◌≢◌, true, false, [], ◌∷◌, Ok, Err, refl, ap, sym}
-use Rattle.group.specs.declared.answers.Did.{Did}
+use Rattle.std.proofs.Common.{◌≢◌, [], ◌∷◌, Ok, Err, refl}
 use Rattle.group.specs.declared.answers.Did.TheVariants.{Idle}
-use Rattle.session.specs.declared.reply.Reply.TheVariants as reply
 use Rattle.session.proofs.session.flush.Goals as goal
 
 pub returns-then-is_idle : goal.returns-then-is_idle

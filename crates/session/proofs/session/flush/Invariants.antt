@@ -1,4 +1,4 @@
-use Rattle.std.proofs.Common.{◌≡◌, ℕ, ◌+◌, ◌-◌, nat_lt, if◌then◌else◌}
+use Rattle.std.proofs.Common.{◌+◌, ◌-◌, nat_lt, if◌then◌else◌}
 use Rattle.disk.specs.Calls.{top}
 use Rattle.session.specs.Session as told
 use Rattle.session.specs.declared.reply.Reply.{Reply}
