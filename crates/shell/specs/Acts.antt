@@ -1,5 +1,5 @@
 -- What an action does to the disk and writes, where the program's status is 0.
-use Rattle.std.specs.Prelude.{◌≡◌, ℕ, ◌++◌, Bool, IsTrue, IfSome, Option, codes, MatchOption}
+use Rattle.std.specs.Prelude.{ℕ, ◌++◌, Bool, IsTrue, IfSome, Option, codes, MatchOption}
 use Rattle.std.specs.Fmt.{decimal}
 use Rattle.std.specs.Io.KnownBytes.{Appends}
 use Rattle.disk.specs.Calls.{DiskState}

@@ -137,7 +137,7 @@ pub fn act<D: Disk, R: BufRead, W: Write>(
     input: &mut R,
     output: &mut W,
 ) -> (u8, D)
-    ensures done { result.0 ≡ 0 → Acts D.tells action (D.state disk) (R.remaining input.old) (record { before = W.contents output.old; after = W.contents output.new }) (D.state result.1) }
+    ensures done { result.0 ≡ 0 → Acts D.tells action.entry (D.state disk) (R.remaining input.old) (record { before = W.contents output.old; after = W.contents output.new }) (D.state result.1) }
     ensures status { result.0 ≤ 1 }
 {
     match action {
