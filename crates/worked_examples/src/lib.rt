@@ -7,6 +7,8 @@ mod bad_input;
 #[cfg(test)]
 mod bytes;
 #[cfg(test)]
+mod calls;
+#[cfg(test)]
 mod commits;
 #[cfg(test)]
 mod dialogue;
