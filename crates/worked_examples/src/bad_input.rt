@@ -64,9 +64,9 @@ fn change_is_refused(
     text: &str,
 ) -> Result<(), Fail> {
     let mut disk = one_commit(rt, alloc)?;
-    change(&mut disk, area, place, &[byte])?;
+    change(&mut disk, area, place, byte)?;
     let mut disk = is_refused(rt, alloc, disk, text)?;
-    change(&mut disk, area, place, &[was])?;
+    change(&mut disk, area, place, was)?;
     let _disk = answers(rt, alloc, disk, "100", "value 61")?;
     Ok(())
 }
@@ -96,8 +96,8 @@ fn a_damaged_store_is_refused(rt: HostRuntime) -> Result<(), Fail> {
 fn a_closed_slot_is_not_read(rt: HostRuntime) -> Result<(), Fail> {
     let alloc = rt.alloc();
     let mut disk = one_commit(&rt, alloc)?;
-    change(&mut disk, Area::Status, 1025, &[5])?;
-    change(&mut disk, Area::Status, 1536, &[0xC7])?;
+    change(&mut disk, Area::Status, 1025, 5)?;
+    change(&mut disk, Area::Status, 1536, 0xC7)?;
     let _disk = answers(&rt, alloc, disk, "100", "value 61")?;
     Ok(())
 }

@@ -78,9 +78,9 @@ pub fn cut(alloc: Global, disk: &mut MemDisk, area: Area, len: usize) -> Result<
     Ok(MemDisk::with_bytes(status, heap, archive))
 }
 
-/// Puts these bytes in the place of others.
-pub fn change(disk: &mut MemDisk, area: Area, place: u32, bytes: &[u8]) -> Result<(), Fail> {
-    disk.write_at(area, u64::from(place), bytes)?;
+/// Puts a byte in the place of another.
+pub fn change(disk: &mut MemDisk, area: Area, place: u32, byte: u8) -> Result<(), Fail> {
+    disk.write_at(area, u64::from(place), &[byte])?;
     disk.sync(area)?;
     Ok(())
 }

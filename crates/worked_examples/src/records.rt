@@ -34,12 +34,12 @@ flush | idle
     Ok(())
 }
 
-/// An extent of the heap must be as a text spells it, to its end.
+/// The heap must be these extents, as texts spell them.
 fn holds(rt: &impl Abort, alloc: Global, disk: &mut MemDisk, extents: &[&str]) -> Result<(), Fail> {
-    let mut place = 0;
+    let mut place: usize = 0;
     for text in extents {
         spells(rt, alloc, disk, Area::Heap, place, text)?;
-        place += 8192;
+        place = place.saturating_add(8192);
     }
     assert_eq!(rt; bytes_of(alloc, disk, Area::Heap)?.len(), place);
     Ok(())
