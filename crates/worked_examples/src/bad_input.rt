@@ -1,7 +1,7 @@
 //! Disks that hold no store, damaged stores, and scripts and commands that ask for what is not to be
 //! had. Each is refused by its name, and nothing is lost.
 use crate::bytes::{bytes_of, change, cut};
-use crate::dialogue::{answers, new_store, runs, says, told};
+use crate::dialogue::{answers, new_store, runs, stored, told};
 use disk::{Area, MemDisk};
 use shell::Action;
 use std::alloc::Global;
@@ -11,7 +11,7 @@ use std::test::Fail;
 
 /// A store with one commit at 100.
 fn one_commit(rt: &impl Abort, alloc: Global) -> Result<MemDisk, Fail> {
-    says(
+    stored(
         rt,
         alloc,
         "begin t | snapshot 0
@@ -176,19 +176,33 @@ fn format_is_refused(
 }
 
 #[test]
-fn a_store_is_formatted_once(rt: HostRuntime) -> Result<(), Fail> {
+fn a_store_has_a_count_of_slots(rt: HostRuntime) -> Result<(), Fail> {
     let alloc = rt.alloc();
     let mut disk = MemDisk::new(alloc);
     for slots in [0, 15, 65_537, u32::MAX] {
         disk = format_is_refused(&rt, alloc, disk, slots, "refused: bad slots\n")?;
     }
     assert_eq!(rt; bytes_of(alloc, &mut disk, Area::Status)?.len(), 0);
+    Ok(())
+}
+
+#[test]
+fn a_store_is_formatted_once(rt: HostRuntime) -> Result<(), Fail> {
+    let alloc = rt.alloc();
     let disk = one_commit(&rt, alloc)?;
     let disk = format_is_refused(&rt, alloc, disk, 16, "refused: occupied\n")?;
     let disk = format_is_refused(&rt, alloc, disk, 15, "refused: bad slots\n")?;
-    let (said, status, disk) = told(alloc, Action::Example, disk, "at 1 7 0\n")?;
-    assert_eq!(rt; (said.as_str(), status), ("refused: occupied\n", 1));
     let _disk = answers(&rt, alloc, disk, "100", "value 61")?;
+    Ok(())
+}
+
+#[test]
+fn the_example_needs_an_empty_disk(rt: HostRuntime) -> Result<(), Fail> {
+    let alloc = rt.alloc();
+    let (said, status, disk) = told(alloc, Action::Example, MemDisk::new(alloc), "at 1 7 0\n")?;
+    assert_eq!(rt; (said.as_str(), status), ("none\n", 0));
+    let (said, status, _disk) = told(alloc, Action::Example, disk, "at 1 7 0\n")?;
+    assert_eq!(rt; (said.as_str(), status), ("refused: occupied\n", 1));
     Ok(())
 }
 

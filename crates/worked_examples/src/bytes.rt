@@ -65,6 +65,22 @@ pub fn spells(
     Ok(())
 }
 
+/// The heap must be so many extents, each beginning with the bytes that its text spells.
+pub fn has_extents(
+    rt: &impl Abort,
+    alloc: Global,
+    disk: &mut MemDisk,
+    extents: &[&str],
+) -> Result<(), Fail> {
+    let mut place: usize = 0;
+    for text in extents {
+        spells(rt, alloc, disk, Area::Heap, place, text)?;
+        place = place.saturating_add(8192);
+    }
+    assert_eq!(rt; bytes_of(alloc, disk, Area::Heap)?.len(), place);
+    Ok(())
+}
+
 /// A disk with the first bytes of an area, and all of the others.
 pub fn cut(alloc: Global, disk: &mut MemDisk, area: Area, len: usize) -> Result<MemDisk, Fail> {
     let mut status = bytes_of(alloc, disk, Area::Status)?;

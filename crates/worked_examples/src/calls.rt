@@ -135,6 +135,26 @@ fn a_view_keeps_its_moment(rt: HostRuntime) -> Result<(), Fail> {
     Ok(())
 }
 
+/// A transaction that has put record 5 and deleted record 7.
+fn with_own_writes(rt: &impl Abort, alloc: Global, store: &mut Store<MemDisk>) -> Txn {
+    let mut txn = begun(rt, store);
+    let five = Key {
+        relation: 1,
+        record: 5,
+    };
+    assert!(rt; txn.put(alloc, five, &[b"b".as_slice()]).is_ok());
+    assert!(rt; txn.delete(KEY).is_ok());
+    txn
+}
+
+/// Whether records 3 and 5 were found.
+fn are_three_and_five(found: &[(u64, SharedValue)]) -> bool {
+    match found {
+        [(3, first), (5, second)] => is_field(first, b"a") && is_field(second, b"b"),
+        _ => false,
+    }
+}
+
 #[test]
 fn a_transaction_scans_its_own_writes(rt: HostRuntime) -> Result<(), Fail> {
     let alloc = rt.alloc();
@@ -142,21 +162,11 @@ fn a_transaction_scans_its_own_writes(rt: HostRuntime) -> Result<(), Fail> {
     submitted(&rt, alloc, &mut store, 3, 100).give_up();
     submitted(&rt, alloc, &mut store, 7, 110).give_up();
     assert_eq!(rt; pumped(&rt, &mut store), 7);
-    let mut txn = begun(&rt, &mut store);
-    let five = Key {
-        relation: 1,
-        record: 5,
-    };
-    assert!(rt; txn.put(alloc, five, &[b"b".as_slice()]).is_ok());
-    assert!(rt; txn.delete(KEY).is_ok());
-    let found = txn.scan(alloc, 1);
-    let none = txn.scan(alloc, 2);
+    let txn = with_own_writes(&rt, alloc, &mut store);
+    let (found, none) = (txn.scan(alloc, 1), txn.scan(alloc, 2));
     store.abort(txn);
     let _disk = store.close();
-    let found = found?;
-    assert_eq!(rt; found.len(), 2);
-    assert_eq!(rt; (found[0].0, found[1].0), (3, 5));
-    assert!(rt; is_field(&found[0].1, b"a") && is_field(&found[1].1, b"b"));
+    assert!(rt; are_three_and_five(&found?));
     assert_eq!(rt; none?.len(), 0);
     Ok(())
 }

@@ -1,12 +1,12 @@
 //! Commits, one after another and beside each other.
-use crate::bytes::bytes_of;
-use crate::dialogue::{FOUR_COMMITS, converses, new_store, says};
+use crate::bytes::{has_extents, spells};
+use crate::dialogue::{says, says_later, stored};
 use disk::Area;
 use std::test::Fail;
 
 #[test]
 fn one_record_step_by_step(rt: HostRuntime) -> Result<(), Fail> {
-    let _disk = says(
+    says(
         &rt,
         rt.alloc(),
         "at 1 7 0 | none
@@ -35,13 +35,12 @@ at 1 7 100 | value 61
 at 1 7 101 | refused: not yet 100
 times 9 | times 100
 ",
-    )?;
-    Ok(())
+    )
 }
 
 #[test]
 fn commit_times_rise(rt: HostRuntime) -> Result<(), Fail> {
-    let _disk = says(
+    says(
         &rt,
         rt.alloc(),
         "begin a | snapshot 0
@@ -63,13 +62,12 @@ at 1 7 100 | value 61
 at 1 7 101 | value 62
 at 1 7 102 | value 63
 ",
-    )?;
-    Ok(())
+    )
 }
 
 #[test]
 fn no_commit_is_later_than_the_last_time(rt: HostRuntime) -> Result<(), Fail> {
-    let _disk = says(
+    says(
         &rt,
         rt.alloc(),
         "begin a | snapshot 0
@@ -95,13 +93,12 @@ at 1 7 9223372036854775807 | value 61
 at 1 7 9223372036854775808 | refused: not yet 9223372036854775807
 reopen | last 9223372036854775807 floor 0
 ",
-    )?;
-    Ok(())
+    )
 }
 
 #[test]
 fn the_first_of_two_writers_wins(rt: HostRuntime) -> Result<(), Fail> {
-    let _disk = says(
+    says(
         &rt,
         rt.alloc(),
         "begin a | snapshot 0
@@ -117,13 +114,12 @@ at 1 7 100 | value 61
 times 1 | times 100
 times 2 | times
 ",
-    )?;
-    Ok(())
+    )
 }
 
 #[test]
 fn a_conflict_names_the_least_key(rt: HostRuntime) -> Result<(), Fail> {
-    let _disk = says(
+    says(
         &rt,
         rt.alloc(),
         "begin t | snapshot 0
@@ -140,17 +136,14 @@ flush | idle
 submit t 1 120 | refused: conflict 1 7
 at 1 3 110 | none
 ",
-    )?;
-    Ok(())
+    )
 }
 
 #[test]
 fn a_deletion_conflicts(rt: HostRuntime) -> Result<(), Fail> {
-    let disk = says(&rt, rt.alloc(), FOUR_COMMITS)?;
-    let _disk = converses(
+    says_later(
         &rt,
         rt.alloc(),
-        disk,
         "begin a | snapshot 130
 begin b | snapshot 130
 begin c | snapshot 130
@@ -163,13 +156,12 @@ flush | idle
 submit c 1 0 | refused: conflict 1 7
 at 1 7 131 | none
 ",
-    )?;
-    Ok(())
+    )
 }
 
 #[test]
 fn write_skew_stands(rt: HostRuntime) -> Result<(), Fail> {
-    let _disk = says(
+    says(
         &rt,
         rt.alloc(),
         "begin a | snapshot 0
@@ -192,13 +184,12 @@ at 1 1 102 | value 63
 at 1 2 102 | value 62
 times 2 | times 101 102
 ",
-    )?;
-    Ok(())
+    )
 }
 
 #[test]
 fn nothing_written_uses_no_slot(rt: HostRuntime) -> Result<(), Fail> {
-    let mut disk = says(
+    let mut disk = stored(
         &rt,
         rt.alloc(),
         "begin t | snapshot 0
@@ -215,20 +206,15 @@ flush | idle
 times 9 | times
 ",
     )?;
-    let mut new = new_store(&rt, rt.alloc(), 16)?;
-    let expected = bytes_of(rt.alloc(), &mut new, Area::Status)?;
-    assert!(rt; bytes_of(rt.alloc(), &mut disk, Area::Status)? == expected);
-    assert_eq!(rt; bytes_of(rt.alloc(), &mut disk, Area::Heap)?.len(), 0);
-    Ok(())
+    has_extents(&rt, rt.alloc(), &mut disk, &[])?;
+    spells(&rt, rt.alloc(), &mut disk, Area::Status, 512, "..z 8192")
 }
 
 #[test]
 fn what_is_absent_is_not_deleted(rt: HostRuntime) -> Result<(), Fail> {
-    let disk = says(&rt, rt.alloc(), FOUR_COMMITS)?;
-    let _disk = converses(
+    says_later(
         &rt,
         rt.alloc(),
-        disk,
         "begin t | snapshot 130
 del t 1 8 | refused: missing
 get t 1 7 | value 63
@@ -244,17 +230,14 @@ begin t | snapshot 140
 del t 1 7 | refused: missing
 submit t 5 150 | readonly 140
 ",
-    )?;
-    Ok(())
+    )
 }
 
 #[test]
 fn what_stood_at_each_time(rt: HostRuntime) -> Result<(), Fail> {
-    let disk = says(&rt, rt.alloc(), FOUR_COMMITS)?;
-    let _disk = converses(
+    says_later(
         &rt,
         rt.alloc(),
-        disk,
         "at 1 7 99 | none
 at 1 7 100 | value 61
 at 1 7 109 | value 61
@@ -269,17 +252,14 @@ times 1 | times 100
 times 3 | times 120
 times 5 | times
 ",
-    )?;
-    Ok(())
+    )
 }
 
 #[test]
 fn a_transaction_reads_what_is_published(rt: HostRuntime) -> Result<(), Fail> {
-    let disk = says(&rt, rt.alloc(), FOUR_COMMITS)?;
-    let _disk = converses(
+    says_later(
         &rt,
         rt.alloc(),
-        disk,
         "begin a | snapshot 130
 put a 1 7 64 | ok
 submit a 5 140 | queued
@@ -291,6 +271,5 @@ begin c | snapshot 140
 get c 1 7 | value 64
 redeem a | done 140
 ",
-    )?;
-    Ok(())
+    )
 }

@@ -3,8 +3,8 @@ use disk::{Disk, MemDisk};
 use history::Key;
 use shell::{Action, act};
 use std::alloc::{AllocError, Global};
+use std::fmt::Write;
 use std::process::Abort;
-use std::str;
 use std::test::Fail;
 
 /// The key of most examples.
@@ -118,8 +118,84 @@ pub fn converses<D: Disk + Drop>(
     runs(rt, alloc, disk, script.as_str(), answers.as_str(), 0)
 }
 
-/// The same, on a new store of 16 slots.
-pub fn says(rt: &impl Abort, alloc: Global, dialogue: &str) -> Result<MemDisk, Fail> {
+/// The disk of a new store of 16 slots, after a dialogue.
+pub fn stored(rt: &impl Abort, alloc: Global, dialogue: &str) -> Result<MemDisk, Fail> {
     let disk = new_store(rt, alloc, 16)?;
     converses(rt, alloc, disk, dialogue)
+}
+
+/// A dialogue on a new store of 16 slots.
+pub fn says(rt: &impl Abort, alloc: Global, dialogue: &str) -> Result<(), Fail> {
+    let _disk = stored(rt, alloc, dialogue)?;
+    Ok(())
+}
+
+/// A dialogue on a store opened after the four commits.
+pub fn says_later(rt: &impl Abort, alloc: Global, dialogue: &str) -> Result<(), Fail> {
+    let disk = stored(rt, alloc, FOUR_COMMITS)?;
+    let _disk = converses(rt, alloc, disk, dialogue)?;
+    Ok(())
+}
+
+/// So many fields of this many bytes each.
+fn push_fields(text: &mut String, count: u32, len: u32) -> Result<(), AllocError> {
+    for _ in 0..count {
+        text.push(' ')?;
+        for _ in 0..len {
+            text.push_str("61")?;
+        }
+    }
+    Ok(())
+}
+
+/// One repetition of a part of a dialogue, as `repeated` says.
+fn push_part(text: &mut String, part: &str, number: u32) -> Result<(), AllocError> {
+    for sign in part.chars() {
+        match sign {
+            '#' => write!(text, "{number}")?,
+            '+' => write!(text, "{}", number.saturating_add(1))?,
+            '@' => write!(text, "{}", number.saturating_add(100))?,
+            'A' => push_fields(text, 16, 255)?,
+            'B' => push_fields(text, 17, 1)?,
+            'C' => push_fields(text, 1, 256)?,
+            other => text.push(other)?,
+        }
+    }
+    Ok(())
+}
+
+/// A dialogue of parts, each repeated so many times. In a part `#` stands for the repetition's number
+/// from 0, `+` for one more, `@` for 100 more; `A` for 16 fields of 255 bytes, `B` for 17 of one, and
+/// `C` for one of 256.
+fn repeated(alloc: Global, parts: &[(&str, u32)]) -> Result<String, AllocError> {
+    let mut text = String::new(alloc);
+    for (part, count) in parts {
+        for number in 0..*count {
+            push_part(&mut text, part, number)?;
+        }
+    }
+    Ok(text)
+}
+
+/// The disk of a new store of this many slots, after a dialogue of repeated parts.
+pub fn stored_by_parts(
+    rt: &impl Abort,
+    alloc: Global,
+    slots: u32,
+    parts: &[(&str, u32)],
+) -> Result<MemDisk, Fail> {
+    let dialogue = repeated(alloc, parts)?;
+    let disk = new_store(rt, alloc, slots)?;
+    converses(rt, alloc, disk, dialogue.as_str())
+}
+
+/// A dialogue of repeated parts on a new store of this many slots.
+pub fn says_parts(
+    rt: &impl Abort,
+    alloc: Global,
+    slots: u32,
+    parts: &[(&str, u32)],
+) -> Result<(), Fail> {
+    let _disk = stored_by_parts(rt, alloc, slots, parts)?;
+    Ok(())
 }

@@ -1,106 +1,66 @@
 //! The limits of values and of write sets.
-use crate::bytes::{bytes_of, spells};
-use crate::dialogue::{converses, new_store, says};
-use disk::Area;
-use std::alloc::{AllocError, Global};
-use std::fmt::Write;
+use crate::bytes::has_extents;
+use crate::dialogue::stored_by_parts;
 use std::test::Fail;
-
-/// So many fields of this many bytes each, as a script spells them.
-fn fields(alloc: Global, count: u32, len: u32) -> Result<String, AllocError> {
-    let mut text = String::new(alloc);
-    for _ in 0..count {
-        text.push(' ')?;
-        for _ in 0..len {
-            text.push_str("61")?;
-        }
-    }
-    Ok(text)
-}
 
 #[test]
 fn a_value_has_its_limits(rt: HostRuntime) -> Result<(), Fail> {
-    let alloc = rt.alloc();
-    let largest = fields(alloc, 16, 255)?;
-    let many = fields(alloc, 17, 1)?;
-    let long = fields(alloc, 1, 256)?;
-    let mut text = String::new(alloc);
-    writeln!(
-        text,
-        "begin t | snapshot 0\nput t 1 7{largest} | ok\nput t 1 8{largest} | ok"
-    )?;
-    writeln!(
-        text,
-        "put t 1 9 | refused: bad value\nput t 1 9{many} | refused: bad value"
-    )?;
-    writeln!(
-        text,
-        "put t 1 9{long} | refused: bad value\nget t 1 7 | value{largest}"
-    )?;
-    writeln!(
-        text,
-        "submit t 1 100 | queued\npump | wrote extent\npump | wrote extent"
-    )?;
-    writeln!(
-        text,
-        "flush | idle\nat 1 8 100 | value{largest}\nat 1 9 100 | none"
-    )?;
-    writeln!(
-        text,
-        "reopen | last 100 floor 0\nat 1 8 100 | value{largest}"
-    )?;
-    let mut disk = says(&rt, alloc, text.as_str())?;
-    assert_eq!(rt; bytes_of(alloc, &mut disk, Area::Heap)?.len(), 16_384);
-    spells(
-        &rt,
-        alloc,
-        &mut disk,
-        Area::Heap,
-        0,
+    let parts = [(
+        "begin t | snapshot 0
+put t 1 7A | ok
+put t 1 8A | ok
+put t 1 9 | refused: bad value
+put t 1 9B | refused: bad value
+put t 1 9C | refused: bad value
+get t 1 7 | valueA
+submit t 1 100 | queued
+pump | wrote extent
+pump | wrote extent
+flush | idle
+at 1 8 100 | valueA
+at 1 9 100 | none
+reopen | last 100 floor 0
+at 1 8 100 | valueA
+",
+        1,
+    )];
+    let mut disk = stored_by_parts(&rt, rt.alloc(), 16, parts.as_slice())?;
+    let extents = [
         "01000000 02000000 0c100000 00000000",
-    )?;
-    spells(
-        &rt,
-        alloc,
-        &mut disk,
-        Area::Heap,
-        8192,
         "02000000 00000000 0c100000 00000000",
-    )?;
-    Ok(())
+    ];
+    has_extents(&rt, rt.alloc(), &mut disk, extents.as_slice())
 }
 
 #[test]
 fn a_write_set_has_its_limit(rt: HostRuntime) -> Result<(), Fail> {
-    let alloc = rt.alloc();
-    let mut text = String::new(alloc);
-    text.push_str("begin t | snapshot 0\n")?;
-    for record in 0..1024 {
-        writeln!(text, "put t 1 {record} 61 | ok")?;
-    }
-    text.push_str("put t 1 1024 61 | refused: too many keys\nput t 1 5 61 | ok\n")?;
-    text.push_str("submit t 1 100 | queued\npump | wrote extent\npump | wrote extent\n")?;
-    text.push_str("pump | heap synced\npump | body written\npump | body synced\n")?;
-    text.push_str("pump | gate written\npump | published 1\npump | idle\n")?;
-    text.push_str("reopen | last 100 floor 0\nat 1 0 100 | value 61\n")?;
-    text.push_str("at 1 1023 100 | value 61\nat 1 1024 100 | none\n")?;
-    let disk = new_store(&rt, alloc, 16)?;
-    let mut disk = converses(&rt, alloc, disk, text.as_str())?;
-    spells(
-        &rt,
-        alloc,
-        &mut disk,
-        Area::Heap,
-        0,
+    let parts = [
+        ("begin t | snapshot 0\n", 1),
+        ("put t 1 # 61 | ok\n", 1024),
+        (
+            "put t 1 1024 61 | refused: too many keys
+put t 1 5 61 | ok
+submit t 1 100 | queued
+pump | wrote extent
+pump | wrote extent
+pump | heap synced
+pump | body written
+pump | body synced
+pump | gate written
+pump | published 1
+pump | idle
+reopen | last 100 floor 0
+at 1 0 100 | value 61
+at 1 1023 100 | value 61
+at 1 1024 100 | none
+",
+            1,
+        ),
+    ];
+    let mut disk = stored_by_parts(&rt, rt.alloc(), 16, parts.as_slice())?;
+    let extents = [
         "01000000 02000000 f01f0000 00000000",
-    )?;
-    spells(
-        &rt,
-        alloc,
-        &mut disk,
-        Area::Heap,
-        8192,
         "02000000 00000000 10180000 00000000",
-    )?;
-    Ok(())
+    ];
+    has_extents(&rt, rt.alloc(), &mut disk, extents.as_slice())
 }

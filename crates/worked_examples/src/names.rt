@@ -1,28 +1,34 @@
 //! Names of a script.
-use crate::dialogue::says;
-use std::fmt::Write;
+use crate::dialogue::{says, says_parts};
 use std::test::Fail;
 
 #[test]
 fn sixty_four_names_are_in_use(rt: HostRuntime) -> Result<(), Fail> {
-    let mut text = String::new(rt.alloc());
-    for n in 0..64 {
-        writeln!(text, "begin n{n} | snapshot 0")?;
-    }
-    text.push_str("begin late | refused: name\n")?;
-    text.push_str("put n63 1 7 61 | ok\nsubmit n63 1 100 | queued\n")?;
-    text.push_str("begin late | refused: name\n")?;
-    text.push_str("flush | idle\nredeem n63 | done 100\nbegin late | snapshot 100\n")?;
-    text.push_str("begin later | refused: name\n")?;
-    text.push_str("abort n0 | ok\nbegin later | snapshot 100\n")?;
-    text.push_str("reopen | last 100 floor 0\nbegin n1 | snapshot 100\n")?;
-    let _disk = says(&rt, rt.alloc(), text.as_str())?;
-    Ok(())
+    let parts = [
+        ("begin n# | snapshot 0\n", 64),
+        (
+            "begin late | refused: name
+put n63 1 7 61 | ok
+submit n63 1 100 | queued
+begin late | refused: name
+flush | idle
+redeem n63 | done 100
+begin late | snapshot 100
+begin later | refused: name
+abort n0 | ok
+begin later | snapshot 100
+reopen | last 100 floor 0
+begin n1 | snapshot 100
+",
+            1,
+        ),
+    ];
+    says_parts(&rt, rt.alloc(), 16, parts.as_slice())
 }
 
 #[test]
 fn a_name_stands_for_one_thing(rt: HostRuntime) -> Result<(), Fail> {
-    let _disk = says(
+    says(
         &rt,
         rt.alloc(),
         "put t 1 7 61 | refused: name
@@ -53,6 +59,5 @@ begin t | snapshot 100
 reopen | last 100 floor 0
 get t 1 7 | refused: name
 ",
-    )?;
-    Ok(())
+    )
 }

@@ -1,15 +1,13 @@
 //! What stands on the disk: headers, slots and records.
-use crate::bytes::{bytes_of, spelled, spells};
-use crate::dialogue::{FOUR_COMMITS, says};
-use disk::{Area, MemDisk};
-use std::alloc::Global;
-use std::process::Abort;
+use crate::bytes::{bytes_of, has_extents, spells};
+use crate::dialogue::{FOUR_COMMITS, stored};
+use disk::Area;
 use std::test::Fail;
 
 #[test]
 fn one_commit_of_one_record(rt: HostRuntime) -> Result<(), Fail> {
     let alloc = rt.alloc();
-    let mut disk = says(
+    let mut disk = stored(
         &rt,
         alloc,
         "begin t | snapshot 0
@@ -18,36 +16,19 @@ submit t 9 100 | queued
 flush | idle
 ",
     )?;
-    let status = spelled(
-        alloc,
-        "4e4f4f5645523031 01000000 10000000 ..z 496
-         c7 01 01 00 00000000 0900000000000000 6400000000000000 01000000 01000000 01000000 ..z 476
-         ..z 7680",
-    )?;
-    let heap = spelled(
-        alloc,
-        "01000000 00000000 0e000000 00000000 01 0100 0700000000000000 01 01 61 ..z 8162",
-    )?;
-    assert!(rt; bytes_of(alloc, &mut disk, Area::Status)? == status);
-    assert!(rt; bytes_of(alloc, &mut disk, Area::Heap)? == heap);
-    assert_eq!(rt; bytes_of(alloc, &mut disk, Area::Archive)?.len(), 0);
-    Ok(())
-}
-
-/// The heap must be these extents, as texts spell them.
-fn holds(rt: &impl Abort, alloc: Global, disk: &mut MemDisk, extents: &[&str]) -> Result<(), Fail> {
-    let mut place: usize = 0;
-    for text in extents {
-        spells(rt, alloc, disk, Area::Heap, place, text)?;
-        place = place.saturating_add(8192);
-    }
-    assert_eq!(rt; bytes_of(alloc, disk, Area::Heap)?.len(), place);
-    Ok(())
+    let status = "4e4f4f5645523031 01000000 10000000 ..z 496
+        c7 01 01 00 00000000 0900000000000000 6400000000000000 01000000 01000000 01000000 ..z 476
+        ..z 7680";
+    let extent = "01000000 00000000 0e000000 00000000
+        01 0100 0700000000000000 01 01 61 ..z 8162";
+    spells(&rt, alloc, &mut disk, Area::Status, 0, status)?;
+    assert_eq!(rt; bytes_of(alloc, &mut disk, Area::Status)?.len(), 8704);
+    has_extents(&rt, alloc, &mut disk, &[extent])
 }
 
 #[test]
 fn a_change_of_one_field_is_a_delta(rt: HostRuntime) -> Result<(), Fail> {
-    let mut disk = says(
+    let mut disk = stored(
         &rt,
         rt.alloc(),
         "begin a | snapshot 0
@@ -73,12 +54,12 @@ at 1 7 120 | value 64 63
         "02000000 00000000 0f000000 00000000 02 0100 0700000000000000 0200 01 63 ..z 8161",
         "03000000 00000000 0f000000 00000000 02 0100 0700000000000000 0100 01 64 ..z 8161",
     ];
-    holds(&rt, rt.alloc(), &mut disk, extents.as_slice())
+    has_extents(&rt, rt.alloc(), &mut disk, extents.as_slice())
 }
 
 #[test]
 fn an_unchanged_value_is_a_delta_without_fields(rt: HostRuntime) -> Result<(), Fail> {
-    let mut disk = says(
+    let mut disk = stored(
         &rt,
         rt.alloc(),
         "begin a | snapshot 0
@@ -101,12 +82,12 @@ at 1 8 110 | value 61 61 61
         "02000000 00000000 1f000000 00000000 02 0100 0700000000000000 0000
          01 0100 0800000000000000 03 01 61 01 61 01 61 ..z 8145",
     ];
-    holds(&rt, rt.alloc(), &mut disk, extents.as_slice())
+    has_extents(&rt, rt.alloc(), &mut disk, extents.as_slice())
 }
 
 #[test]
 fn a_delta_that_is_no_shorter_is_not_stored(rt: HostRuntime) -> Result<(), Fail> {
-    let mut disk = says(
+    let mut disk = stored(
         &rt,
         rt.alloc(),
         "begin a | snapshot 0
@@ -130,12 +111,12 @@ at 1 8 110 | value -
         "02000000 00000000 1b000000 00000000 01 0100 0700000000000000 01 01 62
          01 0100 0800000000000000 01 00 ..z 8149",
     ];
-    holds(&rt, rt.alloc(), &mut disk, extents.as_slice())
+    has_extents(&rt, rt.alloc(), &mut disk, extents.as_slice())
 }
 
 #[test]
 fn another_count_of_fields_is_stored_whole(rt: HostRuntime) -> Result<(), Fail> {
-    let mut disk = says(
+    let mut disk = stored(
         &rt,
         rt.alloc(),
         "begin a | snapshot 0
@@ -155,12 +136,12 @@ at 1 7 110 | value 61 62
          01 0100 0700000000000000 03 01 61 01 62 01 63 ..z 8158",
         "02000000 00000000 10000000 00000000 01 0100 0700000000000000 02 01 61 01 62 ..z 8160",
     ];
-    holds(&rt, rt.alloc(), &mut disk, extents.as_slice())
+    has_extents(&rt, rt.alloc(), &mut disk, extents.as_slice())
 }
 
 #[test]
 fn after_a_deletion_a_value_is_stored_whole(rt: HostRuntime) -> Result<(), Fail> {
-    let mut disk = says(
+    let mut disk = stored(
         &rt,
         rt.alloc(),
         "begin a | snapshot 0
@@ -185,13 +166,13 @@ at 1 7 120 | value 61 63
         "02000000 00000000 0b000000 00000000 03 0100 0700000000000000 ..z 8165",
         "03000000 00000000 10000000 00000000 01 0100 0700000000000000 02 01 61 01 63 ..z 8160",
     ];
-    holds(&rt, rt.alloc(), &mut disk, extents.as_slice())
+    has_extents(&rt, rt.alloc(), &mut disk, extents.as_slice())
 }
 
 #[test]
 fn a_slot_of_two_members(rt: HostRuntime) -> Result<(), Fail> {
     let alloc = rt.alloc();
-    let mut disk = says(
+    let mut disk = stored(
         &rt,
         alloc,
         "begin a | snapshot 0
@@ -217,12 +198,12 @@ flush | idle
 
 #[test]
 fn four_commits_have_four_extents(rt: HostRuntime) -> Result<(), Fail> {
-    let mut disk = says(&rt, rt.alloc(), FOUR_COMMITS)?;
+    let mut disk = stored(&rt, rt.alloc(), FOUR_COMMITS)?;
     let extents = [
         "01000000 00000000 0e000000 00000000 01 0100 0700000000000000 01 01 61 ..z 8162",
         "02000000 00000000 0e000000 00000000 01 0100 0700000000000000 01 01 62 ..z 8162",
         "03000000 00000000 0b000000 00000000 03 0100 0700000000000000 ..z 8165",
         "04000000 00000000 0e000000 00000000 01 0100 0700000000000000 01 01 63 ..z 8162",
     ];
-    holds(&rt, rt.alloc(), &mut disk, extents.as_slice())
+    has_extents(&rt, rt.alloc(), &mut disk, extents.as_slice())
 }

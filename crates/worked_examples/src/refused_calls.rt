@@ -1,5 +1,5 @@
 //! Calls that the disk refuses.
-use crate::dialogue::{FOUR_COMMITS, answers, converses, new_store, runs, says, told};
+use crate::dialogue::{FOUR_COMMITS, answers, converses, new_store, runs, stored, told};
 use disk::{Fault, FaultDisk, MemDisk};
 use shell::Action;
 use std::alloc::Global;
@@ -57,6 +57,26 @@ fn value_kept(step: u32, write_reaches: bool) -> &'static str {
     }
 }
 
+/// The store was not opened, and holds what it held.
+fn is_not_opened(rt: &impl Abort, alloc: Global, said: &str, disk: FaultDisk) -> Result<(), Fail> {
+    assert_eq!(rt; said, "refused: device\n");
+    let _disk = answers(rt, alloc, disk, "0", "none")?;
+    Ok(())
+}
+
+/// The store failed at a step of the commit, and read on; this is what it holds.
+fn is_in_doubt(
+    rt: &impl Abort,
+    alloc: Global,
+    said: &str,
+    disk: FaultDisk,
+    value: &str,
+) -> Result<(), Fail> {
+    assert_eq!(rt; said, IN_DOUBT);
+    let _disk = answers(rt, alloc, disk, "100", value)?;
+    Ok(())
+}
+
 /// Each call is refused in turn: while the store is opened, so that it is not; at a step of the commit, of
 /// which there are six, so that the store is failed and reads on.
 fn refuses_each_call(rt: &impl Abort, alloc: Global, write_reaches: bool) -> Result<(), Fail> {
@@ -68,12 +88,11 @@ fn refuses_each_call(rt: &impl Abort, alloc: Global, write_reaches: bool) -> Res
             break;
         }
         if status == 1 {
-            assert_eq!(rt; said.as_str(), "refused: device\n");
-            let _disk = answers(rt, alloc, disk, "0", "none")?;
+            is_not_opened(rt, alloc, said.as_str(), disk)?;
         } else {
-            assert_eq!(rt; said.as_str(), IN_DOUBT);
             steps = steps.saturating_add(1);
-            let _disk = answers(rt, alloc, disk, "100", value_kept(steps, write_reaches))?;
+            let value = value_kept(steps, write_reaches);
+            is_in_doubt(rt, alloc, said.as_str(), disk, value)?;
         }
     }
     assert_eq!(rt; steps, 6);
@@ -176,7 +195,7 @@ refused: not yet 130
 /// A fifth commit, the sync after whose gate is refused.
 fn gate_in_doubt(rt: &impl Abort, alloc: Global) -> Result<FaultDisk, Fail> {
     for calls in 0..100 {
-        let disk = refusing(says(rt, alloc, FOUR_COMMITS)?, calls, true);
+        let disk = refusing(stored(rt, alloc, FOUR_COMMITS)?, calls, true);
         let (said, _, disk) = told(alloc, Action::Run { dir: "" }, disk, FIFTH_COMMIT)?;
         if said.as_str() == GATE_IN_DOUBT {
             return Ok(disk);

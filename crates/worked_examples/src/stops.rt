@@ -1,6 +1,6 @@
 //! Stops of the machine before, within and after each call of the disk.
 use crate::bytes::spells;
-use crate::dialogue::{answers, converses, new_store, says, told};
+use crate::dialogue::{answers, converses, new_store, stored, told};
 use disk::{Area, Fault, FaultDisk, MemDisk};
 use shell::Action;
 use std::alloc::Global;
@@ -96,7 +96,7 @@ fn a_stop_after_a_write_keeps_all_or_nothing(rt: HostRuntime) -> Result<(), Fail
 
 /// Three commits under one gate, which is written and not synced.
 fn three_at_the_gate(rt: &impl Abort, alloc: Global) -> Result<MemDisk, Fail> {
-    says(
+    stored(
         rt,
         alloc,
         "begin a | snapshot 0
