@@ -55,7 +55,7 @@ parts_of_live heap taken before (s ∷ members) distinct live =
     }
 
 -- the values that members leave
-pub values_behind : (Key → Option Value) → List StoredMember → Key → Option Value
+unfoldable pub values_behind : (Key → Option Value) → List StoredMember → Key → Option Value
 values_behind before members = applied before (commits_from before (map (λ s. s.member) members))
 
 -- one member more

@@ -154,3 +154,10 @@ StandsOpens = (header : Header) (image : Image) (layout : Layout) (reading : Rea
 abbrev pub OpensOrFails : Type 0
 OpensOrFails = (header : Header) (image : Image) (layout : Layout) (reading : Reading) (place : ℕ) → Opens header image layout reading
     → ¬ FailsHeap image.heap layout.slots place × ¬ FailsRuns (length image.archive) (runs_of layout.slots) place
+
+-- of the chains one is the first that is not right, and of the runs one the first that ends past the archive; where all chains are right none is
+abbrev pub FailsOnce : Type 0
+FailsOnce = (image : Image) (slots : List Slot) (p q : ℕ)
+    → (FailsHeap image.heap slots p → FailsHeap image.heap slots q → p ≡ q)
+    × (FailsRuns (length image.archive) (runs_of slots) p → FailsRuns (length image.archive) (runs_of slots) q → p ≡ q)
+    × (HoldsHeap image.heap slots → ¬ FailsHeap image.heap slots p)

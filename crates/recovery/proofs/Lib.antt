@@ -3,3 +3,9 @@ pub mod Formatted
 pub mod Walking
 pub mod Heads
 pub mod Stored
+pub mod Claims
+pub mod RightChains
+pub mod HeldMembers
+pub mod OpenedHeap
+pub mod OneAnswer
+pub mod HistoryRead

@@ -1,9 +1,12 @@
 -- What an image is read as, and why it is not read.
-use Rattle.std.specs.Prelude.{ℕ, List}
+use Rattle.std.specs.Prelude.{ℕ, List, length}
+use Rattle.disk.specs.Areas.{Image}
 use Rattle.disk.specs.declared.area.Area.TheVariants.{Status, Heap, Archive}
 use Rattle.wire.specs.declared.slot.Slot.{Slot}
 use Rattle.status.specs.declared.header.Header.{Header}
 use Rattle.status.specs.Reading.{ReadsHeader, HoldsLog, IsDamaged}
+use Rattle.status.specs.Rules.{runs_of}
+use Rattle.reading.specs.Opening.{FailsHeap, HoldsHeap, FailsRuns}
 use Rattle.recovery.specs.declared.fault.OpenFault.{OpenFault}
 use Rattle.recovery.specs.declared.fault.OpenFault.TheVariants.{NotAStore, Damaged, Device, NoMemory}
 
@@ -18,11 +21,20 @@ pub record FailsStatusAt (status : List ℕ) (n : ℕ) : Type 0 where
   pub header_reads : ReadsHeader status header
   pub damaged : IsDamaged header status n
 
--- the status area is read
-pub record HasStatus (status : List ℕ) : Type 0 where
+-- The status area is read, and this is the first extent of the first chain that is not right: first the anchors' chain, then those of the members in their order.
+pub record FailsHeapAt (image : Image) (place : ℕ) : Type 0 where
   pub header : Header
   pub slots : List Slot
-  pub reads : ReadsStatus status header slots
+  pub reads : ReadsStatus image.status header slots
+  pub fails : FailsHeap image.heap slots place
+
+-- All chains are right, and this is the start of the first run that does not end within the archive.
+pub record FailsArchiveAt (image : Image) (place : ℕ) : Type 0 where
+  pub header : Header
+  pub slots : List Slot
+  pub reads : ReadsStatus image.status header slots
+  pub holds : HoldsHeap image.heap slots
+  pub fails : FailsRuns (length image.archive) (runs_of slots) place
 
 -- of reading alone: the device or memory gave out
 abbrev pub IsReadFault : OpenFault → Type 0
@@ -47,11 +59,11 @@ IsHeaderFault status (Damaged area n) = ⊥
 IsHeaderFault status Device = Unit {0}
 IsHeaderFault status NoMemory = Unit {0}
 
--- Why an image is not read: no header stands in front, or a slot is the first that may not stand in its place, or the status area is read and the heap is damaged.
-abbrev pub IsImageFault : List ℕ → OpenFault → Type 0
-IsImageFault status NotAStore = (header : Header) → ¬ ReadsHeader status header
-IsImageFault status (Damaged Status n) = FailsStatusAt status n
-IsImageFault status (Damaged Heap n) = HasStatus status
-IsImageFault status (Damaged Archive n) = ⊥
-IsImageFault status Device = Unit {0}
-IsImageFault status NoMemory = Unit {0}
+-- Why an image is not read, by the first check that fails: no header stands in front, or a slot is the first that may not stand in its place, or a chain is not right, or a run ends past the archive.
+abbrev pub IsImageFault : Image → OpenFault → Type 0
+IsImageFault image NotAStore = (header : Header) → ¬ ReadsHeader image.status header
+IsImageFault image (Damaged Status n) = FailsStatusAt image.status n
+IsImageFault image (Damaged Heap n) = FailsHeapAt image n
+IsImageFault image (Damaged Archive n) = FailsArchiveAt image n
+IsImageFault image Device = Unit {0}
+IsImageFault image NoMemory = Unit {0}

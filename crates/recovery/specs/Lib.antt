@@ -6,3 +6,6 @@ pub mod Resolving
 pub mod Names
 pub mod Faults
 pub mod ReadsImage
+pub mod Chains
+pub mod HeapReads
+pub mod Laws

@@ -4,8 +4,10 @@
 mod chain;
 mod fault;
 mod formatting;
+pub mod laws;
 mod members;
 mod opening;
+mod records;
 mod recovered;
 mod resolving;
 

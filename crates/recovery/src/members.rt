@@ -1,61 +1,99 @@
 //! The chains of the log's commits.
 
-ghost use Rattle.std.specs.Prelude.{◌≡◌, ◌<◌, ◌≤◌, ◌^◌, [], IsTrue, IfOk, IfErr, IfSome, map, length, replicate};
+ghost use Rattle.std.specs.Prelude.{◌≡◌, ◌<◌, ◌≤◌, ◌^◌, ◌++◌, ◌∷◌, [], ℕ, IsTrue, IfOk, IfErr, IfSome, OnOk, MatchOption, map, length, replicate};
+ghost use Rattle.std.specs.List.{AllByRecursion};
 ghost use Rattle.extents.specs.declared.usage.Usage.TheVariants.{Free};
+ghost use Rattle.history.specs.declared.key.Key.{Key};
 ghost use Rattle.image.specs.Log.{AreRisingAfter, last_time_after};
+ghost use Rattle.image.specs.Facts.{IsStored, write_of};
+ghost use Rattle.chains.specs.KeyWrites.{writes_of, latest};
+ghost use Rattle.chains.specs.Writes.{written};
+ghost use Rattle.deltas.specs.Records.{heap_record};
+ghost use Rattle.deltas.specs.Chains.{AreRecordsOf};
+ghost use Rattle.deltas.specs.declared.chain.Kinds.TheVariants.{OfCommit};
 ghost use Rattle.status.specs.Rules.{head_of};
+ghost use Rattle.wire.specs.Spelling.{IsMember};
 ghost use Rattle.recovery.specs.Answers.{after_reads};
 ghost use Rattle.recovery.specs.Faults.{IsReadFault, IsHeapFault};
+ghost use Rattle.recovery.specs.Resolving.{before_of};
+ghost use Rattle.recovery.specs.Chains.{live_named, AddsChain, HasNoChain};
+ghost use Rattle.recovery.specs.HeapReads.{HoldsEntries, IsMembersFault};
 
-use crate::chain::read_chain;
 use crate::fault::OpenFault;
+use crate::records::read_records;
 use crate::recovered::{HeapRead, LiveChain};
 use crate::resolving::resolve;
 use chains::Frozen;
-use deltas::{ChainName, Kinds, unpack};
+use deltas::Record;
 use disk::{Area, Disk};
 use extents::Extents;
 use std::alloc::{AllocError, Global};
 use wire::Member;
+
+// The writes of every key with those of these records more. None where a record is not the one that its write is stored as.
+fn with_records(
+    alloc: Global,
+    chains: &Frozen,
+    time: u64,
+    records: &[Record],
+) -> Result<Option<Frozen>, AllocError>
+    requires records { AreRecordsOf OfCommit records.now }
+    requires later { latest chains.now < time }
+    requires in_range { time < 2 ^ 63 }
+    ensures found { IfOk result (λ o. MatchOption o (¬ AllByRecursion (IsStored (before_of chains.now)) (map heap_record records.now)) (λ next. AllByRecursion (IsStored (before_of chains.now)) (map heap_record records.now) × ((key : Key) → writes_of next key ≡ writes_of chains.now key ++ written time (map (write_of (before_of chains.now)) (map heap_record records.now)) key))) }
+    ensures latest { IfOk result (λ o. IfSome o (λ next. latest next ≤ time)) }
+{
+    let Some(writes) = resolve(alloc, chains, records)? else {
+        return Ok(None);
+    };
+    let next = chains.with_commit(alloc, time, &writes)?;
+    Ok(Some(next))
+}
+
+// One live chain more.
+fn with_chain(
+    mut live: Vec<LiveChain>,
+    time: u64,
+    extents: Vec<u32>,
+) -> Result<Vec<LiveChain>, AllocError>
+    ensures { IfOk result (λ more. map live_named more.items ≡ map live_named live.items ++ (time, extents.items) ∷ []) }
+{
+    live.push(LiveChain { time, extents })?;
+    Ok(live)
+}
 
 // The heap with one commit's chain more. None where the chain is not right.
 fn read_member<D: Disk>(
     alloc: Global,
     disk: &mut D,
     heap_len: u64,
-    mut heap: HeapRead,
+    heap: HeapRead,
     entry: &Member,
 ) -> Result<Option<HeapRead>, OpenFault>
     requires len { IsTrue D.tells → heap_len ≡ length (D.state disk.old).areas.heap.bytes }
     requires later { heap.last < entry.now.time }
     requires in_range { entry.now.time < 2 ^ 63 }
     ensures last { IfOk result (λ o. IfSome o (λ next. next.last ≡ entry.now.time)) }
+    ensures found { IsTrue D.tells → IfOk result (λ o. MatchOption o (HasNoChain (D.state disk.old).areas.heap.bytes heap_len heap entry.now) (AddsChain (D.state disk.old).areas.heap.bytes heap_len entry.now heap)) }
     ensures fault { IfErr result IsReadFault }
     ensures reads { D.state disk.new ≡ after_reads result (D.state disk.old) }
 {
-    let extents = &mut heap.extents;
-    let Some(chain) = read_chain(alloc, disk, heap_len, extents, entry.first, entry.extents)? else {
+    let HeapRead {
+        mut extents,
+        live,
+        chains,
+        last: _,
+    } = heap;
+    let Some(read) = read_records(alloc, disk, heap_len, &mut extents, entry)? else {
         return Ok(None);
     };
-    let name = ChainName {
-        first: entry.first,
-        extents: entry.extents,
-        records: entry.records,
-    };
-    let Some(records) = unpack(alloc, name, Kinds::OfCommit, &chain.images)? else {
+    let Some(chains) = with_records(alloc, &chains, entry.time, &read.records)? else {
         return Ok(None);
     };
-    let Some(writes) = resolve(alloc, &heap.chains, &records)? else {
-        return Ok(None);
-    };
-    let chains = heap.chains.with_commit(alloc, entry.time, &writes)?;
-    heap.live.push(LiveChain {
-        time: entry.time,
-        extents: chain.numbers,
-    })?;
+    let live = with_chain(live, entry.time, read.numbers)?;
     Ok(Some(HeapRead {
-        extents: heap.extents,
-        live: heap.live,
+        extents,
+        live,
         chains,
         last: entry.time,
     }))
@@ -93,13 +131,16 @@ pub fn read_members<D: Disk>(
 ) -> Result<HeapRead, OpenFault>
     requires len { IsTrue D.tells → heap_len ≡ length (D.state disk.old).areas.heap.bytes }
     requires rising { AreRisingAfter 0 (map head_of entries.now) }
+    requires in_range { AllByRecursion IsMember entries.now }
     ensures last { IfOk result (λ heap. heap.last ≡ last_time_after 0 (map head_of entries.now)) }
+    ensures read { IsTrue D.tells → IfOk result (HoldsEntries (D.state disk.old).areas.heap.bytes entries.now) }
+    ensures first { IsTrue D.tells → IfErr result (IsMembersFault (D.state disk.old).areas.heap.bytes entries.now) }
     ensures fault { IfErr result IsHeapFault }
     ensures reads { D.state disk.new ≡ after_reads result (D.state disk.old) }
 {
     let mut heap = nothing_read(alloc)?;
     let mut rest = entries;
-    while let [entry, after @ ..] = rest {
+    while let Some((entry, after)) = rest.split_first() {
         match read_member(alloc, disk, heap_len, heap, entry) {
             Ok(Some(next)) => heap = next,
             Ok(None) => return Err(OpenFault::Damaged(Area::Heap, entry.first as u64)),

@@ -91,15 +91,18 @@ fn read_settled<D: Disk>(alloc: Global, disk: &mut D) -> Result<Recovered, OpenF
     ensures rising { IfOk result (λ r. AreRisingAfter 0 (map head_named r.commits.items)) }
     ensures last { IfOk result (λ r. r.last ≡ last_time_after 0 (map head_named r.commits.items)) }
     ensures latest { IfOk result (λ r. latest r.chains ≤ r.last) }
-    ensures found { IsTrue D.tells → IfOk result (IsReadFrom (D.state disk.old).areas.status.bytes) }
-    ensures fault { IsTrue D.tells → IfErr result (IsImageFault (D.state disk.old).areas.status.bytes) }
+    ensures found { IsTrue D.tells → IfOk result (IsReadFrom (image_of (D.state disk.old).areas)) }
+    ensures fault { IsTrue D.tells → IfErr result (IsImageFault (image_of (D.state disk.old).areas)) }
     ensures reads { D.state disk.new ≡ after_reads result (D.state disk.old) }
 {
     let header = find_header(disk)?;
     let slots = read_log(alloc, disk, &header)?;
     let entries = entries(alloc, &slots)?;
     let heap_len = disk.len(Area::Heap)?;
-    let heap = read_members(alloc, disk, heap_len, &entries)?;
+    let heap = match read_members(alloc, disk, heap_len, &entries) {
+        Ok(heap) => heap,
+        Err(fault) => return Err(fault),
+    };
     let commits = commit_names(alloc, &entries)?;
     Ok(Recovered {
         header,
@@ -126,8 +129,8 @@ pub fn read_image<D: Disk>(alloc: Global, disk: &mut D) -> Result<Recovered, Ope
     ensures last { IfOk result (λ r. r.last ≡ last_time_after 0 (map head_named r.commits.items)) }
     ensures latest { IfOk result (λ r. latest r.chains ≤ r.last) }
 
-    ensures found { IsTrue D.tells → IfOk result (IsReadFrom (D.state disk.old).areas.status.bytes) }
-    ensures fault { IsTrue D.tells → IfErr result (IsImageFault (D.state disk.old).areas.status.bytes) }
+    ensures found { IsTrue D.tells → IfOk result (IsReadFrom (image_of (D.state disk.old).areas)) }
+    ensures fault { IsTrue D.tells → IfErr result (IsImageFault (image_of (D.state disk.old).areas)) }
 
     ensures settled { IsTrue D.tells → OnOk result ((D.state disk.new).areas ≡ settled_on (image_of (D.state disk.old).areas)) }
     ensures read { IsTrue D.tells → image_of (D.state disk.new).areas ≡ image_of (D.state disk.old).areas }

@@ -66,6 +66,14 @@ fn own_writes_over_the_snapshot(rt: HostRuntime) -> Result<(), Fail> {
 }
 
 #[test]
+fn a_transaction_says_whose_it_is(rt: HostRuntime) {
+    let txn = Txn::new(rt.alloc(), 1, 2, 130, Frozen::new());
+    assert_eq!(rt; (txn.mark(), txn.number(), txn.snapshot()), (1, 2, 130));
+    assert!(rt; txn.frozen().at(SEVEN, 130).is_none());
+    let _over = txn.spend();
+}
+
+#[test]
 fn a_put_that_is_deleted_leaves_no_write(rt: HostRuntime) {
     let alloc = rt.alloc();
     let mut txn = Txn::new(alloc, 1, 0, 0, Frozen::new());

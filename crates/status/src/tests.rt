@@ -112,3 +112,45 @@ fn a_slot_is_written_and_read(rt: HostRuntime) -> Result<(), Fail> {
     assert_eq!(rt; slots.len(), 1);
     Ok(())
 }
+
+const SIXTEEN: Header = Header {
+    profile: 1,
+    slots: 16,
+    pieces: 0,
+};
+
+// What is done of the slot that is begun, and let be, or why none is.
+fn begun(log: &mut StatusLog) -> Result<Stage, SlotFault> {
+    match log.begin_slot(commit(100)) {
+        Ok(turn) => {
+            let stage = turn.stage();
+            turn.give_up();
+            Ok(stage)
+        }
+        Err(fault) => Err(fault),
+    }
+}
+
+#[test]
+fn one_slot_is_in_the_writing(rt: HostRuntime) {
+    let mut log = StatusLog::new(&SIXTEEN, 15);
+    assert_eq!(rt; (log.slots(), log.used()), (16, 15));
+    assert!(rt; !log.is_writing());
+    assert_eq!(rt; begun(&mut log), Ok(Stage::Begun));
+    assert!(rt; log.is_writing());
+    assert_eq!(rt; begun(&mut log), Err(SlotFault::Busy));
+}
+
+#[test]
+fn a_full_log_begins_no_slot(rt: HostRuntime) {
+    let mut log = StatusLog::new(&SIXTEEN, 16);
+    assert_eq!(rt; begun(&mut log), Err(SlotFault::StatusFull));
+    assert!(rt; !log.is_writing());
+}
+
+#[test]
+fn commits_of_profile_1_are_built(rt: HostRuntime) {
+    assert!(rt; is_built(1, 1));
+    assert!(rt; !is_built(1, 2));
+    assert!(rt; !is_built(2, 1));
+}

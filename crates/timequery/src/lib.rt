@@ -6,3 +6,6 @@ mod view;
 
 pub use fault::QueryFault;
 pub use view::View;
+
+#[cfg(test)]
+mod tests;

@@ -1,9 +1,21 @@
-use Rattle.std.proofs.Common.{◌∙◌}
-use Rattle.recovery.proofs.Stored.{rising_writes}
+use Rattle.std.proofs.Common.{List, map, sym, subst}
+use Rattle.std.specs.List.{AllByRecursion}
+use Rattle.image.specs.Facts.{IsStored}
+use Rattle.deltas.specs.declared.«record».Record.{Record}
+use Rattle.deltas.specs.Records.{heap_record}
+use Rattle.recovery.specs.Resolving.{before_of}
+use Rattle.recovery.proofs.RightChains.{no_writes}
 use Rattle.recovery.proofs.members.read_member.Goals as goal
 
-pub with_commit-requires-clause-rising : goal.with_commit-requires-clause-rising
-with_commit-requires-clause-rising g c =
-    let held = rw c.in-Some-2.is at c.in_ok-records.ensures.found in
-    let resolved = rw c.in-Some-3.is at c.in_ok-writes.ensures in
-    rising_writes _ _ _ _ c.deref-2.ensures.value (c.deref-3.ensures.value ∙ resolved.1) held.are_records.rising
+pub returns-in_default-clause-found : goal.returns-in_default-clause-found
+returns-in_default-clause-found g c = λ told records right.
+    let none = rw c.in_default.is at (c.in_ok-read.ensures.found told) in
+    none records right.has
+
+pub returns-in_default-2-clause-found : goal.returns-in_default-2-clause-found
+returns-in_default-2-clause-found g c = λ told records right.
+    let read = rw c.in-Some.is at (c.in_ok-read.ensures.found told) in
+    let none = rw c.in_default-2.is at c.in_ok-chains.ensures.found in
+    no_writes _ _ _ (before_of c.args.heap.chains) _ c.in-Some.read.records.items read.has
+    (λ all. none (subst (λ (l : List Record). AllByRecursion (IsStored (before_of c.args.heap.chains)) (map heap_record l)) (sym c.deref.ensures.value) all))
+    records right

@@ -1,0 +1,6 @@
+use Rattle.std.specs.List.Sorted.{IsStrictlySortedBy}
+use Rattle.timequery.proofs.tests.committed.Goals as goal
+
+pub with_commit-requires-clause-rising : goal.with_commit-requires-clause-rising
+unfolding IsStrictlySortedBy
+with_commit-requires-clause-rising c = (tt, tt)
