@@ -1,7 +1,7 @@
 -- What a walk over the records of a run has shown.
-use Rattle.std.proofs.Common.{◌≡◌, ◌≢◌, ◌⊎◌, inl, inr, ℕ, zero, suc, ◌+◌, ◌<◌, ◌≤◌, Bool, true, false, cond, nat_lt, nat_le, ◌==◌, ◌&&◌, ◌||◌, max, min, List, [], ◌∷◌, ◌++◌, length, take, map, filter, Option, Some, None, refl, sym, ◌∙◌, ap, subst, arith, append_assoc}
-use Rattle.std.specs.List.{slice_get, flat_map, filter_map, cons_option}
-use Rattle.std.proofs.lemmas.List.{append-nil, take_all, map-append}
+use Rattle.std.proofs.Common.{◌≡◌, ◌≢◌, ◌⊎◌, inl, inr, ℕ, zero, suc, ◌+◌, ◌<◌, ◌≤◌, Bool, true, false, cond, ◌==◌, ◌&&◌, max, min, List, [], ◌∷◌, ◌++◌, take, map, filter, Some, None, refl, sym, ◌∙◌, ap, subst, arith, append_assoc}
+use Rattle.std.specs.List.{slice_get, flat_map, cons_option}
+use Rattle.std.proofs.lemmas.List.{append-nil, map-append}
 use Rattle.std.proofs.lemmas.List.Elements.{filter-append, filter_map-append}
 use Rattle.std.proofs.lemmas.Option.{slice_get_within}
 use Rattle.std.proofs.lemmas.Bool.{cases_lt, cases_eq}
@@ -14,8 +14,8 @@ use Rattle.image.specs.Values.{Value}
 use Rattle.image.specs.Reading.{ArchiveRecord}
 use Rattle.image.specs.Facts.{run_versions, version_for}
 use Rattle.archive.specs.declared.run.RunEntry.{RunEntry}
-use Rattle.archive.specs.Laid.{IsLaid, IsBefore, IsLaidRun}
-use Rattle.archive.specs.Answers.{head_of, precedes, versions_in, row_of, run_rows, scan_rows}
+use Rattle.archive.specs.Laid.{IsBefore, IsLaidRun}
+use Rattle.archive.specs.Answers.{head_of, precedes, versions_in, row_of, run_rows}
 use Rattle.archive.specs.Searches.{IsBound}
 use Rattle.archive.proofs.Orders.{places_before}
 

@@ -1,16 +1,16 @@
-ghost use Rattle.std.specs.Prelude.{◌≡◌, ◌+◌, ◌≤◌, ◌<◌, IsTrue, IfOk, OnOk, [], length, take, slice_range};
+ghost use Rattle.std.specs.Prelude.{◌≡◌, ◌+◌, ◌≤◌, ◌<◌, IsTrue, IfOk, IfErr, MatchResult, ⊤, [], length, take, slice_range};
 ghost use Rattle.disk.specs.Calls.{looked};
 ghost use Rattle.archive.specs.Parts.{IsRight, Keeps};
 ghost use Rattle.archive.specs.Runs.{run_end};
-ghost use Rattle.archive.specs.Searches.{archive_of};
+ghost use Rattle.archive.specs.Searches.{archive_of, after_query, Answers, IsFaultOf};
 
-use crate::{BlockCache, RunEntry};
+use crate::{ArchiveFault, BlockCache, RunEntry};
 use disk::{Area, DeviceFault, Disk};
 use std::alloc::{AllocError, Global};
 
 /// Reads parts of runs by blocks of 4,096 bytes, counted from the run's start.
 #[derive(Drop)]
-pub struct BlockReader {
+pub(crate) struct BlockReader {
     cache: BlockCache,
 }
 
@@ -35,7 +35,7 @@ impl BlockReader {
         }
     }
 
-    /// The bytes of a part of one block of the archive.
+    /// The bytes of a part of one block of the archive; false where the archive ends before the block does.
     fn read_block<D: Disk>(
         &mut self,
         disk: &mut D,
@@ -43,21 +43,21 @@ impl BlockReader {
         len: usize,
         skip: usize,
         out: &mut [u8],
-    ) -> Result<(), DeviceFault>
+    ) -> Result<bool, DeviceFault>
         requires small { len ≤ 4096 }
         requires part { skip + length out.old ≤ len }
-        requires within { IsTrue D.tells → start + len ≤ length (archive_of (D.state disk.old)) }
         ensures disk { D.state disk.new ≡ looked result (D.state disk.old) }
         ensures kept { Keeps (start + len) D.tells (archive_of (D.state disk.old)) (parts_in self.old.cache.blocks) (parts_in self.new.cache.blocks) }
-        ensures only { IsTrue D.tells → IsRight (parts_in self.old.cache.blocks) (archive_of (D.state disk.old))
-            → OnOk result (out.new ≡ slice_range (archive_of (D.state disk.old)) (start + skip) (start + skip + length out.old)) }
+        ensures bytes { IsTrue D.tells → IsRight (parts_in self.old.cache.blocks) (archive_of (D.state disk.old))
+            → IfOk result (λ there. IsTrue there → out.new ≡ slice_range (archive_of (D.state disk.old)) (start + skip) (start + skip + length out.old)) }
+        ensures there { IsTrue D.tells → start + len ≤ length (archive_of (D.state disk.old)) → IfOk result (λ there. IsTrue there) }
     {
         if self.cache.copy(start, len, skip, out) {
-            return Ok(());
+            return Ok(true);
         }
         let mut bytes = [0; 4096];
-        self.fetch_block(disk, start, skip, &mut bytes[..len], out)?;
-        Ok(())
+        let there = self.fetch_block(disk, start, skip, &mut bytes[..len], out)?;
+        Ok(there)
     }
 
     /// The same from the disk. The block is kept, if there is memory for it.
@@ -68,18 +68,22 @@ impl BlockReader {
         skip: usize,
         block: &mut [u8],
         out: &mut [u8],
-    ) -> Result<(), DeviceFault>
+    ) -> Result<bool, DeviceFault>
         requires part { skip + length out.old ≤ length block.old }
-        requires within { IsTrue D.tells → start + length block.old ≤ length (archive_of (D.state disk.old)) }
         ensures disk { D.state disk.new ≡ looked result (D.state disk.old) }
         ensures kept { Keeps (start + length block.old) D.tells (archive_of (D.state disk.old)) (parts_in self.old.cache.blocks) (parts_in self.new.cache.blocks) }
-        ensures only { IsTrue D.tells → IsRight (parts_in self.old.cache.blocks) (archive_of (D.state disk.old))
-            → OnOk result (out.new ≡ slice_range (archive_of (D.state disk.old)) (start + skip) (start + skip + length out.old)) }
+        ensures bytes { IsTrue D.tells
+            → IfOk result (λ there. IsTrue there → out.new ≡ slice_range (archive_of (D.state disk.old)) (start + skip) (start + skip + length out.old)) }
+        ensures there { IsTrue D.tells → start + length block.old ≤ length (archive_of (D.state disk.old)) → IfOk result (λ there. IsTrue there) }
     {
+        let end = disk.len(Area::Archive)?;
+        if end < start || end - start < block.len() as u64 {
+            return Ok(false);
+        }
         disk.read(Area::Archive, start, block)?;
         out.copy_from_slice(&block[skip..skip + out.len()]);
         self.cache.keep(start, block);
-        Ok(())
+        Ok(true)
     }
 
     /// The bytes from a place in the run on, as far as one block has them.
@@ -89,45 +93,45 @@ impl BlockReader {
         run: &RunEntry,
         at: u64,
         out: &mut [u8],
-    ) -> Result<usize, DeviceFault>
+    ) -> Result<usize, ArchiveFault>
         requires some { 0 < length out.old }
         requires inside { at + length out.old ≤ run.now.slot.len }
-        requires within { IsTrue D.tells → run_end run.now ≤ length (archive_of (D.state disk.old)) }
-        ensures disk { D.state disk.new ≡ looked result (D.state disk.old) }
+        ensures disk { D.state disk.new ≡ after_query result (D.state disk.old) }
         ensures kept { Keeps (run_end run.now) D.tells (archive_of (D.state disk.old)) (parts_in self.old.cache.blocks) (parts_in self.new.cache.blocks) }
+        ensures damaged { IfErr result (IsFaultOf run.now) }
         ensures some { IfOk result (λ n. 0 < n) }
         ensures most { IfOk result (λ n. n ≤ length out.old) }
-        ensures only { IsTrue D.tells → IsRight (parts_in self.old.cache.blocks) (archive_of (D.state disk.old))
+        ensures bytes { IsTrue D.tells → IsRight (parts_in self.old.cache.blocks) (archive_of (D.state disk.old))
             → IfOk result (λ n. take n out.new ≡ slice_range (archive_of (D.state disk.old)) (run.now.slot.start + at) (run.now.slot.start + at + n)) }
+        ensures answers { IsTrue D.tells → run_end run.now ≤ length (archive_of (D.state disk.old)) → Answers result (λ n. ⊤) }
     {
         let skip = at % 4096;
         let len = (run.slot.len - (at - skip)).min(4096) as usize;
         let skip = skip as usize;
         let n = out.len().min(len - skip);
-        self.read_block(
-            disk,
-            run.slot.start + at - skip as u64,
-            len,
-            skip,
-            &mut out[..n],
-        )?;
+        let start = run.slot.start + at - skip as u64;
+        if !self.read_block(disk, start, len, skip, &mut out[..n])? {
+            return Err(ArchiveFault::Damaged(run.slot.start));
+        }
         Ok(n)
     }
 
-    /// The bytes of a part of the run.
+    /// The bytes of a part of the run. Damaged, with the run's start, where the archive ends before
+    /// a block of them does.
     pub fn read<D: Disk>(
         &mut self,
         disk: &mut D,
         run: &RunEntry,
         at: u64,
         buf: &mut [u8],
-    ) -> Result<(), DeviceFault>
+    ) -> Result<(), ArchiveFault>
         requires inside { at + length buf.old ≤ run.now.slot.len }
-        requires within { IsTrue D.tells → run_end run.now ≤ length (archive_of (D.state disk.old)) }
-        ensures disk { D.state disk.new ≡ looked result (D.state disk.old) }
+        ensures disk { D.state disk.new ≡ after_query result (D.state disk.old) }
         ensures kept { Keeps (run_end run.now) D.tells (archive_of (D.state disk.old)) (parts_in self.old.cache.blocks) (parts_in self.new.cache.blocks) }
-        ensures only { IsTrue D.tells → IsRight (parts_in self.old.cache.blocks) (archive_of (D.state disk.old))
-            → OnOk result (buf.new ≡ slice_range (archive_of (D.state disk.old)) (run.now.slot.start + at) (run.now.slot.start + at + length buf.old)) }
+        ensures damaged { IfErr result (IsFaultOf run.now) }
+        ensures bytes { IsTrue D.tells → IsRight (parts_in self.old.cache.blocks) (archive_of (D.state disk.old))
+            → IfOk result (λ _. buf.new ≡ slice_range (archive_of (D.state disk.old)) (run.now.slot.start + at) (run.now.slot.start + at + length buf.old)) }
+        ensures answers { IsTrue D.tells → run_end run.now ≤ length (archive_of (D.state disk.old)) → Answers result (λ _. ⊤) }
     {
         let mut done = 0;
         while done < buf.len() {

@@ -1,56 +1,89 @@
-ghost use Rattle.std.specs.Prelude.{◌≡◌, ◌+◌, ◌<◌, ◌^◌, ◌↔◌, IsTrue, length, take, drop};
-ghost use Rattle.std.specs.List.{concat};
-ghost use Rattle.archive.specs.Pieces.{rest_of};
+ghost use Rattle.std.specs.Prelude.{◌≡◌, ◌+◌, ◌<◌, ◌≤◌, ◌^◌, ◌↔◌, [], IsTrue, length, take, drop, MatchOption};
+ghost use Rattle.archive.specs.Runs.{run_bytes};
 
-use crate::{Chunks, Packer};
+use crate::run_chunks::{RunChunks, measure};
+use crate::{Packer, RecordWalk};
 use disk::{Area, DeviceFault, Disk};
+use std::marker::Model;
 
-/// Writes the bytes of a run in pieces of 8,192, the last of which may be shorter. No call holds
-/// more of them than one piece and one chunk.
-pub struct RunWriter<C: Chunks> {
-    packer: Packer<C>,
+/// Writes the bytes of a run in pieces of 8,192, the last of which may be shorter, as it walks its
+/// records. No call holds more of them than one piece and one record.
+#[derive(Drop)]
+pub struct RunWriter<W: RecordWalk> {
+    packer: Packer<RunChunks<W>>,
     at: u64,
     left: u64,
-    ghost count: { left ≡ length (rest_of packer.chunk packer.from packer.to (C.left packer.chunks)) },
-    ghost short: { at + left < 2 ^ 63 },
+    records: u64,
 }
 
-impl<C: Chunks> RunWriter<C> {
+impl<W: RecordWalk> Model for RunWriter<W> {
+    ghost use Rattle.std.specs.Prelude.{◌≡◌, ◌+◌, ◌<◌, ◌^◌, length};
+    ghost use Rattle.archive.specs.Pieces.{InWriting, rest_of, chunks_left};
+
+    ghost Value = { InWriting };
+
+    ghost view = { λ w. record {
+      at = w.at;
+      left = rest_of w.packer.chunk w.packer.from w.packer.to (chunks_left w.packer.chunks.place (W.all w.packer.chunks.walk) (W.left w.packer.chunks.walk));
+      records = w.records;
+    } };
+
+    ghost invariant = { λ w. (w.left ≡ length (rest_of w.packer.chunk w.packer.from w.packer.to (chunks_left w.packer.chunks.place (W.all w.packer.chunks.walk) (W.left w.packer.chunks.walk))))
+        × (w.at + w.left < 2 ^ 63) };
+}
+
+impl<W: RecordWalk> RunWriter<W> {
     ghost use Rattle.std.specs.Prelude.{Ok};
     ghost use Rattle.disk.specs.Calls.{Counts, Writes};
     ghost use Rattle.disk.specs.declared.area.Area.TheVariants.{Archive};
 
-    /// A writer of all that is left of the chunks, `len` bytes, from the place `start` of the archive on.
-    pub fn new(chunks: C, start: u64, len: u64) -> Self
-        requires len { len ≡ length (concat (C.left chunks)) }
-        requires short { start + len < 2 ^ 63 }
-        ensures at { result.at ≡ start }
-        ensures left { rest_of result.packer.chunk result.packer.from result.packer.to (C.left result.packer.chunks) ≡ concat (C.left chunks) }
+    /// A writer of the run of all records of the walk, from the place `start` of the archive on;
+    /// none where it would end past 2^63 - 1. It walks over them once.
+    pub fn new(walk: W, start: u64) -> Option<Self>
+        ensures { MatchOption result (2 ^ 63 ≤ start + length (run_bytes (W.all walk)))
+            (λ writer. writer ≡ record { at = start; left = run_bytes (W.all walk); records = length (W.all walk) }) }
     {
-        RunWriter {
-            packer: Packer::new(chunks),
-            at: start,
-            left: len,
+        let mut walk = walk;
+        walk.restart();
+        let Some(sizes) = measure(&mut walk) else {
+            return None;
+        };
+        if start >= 1 << 63 || sizes.len >= (1 << 63) - start {
+            return None;
         }
+        walk.restart();
+        Some(RunWriter {
+            packer: Packer::new(RunChunks::new(walk)),
+            at: start,
+            left: sizes.len,
+            records: sizes.records,
+        })
     }
 
-    /// Whether all of it was written.
-    pub fn is_done(&self) -> bool
-        ensures { IsTrue result ↔ (length (rest_of self.now.packer.chunk self.now.packer.from self.now.packer.to (C.left self.now.packer.chunks)) ≡ 0) }
+    /// How many records the run has.
+    pub fn records(&self) -> u64
+        ensures { result ≡ self.now.records }
     {
-        self.left == 0
+        self.records
+    }
+
+    /// How many bytes are left to write.
+    pub fn left(&self) -> u64
+        ensures { result ≡ length self.now.left }
+    {
+        self.left
     }
 
     /// Writes the next piece, in one device write; nothing where all was written. After a refused
     /// write the writer stands behind the piece too: the run is given up.
     pub fn write_piece<D: Disk>(&mut self, disk: &mut D) -> Result<(), DeviceFault>
-        ensures left { rest_of self.new.packer.chunk self.new.packer.from self.new.packer.to (C.left self.new.packer.chunks)
-            ≡ drop 8192 (rest_of self.old.packer.chunk self.old.packer.from self.old.packer.to (C.left self.old.packer.chunks)) }
-        ensures at { self.new.at ≡ self.old.at + length (take 8192 (rest_of self.old.packer.chunk self.old.packer.from self.old.packer.to (C.left self.old.packer.chunks))) }
-        ensures none { length (rest_of self.old.packer.chunk self.old.packer.from self.old.packer.to (C.left self.old.packer.chunks)) ≡ 0 → (result ≡ Ok tt) × (D.state disk.new ≡ D.state disk.old) }
-        ensures counts { 0 < length (rest_of self.old.packer.chunk self.old.packer.from self.old.packer.to (C.left self.old.packer.chunks)) → Counts result (D.state disk.old) (D.state disk.new) }
-        ensures wrote { IsTrue D.tells → 0 < length (rest_of self.old.packer.chunk self.old.packer.from self.old.packer.to (C.left self.old.packer.chunks))
-            → Writes Archive self.old.at (take 8192 (rest_of self.old.packer.chunk self.old.packer.from self.old.packer.to (C.left self.old.packer.chunks))) result (D.state disk.old).areas (D.state disk.new).areas }
+        ensures left { self.new.left ≡ drop 8192 self.old.left }
+        ensures at { self.new.at ≡ self.old.at + length (take 8192 self.old.left) }
+        ensures records { self.new.records ≡ self.old.records }
+        ensures none { self.old.left ≡ [] → (result ≡ Ok tt) × (D.state disk.new ≡ D.state disk.old) }
+        ensures counts { 0 < length self.old.left → Counts result (D.state disk.old) (D.state disk.new) }
+        ensures wrote { IsTrue D.tells → 0 < length self.old.left
+            → Writes Archive self.old.at (take 8192 self.old.left) result (D.state disk.old).areas (D.state disk.new).areas }
     {
         if self.left == 0 {
             return Ok(());

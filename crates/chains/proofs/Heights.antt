@@ -101,28 +101,3 @@ joined_left {E} node left piece s new right (Ok t) is same higher inner outer =
       pieces = rw (outer.pieces, joined.pieces, is.pieces) (append_assoc left.pieces (piece ∷ node.left.pieces) (node.piece ∷ node.right.pieces));
       height = rw is.height height;
     }
-
--- a tree one of whose sides grew
-pub grows_left : (l new r t : ℕ) → IsLevel l r → GrowsByOne l new → Covers new r t → GrowsByOne (max l r + 1) t
-grows_left l new r t level grew covers =
-    ⊎_elim
-    (λ (far : r + 1 < new). record {
-      low = omega (arith, level.left_low, grew.high, covers.low);
-      high = omega (arith, level.left_low, grew.high, covers.high);
-    })
-    (λ (near : new ≤ r + 1).
-    let here : t ≡ max new r + 1 = covers.level (record { left_low = near; right_low = omega (arith, level.right_low, grew.low) }) in
-    record { low = omega (arith, grew.low); high = omega (arith, grew.high) })
-    (cases_lt (r + 1) new)
-
-pub grows_right : (l r new t : ℕ) → IsLevel l r → GrowsByOne r new → Covers l new t → GrowsByOne (max l r + 1) t
-grows_right l r new t level grew covers =
-    ⊎_elim
-    (λ (far : l + 1 < new). record {
-      low = omega (arith, level.right_low, grew.high, covers.low);
-      high = omega (arith, level.right_low, grew.high, covers.high);
-    })
-    (λ (near : new ≤ l + 1).
-    let here : t ≡ max l new + 1 = covers.level (record { left_low = omega (arith, level.left_low, grew.low); right_low = near }) in
-    record { low = omega (arith, grew.low); high = omega (arith, grew.high) })
-    (cases_lt (l + 1) new)

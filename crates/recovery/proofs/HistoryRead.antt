@@ -1,5 +1,5 @@
 -- What is read of an image that stands for a history.
-use Rattle.std.proofs.Common.{◌≡◌, inl, inr, ℕ, ◌+◌, ◌^◌, ◌<◌, ◌≤◌, nat_lt, Bool, true, false, cond, IsTrue, List, [], ◌∷◌, ◌++◌, map, Option, Some, None, refl, sym, ap, subst, ◌∙◌, arith, ⊎_elim}
+use Rattle.std.proofs.Common.{◌≡◌, ℕ, ◌<◌, ◌≤◌, nat_lt, Bool, true, false, cond, IsTrue, List, [], ◌∷◌, ◌++◌, Some, None, refl, sym, ap, subst, ◌∙◌, arith, ⊎_elim}
 use Rattle.std.specs.Prelude.{filter}
 use Rattle.std.specs.List.{AllByRecursion, cons_option}
 use Rattle.std.proofs.lemmas.Bool.{cases_lt}
@@ -9,7 +9,7 @@ use Rattle.history.specs.declared.time.TimedWrite.{TimedWrite}
 use Rattle.history.specs.Key.{same_key}
 use Rattle.history.specs.Time.{IsRisingAfter, writes_after}
 use Rattle.history.specs.Versions.{versions, ends_after}
-use Rattle.history.specs.Histories.{History, last, versions_of, writes_of, commits_after}
+use Rattle.history.specs.Histories.{History, versions_of, writes_of}
 use Rattle.history.proofs.Orders.{is_lt, not_lt}
 use Rattle.history.proofs.Values.{writes_after-all}
 use Rattle.history.proofs.Histories.{writes_of-rising, writes_of-commits_after, rising-from_following}

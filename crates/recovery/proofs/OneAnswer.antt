@@ -1,6 +1,6 @@
 -- An image has one answer.
-use Rattle.std.proofs.Common.{◌≡◌, inl, inr, ℕ, zero, suc, ◌+◌, ◌^◌, ◌<◌, ◌≤◌, ◌↔◌, List, [], ◌∷◌, map, length, take, Some, Err, refl, sym, ap, subst, ◌∙◌, arith}
-use Rattle.std.specs.Prelude.{slice_get, ◌⊎◌}
+use Rattle.std.proofs.Common.{◌≡◌, inl, inr, ℕ, suc, ◌<◌, List, [], ◌∷◌, map, length, take, Some, Result, Ok, Err, refl, sym, ap, subst, ◌∙◌, arith}
+use Rattle.std.specs.Prelude.{slice_get, IfErr, ◌⊎◌}
 use Rattle.std.specs.List.{AllByRecursion}
 use Rattle.std.proofs.lemmas.Bool.{cases_eq, cases_order}
 use Rattle.std.proofs.lemmas.Option.{slice_get_within}
@@ -22,7 +22,7 @@ use Rattle.status.specs.Rules.{MayFollow, runs_of}
 use Rattle.status.specs.Reading.{ReadsHeader, HoldsLog, IsDamaged}
 use Rattle.status.proofs.Opening.{only_log, one_log}
 use Rattle.reading.specs.Layouts.{Layout, live}
-use Rattle.reading.specs.Opening.{FailsHeap, FailsRuns, HoldsHeap}
+use Rattle.reading.specs.Opening.{FailsHeap, FailsRuns}
 use Rattle.reading.proofs.Once.{one_header}
 use Rattle.reading.proofs.Unique.{slot_within}
 use Rattle.reading.proofs.OpensAsOne as one
@@ -152,6 +152,11 @@ opening_only header image layout reading (Damaged Archive n) opening fails =
     (one.opens_no_fault header image layout reading n opening.opens).1 (subst (λ (l : List Slot). FailsRuns (length image.archive) (runs_of l) n) same fails.fails)
 opening_only header image layout reading Device opening fails = tt
 opening_only header image layout reading NoMemory opening fails = tt
+
+-- so the answer to it is Ok, unless the device or memory gave out
+pub opening_answer : {T : Type 0} (header : Header) (image : Image) (layout : Layout) (reading : Reading) (result : Result T OpenFault) → IsOpening header image layout reading → IfErr result (IsImageFault image) → IfErr result IsReadFault
+opening_answer header image layout reading (Ok x) opening fails = tt
+opening_answer header image layout reading (Err fault) opening fails = opening_only header image layout reading fault opening fails
 
 -- ---- two openings
 

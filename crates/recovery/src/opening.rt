@@ -6,12 +6,14 @@ ghost use Rattle.disk.specs.Calls.{refusals};
 ghost use Rattle.image.specs.Log.{AreRisingAfter, last_time_after};
 ghost use Rattle.status.specs.Header.{total};
 ghost use Rattle.status.specs.Rules.{head_of, KeepsRules};
-ghost use Rattle.reading.specs.Layouts.{entries_of};
+ghost use Rattle.image.specs.Reading.{Reading};
+ghost use Rattle.reading.specs.Layouts.{Layout, entries_of};
+ghost use Rattle.status.specs.declared.header.Header.{Header};
 ghost use Rattle.chains.specs.KeyWrites.{latest};
 ghost use Rattle.status.specs.Reading.{ReadsHeader};
 ghost use Rattle.recovery.specs.Answers.{after_reads};
-ghost use Rattle.recovery.specs.Faults.{IsHeaderFault, IsImageFault};
-ghost use Rattle.recovery.specs.ReadsImage.{IsReadFrom};
+ghost use Rattle.recovery.specs.Faults.{IsReadFault, IsHeaderFault, IsImageFault};
+ghost use Rattle.recovery.specs.ReadsImage.{IsOpening, IsReadFrom};
 ghost use Rattle.recovery.specs.Names.{head_named, name_of, refusals_at_opening};
 
 use crate::fault::OpenFault;
@@ -131,6 +133,7 @@ pub fn read_image<D: Disk>(alloc: Global, disk: &mut D) -> Result<Recovered, Ope
 
     ensures found { IsTrue D.tells → IfOk result (IsReadFrom (image_of (D.state disk.old).areas)) }
     ensures fault { IsTrue D.tells → IfErr result (IsImageFault (image_of (D.state disk.old).areas)) }
+    ensures opens { IsTrue D.tells → (header : Header) (layout : Layout) (reading : Reading) → IsOpening header (image_of (D.state disk.old).areas) layout reading → IfErr result IsReadFault }
 
     ensures settled { IsTrue D.tells → OnOk result ((D.state disk.new).areas ≡ settled_on (image_of (D.state disk.old).areas)) }
     ensures read { IsTrue D.tells → image_of (D.state disk.new).areas ≡ image_of (D.state disk.old).areas }

@@ -122,6 +122,14 @@ fn a_commit_is_read(rt: HostRuntime) -> Result<(), Fail> {
     Ok(())
 }
 
+// Why the image does not open, if it does not.
+fn fault(alloc: Global, disk: &mut MemDisk) -> Option<OpenFault> {
+    match read_image(alloc, disk) {
+        Ok(_) => None,
+        Err(fault) => Some(fault),
+    }
+}
+
 #[test]
 fn damage_is_found_in_its_place(rt: HostRuntime) -> Result<(), Fail> {
     let slot = Some(OpenFault::Damaged(Area::Status, 0));
@@ -149,17 +157,82 @@ fn damage_is_found_in_its_place(rt: HostRuntime) -> Result<(), Fail> {
     ];
     for (area, at, byte, heap_len, want) in table {
         let mut disk = one_commit(rt.alloc(), area, at, byte, heap_len)?;
-        let got = match read_image(rt.alloc(), &mut disk) {
-            Ok(_) => None,
-            Err(fault) => Some(fault),
-        };
+        let got = fault(rt.alloc(), &mut disk);
         assert_eq!(rt; got, want, "at {at}");
     }
-    let mut short = MemDisk::with_bytes(
-        zeros(rt.alloc(), 511)?,
-        Vec::new(rt.alloc()),
-        Vec::new(rt.alloc()),
+    Ok(())
+}
+
+#[test]
+fn a_short_status_is_no_store(rt: HostRuntime) -> Result<(), Fail> {
+    let no_store = Some(OpenFault::NotAStore);
+    for (len, want) in [(511, no_store), (8703, no_store), (8704, None)] {
+        let mut status = zeros(rt.alloc(), len)?;
+        put(&mut status, 0, b"NOOVER01");
+        put(&mut status, 8, &[1, 0, 0, 0, 16]);
+        let heap = Vec::new(rt.alloc());
+        let mut disk = MemDisk::with_bytes(status, heap, Vec::new(rt.alloc()));
+        let got = fault(rt.alloc(), &mut disk);
+        assert_eq!(rt; got, want, "at {len}");
+    }
+    Ok(())
+}
+
+// The record of an empty field, alone in an extent of this number.
+fn put_extent(heap: &mut Vec<u8>, at: u16, number: u8) {
+    put(heap, at, &[number, 0, 0, 0, 0, 0, 0, 0, 13]);
+    put(
+        heap,
+        at.saturating_add(16),
+        &[1, 1, 0, 7, 0, 0, 0, 0, 0, 0, 0, 1],
     );
-    assert!(rt; read_image(rt.alloc(), &mut short).is_err());
+}
+
+// Two commits in one slot, at 100 and 110, the second with its chain in this extent.
+fn two_commits(alloc: Global, second: u8) -> Result<MemDisk, AllocError> {
+    let mut status = zeros(alloc, 8704)?;
+    put(&mut status, 0, b"NOOVER01");
+    put(&mut status, 8, &[1, 0, 0, 0, 16]);
+    put(&mut status, 512, &[0xC7, 1, 2]);
+    put(
+        &mut status,
+        528,
+        &[100, 0, 0, 0, 0, 0, 0, 0, 1, 0, 0, 0, 1, 0, 0, 0, 1],
+    );
+    put(
+        &mut status,
+        556,
+        &[110, 0, 0, 0, 0, 0, 0, 0, second, 0, 0, 0, 1, 0, 0, 0, 1],
+    );
+    let mut heap = zeros(alloc, 16384)?;
+    put_extent(&mut heap, 0, 1);
+    put_extent(&mut heap, 8192, 2);
+    Ok(MemDisk::with_bytes(status, heap, Vec::new(alloc)))
+}
+
+#[test]
+fn two_chains_are_read(rt: HostRuntime) -> Result<(), Fail> {
+    let mut disk = two_commits(rt.alloc(), 2)?;
+    let found = read_image(rt.alloc(), &mut disk)?;
+    assert_eq!(rt; (found.last, found.extents.used()), (110, 2));
+    assert_eq!(rt; (found.live.len(), found.commits.len()), (2, 2));
+    Ok(())
+}
+
+#[test]
+fn no_extent_is_in_two_chains(rt: HostRuntime) -> Result<(), Fail> {
+    let mut disk = two_commits(rt.alloc(), 1)?;
+    let got = fault(rt.alloc(), &mut disk);
+    assert_eq!(rt; got, Some(OpenFault::Damaged(Area::Heap, 1)));
+    Ok(())
+}
+
+#[test]
+fn a_refused_growth_is_no_memory(rt: HostRuntime) -> Result<(), Fail> {
+    let mut disk = two_commits(rt.alloc(), 2)?;
+    match read_image(rt.alloc(), &mut disk) {
+        Ok(found) => assert_eq!(rt; found.last, 110),
+        Err(fault) => assert_eq!(rt; fault, OpenFault::NoMemory),
+    }
     Ok(())
 }

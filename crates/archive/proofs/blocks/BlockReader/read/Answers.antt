@@ -20,7 +20,7 @@ loop-done-preserved g c =
           let start : c.args.run.now.slot.start + (c.args.at + done) ≡ a + done = omega arith in
           let now = subst (λ (xs : List ℕ). IsRight (parts_in c.loop-done.self.cache.blocks) xs) (sym same) (c.loop-done.invariant.kept.right told right) in
           let more : take n c.read_front.new.out ≡ slice_range area (a + done) (a + done + n) =
-          c.in_ok-done.ensures.only told now
+          c.in_ok-done.ensures.bytes told now
           ∙ ap (λ (xs : List ℕ). slice_range xs (c.args.run.now.slot.start + (c.args.at + done)) (c.args.run.now.slot.start + (c.args.at + done) + n)) same
           ∙ ap (λ (k : ℕ). slice_range area k (k + n)) start in
           front_grows area c.loop-done.buf c.read_front.new.out a done (length c.loop-done.buf - done) n

@@ -8,21 +8,20 @@ use Rattle.archive.proofs.blocks.BlockReader.read_block.Goals as goal
 pub returns-then-copy-clause-kept : goal.returns-then-copy-clause-kept
 returns-then-copy-clause-kept g c = keeps_same _ _ _ _ _ c.copy.ensures.none_new
 
-pub returns-in_err-fetch_block-clause-kept : goal.returns-in_err-fetch_block-clause-kept
-returns-in_err-fetch_block-clause-kept g c =
+pub returns-in_err-there-clause-kept : goal.returns-in_err-there-clause-kept
+returns-in_err-there-clause-kept g c =
     let area = archive_of (g.D.Disk.state c.args.disk.now) in
     let first : Keeps (c.args.start + c.args.len) g.D.Disk.tells area (parts_in c.args.self.now.cache.blocks) (parts_in c.copy.new.self.blocks) = keeps_same _ _ _ _ _ c.copy.ensures.none_new in
-    keeps_again first (keeps_later (search rules) c.in_err-fetch_block.ensures.kept)
+    keeps_again first (keeps_later (search rules) c.in_err-there.ensures.kept)
 
 pub returns-clause-kept : goal.returns-clause-kept
 returns-clause-kept g c =
     let area = archive_of (g.D.Disk.state c.args.disk.now) in
     let first : Keeps (c.args.start + c.args.len) g.D.Disk.tells area (parts_in c.args.self.now.cache.blocks) (parts_in c.copy.new.self.blocks) = keeps_same _ _ _ _ _ c.copy.ensures.none_new in
-    keeps_again first (keeps_later (search rules) c.in_ok-fetch_block.ensures.kept)
+    keeps_again first (keeps_later (search rules) c.in_ok-there.ensures.kept)
 
-pub returns-clause-only : goal.returns-clause-only
-returns-clause-only g c = λ told right.
+pub returns-clause-bytes : goal.returns-clause-bytes
+returns-clause-bytes g c = λ told right there.
     let area = archive_of (g.D.Disk.state c.args.disk.now) in
-    let first : Keeps (c.args.start + c.args.len) g.D.Disk.tells area (parts_in c.args.self.now.cache.blocks) (parts_in c.copy.new.self.blocks) = keeps_same _ _ _ _ _ c.copy.ensures.none_new in
-    c.in_ok-fetch_block.ensures.only told (first.right told right)
+    c.in_ok-there.ensures.bytes told there
     ∙ ap (λ (n : ℕ). slice_range area (c.args.start + c.args.skip) (c.args.start + c.args.skip + n)) c.copy.auto.out

@@ -1,12 +1,10 @@
-use Rattle.std.proofs.Common.{◌≡◌, ◌≢◌, ◌⊎◌, inl, inr, ℕ, List, ◌∙◌, ◌+◌, ◌-◌, ◌≤◌, ◌<◌, ◌++◌, ◌∷◌, [], length, take, ap, sym, subst, true, false, Some, arith, append_assoc, ⊎_elim}
+use Rattle.std.proofs.Common.{◌≡◌, ◌≢◌, List, ◌∙◌, ◌≤◌, ◌++◌, ◌∷◌, [], take, ap, sym, arith, append_assoc, ⊎_elim}
 use Rattle.std.specs.List.{flat_map}
 use Rattle.std.proofs.lemmas.List.{append-nil}
 use Rattle.std.proofs.lemmas.Result.{err_from_is_err_and}
 use Rattle.history.specs.declared.time.Version.{Version}
-use Rattle.history.specs.Versions.{cut, rows}
+use Rattle.history.specs.Versions.{cut}
 use Rattle.image.specs.Values.{Value}
-use Rattle.image.specs.Facts.{run_versions}
-use Rattle.archive.specs.Answers.{head_of, precedes}
 use Rattle.archive.proofs.Searching.{reads_again, keeps_on_state, some_record}
 use Rattle.archive.proofs.Walking.{key_row, more, row_shown, row_lasts, rows_begin, rows_end_past, rows_end_key, rows_end_time}
 use Rattle.archive.proofs.reader.ArchiveReader.add_rows.Goals as goal

@@ -1,4 +1,4 @@
-use Rattle.std.proofs.Common.{ℕ, ◌≡◌, ◌+◌, ◌-◌, ◌≤◌, ◌++◌, List, IsTrue, Some, false, length, take}
+use Rattle.std.proofs.Common.{ℕ, ◌≡◌, ◌+◌, ◌-◌, ◌≤◌, ◌++◌, List, Some, false, length, take}
 use Rattle.std.specs.List.{flat_map, slice_get}
 use Rattle.image.specs.Reading.{ArchiveRecord}
 use Rattle.archive.specs.Answers.{head_of, precedes}

@@ -1,10 +1,10 @@
-use Rattle.std.proofs.Common.{◌≡◌, ◌≢◌, ℕ, List, ◌∙◌, ◌+◌, ◌-◌, ◌≤◌, ◌<◌, ◌++◌, ◌∷◌, [], length, take, ap, sym, subst, true, false, Some, arith, append_assoc, ◌==◌}
+use Rattle.std.proofs.Common.{◌≡◌, ◌≢◌, ℕ, List, ◌∙◌, ◌++◌, take, ap, sym, arith, append_assoc}
 use Rattle.std.specs.List.{flat_map}
 use Rattle.std.proofs.lemmas.List.{append-nil}
 use Rattle.std.proofs.lemmas.Result.{err_from_is_err_and}
 use Rattle.history.specs.declared.time.Version.{Version}
 use Rattle.image.specs.Values.{Value}
-use Rattle.archive.specs.Answers.{head_of, precedes, row_of}
+use Rattle.archive.specs.Answers.{row_of}
 use Rattle.archive.proofs.Searching.{reads_again, keeps_on_state, some_record}
 use Rattle.archive.proofs.Walking.{more, scan_begin, scan_end_past, scan_end_other}
 use Rattle.archive.proofs.reader.ArchiveReader.add_scan_rows.Goals as goal

@@ -1,9 +1,8 @@
-use Rattle.std.proofs.Common.{ℕ, ◌≡◌, ◌+◌, ◌-◌, ◌≤◌, ◌++◌, List, IsTrue, Some, false, length, take}
+use Rattle.std.proofs.Common.{ℕ, ◌≡◌, ◌-◌, ◌≤◌, ◌++◌, List, Some, false, take}
 use Rattle.std.specs.List.{flat_map, slice_get}
 use Rattle.history.specs.Key.{key_of}
 use Rattle.image.specs.Reading.{ArchiveRecord}
 use Rattle.archive.specs.Answers.{head_of, precedes, row_of}
-use Rattle.archive.specs.Digits.{digits}
 use Rattle.archive.specs.Parts.{Keeps}
 use Rattle.archive.specs.Runs.{run_end}
 use Rattle.archive.specs.Readers.{kept_of}

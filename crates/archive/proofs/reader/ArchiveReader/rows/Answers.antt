@@ -1,18 +1,16 @@
-use Rattle.std.proofs.Common.{length, take, List, [], ◌∷◌, ◌++◌, ◌≡◌, ◌∙◌, ◌+◌, ◌≤◌, ◌<◌, ap, sym, subst, arith, Some, None, refl}
-use Rattle.std.specs.List.{slice_get, flat_map}
+use Rattle.std.proofs.Common.{length, take, List, ◌++◌, ◌∙◌, ap, sym, arith, refl}
+use Rattle.std.specs.List.{flat_map}
 use Rattle.std.proofs.lemmas.List.{append-nil}
 use Rattle.std.proofs.lemmas.Option.{slice_get_read}
 use Rattle.std.proofs.lemmas.Result.{err_from_is_err_and}
 use Rattle.history.specs.Versions.{rows}
 use Rattle.image.specs.Reading.{ArchiveRecord}
 use Rattle.image.specs.Facts.{run_versions}
-use Rattle.archive.specs.Answers.{versions_in, run_rows}
-use Rattle.archive.specs.Runs.{run_end}
-use Rattle.archive.specs.Searches.{archive_of}
+use Rattle.archive.specs.Answers.{versions_in}
 use Rattle.archive.proofs.Caching.{keeps_later}
 use Rattle.archive.proofs.Searching.{reads_again, first_reads, keeps_on_state}
-use Rattle.archive.proofs.Several.{list_at, all_taken, heads_of_run, heads_without_run, fault_in}
-use Rattle.archive.proofs.Walking.{more, past_rows, past_scan, rows_of_runs, no_interval}
+use Rattle.archive.proofs.Several.{held_ends, list_at, all_taken, heads_of_run, heads_without_run, fault_in}
+use Rattle.archive.proofs.Walking.{more, past_rows, rows_of_runs, no_interval}
 use Rattle.archive.proofs.reader.ArchiveReader.rows.Goals as goal
 
 pub loop-run-preserved-then-run-a : goal.loop-run-preserved-then-run-a
@@ -31,11 +29,6 @@ loop-run-preserved-then-run-a g c =
           ∙ sym (more (λ (records : List ArchiveRecord). rows (run_versions c.args.key.now records) c.args.a c.args.b) lists c.loop-run.run-index here.0 here.2);
     }
 
-pub add_rows-requires-clause-within : goal.add_rows-requires-clause-within
-add_rows-requires-clause-within g c = λ told.
-    let at = slice_get_read c.args.runs.now (length c.args.runs.now) c.loop-run.run-index c.run-item.result refl c.loop-run-test.true c.run-item.is in
-    subst (λ s. run_end c.run-item.result ≤ length (archive_of s)) (sym c.loop-run.invariant.disk) (c.requires.within told c.loop-run.run-index c.run-item.result at)
-
 pub returns-in_err-add_rows-clause-kept : goal.returns-in_err-add_rows-clause-kept
 returns-in_err-add_rows-clause-kept g c = λ limit by.
     let at = slice_get_read c.args.runs.now (length c.args.runs.now) c.loop-run.run-index c.run-item.result refl c.loop-run-test.true c.run-item.is in
@@ -51,7 +44,7 @@ pub returns-in_err-add_rows-clause-only : goal.returns-in_err-add_rows-clause-on
 returns-in_err-add_rows-clause-only g c = λ lists told right hold.
     let at = slice_get_read c.args.runs.now (length c.args.runs.now) c.loop-run.run-index c.run-item.result refl c.loop-run-test.true c.run-item.is in
     let here = list_at _ c.args.runs.now lists c.loop-run.run-index c.run-item.result hold at in
-    let reads = reads_again (first_reads told right here.1) c.loop-run.invariant.disk (c.loop-run.invariant.kept _ (c.requires.within told)) in
+    let reads = reads_again (first_reads told right here.1) c.loop-run.invariant.disk (c.loop-run.invariant.kept _ (held_ends _ c.args.runs.now lists hold)) in
     let refusal = c.in_err-add_rows.ensures.only here.0 reads in
     let p = err_from_is_err_and c.from_residual.result c.from_residual.ensures.1 in
     rw (p.1, p.2) refusal
@@ -65,7 +58,7 @@ loop-run-preserved g c =
       heads = let beyond = heads_of_run c.args.a c.args.runs.now c.loop-run.run-index c.run-item.result at c.if-run-a.false in omega (arith, beyond, c.loop-run.invariant.heads, c.in_ok-add_rows.ensures.heads);
       shown = λ lists told right hold.
           let here = list_at _ c.args.runs.now lists c.loop-run.run-index c.run-item.result hold at in
-          let reads = reads_again (first_reads told right here.1) c.loop-run.invariant.disk (c.loop-run.invariant.kept _ (c.requires.within told)) in
+          let reads = reads_again (first_reads told right here.1) c.loop-run.invariant.disk (c.loop-run.invariant.kept _ (held_ends _ c.args.runs.now lists hold)) in
           c.in_ok-add_rows.ensures.only here.0 reads
           ∙ ap (λ vs. vs ++ (λ (records : List ArchiveRecord). rows (run_versions c.args.key.now records) c.args.a c.args.b) here.0) (c.loop-run.invariant.shown lists told right hold)
           ∙ sym (more (λ (records : List ArchiveRecord). rows (run_versions c.args.key.now records) c.args.a c.args.b) lists c.loop-run.run-index here.0 here.2);

@@ -5,7 +5,6 @@ use Rattle.image.specs.Facts.{run_versions}
 use Rattle.image.specs.Reading.{ArchiveRecord}
 use Rattle.archive.specs.Parts.{IsRight, Keeps}
 use Rattle.archive.specs.Runs.{HoldRuns, RunsEndBy}
-use Rattle.archive.specs.Answers.{run_rows}
 use Rattle.archive.specs.Readers.{kept_of}
 use Rattle.archive.specs.Searches.{archive_of, heads_to_find}
 use Rattle.archive.proofs.reader.ArchiveReader.rows.Given as goal

@@ -1,13 +1,11 @@
-use Rattle.std.proofs.Common.{ℕ, ◌≡◌, ◌+◌, ◌≤◌, List, IsTrue, length, drop, take}
+use Rattle.std.proofs.Common.{ℕ, ◌≡◌, List, IsTrue, take}
 use Rattle.std.specs.List.{flat_map}
-use Rattle.history.specs.Versions.{rows}
-use Rattle.image.specs.Facts.{run_versions}
 use Rattle.image.specs.Reading.{ArchiveRecord}
 use Rattle.archive.specs.Parts.{IsRight, Keeps}
 use Rattle.archive.specs.Runs.{HoldRuns, RunsEndBy}
 use Rattle.archive.specs.Answers.{run_rows}
 use Rattle.archive.specs.Readers.{kept_of}
-use Rattle.archive.specs.Searches.{archive_of, heads_to_find}
+use Rattle.archive.specs.Searches.{archive_of}
 use Rattle.archive.proofs.reader.ArchiveReader.scan.Given as goal
 
 abbrev pub invariant-loop-run : goal.invariant-loop-run

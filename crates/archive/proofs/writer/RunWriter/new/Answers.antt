@@ -1,0 +1,33 @@
+use Rattle.std.proofs.Common.{◌≡◌, ◌∙◌, List, length, ap, sym, arith}
+use Rattle.std.specs.List.{concat}
+use Rattle.image.specs.Reading.{ArchiveRecord}
+use Rattle.archive.specs.Pieces.{size_of, run_chunks}
+use Rattle.archive.specs.Runs.{run_bytes}
+use Rattle.archive.proofs.Lefts.{run_size}
+use Rattle.archive.proofs.Joining.{joined_run}
+use Rattle.archive.proofs.writer.RunWriter.new.Goals as goal
+use Rattle.archive.proofs.writer.RunWriter.new.Goals.{then-start-via-then-start, then-start-via-else-start+then-sizes-start}
+
+pub returns-in_default : goal.returns-in_default
+returns-in_default g c = omega (arith, c.in_default.ensures.none, ap size_of c.restart.ensures.left, run_size (g.W.RecordWalk.all c.args.walk))
+
+pub returns-then-start : goal.returns-then-start
+returns-then-start g c =
+    let len : c.in-Some.sizes.len ≡ length (run_bytes (g.W.RecordWalk.all c.args.walk)) = c.in-Some.ensures.len ∙ ap size_of c.restart.ensures.left ∙ run_size (g.W.RecordWalk.all c.args.walk) in
+    elim c.then-start.branch [ then-start-via-then-start w ↦ omega arith | then-start-via-else-start+then-sizes-start w ↦ omega arith ]
+
+pub invariant_of-result : goal.invariant_of-result
+invariant_of-result g c =
+    let all = g.W.RecordWalk.all c.args.walk in
+    let same : g.W.RecordWalk.all c.restart-2.new.self ≡ all = c.restart-2.ensures.all ∙ c.measure.ensures.all ∙ c.restart.ensures.all in
+    let len : c.in-Some.sizes.len ≡ length (run_bytes all) = c.in-Some.ensures.len ∙ ap size_of c.restart.ensures.left ∙ run_size all in
+    let bytes = c.new-2.ensures ∙ ap concat c.new.ensures ∙ ap (λ (rs : List ArchiveRecord). concat (run_chunks rs)) same ∙ joined_run all in
+    (len ∙ sym (ap length bytes), omega arith)
+
+pub returns : goal.returns
+returns g c =
+    let all = g.W.RecordWalk.all c.args.walk in
+    let same : g.W.RecordWalk.all c.restart-2.new.self ≡ all = c.restart-2.ensures.all ∙ c.measure.ensures.all ∙ c.restart.ensures.all in
+    let bytes = c.new-2.ensures ∙ ap concat c.new.ensures ∙ ap (λ (rs : List ArchiveRecord). concat (run_chunks rs)) same ∙ joined_run all in
+    let records : c.in-Some.sizes.records ≡ length all = c.in-Some.ensures.records ∙ ap length c.restart.ensures.left in
+    λ i. record { at = c.args.start; left = bytes i; records = records i }

@@ -1,0 +1,107 @@
+//! A run as chunks: each record of a walk, and then, by a second walk, each entry of the index.
+ghost use Rattle.std.specs.Prelude.{◌≡◌, ◌+◌, ◌≤◌, ◌<◌, ◌^◌, ◌∷◌, [], None, Some, length, map, take, MatchOption, IfSome, IfNone};
+ghost use Rattle.std.specs.Option.{ForSome};
+ghost use Rattle.archive.specs.Pieces.{size_of, chunks_left, run_chunks, index_chunks};
+ghost use Rattle.archive.specs.Records.{record_bytes};
+
+use crate::encode::{encode_place, encode_record, record_len};
+use crate::{Chunks, RecordWalk};
+
+/// How many records a run has, and how many bytes.
+#[derive(Clone, Copy, Debug, PartialEq, Eq)]
+pub(crate) struct Sizes {
+    pub(crate) records: u64,
+    pub(crate) len: u64,
+}
+
+/// Counts the records that are left and the bytes of their run; none where there are 2^63 or more.
+pub(crate) fn measure<W: RecordWalk>(walk: &mut W) -> Option<Sizes>
+    ensures all { W.all walk.new ≡ W.all walk.old }
+    ensures none { IfNone result (2 ^ 63 ≤ size_of (W.left walk.old)) }
+    ensures records { IfSome result (λ sizes. sizes.records ≡ length (W.left walk.old)) }
+    ensures len { IfSome result (λ sizes. sizes.len ≡ size_of (W.left walk.old)) }
+    ensures short { IfSome result (λ sizes. sizes.len < 2 ^ 63) }
+{
+    let mut records = 0;
+    let mut len = 0;
+    while let Some((_, value)) = walk.peek() {
+        len += record_len(value) as u64 + 8;
+        if len >= 1 << 63 {
+            return None;
+        }
+        records += 1;
+        walk.advance();
+    }
+    Some(Sizes { records, len })
+}
+
+/// The records of a run as a walk gives them, and then the entries of the index.
+#[derive(Drop)]
+pub(crate) struct RunChunks<W: RecordWalk> {
+    walk: W,
+    /// The place of the record whose entry of the index is next; none while the records are written.
+    place: Option<u64>,
+    ghost short: { size_of (W.all walk) < 2 ^ 63 },
+    ghost placed: { ForSome place (λ at. at + size_of (W.left walk) ≤ size_of (W.all walk)) },
+}
+
+impl<W: RecordWalk> RunChunks<W> {
+    /// All records of the walk.
+    pub(crate) fn new(walk: W) -> Self
+        requires short { size_of (W.all walk) < 2 ^ 63 }
+        requires all { W.left walk ≡ W.all walk }
+        ensures { chunks_left result.place (W.all result.walk) (W.left result.walk) ≡ run_chunks (W.all walk) }
+    {
+        RunChunks { walk, place: None }
+    }
+
+    /// The next record's entry of the index.
+    fn next_place(&mut self, at: u64, out: &mut [u8; 4123]) -> Option<usize>
+        requires { self.old.place ≡ Some at }
+        ensures some { IfSome result (λ n. index_chunks at (W.left self.old.walk) ≡ take n out.new ∷ chunks_left self.new.place (W.all self.new.walk) (W.left self.new.walk)) }
+        ensures short { IfSome result (λ n. n ≤ 4123) }
+        ensures none { IfNone result (W.left self.old.walk ≡ []) }
+        ensures last { IfNone result (self.new ≡ self.old) }
+    {
+        let Some((_, value)) = self.walk.peek() else {
+            return None;
+        };
+        let len = record_len(value) as u64;
+        self.walk.advance();
+        self.place = Some(at + len);
+        Some(encode_place(at, out))
+    }
+
+    /// The next record itself.
+    fn next_record(&mut self, out: &mut [u8; 4123]) -> Option<usize>
+        requires { self.old.place ≡ None }
+        ensures some { IfSome result (λ n. map record_bytes (W.left self.old.walk) ≡ take n out.new ∷ map record_bytes (W.left self.new.walk)) }
+        ensures short { IfSome result (λ n. n ≤ 4123) }
+        ensures none { IfNone result (W.left self.old.walk ≡ []) }
+        ensures all { W.all self.new.walk ≡ W.all self.old.walk }
+        ensures place { self.new.place ≡ None }
+    {
+        let Some((head, value)) = self.walk.peek() else {
+            return None;
+        };
+        let len = encode_record(&head, value, out);
+        self.walk.advance();
+        Some(len)
+    }
+}
+
+impl<W: RecordWalk> Chunks for RunChunks<W> {
+    ghost left = { λ c. chunks_left c.place (W.all c.walk) (W.left c.walk) };
+
+    fn next(&mut self, out: &mut [u8; 4123]) -> Option<usize> {
+        if let Some(at) = self.place {
+            return self.next_place(at, out);
+        }
+        if let Some(len) = self.next_record(out) {
+            return Some(len);
+        }
+        self.walk.restart();
+        self.place = Some(0);
+        self.next_place(0, out)
+    }
+}

@@ -1,0 +1,29 @@
+ghost use Rattle.std.specs.Prelude.{◌≡◌, List, drop, slice_get, option_map};
+ghost use Rattle.image.specs.Reading.{ArchiveRecord};
+ghost use Rattle.archive.specs.Answers.{record_of};
+
+use crate::Head;
+use wire::Value;
+
+/// A walk over the records of a run in their order, one at a time. It can begin again.
+pub trait RecordWalk: Drop + Sized {
+    /// All of the records.
+    ghost all: { Self → List ArchiveRecord };
+
+    /// Those that are left.
+    ghost left: { Self → List ArchiveRecord };
+
+    /// The next record: its head and its value.
+    fn peek(&self) -> Option<(Head, &Value)>
+        ensures { option_map (λ p. record_of p.0 p.1.now) result ≡ slice_get (left self.now) 0 };
+
+    /// Goes on behind the next record.
+    fn advance(&mut self)
+        ensures left { left self.new ≡ drop 1 (left self.old) }
+        ensures all { all self.new ≡ all self.old };
+
+    /// Goes back to the first record.
+    fn restart(&mut self)
+        ensures left { left self.new ≡ all self.old }
+        ensures all { all self.new ≡ all self.old };
+}

@@ -1,0 +1,11 @@
+//! What the definitions say, as functions that are proved and do nothing.
+
+ghost use Rattle.std.specs.Prelude.{ℕ, List};
+ghost use Rattle.chains.specs.KeyWrites.{KeyWrites, IsOrdered};
+ghost use Rattle.chains.specs.Scans.{scanned, IsScanOf};
+
+/// A scan shows exactly the records of its relation that have a value at its time, each once and in
+/// rising order.
+pub fn scan_is_exact()
+    ensures { (m : List KeyWrites) (relation time : ℕ) → IsOrdered m → IsScanOf m relation time (scanned relation time m) }
+{}
