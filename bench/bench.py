@@ -10,6 +10,7 @@ import os
 import subprocess
 import sys
 import tempfile
+import threading
 import time
 
 
@@ -84,6 +85,79 @@ def query_rate(program, folder, count):
     row("opening that store", 1000 * opening, "ms")
 
 
+class Session:
+    """A script that is fed in parts, so that one part alone can be timed."""
+
+    def __init__(self, program, folder):
+        self.process = subprocess.Popen([program, "run", folder], stdin=subprocess.PIPE, stdout=subprocess.PIPE)
+
+    def answers(self, lines):
+        """The answers to these lines, in whatever time they take."""
+        text = "".join(line + "\n" for line in lines).encode()
+        # The writer is a thread: neither side may fill its pipe while the other waits.
+        writer = threading.Thread(target=self.feed, args=(text,))
+        writer.start()
+        found = [self.process.stdout.readline().decode().rstrip("\n") for _ in lines]
+        writer.join()
+        return found
+
+    def feed(self, text):
+        self.process.stdin.write(text)
+        self.process.stdin.flush()
+
+    def end(self):
+        self.process.stdin.close()
+        return self.process.wait()
+
+
+def store_of(program, folder, keys):
+    """A store with so many keys of relation 1, each with one value. Gives the time of its last commit."""
+    os.mkdir(folder)
+    run(program, ["format", folder])
+    script = ""
+    for first in range(0, keys, 1024):
+        puts = "".join(f"put t 1 {n} 61\n" for n in range(first, min(first + 1024, keys)))
+        script += f"begin t\n{puts}submit t 1 0\nflush\nredeem t\n"
+    status, out = run(program, ["run", folder], script)
+    commits = -(-keys // 1024)
+    assert status == 0 and out.endswith(f"done {commits}\n"), (status, out[-200:])
+    return commits
+
+
+def begin_and_view_time(program, base, keys, count):
+    folder = os.path.join(base, f"keys-{keys}")
+    last = store_of(program, folder, keys)
+    session = Session(program, folder)
+    assert session.answers(["times 1"])[0].startswith("times 1")
+    begin, found = timed(lambda: session.answers(["begin t", "abort t"] * count))
+    assert found == [f"snapshot {last}", "ok"] * count, found[-2:]
+    view, found = timed(lambda: session.answers([f"at 1 {n % keys} {last}" for n in range(count)]))
+    assert found == ["value 61"] * count, found[-2:]
+    assert session.end() == 0
+    row(f"begin and abort at {keys:,} keys, with two script lines", 1e9 * begin / count, "ns")
+    row(f"view, query and end at {keys:,} keys, with a script line", 1e9 * view / count, "ns")
+
+
+def ending_time(session, ending, answer, count):
+    """The ends of this many transactions with write sets of 1,024 keys, of which the greatest conflicts."""
+    begins = [line for n in range(count) for line in [f"begin t{n}", *(f"put t{n} 1 {key} 62" for key in range(1024))]]
+    assert session.answers(begins).count("ok") == 1024 * count
+    other = session.answers(["begin u", "put u 1 1023 63", "submit u 1 0", "flush", "redeem u"])
+    assert other[-1].startswith("done "), other
+    seconds, found = timed(lambda: session.answers([ending.format(n) for n in range(count)]))
+    assert found == [answer] * count, found[-1]
+    return seconds
+
+
+def conflict_time(program, base, keys, count, rounds):
+    """Submits that are refused for the greatest of 1,024 keys, beside aborts: the shortest of some rounds."""
+    session = Session(program, os.path.join(base, f"keys-{keys}"))
+    aborts = min(ending_time(session, "abort t{}", "ok", count) for _ in range(rounds))
+    submits = min(ending_time(session, "submit t{} 2 0", "refused: conflict 1 1023", count) for _ in range(rounds))
+    assert session.end() == 0
+    row(f"conflict test of 1,024 keys at {keys:,} keys", 1e6 * (submits - aborts) / count, "us")
+
+
 def main():
     program = os.path.abspath(sys.argv[1])
     with tempfile.TemporaryDirectory(dir=sys.argv[2] if len(sys.argv) > 2 else None) as base:
@@ -93,6 +167,10 @@ def main():
         commit_rate(program, os.path.join(base, "commits"), 300)
         group_rate(program, os.path.join(base, "commits"), 60)
         query_rate(program, os.path.join(base, "commits"), 200_000)
+        for keys in (16, 1_024, 100_000):
+            begin_and_view_time(program, base, keys, 20_000)
+        for keys in (1_024, 100_000):
+            conflict_time(program, base, keys, 60, 5)
 
 
 if __name__ == "__main__":

@@ -1,5 +1,5 @@
 -- One line of the script, on a store and the names in use.
-use Rattle.std.specs.Prelude.{◌≡◌, ◌≢◌, ℕ, zero, suc, ◌+◌, ◌<◌, ◌↔◌, Bool, true, false, not, ◌||◌, nat_lt, List, [], ◌∷◌, ◌++◌, length, Option, Some, None, Result, Ok, Err, IfOk, OnOk, OnErr, is_some, position, MatchOption, slice_get, remove}
+use Rattle.std.specs.Prelude.{◌≡◌, ◌≢◌, ℕ, ◌+◌, ◌↔◌, Bool, true, false, not, ◌||◌, nat_lt, List, [], ◌∷◌, ◌++◌, length, Option, Some, None, Result, Ok, Err, IfOk, OnOk, OnErr, IsSome, is_some, position, MatchOption, slice_get, remove}
 use Rattle.std.specs.Str.{bytes_eq}
 use Rattle.std.specs.declared.alloc.AllocError.{AllocError}
 use Rattle.disk.specs.Calls.{DiskState}
@@ -15,12 +15,15 @@ use Rattle.group.specs.declared.answers.Redeemed.{Redeemed}
 use Rattle.group.specs.declared.answers.Redeemed.TheVariants as redeemed_as
 use Rattle.snapshot.specs.Txn.{TxnValue, seen_by, with_put, with_delete, IsFullFor}
 use Rattle.snapshot.specs.declared.txn.TxnFault.{TxnFault}
+use Rattle.wire.specs.Values.{HasSizes}
 use Rattle.snapshot.specs.declared.txn.TxnFault.TheVariants as refuses
 use Rattle.timequery.specs.View.{ViewValue}
 use Rattle.timequery.specs.declared.fault.QueryFault.{QueryFault}
 use Rattle.timequery.specs.declared.fault.QueryFault.TheVariants as query
 use Rattle.recovery.specs.declared.fault.OpenFault.{OpenFault}
-use Rattle.store.specs.Values.{StoreValue, HasRest}
+use Rattle.store.specs.Values.{StoreValue}
+use Rattle.store.specs.Pumps.{Pumps}
+use Rattle.store.specs.Opens.{Opens, OpenRefuses}
 use Rattle.store.specs.Calls as store
 use Rattle.script.specs.declared.line.Line.{Line}
 use Rattle.script.specs.declared.line.Line.TheVariants as line
@@ -88,12 +91,15 @@ pub record Puts (old : TxnValue) (key : Key) (fields : List Text) (answer : Resu
   pub ok : OnOk answer (new ≡ with_put old key fields)
   pub missing : answer ≢ Err refuses.Missing
   pub too_many : answer ≡ Err refuses.TooManyKeys → IsFullFor old.writes key
+  pub bad : answer ≡ Err refuses.BadValue → ¬ HasSizes fields
   pub err : OnErr answer (new ≡ old)
 
 -- what a delete answers
 pub record Deletes (old : TxnValue) (key : Key) (answer : Result (Unit {0}) TxnFault) (new : TxnValue) : Type 0 where
   pub ok : OnOk answer (new ≡ with_delete old key)
   pub missing : (answer ≡ Err refuses.Missing) ↔ (seen_by old key ≡ None)
+  pub too_many : (answer ≡ Err refuses.TooManyKeys) ↔ (IsSome (seen_by old key) × IsFullFor old.writes key)
+  pub bad : answer ≢ Err refuses.BadValue
   pub err : OnErr answer (new ≡ old)
 
 abbrev pub done : Result (Unit {0}) TxnFault → Reply
@@ -138,7 +144,7 @@ with_submitted name tickets (Err f) = tickets
 
 abbrev pub SubmitStep : State → ℕ → ℕ → ℕ → Reply → State → Type 0
 SubmitStep old i label now r new = (e : OpenName) × (answer : Result Submitted SubmitFault) × (slice_get old.opened i ≡ Some e)
-    × HasRest old.store new.store × (r ≡ submitted answer)
+    × store.Submits old.store e.txn label now answer new.store × (r ≡ submitted answer)
     × (new.opened ≡ remove old.opened i) × (new.tickets ≡ with_submitted e.name old.tickets answer)
 
 abbrev pub redeemed : Redeemed → Reply
@@ -164,21 +170,32 @@ pumped (Ok step) = reply.Did step
 pumped (Err f) = reply.Refused (fault.Pump f)
 
 abbrev pub PumpStep : Bool → StoreValue → Reply → StoreValue → Type 0
-PumpStep tells old r new = (answer : Result Did PumpFault) × (r ≡ pumped answer)
+PumpStep tells old r new = (answer : Result Did PumpFault) × Pumps tells old answer new × (r ≡ pumped answer)
 
 -- nothing is left to do, or the step was refused
 abbrev pub EndsFlush : Result Did PumpFault → Type 0
 EndsFlush (Ok step) = step ≡ did.Idle
 EndsFlush (Err f) = Unit {0}
 
+-- these steps are taken, and none of them ends the flush
+abbrev pub TakesSteps : Bool → StoreValue → List Did → StoreValue → Type 0
+TakesSteps tells old [] new = new ≡ old
+TakesSteps tells old (step ∷ steps) new = (mid : StoreValue) × Pumps tells old (Ok step) mid × (step ≢ did.Idle) × TakesSteps tells mid steps new
+
 -- steps are taken until one ends the flush, which alone is answered
-abbrev pub Flushes : Bool → StoreValue → Reply → StoreValue → Type 0
-Flushes tells old r new = (answer : Result Did PumpFault) × EndsFlush answer × (r ≡ pumped answer)
+pub record Flushes (tells : Bool) (old : StoreValue) (r : Reply) (new : StoreValue) : Type 0 where
+  pub steps : List Did
+  pub mid : StoreValue
+  pub before : TakesSteps tells old steps mid
+  pub answer : Result Did PumpFault
+  pub last : Pumps tells mid answer new
+  pub ends : EndsFlush answer
+  pub reply : r ≡ pumped answer
 
 -- a view is taken, asked and ended; without memory for the view nothing is asked
 abbrev pub Asks : StoreValue → Key → ℕ → Result (Option (List Text)) QueryFault → StoreValue → Type 0
 Asks old key time answer new = (taken : Option ViewValue) × MatchOption taken ((answer ≡ Err query.NoMemory) × (new ≡ old))
-    (λ view. store.IsViewOf old view × (new ≡ old))
+    (λ view. store.IsViewOf old view × store.AnswersAtView old view key time answer × (new ≡ old))
 
 abbrev pub found : Result (Option (List Text)) QueryFault → Reply
 found (Ok value) = reply.Found value
@@ -205,14 +222,24 @@ AbortsAll old (e ∷ rest) new = (mid : StoreValue) × store.Aborts old e.txn mi
 abbrev pub Closes : State → DiskState → Type 0
 Closes old given = (end : StoreValue) × AbortsAll old.store old.opened end × (given ≡ end.disk)
 
--- the store is closed and opened again
-abbrev pub Reopens : Bool → State → Reply → State → Type 0
-Reopens tells old r new = (opened : StoreValue)
-    × (r ≡ reply.Opened (store.last opened) (store.floor opened)) × (new ≡ fresh opened)
+-- what is open is aborted, and the store is closed and opened again
+pub record Reopens (tells : Bool) (old : State) (r : Reply) (new : State) : Type 0 where
+  pub given : DiskState
+  pub closes : Closes old given
+  pub opened : StoreValue
+  pub opens : Opens tells given 1 opened
+  pub reply : r ≡ reply.Opened (store.last opened) (store.floor opened)
+  pub names : new ≡ fresh opened
+
+-- it is closed, and does not open
+pub record DoesNotReopen (tells : Bool) (old : State) (f : OpenFault) (disk : DiskState) : Type 0 where
+  pub given : DiskState
+  pub closes : Closes old given
+  pub refuses : OpenRefuses tells given f disk
 
 -- a line that ends the run: a `reopen` that is refused
 abbrev pub Refuses : Bool → State → Line → OpenFault → DiskState → Type 0
-Refuses tells old line.Reopen f disk = Unit {0}
+Refuses tells old line.Reopen f disk = DoesNotReopen tells old f disk
 Refuses tells old _ f disk = ⊥
 
 -- from old, a line is answered so and leaves new

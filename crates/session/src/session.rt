@@ -1,5 +1,5 @@
 //! A store and the names in use.
-ghost use Rattle.std.specs.Prelude.{◌≡◌, ◌↔◌, ◌<◌, ◌+◌, ◌≤◌, ◌||◌, ◌++◌, ◌∷◌, [], not, nat_lt, length, map, position, MatchOption, MatchResult, IfOk, IfErr, IsTrue, Ok, Err, vec_capacity};
+ghost use Rattle.std.specs.Prelude.{◌≡◌, ◌↔◌, ◌<◌, ◌+◌, ◌≤◌, ◌||◌, ◌++◌, ◌∷◌, [], not, nat_lt, length, map, position, MatchOption, MatchResult, IfOk, IfErr, IfSome, IsTrue, Ok, Err, Some, slice_get, remove, vec_capacity};
 ghost use Rattle.snapshot.specs.Txn.{seen_by};
 ghost use Rattle.store.specs.Calls.{last, floor};
 ghost use Rattle.session.specs.declared.reply.Reply.TheVariants.{Opened};
@@ -10,7 +10,7 @@ use crate::names::{OpenName, TicketName};
 use crate::reply::Reply;
 use chains::SharedValue;
 use disk::Disk;
-use group::{Did, PumpFault, Redeemed, Submitted};
+use group::{Did, Redeemed, Submitted};
 use history::Key;
 use recovery::OpenFault;
 use script::{Fields, Line, Name};
@@ -100,7 +100,7 @@ fn is_idle(step: Did) -> bool
 fn flush<D: Disk>(store: &mut Store<D>) -> Reply
     ensures { told.Flushes D.tells store.old result store.new }
 {
-    for _ in 0..u64::MAX {
+    loop {
         match store.pump() {
             Ok(step) => {
                 if is_idle(step) {
@@ -110,7 +110,6 @@ fn flush<D: Disk>(store: &mut Store<D>) -> Reply
             Err(fault) => return Reply::Refused(Fault::Pump(fault)),
         }
     }
-    Reply::Refused(Fault::Pump(PumpFault::Busy))
 }
 
 /// Asks for a key's value at a time by a view of now.
@@ -210,7 +209,7 @@ impl<D: Disk> Session<D> {
     ///
     /// Where the store does not open; the disk comes back.
     pub fn reopen(self, alloc: Global) -> Result<Session<D>, (OpenFault, D)>
-        ensures { IfOk result (λ s. (store : told.Stored) × (s ≡ told.fresh store)) }
+        ensures { MatchResult result (λ s. told.Reopens D.tells self (Opened (last s.store) (floor s.store)) s) (λ e. told.DoesNotReopen D.tells self e.0 (D.state e.1)) }
     {
         let Session {
             mut store,
@@ -241,7 +240,8 @@ impl<D: Disk> Session<D> {
     }
 
     fn txn_place(&self, name: &Name) -> Option<usize>
-        ensures { result ≡ told.txn_place name.now self.now }
+        ensures is { result ≡ told.txn_place name.now self.now }
+        ensures within { IfSome result (λ at. at < length self.now.opened) }
     {
         self.opened
             .iter()
@@ -280,6 +280,16 @@ impl<D: Disk> Session<D> {
         }
     }
 
+    /// Takes the name at a place off the list.
+    fn take_opened(&mut self, at: usize) -> OpenName
+        requires { at < length self.old.opened }
+        ensures found { slice_get self.old.opened at ≡ Some result }
+        ensures new { self.new ≡ record self.old { opened = remove self.old.opened at } }
+        ensures room { length self.new.opened + length self.new.tickets < 64 }
+    {
+        self.opened.remove(at)
+    }
+
     fn add_ticket(&mut self, entry: TicketName)
         requires { length self.old.opened + length self.old.tickets < 64 }
         ensures { self.new ≡ record self.old { tickets = self.old.tickets ++ entry ∷ [] } }
@@ -311,7 +321,7 @@ impl<D: Disk> Session<D> {
     {
         match self.txn_place(name) {
             Some(at) => {
-                let OpenName { name, mut txn } = self.opened.remove(at);
+                let OpenName { name, mut txn } = self.take_opened(at);
                 let answer = put_fields(&mut txn, alloc, key, fields);
                 self.add_opened(OpenName { name, txn });
                 done(answer)
@@ -325,7 +335,7 @@ impl<D: Disk> Session<D> {
     {
         match self.txn_place(name) {
             Some(at) => {
-                let OpenName { name, mut txn } = self.opened.remove(at);
+                let OpenName { name, mut txn } = self.take_opened(at);
                 let answer = txn.delete(key);
                 self.add_opened(OpenName { name, txn });
                 done(answer)
@@ -351,7 +361,7 @@ impl<D: Disk> Session<D> {
     {
         match self.txn_place(name) {
             Some(at) => {
-                let OpenName { name: _, txn } = self.opened.remove(at);
+                let OpenName { name: _, txn } = self.take_opened(at);
                 self.store.abort(txn);
                 Reply::Ok
             }
@@ -364,7 +374,7 @@ impl<D: Disk> Session<D> {
     {
         match self.txn_place(name) {
             Some(at) => {
-                let OpenName { name, txn } = self.opened.remove(at);
+                let OpenName { name, txn } = self.take_opened(at);
                 match self.store.submit(txn, label, now) {
                     Ok(Submitted::ReadOnly(time)) => Reply::ReadOnly(time),
                     Ok(Submitted::Queued(ticket)) => {

@@ -1,10 +1,6 @@
 //! What an action does.
-ghost use Rattle.std.specs.Prelude.{◌≡◌, ◌⊎◌, ◌≤◌, IfSome, Ok};
-ghost use Rattle.std.specs.Io.KnownBytes.{Appends};
-ghost use Rattle.session.specs.Texts.{Text};
-ghost use Rattle.session.specs.Session.{Stored, fresh};
-ghost use Rattle.session.specs.Run.{Run, lines_of};
-ghost use Rattle.session.specs.declared.ending.Ending.TheVariants.{Whole};
+ghost use Rattle.std.specs.Prelude.{◌≡◌, ◌≤◌, OnOk, IsOk};
+ghost use Rattle.shell.specs.Acts.{Acts, Makes, Runs, RunsOnNew, Asks, IsAnswered};
 
 use disk::Disk;
 use history::Key;
@@ -40,8 +36,7 @@ fn run_script<D: Disk, R: BufRead, W: Write>(
     input: &mut R,
     output: &mut W,
 ) -> (u8, D)
-    ensures whole { result.0 ≡ 0 → (store : Stored) × IfSome (R.remaining input.old) (λ text. (out : Text)
-        × Run D.tells 1 (fresh store) (lines_of text) out (Whole, D.state result.1) × Appends (W.contents output.old) (W.contents output.new) out) }
+    ensures done { result.0 ≡ 0 → Runs D.tells (D.state disk) (R.remaining input.old) (record { before = W.contents output.old; after = W.contents output.new }) (D.state result.1) }
     ensures status { result.0 ≤ 1 }
 {
     let store = match Store::open(alloc, disk, MARK) {
@@ -61,7 +56,8 @@ fn run_script<D: Disk, R: BufRead, W: Write>(
 /// Whether a line was said in full.
 fn status_of<E: Drop>(said: Result<(), E>, status: u8) -> u8
     requires { status ≤ 1 }
-    ensures { result ≤ 1 }
+    ensures done { result ≡ 0 → IsOk said × (status ≡ 0) }
+    ensures status { result ≤ 1 }
 {
     match said {
         Ok(()) => status,
@@ -71,7 +67,8 @@ fn status_of<E: Drop>(said: Result<(), E>, status: u8) -> u8
 
 /// Makes an empty store.
 fn make<D: Disk, W: Write>(alloc: Global, disk: D, slots: u32, output: &mut W) -> (u8, D)
-    ensures { result.0 ≤ 1 }
+    ensures done { result.0 ≡ 0 → Makes D.tells (D.state disk) slots (record { before = W.contents output.old; after = W.contents output.new }) (D.state result.1) }
+    ensures status { result.0 ≤ 1 }
 {
     let mut disk = disk;
     let status = match format(alloc, &mut disk, slots) {
@@ -88,7 +85,8 @@ fn run_example<D: Disk, R: BufRead, W: Write>(
     input: &mut R,
     output: &mut W,
 ) -> (u8, D)
-    ensures { result.0 ≤ 1 }
+    ensures done { result.0 ≡ 0 → RunsOnNew D.tells (D.state disk) (R.remaining input.old) (record { before = W.contents output.old; after = W.contents output.new }) (D.state result.1) }
+    ensures status { result.0 ≤ 1 }
 {
     let mut disk = disk;
     match format(alloc, &mut disk, EXAMPLE_SLOTS) {
@@ -99,7 +97,8 @@ fn run_example<D: Disk, R: BufRead, W: Write>(
 
 /// The status of a command that is answered with one reply.
 fn status_of_reply(reply: &Reply) -> u8
-    ensures { result ≤ 1 }
+    ensures done { result ≡ 0 → IsAnswered reply.now }
+    ensures status { result ≤ 1 }
 {
     match reply {
         Reply::Refused(_) => REFUSED,
@@ -109,7 +108,8 @@ fn status_of_reply(reply: &Reply) -> u8
 
 /// Asks for a key's value at a time, on a store opened for it.
 fn ask<D: Disk, W: Write>(alloc: Global, disk: D, key: Key, time: u64, output: &mut W) -> (u8, D)
-    ensures { result.0 ≤ 1 }
+    ensures done { result.0 ≡ 0 → Asks D.tells (D.state disk) key time (record { before = W.contents output.old; after = W.contents output.new }) (D.state result.1) }
+    ensures status { result.0 ≤ 1 }
 {
     let store = match Store::open(alloc, disk, MARK) {
         Ok(store) => store,
@@ -137,7 +137,8 @@ pub fn act<D: Disk, R: BufRead, W: Write>(
     input: &mut R,
     output: &mut W,
 ) -> (u8, D)
-    ensures { result.0 ≤ 1 }
+    ensures done { result.0 ≡ 0 → Acts D.tells action.entry (D.state disk) (R.remaining input.old) (record { before = W.contents output.old; after = W.contents output.new }) (D.state result.1) }
+    ensures status { result.0 ≤ 1 }
 {
     match action {
         Action::Example => run_example(alloc, disk, input, output),

@@ -1,5 +1,5 @@
 -- The commit order of an opened store.
-use Rattle.std.proofs.Common.{◌≡◌, ℕ, ◌<◌, List, [], ◌∷◌, map, refl}
+use Rattle.std.proofs.Common.{◌≡◌, ℕ, List, [], ◌∷◌, map, refl}
 use Rattle.image.specs.Log.{AreRisingAfter, last_time_after}
 use Rattle.group.specs.CommitOrder as orders
 use Rattle.recovery.specs.declared.recovered.CommitName.{CommitName}

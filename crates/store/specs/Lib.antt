@@ -1,3 +1,5 @@
 pub mod Values
 pub mod Heads
 pub mod Calls
+pub mod Pumps
+pub mod Opens

@@ -1,6 +1,7 @@
 //! Opening a store.
-ghost use Rattle.std.specs.Prelude.{◌≡◌, IfOk, map};
+ghost use Rattle.std.specs.Prelude.{◌≡◌, IfOk, IfErr, map};
 ghost use Rattle.store.specs.Heads.{head_as};
+ghost use Rattle.store.specs.Opens.{Opens, OpenRefuses};
 
 use crate::store::Store;
 use disk::Disk;
@@ -28,7 +29,10 @@ impl<D: Disk> Store<D> {
     /// Opens the store that the disk holds. It first syncs the three areas, and then only reads. The
     /// mark is a number of the caller's, which the store's transactions, tickets and views carry.
     /// A refused opening hands the disk back.
-    pub fn open(alloc: Global, disk: D, mark: u64) -> Result<Store<D>, (OpenFault, D)> {
+    pub fn open(alloc: Global, disk: D, mark: u64) -> Result<Store<D>, (OpenFault, D)>
+        ensures ok { IfOk result (λ s. Opens D.tells (D.state disk) mark s) }
+        ensures err { IfErr result (λ e. OpenRefuses D.tells (D.state disk) e.0 (D.state e.1)) }
+    {
         let mut disk = disk;
         let recovered = match read_image(alloc, &mut disk) {
             Ok(recovered) => recovered,

@@ -1,20 +1,25 @@
 //! The steps of a group to the disk.
-ghost use Rattle.std.specs.Prelude.{◌≡◌, ◌≤◌, ◌+◌};
+ghost use Rattle.std.specs.Prelude.{◌≡◌, ◌<◌, false, IsSome, None};
+ghost use Rattle.transactions.specs.Steps.{due, next_extent};
+ghost use Rattle.store.specs.Pumps.{Pumps, TakesStep, SyncsHeap, BeginsSlot, TurnsSlot, store_of, did_at};
 
 use crate::store::Store;
 use disk::{Area, DeviceFault, Disk};
 use group::{Did, PumpFault};
-use status::{SlotTurn, Stage, Step};
+use status::{SlotTurn, Stage, StatusLog, Step};
 use std::mem;
-use transactions::NextStep;
+use transactions::{NextStep, Transactions};
 
 /// The bytes of an extent.
 const EXTENT_LEN: u64 = 8192;
 
 impl<D: Disk> Store<D> {
     /// One step of the group of commits that is being written; where none stands, one begins of the
-    /// first 16 that wait. Each step makes one write or sync of the disk.
-    pub fn pump(&mut self) -> Result<Did, PumpFault> {
+    /// first 16 that wait. Each step makes one write or sync of the disk. `Idle` is answered where no
+    /// group stands and no commit waits.
+    pub fn pump(&mut self) -> Result<Did, PumpFault>
+        ensures { Pumps D.tells self.old result self.new }
+    {
         if self.transactions.has_failed() {
             return Err(PumpFault::Failed);
         }
@@ -27,13 +32,21 @@ impl<D: Disk> Store<D> {
         }
     }
 
-    fn write_extent(&mut self) -> Result<Did, PumpFault> {
+    // Writes the group's next extent.
+    fn write_extent(&mut self) -> Result<Did, PumpFault>
+        requires due { due self.old.transactions ≡ NextStep.WriteExtent }
+        requires extent { IsSome (next_extent self.old.transactions) }
+        ensures { TakesStep D.tells NextStep.WriteExtent self.old result self.new }
+    {
         let Some(stored) = self.transactions.next_extent() else {
-            return Err(PumpFault::Busy);
+            unreachable!()
         };
         let place = EXTENT_LEN * u64::from(stored.extent.number() - 1);
         match self.disk.write_at(Area::Heap, place, stored.image.bytes()) {
-            Err(DeviceFault) => Err(self.fail()),
+            Err(DeviceFault) => {
+                self.transactions.fail();
+                Err(PumpFault::Failed)
+            }
             Ok(()) => {
                 self.transactions.wrote_extent();
                 Ok(Did::WroteExtent)
@@ -41,9 +54,15 @@ impl<D: Disk> Store<D> {
         }
     }
 
-    fn sync_heap(&mut self) -> Result<Did, PumpFault> {
+    fn sync_heap(&mut self) -> Result<Did, PumpFault>
+        requires { due self.old.transactions ≡ NextStep.SyncHeap }
+        ensures { SyncsHeap D.tells self.old result self.new }
+    {
         match self.disk.sync(Area::Heap) {
-            Err(DeviceFault) => Err(self.fail()),
+            Err(DeviceFault) => {
+                self.transactions.fail();
+                Err(PumpFault::Failed)
+            }
             Ok(()) => {
                 self.transactions.heap_synced();
                 Ok(Did::HeapSynced)
@@ -51,56 +70,94 @@ impl<D: Disk> Store<D> {
         }
     }
 
-    // Writes the body of the group's slot.
-    fn begin_slot(&mut self) -> Result<Did, PumpFault> {
+    // Begins the slot of the group's commits, and writes its body.
+    fn begin_slot(&mut self) -> Result<Did, PumpFault>
+        requires due { due self.old.transactions ≡ NextStep.BeginSlot }
+        requires works { self.old.transactions.failed ≡ false }
+        requires room { self.old.transactions.used < self.old.transactions.slots }
+        ensures { BeginsSlot D.tells self.old result self.new }
+    {
         let body = self.transactions.slot_body();
         match self.log.begin_slot(body) {
-            Err(_) => Err(PumpFault::Busy),
+            Err(_) => unreachable!(),
             Ok(turn) => {
                 self.transactions.slot_begun();
-                self.advance(turn)
+                let (answer, next) = turn_slot(
+                    &mut self.transactions,
+                    &mut self.log,
+                    &mut self.disk,
+                    turn,
+                );
+                put_turn(&mut self.turn, next);
+                answer
             }
         }
     }
 
-    fn advance_slot(&mut self) -> Result<Did, PumpFault> {
+    // Goes on with the group's slot.
+    fn advance_slot(&mut self) -> Result<Did, PumpFault>
+        requires due { due self.old.transactions ≡ NextStep.AdvanceSlot }
+        requires works { self.old.transactions.failed ≡ false }
+        ensures { TakesStep D.tells NextStep.AdvanceSlot self.old result self.new }
+    {
         match mem::replace(&mut self.turn, None) {
-            None => Err(PumpFault::Busy),
-            Some(turn) => self.advance(turn),
-        }
-    }
-
-    // The next device call of the slot in the writing.
-    fn advance(&mut self, turn: SlotTurn) -> Result<Did, PumpFault> {
-        match self.log.advance(turn, &mut self.disk) {
-            Err(DeviceFault) => Err(self.fail()),
-            Ok(Step::Open(_)) => Ok(Did::Published(self.transactions.publish())),
-            Ok(Step::More(next)) => {
-                let did = did_before(&next);
-                self.keep_turn(next);
-                Ok(did)
+            None => unreachable!(),
+            Some(turn) => {
+                let (answer, next) = turn_slot(
+                    &mut self.transactions,
+                    &mut self.log,
+                    &mut self.disk,
+                    turn,
+                );
+                put_turn(&mut self.turn, next);
+                answer
             }
         }
     }
+}
 
-    // Keeps the slot that is in the writing.
-    fn keep_turn(&mut self, turn: SlotTurn) {
-        if let Some(before) = mem::replace(&mut self.turn, Some(turn)) {
-            before.give_up();
+// The next device call of the group's slot. The last one publishes the group; a refused one spends
+// the turn, and the store has failed.
+fn turn_slot<D: Disk>(
+    transactions: &mut Transactions,
+    log: &mut StatusLog,
+    disk: &mut D,
+    turn: SlotTurn,
+) -> (Result<Did, PumpFault>, Option<SlotTurn>)
+    requires { due transactions.old ≡ NextStep.AdvanceSlot }
+    ensures { TurnsSlot D.tells turn (store_of transactions.old log.old None (D.state disk.old)) result.0 (store_of transactions.new log.new result.1 (D.state disk.new)) }
+{
+    match log.advance(turn, disk) {
+        Err(DeviceFault) => {
+            transactions.fail();
+            (Err(PumpFault::Failed), None)
         }
-    }
-
-    fn fail(&mut self) -> PumpFault {
-        self.transactions.fail();
-        PumpFault::Failed
+        Ok(Step::Open(_)) => {
+            let count = transactions.publish();
+            (Ok(Did::Published(count)), None)
+        }
+        Ok(Step::More(next)) => {
+            let did = did_before(&next);
+            (Ok(did), Some(next))
+        }
     }
 }
 
 // What was done of a slot that is to go on.
-fn did_before(turn: &SlotTurn) -> Did {
+fn did_before(turn: &SlotTurn) -> Did
+    ensures { result ≡ did_at turn.now.stage }
+{
     match turn.stage() {
         Stage::Begun | Stage::BodyWritten => Did::BodyWritten,
         Stage::BodySynced => Did::BodySynced,
         Stage::GateWritten => Did::GateWritten,
+    }
+}
+
+fn put_turn(place: &mut Option<SlotTurn>, turn: Option<SlotTurn>)
+    ensures { place.new ≡ turn }
+{
+    if let Some(before) = mem::replace(place, turn) {
+        before.give_up();
     }
 }

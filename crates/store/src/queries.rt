@@ -1,5 +1,6 @@
 //! Queries.
 ghost use Rattle.std.specs.Prelude.{◌≡◌};
+ghost use Rattle.store.specs.Calls.{AnswersAtView};
 
 use crate::store::Store;
 use chains::SharedValue;
@@ -16,6 +17,7 @@ impl<D: Disk> Store<D> {
         key: Key,
         time: u64,
     ) -> Result<Option<SharedValue>, QueryFault>
+        ensures is { AnswersAtView self.old view.now key time result }
         ensures same { self.new ≡ self.old }
     {
         if view.mark() != self.transactions.mark() {

@@ -1,7 +1,6 @@
 //! The store, and its calls that ask nothing of the disk.
 ghost use Rattle.std.specs.Prelude.{◌≡◌, IfOk};
-ghost use Rattle.store.specs.Calls.{Begins, Aborts, Redeems, IsViewOf, IsTimesOf, last, floor};
-ghost use Rattle.store.specs.Values.{HasRest};
+ghost use Rattle.store.specs.Calls.{Begins, Aborts, Submits, Redeems, IsViewOf, IsTimesOf, last, floor};
 
 use disk::Disk;
 use group::{BeginFault, Redeemed, SubmitFault, Submitted, Ticket};
@@ -23,11 +22,13 @@ pub struct Store<D: Disk> {
 }
 
 impl<D: Disk> Model for Store<D> {
-    ghost use Rattle.store.specs.Values.{StoreValue};
+    ghost use Rattle.store.specs.Values.{StoreValue, IsInStep};
 
     ghost Value = { StoreValue };
 
     ghost view = { λ s. record { transactions = s.transactions; log = s.log; turn = s.turn; disk = D.state s.disk } };
+
+    ghost invariant = { λ s. IsInStep (record { transactions = s.transactions; log = s.log; turn = s.turn; disk = D.state s.disk }) };
 }
 
 impl<D: Disk> Store<D> {
@@ -81,7 +82,7 @@ impl<D: Disk> Store<D> {
     /// since 1970) or just after the last commit, whichever is later. The transaction is over in any
     /// case. A transaction without writes is read-only, and over at once.
     pub fn submit(&mut self, txn: Txn, label: u64, now: u64) -> Result<Submitted, SubmitFault>
-        ensures rest { HasRest self.old self.new }
+        ensures { Submits self.old txn label now result self.new }
     {
         self.transactions.submit(self.alloc, txn, label, now)
     }

@@ -1,1 +1,4 @@
 pub mod Orders
+pub mod Kept
+pub mod Publishing
+pub mod Queueing

@@ -1,5 +1,5 @@
 -- The versions after the waiting commits, and the last time that was given.
-use Rattle.std.proofs.Common.{◌≡◌, ℕ, zero, suc, ◌+◌, ◌-◌, ◌<◌, ◌≤◌, ◌==◌, ◌&&◌, nat_le, cond, Bool, true, false, List, [], ◌∷◌, ◌++◌, length, get_or, refl, arith, ap, sym, ◌∙◌}
+use Rattle.std.proofs.Common.{◌≡◌, ℕ, zero, suc, ◌==◌, ◌&&◌, nat_le, cond, Bool, true, false, List, [], ◌∷◌, ◌++◌, length, get_or, refl, arith, ap}
 use Rattle.chains.specs.KeyWrites.{KeyWrites}
 use Rattle.group.specs.declared.commit_order.CommitHead.{CommitHead}
 use Rattle.group.specs.CommitOrder.{CommitOrderValue, last_time_after, last_time, redeemed, after_redeem, is_awaited, last_published}

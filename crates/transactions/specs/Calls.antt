@@ -1,5 +1,5 @@
 -- The calls that ask nothing of the disk.
-use Rattle.std.specs.Prelude.{ℕ, ◌≡◌, ◌==◌, Bool, true, false, nat_lt, List, [], Option, Some, None, Result, Ok, Err, MatchBool, if◌then◌else◌}
+use Rattle.std.specs.Prelude.{ℕ, ◌≡◌, ◌==◌, true, false, [], None, Result, Ok, Err, MatchBool, if◌then◌else◌}
 use Rattle.snapshot.specs.OpenTable.{snapshot_of, with_opened}
 use Rattle.snapshot.specs.Txn.{TxnValue}
 use Rattle.group.specs.CommitOrder as orders

@@ -1,3 +1,5 @@
 pub mod Values
 pub mod Calls
 pub mod Order
+pub mod Submits
+pub mod Steps

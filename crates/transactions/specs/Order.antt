@@ -1,10 +1,35 @@
 -- What holds of the transactions of a store by themselves.
-use Rattle.std.specs.Prelude.{ℕ, ◌≡◌, ◌≤◌, ◌+◌, length}
+use Rattle.std.specs.Prelude.{ℕ, ◌≡◌, ◌<◌, ◌≤◌, ◌+◌, List, length, slice_get, Some}
+use Rattle.std.specs.List.{AllByRecursion, flat_map}
 use Rattle.chains.specs.KeyWrites.{latest}
+use Rattle.extents.specs.Usages.{AreOut}
 use Rattle.group.specs.CommitOrder as orders
-use Rattle.transactions.specs.Values.{TransactionsValue, ordered}
+use Rattle.group.specs.Queued.{QueuedValue, numbers_of}
+use Rattle.transactions.specs.declared.stage.GroupStage.{GroupStage}
+use Rattle.transactions.specs.declared.stage.GroupStage.TheVariants.{NoGroup, Storing, Stored, Turning}
+use Rattle.transactions.specs.Values.{TransactionsValue, ordered, claimed}
+
+-- the place of the next extent is one of the group's extents, or behind its last member
+abbrev pub StageFits : GroupStage → ℕ → List QueuedValue → Type 0
+StageFits NoGroup group queue = group ≡ 0
+StageFits (Storing member extent) group queue = (0 < group) × (member ≤ group) × (member < group → (q : QueuedValue) → slice_get queue member ≡ Some q → extent < length q.stored)
+StageFits Stored group queue = 0 < group
+StageFits Turning group queue = 0 < group
+
+-- a commit has at least one extent
+abbrev pub HasExtent : QueuedValue → Type 0
+HasExtent q = 0 < length q.stored
 
 pub record IsInOrder (v : TransactionsValue) : Type 0 where
   pub split : v.published + length v.queue ≡ length v.heads
   -- no version is later than the last time that was given
   pub latest : latest (ordered v) ≤ orders.last_time v.heads
+  pub group_within : v.group ≤ length v.queue
+  pub group_few : v.group ≤ 16
+  pub stage_fits : StageFits v.stage v.group v.queue
+  pub stored : AllByRecursion HasExtent v.queue
+  -- the extents of those that wait are out
+  pub out : AreOut v.usages (flat_map numbers_of v.queue)
+  -- there is a slot for each that waits
+  pub room : v.used + claimed v ≤ v.slots
+  pub slots_few : v.slots ≤ 65536

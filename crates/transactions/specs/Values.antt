@@ -1,8 +1,6 @@
 -- What a clause sees of the transactions of a store.
-use Rattle.std.specs.Prelude.{ℕ, ◌≡◌, ◌<◌, ◌≤◌, ◌+◌, ◌-◌, ◌^◌, ◌==◌, ◌&&◌, ◌||◌, Bool, true, false, not, is_some, nat_lt, max, List, [], ◌∷◌, ◌++◌, length, map, find, take, drop, slice_get, Option, Some, None, if◌then◌else◌}
-use Rattle.std.specs.List.{list_all, flat_map, AllByRecursion}
-use Rattle.wire.specs.declared.slot.Member.{Member}
-use Rattle.history.specs.declared.key.Key.{Key}
+use Rattle.std.specs.Prelude.{ℕ, ◌≡◌, ◌+◌, ◌-◌, ◌==◌, ◌||◌, Bool, true, false, is_some, List, [], ◌∷◌, length, Option, Some, None, if◌then◌else◌}
+use Rattle.std.specs.List.{list_all}
 use Rattle.history.specs.declared.key.KeyWrite.{KeyWrite}
 use Rattle.history.specs.Time.{value_at}
 use Rattle.image.specs.Values.{Value}
@@ -83,3 +81,19 @@ claimed v = claimed_by v.stage v.group (length v.queue)
 -- the slots that are left
 abbrev pub spare : TransactionsValue → ℕ
 spare v = v.slots - v.used - claimed v
+
+-- ---- what the log's own count is compared with
+
+-- the group's slot is in the writing
+abbrev pub is_turning : GroupStage → Bool
+is_turning NoGroup = false
+is_turning (Storing member extent) = false
+is_turning Stored = false
+is_turning Turning = true
+
+-- nothing has changed of the slots, nor whether one is in the writing
+pub record KeepsSlots (old new : TransactionsValue) : Type 0 where
+  pub slots : new.slots ≡ old.slots
+  pub used : new.used ≡ old.used
+  pub failed : new.failed ≡ old.failed
+  pub turning : is_turning new.stage ≡ is_turning old.stage

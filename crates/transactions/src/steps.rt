@@ -1,9 +1,20 @@
 //! The steps of a group, between the device calls.
+ghost use Rattle.std.specs.Prelude.{◌≡◌, ◌≤◌, ◌<◌, IsSome, length, take, drop, option_copied};
+ghost use Rattle.std.specs.List.{flat_map};
+ghost use Rattle.extents.specs.Usages.{AreOut, with_usages};
+ghost use Rattle.extents.specs.declared.usage.Usage.TheVariants.{Kept};
+ghost use Rattle.group.specs.Queued.{numbers_of};
+ghost use Rattle.transactions.specs.Values.{versions_after, KeepsSlots};
+ghost use Rattle.transactions.specs.Steps as steps;
+ghost use Rattle.transactions.specs.declared.stage.GroupStage.TheVariants as stages;
 
 use crate::stage::{GroupStage, NextStep};
 use crate::transactions::Transactions;
 use arrayvec::ArrayVec;
-use group::{QueuedParts, StoredExtent, keep_all};
+use chains::Frozen;
+use extents::Extents;
+use group::{Queued, QueuedParts, StoredExtent, keep_all};
+use std::collections::VecDeque;
 use wire::{Body, Member};
 
 /// At most so many commits are published under one gate.
@@ -11,17 +22,39 @@ pub const MOST_MEMBERS: usize = 16;
 
 impl Transactions {
     /// What the group needs next. Where none stands, one begins of the first 16 that wait.
-    pub fn next_step(&mut self) -> NextStep {
-        if self.group == 0 {
-            if self.queue.is_empty() {
-                return NextStep::Idle;
-            }
+    pub fn next_step(&mut self) -> NextStep
+        ensures new { self.new ≡ steps.grouped self.old }
+        ensures is { result ≡ steps.due self.new }
+        ensures extent { result ≡ NextStep.WriteExtent → IsSome (steps.next_extent self.new) }
+        ensures room { result ≡ NextStep.BeginSlot → self.new.used < self.new.slots }
+        ensures few { self.new.slots ≤ 65536 }
+        ensures slots { KeepsSlots self.old self.new }
+    {
+        self.begin_group();
+        self.due()
+    }
+
+    // Where no group stands and commits wait, one begins.
+    fn begin_group(&mut self)
+        ensures is { self.new ≡ steps.grouped self.old }
+        ensures slots { KeepsSlots self.old self.new }
+    {
+        if self.group == 0 && !self.queue.is_empty() {
             self.group = self.queue.len().min(MOST_MEMBERS);
             self.stage = GroupStage::Storing {
                 member: 0,
                 extent: 0,
             };
         }
+    }
+
+    // What the group that stands needs next.
+    fn due(&self) -> NextStep
+        ensures is { result ≡ steps.due self.now }
+        ensures extent { result ≡ NextStep.WriteExtent → IsSome (steps.next_extent self.now) }
+        ensures room { result ≡ NextStep.BeginSlot → self.now.used < self.now.slots }
+        ensures few { self.now.slots ≤ 65536 }
+    {
         match self.stage {
             GroupStage::NoGroup => NextStep::Idle,
             GroupStage::Storing { member, .. } => {
@@ -37,7 +70,9 @@ impl Transactions {
     }
 
     /// The next extent of the group to be written.
-    pub fn next_extent(&self) -> Option<&StoredExtent> {
+    pub fn next_extent(&self) -> Option<&StoredExtent>
+        ensures { option_copied result ≡ steps.next_extent self.now }
+    {
         let GroupStage::Storing { member, extent } = self.stage else {
             return None;
         };
@@ -48,76 +83,123 @@ impl Transactions {
     }
 
     /// The next extent is written.
-    pub fn wrote_extent(&mut self) {
+    pub fn wrote_extent(&mut self)
+        requires { steps.due self.old ≡ NextStep.WriteExtent }
+        ensures { self.new ≡ steps.wrote_extent self.old }
+    {
+        self.stage = self.stage_behind();
+    }
+
+    // The stage once the next extent is written.
+    fn stage_behind(&self) -> GroupStage
+        ensures { result ≡ steps.stage_behind self.now.queue self.now.stage }
+    {
         let GroupStage::Storing { member, extent } = self.stage else {
-            return;
+            return self.stage;
         };
-        let more = match self.queue.get(member) {
-            None => false,
-            Some(queued) => extent.saturating_add(1) < queued.stored().len(),
+        let behind = GroupStage::Storing {
+            member: member.saturating_add(1),
+            extent: 0,
         };
-        self.stage = if more {
-            GroupStage::Storing {
-                member,
-                extent: extent.saturating_add(1),
+        match self.queue.get(member) {
+            None => behind,
+            Some(queued) => {
+                if extent.saturating_add(1) < queued.stored().len() {
+                    GroupStage::Storing {
+                        member,
+                        extent: extent.saturating_add(1),
+                    }
+                } else {
+                    behind
+                }
             }
-        } else {
-            GroupStage::Storing {
-                member: member.saturating_add(1),
-                extent: 0,
-            }
-        };
+        }
     }
 
     /// Every extent of the group is synced.
-    pub fn heap_synced(&mut self) {
+    pub fn heap_synced(&mut self)
+        requires { steps.due self.old ≡ NextStep.SyncHeap }
+        ensures { self.new ≡ steps.at_stage stages.Stored self.old }
+    {
         self.stage = GroupStage::Stored;
     }
 
     /// The group's slot is in the writing.
-    pub fn slot_begun(&mut self) {
+    pub fn slot_begun(&mut self)
+        requires { steps.due self.old ≡ NextStep.BeginSlot }
+        ensures { self.new ≡ steps.at_stage stages.Turning self.old }
+    {
         self.stage = GroupStage::Turning;
     }
 
     /// Nothing is written any more.
-    pub fn fail(&mut self) {
+    pub fn fail(&mut self)
+        ensures { self.new ≡ steps.broken self.old }
+    {
         self.failed = true;
     }
 
     /// What the group's slot says.
-    pub fn slot_body(&self) -> Body {
+    pub fn slot_body(&self) -> Body
+        ensures { steps.IsCommitOf (steps.entries self.now) result }
+    {
         let mut members: ArrayVec<Member, 16> = ArrayVec::new();
-        for place in 0..self.group.min(MOST_MEMBERS) {
-            if let Some(queued) = self.queue.get(place) {
-                members.push(queued.entry());
+        for place in 0..self.group {
+            match self.queue.get(place) {
+                None => unreachable!(),
+                Some(queued) => members.push(queued.entry()),
             }
         }
         Body::Commit(members)
     }
 
     /// The group's slot is open: its commits are published. Says how many they are.
-    pub fn publish(&mut self) -> u32 {
-        let count = self.group.min(MOST_MEMBERS);
-        for _ in 0..count {
-            self.publish_one();
-        }
-        self.used = self.used.saturating_add(1);
+    pub fn publish(&mut self) -> u32
+        requires { steps.due self.old ≡ NextStep.AdvanceSlot }
+        ensures count { result ≡ self.old.group }
+        ensures new { self.new ≡ steps.published self.old }
+    {
+        let count = self.group;
+        publish_first(
+            &mut self.queue,
+            &mut self.versions,
+            &mut self.extents,
+            count,
+        );
+        self.order.publish(count);
+        self.used += 1;
         self.group = 0;
         self.stage = GroupStage::NoGroup;
         count as u32
     }
+}
 
-    // The first commit that waits is published.
-    fn publish_one(&mut self) {
-        if let Some(queued) = self.queue.pop_front() {
-            let QueuedParts {
-                entry: _,
-                after,
-                stored,
-            } = queued.spend();
-            keep_all(&mut self.extents, stored);
-            self.versions = after;
-            self.order.publish(1);
+// The first commits that wait do so no longer: their versions stand, and their extents are kept.
+fn publish_first(
+    queue: &mut VecDeque<Queued>,
+    versions: &mut Frozen,
+    extents: &mut Extents,
+    count: usize,
+)
+    requires out { AreOut extents.old (flat_map numbers_of queue.old.items) }
+    requires within { count ≤ length queue.old.items }
+    ensures queue { queue.new.items ≡ drop count queue.old.items }
+    ensures versions { versions.new ≡ versions_after versions.old (take count queue.old.items) }
+    ensures extents { extents.new ≡ with_usages extents.old (flat_map numbers_of (take count queue.old.items)) Kept }
+    ensures still_out { AreOut extents.new (flat_map numbers_of queue.new.items) }
+{
+    for _ in 0..count {
+        match queue.pop_front() {
+            None => unreachable!(),
+            Some(queued) => {
+                let QueuedParts {
+                    entry: _,
+                    after,
+                    stored,
+                } = queued.spend();
+                keep_all(extents, stored);
+                *versions = after;
+            }
         }
     }
 }

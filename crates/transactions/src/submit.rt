@@ -1,31 +1,30 @@
 //! What becomes of a submit.
-ghost use Rattle.std.specs.Prelude.{◌≡◌, ◌<◌, ◌≤◌, ◌+◌, ◌^◌, length, map, IfOk, vec_len, vec_capacity};
+ghost use Rattle.std.specs.Prelude.{◌≡◌, ◌<◌, ◌≤◌, ◌+◌, ◌^◌, length, map, MatchResult, IfOk, OnOk, OnErr};
+ghost use Rattle.std.specs.List.{list_all};
 ghost use Rattle.std.specs.List.Sorted.{IsStrictlySortedBy};
 ghost use Rattle.history.specs.Key.{key_cmp};
 ghost use Rattle.group.specs.CommitOrder.{last_time};
-ghost use Rattle.std.specs.List.{list_all};
-ghost use Rattle.transactions.specs.Values.{is_of_value};
 ghost use Rattle.extents.specs.Usages.{used_count};
+ghost use Rattle.group.specs.Sealing.{first_number};
+ghost use Rattle.transactions.specs.Values.{is_of_value, spare, KeepsSlots};
+ghost use Rattle.transactions.specs.Submits.{Submits, verdict_on_writes, Queues, bodies_for, bodies_over, JoinsQueue, IsRefusalOf, IsStored};
 
 use crate::stage::GroupStage;
 use crate::transactions::Transactions;
 use chains::{Frozen, SharedValue};
-use deltas::{Body, Image, Record, encode_write, pack, seal};
-use extents::Extent;
+use deltas::{Body, pack};
+use extents::Extents;
 use group::{
     CommitHead, Queued, StoredExtent, SubmitFault, Submitted, Ticket, first_conflict,
-    give_back_all, take_extents,
+    give_back_all, records_of, seal_all, take_extents,
 };
-use history::{Key, KeyWrite};
+use history::KeyWrite;
 use snapshot::Txn;
 use std::alloc::{AllocError, Global};
-use wire::{Member, Value};
+use wire::Member;
 
 /// The greatest time of a commit: 2^63 - 1 microseconds.
 const LAST_TIME: u64 = (1 << 63) - 1;
-
-/// Later than every commit.
-const ENDLESS: u64 = 1 << 63;
 
 // A commit that may be queued: its time, and the bytes of its records for each extent.
 #[derive(Drop)]
@@ -43,7 +42,10 @@ impl Transactions {
         txn: Txn,
         label: u64,
         now: u64,
-    ) -> Result<Submitted, SubmitFault> {
+    ) -> Result<Submitted, SubmitFault>
+        ensures is { Submits self.old txn label now result self.new }
+        ensures slots { KeepsSlots self.old self.new }
+    {
         let parts = txn.spend();
         if !self.finish(&parts) {
             return Err(SubmitFault::Stranger);
@@ -54,13 +56,18 @@ impl Transactions {
         if parts.writes.is_empty() {
             return Ok(Submitted::ReadOnly(parts.snapshot));
         }
-        let accepted = self.decide(alloc, parts.snapshot, &parts.writes, now)?;
+        let accepted = match self.decide(alloc, parts.snapshot, &parts.writes, now) {
+            Ok(accepted) => accepted,
+            Err(fault) => return Err(fault),
+        };
         let time = accepted.time;
-        self.enqueue(alloc, label, &parts.writes, accepted)?;
-        Ok(Submitted::Queued(Ticket::new(self.mark, time)))
+        match self.enqueue(alloc, label, &parts.writes, accepted) {
+            Ok(()) => Ok(Submitted::Queued(Ticket::new(self.mark, time))),
+            Err(AllocError) => Err(SubmitFault::NoMemory),
+        }
     }
 
-    // Whether the writes may be queued.
+    // Whether the writes, which are some, may be queued.
     fn decide(
         &self,
         alloc: Global,
@@ -68,9 +75,11 @@ impl Transactions {
         writes: &[KeyWrite<SharedValue>],
         now: u64,
     ) -> Result<Accepted, SubmitFault>
+        ensures is { MatchResult result (λ a. (verdict_on_writes self.now snapshot writes.now now ≡ Queues a.time) × (a.bodies.items ≡ bodies_for self.now writes.now)) (IsRefusalOf (verdict_on_writes self.now snapshot writes.now now)) }
         ensures later { IfOk result (λ a. last_time self.now.heads < a.time) }
         ensures in_range { IfOk result (λ a. a.time < 2 ^ 63) }
         ensures extents { IfOk result (λ a. used_count self.now.usages + length a.bodies.items ≤ 65536) }
+        ensures slots { OnOk result (2 < spare self.now) }
     {
         let versions = self.ordered();
         if let Some(key) = first_conflict(versions, snapshot, writes) {
@@ -104,36 +113,36 @@ impl Transactions {
         label: u64,
         writes: &[KeyWrite<SharedValue>],
         accepted: Accepted,
-    ) -> Result<(), SubmitFault>
+    ) -> Result<(), AllocError>
         requires rising { IsStrictlySortedBy key_cmp (map (λ w. w.key) writes.now) }
+        requires some { 0 < length writes.now }
         requires few { length writes.now ≤ 1024 }
+        requires bodies { accepted.bodies.items ≡ bodies_for self.old writes.now }
         requires later { last_time self.old.heads < accepted.time }
         requires in_range { accepted.time < 2 ^ 63 }
         requires extents { used_count self.old.usages + length accepted.bodies.items ≤ 65536 }
+        requires slots { 2 < spare self.old }
+        ensures ok { OnOk result (JoinsQueue self.old label accepted.time writes.now self.new) }
+        ensures err { OnErr result (self.new ≡ self.old) }
+        ensures slots { KeepsSlots self.old self.new }
     {
         let Accepted { time, bodies } = accepted;
         let Ok(after) = self.ordered().with_commit(alloc, time, writes) else {
-            return Err(SubmitFault::NoMemory);
+            return Err(AllocError);
         };
         if self.queue.reserve(1).is_err() || self.order.reserve(1).is_err() {
-            return Err(SubmitFault::NoMemory);
+            return Err(AllocError);
         }
-        let Ok(taken) = take_extents(alloc, &mut self.extents, bodies.len()) else {
-            return Err(SubmitFault::NoMemory);
-        };
-        let entry = Member {
-            label,
-            time,
-            first: first_number(&taken),
-            extents: bodies.len() as u32,
-            records: writes.len() as u32,
-        };
-        match stored_extents(alloc, taken, &bodies) {
-            Err(taken) => {
-                give_back_all(&mut self.extents, taken);
-                Err(SubmitFault::NoMemory)
-            }
+        match store(alloc, &mut self.extents, &bodies) {
+            Err(AllocError) => Err(AllocError),
             Ok(stored) => {
+                let entry = Member {
+                    label,
+                    time,
+                    first: first_number(&stored),
+                    extents: bodies.len() as u32,
+                    records: writes.len() as u32,
+                };
                 let queued = Queued::new(entry, after, stored);
                 self.queue.push_back_reserved(queued);
                 self.order.push_reserved(CommitHead {
@@ -147,13 +156,15 @@ impl Transactions {
     }
 
     // The slots that are left, less one for each commit that waits for one.
-    fn spare(&self) -> u32 {
-        let waiting = self.queue.len().min(65_536) as u32;
+    fn spare(&self) -> u32
+        ensures { result ≡ spare self.now }
+    {
+        let waiting = self.queue.len() as u32;
         let claimed = match self.stage {
-            GroupStage::Turning => 1 + waiting.saturating_sub(self.group.min(16) as u32),
+            GroupStage::Turning => 1 + (waiting - self.group as u32),
             _ => waiting,
         };
-        self.slots.saturating_sub(self.used).saturating_sub(claimed)
+        self.slots - self.used - claimed
     }
 }
 
@@ -173,97 +184,47 @@ pub(crate) fn gone_is_of_value(
     true
 }
 
-// The value of a key after all of these versions' commits.
-fn latest(versions: &Frozen, key: Key) -> Option<&Value> {
-    match versions.at(key, ENDLESS) {
-        None => None,
-        Some(value) => Some(value.value()),
-    }
-}
-
-fn write_of(write: &Option<SharedValue>) -> Option<&Value> {
-    match write {
-        None => None,
-        Some(value) => Some(value.value()),
-    }
-}
-
-// The bytes of the records of these writes, for each extent that they need.
+// The bytes of the records of these writes over the versions, in each extent that they need.
 fn packed(
     alloc: Global,
     versions: &Frozen,
     writes: &[KeyWrite<SharedValue>],
-) -> Result<Vec<Body>, AllocError> {
-    let mut records = Vec::with_capacity(alloc, writes.len())?;
-    for w in writes {
-        let content = encode_write(alloc, latest(versions, w.key), write_of(&w.write))?;
-        records.push(Record {
-            key: w.key,
-            content,
-        })?;
-    }
+) -> Result<Vec<Body>, AllocError>
+    ensures { IfOk result (λ packed. packed.items ≡ bodies_over versions.now writes.now) }
+{
+    let records = records_of(alloc, versions, writes)?;
     pack(alloc, &records)
 }
 
-fn first_number(taken: &[Extent]) -> u32 {
-    match taken.first() {
-        None => 0,
-        Some(extent) => extent.number(),
-    }
-}
-
-// The images of these extents, each naming the next.
-fn images(alloc: Global, taken: &[Extent], bodies: &[Body]) -> Result<Vec<Image>, AllocError>
-    ensures { IfOk result (λ images. vec_len images ≡ length bodies.now) }
-{
-    let mut images = Vec::with_capacity(alloc, bodies.len())?;
-    for (place, body) in bodies.iter().enumerate() {
-        let number = number_at(taken, place);
-        let next = number_at(taken, place.saturating_add(1));
-        images.push(seal(alloc, number, next, body)?)?;
-    }
-    Ok(images)
-}
-
-fn number_at(taken: &[Extent], place: usize) -> u32 {
-    match taken.get(place) {
-        None => 0,
-        Some(extent) => extent.number(),
-    }
-}
-
-// The extents with their images; where memory is refused they come back.
-fn stored_extents(
+// Takes an extent for each of these bodies. Where memory is refused none is taken.
+fn store(
     alloc: Global,
-    taken: Vec<Extent>,
+    extents: &mut Extents,
     bodies: &[Body],
-) -> Result<Vec<StoredExtent>, Vec<Extent>>
-    requires { length taken.items ≡ length bodies.now }
+) -> Result<Vec<StoredExtent>, AllocError>
+    requires { used_count extents.old + length bodies.now ≤ 65536 }
+    ensures ok { IfOk result (λ stored. IsStored extents.old bodies.now stored.items extents.new) }
+    ensures err { OnErr result (extents.new ≡ extents.old) }
 {
-    let Ok(images) = images(alloc, &taken, bodies) else {
-        return Err(taken);
+    let taken = match take_extents(alloc, extents, bodies.len()) {
+        Ok(taken) => taken,
+        Err(AllocError) => return Err(AllocError),
     };
-    match Vec::with_capacity(alloc, taken.len()) {
-        Err(_) => Err(taken),
-        Ok(stored) => Ok(paired(taken, images, stored)),
-    }
-}
-
-// Each extent with its image, in their order.
-fn paired(taken: Vec<Extent>, images: Vec<Image>, stored: Vec<StoredExtent>) -> Vec<StoredExtent>
-    requires many { vec_len taken ≡ vec_len images }
-    requires room { vec_len taken + vec_len stored ≤ vec_capacity stored }
-{
-    let mut taken = taken;
-    let mut images = images;
-    let mut stored = stored;
-    while let Some(image) = images.pop() {
-        match taken.pop() {
-            None => unreachable!(),
-            Some(extent) => stored.push_reserved(StoredExtent { extent, image }),
+    match seal_all(alloc, taken, bodies) {
+        Ok(stored) => Ok(stored),
+        Err(taken) => {
+            give_back_all(extents, taken);
+            Err(AllocError)
         }
     }
-    taken.destroy_empty();
-    stored.reverse();
-    stored
+}
+
+// The number of the first of these extents, 0 for none.
+fn first_number(stored: &[StoredExtent]) -> u32
+    ensures { result ≡ first_number (map (λ s. s.extent) stored.now) }
+{
+    match stored {
+        [] => 0,
+        [first, ..] => first.extent.number(),
+    }
 }

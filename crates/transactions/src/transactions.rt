@@ -3,7 +3,7 @@ ghost use Rattle.std.specs.Prelude.{◌≡◌, ◌≤◌, [], length, false, IfO
 ghost use Rattle.chains.specs.KeyWrites.{latest};
 ghost use Rattle.group.specs.CommitOrder.{IsRisingAfter, last_time, times_of};
 ghost use Rattle.transactions.specs.declared.stage.GroupStage.TheVariants.{NoGroup};
-ghost use Rattle.transactions.specs.Values.{ordered, over, is_own_of};
+ghost use Rattle.transactions.specs.Values.{ordered, over, is_own_of, KeepsSlots};
 ghost use Rattle.transactions.specs.Calls.{Begins, Aborts, Redeems, last, order_of};
 
 use crate::stage::GroupStage;
@@ -63,6 +63,8 @@ impl Transactions {
     ) -> Self
         requires rising { IsRisingAfter 0 heads.items }
         requires latest { latest versions ≤ last_time heads.items }
+        requires room { used ≤ slots }
+        requires slots { slots ≤ 65536 }
         ensures { result ≡ record { mark = mark; opened = []; heads = heads.items; published = length heads.items; versions = versions; queue = []; usages = extents; slots = slots; used = used; group = 0; stage = NoGroup; floor = floor; failed = false } }
     {
         Transactions {
@@ -113,7 +115,8 @@ impl Transactions {
     ///
     /// Answers `Failed` once a write or sync of the device was refused, before any growth.
     pub fn begin(&mut self, alloc: Global) -> Result<Txn, BeginFault>
-        ensures { Begins self.old result self.new }
+        ensures is { Begins self.old result self.new }
+        ensures slots { KeepsSlots self.old self.new }
     {
         if self.failed {
             return Err(BeginFault::Failed);
@@ -130,7 +133,8 @@ impl Transactions {
 
     /// Gives the transaction's snapshot up. A stranger is only spent.
     pub fn abort(&mut self, txn: Txn)
-        ensures { Aborts self.old txn self.new }
+        ensures is { Aborts self.old txn self.new }
+        ensures slots { KeepsSlots self.old self.new }
     {
         let parts = txn.spend();
         let _own = self.finish(&parts);
@@ -138,7 +142,8 @@ impl Transactions {
 
     /// Whether the ticket's commit is published. Only `Waiting` gives the ticket back.
     pub fn redeem(&mut self, ticket: Ticket) -> Redeemed
-        ensures { Redeems self.old ticket result self.new }
+        ensures is { Redeems self.old ticket result self.new }
+        ensures slots { KeepsSlots self.old self.new }
     {
         if ticket.mark() != self.mark {
             ticket.give_up();
@@ -177,6 +182,7 @@ impl Transactions {
     pub(crate) fn finish(&mut self, txn: &TxnParts) -> bool
         ensures own { result ≡ is_own_of self.old txn.now.mark txn.now.number txn.now.snapshot txn.now.writes.items }
         ensures new { self.new ≡ (if result then over self.old txn.now.number else self.old) }
+        ensures slots { KeepsSlots self.old self.new }
     {
         if !self.is_own(txn) {
             return false;

@@ -1,10 +1,12 @@
-use Rattle.std.proofs.Common.{◌≡◌, ◌≤◌, sym, ◌∙◌, ap, subst, arith}
-use Rattle.std.proofs.Common.{List, map}
+use Rattle.std.proofs.Common.{◌≡◌, ℕ, List, map, length, min, false, refl, sym, ◌∙◌, ap, subst, arith}
+use Rattle.std.proofs.lemmas.List.{length-map}
+use Rattle.status.specs.Header.{total}
+use Rattle.recovery.specs.declared.recovered.Recovered.{Recovered}
 use Rattle.recovery.specs.declared.recovered.CommitName.{CommitName}
 use Rattle.store.specs.Heads.{head_as}
-use Rattle.chains.specs.KeyWrites.{latest}
 use Rattle.group.specs.declared.commit_order.CommitHead.{CommitHead}
 use Rattle.group.specs.CommitOrder.{IsRisingAfter, last_time}
+use Rattle.status.specs.TurnState.{LogState}
 use Rattle.store.proofs.Opened.{rising-opened, last-opened}
 use Rattle.store.proofs.store.Store.open.Goals as goal
 
@@ -16,3 +18,25 @@ pub of_recovered-requires-clause-latest : goal.of_recovered-requires-clause-late
 of_recovered-requires-clause-latest g c =
     let last = ap last_time (c.in-Ok-heads_of.ensures ∙ ap (λ (names : List CommitName). map head_as names) c.deref.ensures.value) ∙ last-opened 0 c.in-Ok.recovered.commits.items in
     omega (arith, last, c.in-Ok.ensures.latest, c.in-Ok.ensures.last)
+
+pub of_recovered-requires-clause-room : goal.of_recovered-requires-clause-room
+of_recovered-requires-clause-room g c = omega (arith, c.slots-slots.ensures, ap (λ (l : LogState). l.slots) c.new-log.ensures, c.in-Ok.ensures.used.0, c.in-Ok.ensures.used.1)
+
+pub returns-clause-ok : goal.returns-clause-ok
+returns-clause-ok g c =
+    let r = c.in-Ok.recovered in
+    let heads_are : c.in-Ok-heads_of.heads.items ≡ map head_as r.commits.items = c.in-Ok-heads_of.ensures ∙ ap (λ (names : List CommitName). map head_as names) c.deref.ensures.value in
+    let all : min (total r.header) 65536 ≡ total r.header = omega (arith, c.in-Ok.ensures.used.1) in
+    let log_is : c.new-log.result ≡ logged r (total r.header) = c.new-log.ensures ∙ ap (λ (n : ℕ). logged r n) all in
+    let many : length (map head_as r.commits.items) ≡ length r.commits.items = length-map r.commits.items head_as in
+    let slots_are : c.slots-slots.result ≡ total r.header = c.slots-slots.ensures ∙ ap (λ (l : LogState). l.slots) log_is in
+    record {
+      recovered = r;
+      read = c.in-Ok.ensures.found;
+      new_is = rw (log_is, c.of_recovered.ensures, slots_are, heads_are, many) refl;
+      settled = c.in-Ok.ensures.settled;
+      refused = c.in-Ok.ensures.refused;
+    }
+  where
+    logged : Recovered → ℕ → LogState
+    logged r n = record { profile = r.header.profile; slots = n; used = r.used; writing = false }

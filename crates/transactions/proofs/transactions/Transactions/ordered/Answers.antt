@@ -1,4 +1,4 @@
-use Rattle.std.proofs.Common.{◌≡◌, refl, ap, sym, ◌∙◌, arith, length, suc}
+use Rattle.std.proofs.Common.{refl, ap, ◌∙◌, arith}
 use Rattle.transactions.specs.Values.{TransactionsValue, ordered}
 use Rattle.transactions.proofs.Orders.{versions_after-last}
 use Rattle.transactions.proofs.transactions.Transactions.ordered.Goals as goal

@@ -1,0 +1,8 @@
+use Rattle.std.proofs.Common.{◌≡◌, ℕ, List, Some, ap, sym, ◌∙◌}
+use Rattle.script.specs.Lines.{time_in}
+use Rattle.shell.proofs.actions.act.Goals as goal
+
+pub returns-in-Some-clause-done : goal.returns-in-Some-clause-done
+returns-in-Some-clause-done g c = λ zero.
+    let found : time_in c.in-At.time.now ≡ Some c.in-Some.time = ap (λ (text : List ℕ). time_in text) (sym c.as_bytes.ensures.value) ∙ sym c.in-Some.ensures in
+    rw (c.in-At.is, found) (c.ask.ensures.done zero)

@@ -1,0 +1,66 @@
+-- What an action does to the disk and writes, where the program's status is 0.
+use Rattle.std.specs.Prelude.{ℕ, ◌++◌, Bool, IsTrue, IfSome, Option, codes, MatchOption}
+use Rattle.std.specs.Fmt.{decimal}
+use Rattle.std.specs.Io.KnownBytes.{Appends}
+use Rattle.disk.specs.Calls.{DiskState}
+use Rattle.history.specs.declared.key.Key.{Key}
+use Rattle.recovery.specs.Format.{IsSlotCount, IsFormatted}
+use Rattle.store.specs.Values.{StoreValue}
+use Rattle.store.specs.Opens.{Opens}
+use Rattle.script.specs.Lines.{time_in}
+use Rattle.script.specs.declared.line.Line.TheVariants as line
+use Rattle.session.specs.Session.{State, fresh, Step, Closes}
+use Rattle.session.specs.Texts.{Text, text_of}
+use Rattle.session.specs.Run.{Run, lines_of}
+use Rattle.session.specs.declared.ending.Ending.TheVariants.{Whole}
+use Rattle.session.specs.declared.reply.Reply.{Reply}
+use Rattle.session.specs.declared.reply.Reply.TheVariants as reply
+use Rattle.words.specs.declared.action.Action.{Action}
+use Rattle.words.specs.declared.action.Action.TheVariants as action
+
+-- what is known of a writer's bytes, before and after
+pub record Output : Type 0 where
+  pub before : Option Text
+  pub after : Option Text
+
+abbrev pub Says : Output → Text → Type 0
+Says output text = Appends output.before output.after text
+
+-- an empty store is made, and its slots are said
+pub record Makes (tells : Bool) (old : DiskState) (slots : ℕ) (output : Output) (new : DiskState) : Type 0 where
+  pub count : IsSlotCount slots
+  pub formatted : IsTrue tells → IsFormatted slots old.areas new.areas
+  pub said : Says output (codes "formatted " ++ (decimal slots ++ codes "\n"))
+
+-- the store opens, and the script runs on it to the end of the input
+pub record Runs (tells : Bool) (old : DiskState) (input : Option Text) (output : Output) (new : DiskState) : Type 0 where
+  pub opened : StoreValue
+  pub opens : Opens tells old 1 opened
+  pub run : IfSome input (λ text. (out : Text) × Run tells 1 (fresh opened) (lines_of text) out (Whole, new) × Says output out)
+
+-- an empty store of 16 slots is made, and the script runs on it
+pub record RunsOnNew (tells : Bool) (old : DiskState) (input : Option Text) (output : Output) (new : DiskState) : Type 0 where
+  pub made : DiskState
+  pub formatted : IsTrue tells → IsFormatted 16 old.areas made.areas
+  pub runs : Runs tells made input output new
+
+abbrev pub IsAnswered : Reply → Type 0
+IsAnswered (reply.Refused fault) = ⊥
+IsAnswered _ = Unit {0}
+
+-- the store opens, and answers what stood in a record at a time
+pub record Asks (tells : Bool) (old : DiskState) (key : Key) (time : ℕ) (output : Output) (new : DiskState) : Type 0 where
+  pub opened : StoreValue
+  pub opens : Opens tells old 1 opened
+  pub answer : Reply
+  pub asked : State
+  pub step : Step tells (fresh opened) (line.At key time) answer asked
+  pub answered : IsAnswered answer
+  pub said : Says output (text_of answer)
+  pub closes : Closes asked new
+
+abbrev pub Acts : Bool → Action → DiskState → Option Text → Output → DiskState → Type 0
+Acts tells action.Example old input output new = RunsOnNew tells old input output new
+Acts tells (action.Format dir slots) old input output new = Makes tells old slots output new
+Acts tells (action.Run dir) old input output new = Runs tells old input output new
+Acts tells (action.At dir key time) old input output new = MatchOption (time_in time.now) ⊥ (λ t. Asks tells old key t output new)

@@ -1,0 +1,36 @@
+-- What an opened store holds, and why none is opened.
+use Rattle.std.specs.Prelude.{ℕ, ◌≡◌, Bool, false, IsTrue, [], length, map, None, Err}
+use Rattle.disk.specs.Areas.{image_of, settled_on}
+use Rattle.disk.specs.Calls.{DiskState}
+use Rattle.status.specs.Header.{total}
+use Rattle.recovery.specs.Faults.{IsImageFault}
+use Rattle.recovery.specs.Names.{refusals_at_opening}
+use Rattle.recovery.specs.ReadsImage.{IsReadFrom}
+use Rattle.recovery.specs.declared.fault.OpenFault.{OpenFault}
+use Rattle.recovery.specs.declared.recovered.Recovered.{Recovered}
+use Rattle.transactions.specs.declared.stage.GroupStage.TheVariants.{NoGroup}
+use Rattle.store.specs.Heads.{head_as}
+use Rattle.store.specs.Values.{StoreValue}
+
+-- the store on what was read: all commits of the log are published, and nothing waits
+abbrev pub opened_on : ℕ → Recovered → DiskState → StoreValue
+opened_on mark r disk = record {
+  transactions = record { mark = mark; opened = []; heads = map head_as r.commits.items; published = length r.commits.items; versions = r.chains; queue = []; usages = r.extents; slots = total r.header; used = r.used; group = 0; stage = NoGroup; floor = r.floor; failed = false };
+  log = record { profile = r.header.profile; slots = total r.header; used = r.used; writing = false };
+  turn = None;
+  disk = disk;
+}
+
+-- the disk is synced and then only read, and the store holds what was read
+pub record Opens (tells : Bool) (old : DiskState) (mark : ℕ) (v : StoreValue) : Type 0 where
+  pub recovered : Recovered
+  pub read : IsTrue tells → IsReadFrom (image_of old.areas) recovered
+  pub new_is : v ≡ opened_on mark recovered v.disk
+  pub settled : IsTrue tells → v.disk.areas ≡ settled_on (image_of old.areas)
+  pub refused : v.disk.refused ≡ old.refused
+
+-- the disk holds what it held
+pub record OpenRefuses (tells : Bool) (old : DiskState) (why : OpenFault) (new : DiskState) : Type 0 where
+  pub fault : IsTrue tells → IsImageFault (image_of old.areas) why
+  pub image : IsTrue tells → image_of new.areas ≡ image_of old.areas
+  pub refused : new.refused ≡ refusals_at_opening {T = Unit {0}} (Err why) old.refused

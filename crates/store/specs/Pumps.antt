@@ -1,0 +1,106 @@
+-- The steps of a group to the disk.
+use Rattle.std.specs.Prelude.{◌≡◌, ◌+◌, Bool, true, false, IsTrue, Option, Some, None, Result, Ok, Err, MatchBool, MatchOption, MatchResult}
+use Rattle.disk.specs.Areas.{Areas}
+use Rattle.disk.specs.Calls.{DiskState, Writes, Syncs, Counts, refused_answer}
+use Rattle.disk.specs.declared.area.Area.TheVariants.{Heap}
+use Rattle.disk.specs.declared.area.DeviceFault.{DeviceFault}
+use Rattle.wire.specs.declared.slot.Body.{Body}
+use Rattle.wire.specs.Spelling.{spelling}
+use Rattle.deltas.specs.Extents.{extent_start}
+use Rattle.status.specs.SlotCalls.{SlotStage, IsSlotCall}
+use Rattle.status.specs.SlotCalls as slots
+use Rattle.status.specs.TurnState.{TurnState, LogState}
+use Rattle.group.specs.declared.answers.Did.{Did}
+use Rattle.group.specs.declared.answers.Did.TheVariants as did
+use Rattle.group.specs.declared.answers.PumpFault.{PumpFault}
+use Rattle.group.specs.declared.answers.PumpFault.TheVariants as fault
+use Rattle.group.specs.declared.queued.StoredExtent.{StoredExtent}
+use Rattle.transactions.specs.Values.{TransactionsValue}
+use Rattle.transactions.specs.Steps.{next_step, grouped, next_extent, wrote_extent, at_stage, entries, IsCommitOf, published, broken}
+use Rattle.transactions.specs.declared.stage.GroupStage.TheVariants as stages
+use Rattle.transactions.specs.declared.stage.NextStep.{NextStep}
+use Rattle.transactions.specs.declared.stage.NextStep.TheVariants as step
+use Rattle.store.specs.Values.{StoreValue}
+
+-- what the disk answered in a step that was done, and in one that was not
+abbrev pub disk_answer : Result Did PumpFault → Result (Unit {0}) DeviceFault
+disk_answer (Ok what) = Ok tt
+disk_answer (Err why) = refused_answer
+
+-- the one device call of a step, which is counted
+pub record Calls (tells : Bool) (call : Result (Unit {0}) DeviceFault → Areas → Areas → Type 0) (result : Result Did PumpFault) (old new : DiskState) : Type 0 where
+  pub areas : IsTrue tells → call (disk_answer result) old.areas new.areas
+  pub counts : Counts (disk_answer result) old new
+
+-- a step between the device calls of a slot: it is done, or the device refused it and the store has failed
+pub record Steps (what : Did) (after : TransactionsValue) (old : StoreValue) (result : Result Did PumpFault) (new : StoreValue) : Type 0 where
+  pub answer : MatchResult result (λ said. (said ≡ what) × (new.transactions ≡ after)) (λ why. (why ≡ fault.Failed) × (new.transactions ≡ broken old.transactions))
+  pub log : new.log ≡ old.log
+  pub turn : new.turn ≡ old.turn
+
+-- the group's next extent is written to its place
+pub record WritesExtent (tells : Bool) (stored : StoredExtent) (old : StoreValue) (result : Result Did PumpFault) (new : StoreValue) : Type 0 where
+  pub call : Calls tells (Writes Heap (extent_start stored.extent) stored.image) result old.disk new.disk
+  pub steps : Steps did.WroteExtent (wrote_extent old.transactions) old result new
+
+pub record SyncsHeap (tells : Bool) (old : StoreValue) (result : Result Did PumpFault) (new : StoreValue) : Type 0 where
+  pub call : Calls tells (Syncs Heap) result old.disk new.disk
+  pub steps : Steps did.HeapSynced (at_stage stages.Stored old.transactions) old result new
+
+-- a store of these parts
+abbrev pub store_of : TransactionsValue → LogState → Option TurnState → DiskState → StoreValue
+store_of transactions log turn disk = record { transactions = transactions; log = log; turn = turn; disk = disk }
+
+-- what was done of a slot that is at this stage
+abbrev pub did_at : SlotStage → Did
+did_at slots.Begun = did.BodyWritten
+did_at slots.BodyWritten = did.BodyWritten
+did_at slots.BodySynced = did.BodySynced
+did_at slots.GateWritten = did.GateWritten
+did_at slots.Opened = did.GateWritten
+
+-- what a device call of a slot leads to: the last one publishes the group
+abbrev pub IsTurned : SlotStage → TurnState → StoreValue → Did → StoreValue → Type 0
+IsTurned slots.Begun turn old what new = (what ≡ did.BodyWritten) × (new.transactions ≡ old.transactions) × (new.log ≡ old.log) × (new.turn ≡ Some (record turn { stage = slots.BodyWritten }))
+IsTurned slots.BodyWritten turn old what new = (what ≡ did.BodySynced) × (new.transactions ≡ old.transactions) × (new.log ≡ old.log) × (new.turn ≡ Some (record turn { stage = slots.BodySynced }))
+IsTurned slots.BodySynced turn old what new = (what ≡ did.GateWritten) × (new.transactions ≡ old.transactions) × (new.log ≡ old.log) × (new.turn ≡ Some (record turn { stage = slots.GateWritten }))
+IsTurned slots.GateWritten turn old what new = (what ≡ did.Published old.transactions.group) × (new.transactions ≡ published old.transactions)
+    × (new.log ≡ record old.log { used = turn.number + 1; writing = false }) × (new.turn ≡ None)
+IsTurned slots.Opened turn old what new = ⊥
+
+-- a refused call spends the slot's turn, and the slot stays in the writing
+pub record TurnFails (old : StoreValue) (why : PumpFault) (new : StoreValue) : Type 0 where
+  pub fault : why ≡ fault.Failed
+  pub transactions : new.transactions ≡ broken old.transactions
+  pub log : new.log ≡ old.log
+  pub turn : new.turn ≡ None
+
+-- the next device call of a slot in the writing
+pub record TurnsSlot (tells : Bool) (turn : TurnState) (old : StoreValue) (result : Result Did PumpFault) (new : StoreValue) : Type 0 where
+  pub call : Calls tells (IsSlotCall turn.number turn.body turn.stage) result old.disk new.disk
+  pub answer : MatchResult result (λ what. IsTurned turn.stage turn old what new) (λ why. TurnFails old why new)
+
+-- the group's slot is in the writing
+abbrev pub begun : StoreValue → StoreValue
+begun v = record v { transactions = at_stage stages.Turning v.transactions; log = record v.log { writing = true } }
+
+-- the slot that comes next is begun: it names the group's commits
+pub record BeginsSlot (tells : Bool) (old : StoreValue) (result : Result Did PumpFault) (new : StoreValue) : Type 0 where
+  pub body : Body
+  pub commit : IsCommitOf (entries old.transactions) body
+  pub turns : TurnsSlot tells (record { number = old.log.used; body = spelling old.log.profile (record { number = old.log.used; body = body }); stage = slots.Begun }) (begun old) result new
+
+-- where no group stands and commits wait, one begins
+abbrev pub started : StoreValue → StoreValue
+started v = record v { transactions = grouped v.transactions }
+
+abbrev pub TakesStep : Bool → NextStep → StoreValue → Result Did PumpFault → StoreValue → Type 0
+TakesStep tells step.Idle old result new = (result ≡ Ok did.Idle) × (new ≡ old)
+TakesStep tells step.WriteExtent old result new = MatchOption (next_extent old.transactions) ⊥ (λ stored. WritesExtent tells stored old result new)
+TakesStep tells step.SyncHeap old result new = SyncsHeap tells old result new
+TakesStep tells step.BeginSlot old result new = BeginsSlot tells old result new
+TakesStep tells step.AdvanceSlot old result new = MatchOption old.turn ⊥ (λ turn. TurnsSlot tells turn old result new)
+
+-- a failed store writes nothing; any other takes the next step
+abbrev pub Pumps : Bool → StoreValue → Result Did PumpFault → StoreValue → Type 0
+Pumps tells old result new = MatchBool old.transactions.failed ((result ≡ Err fault.Failed) × (new ≡ old)) (TakesStep tells (next_step old.transactions) (started old) result new)

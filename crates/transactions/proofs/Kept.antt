@@ -1,0 +1,236 @@
+-- What each step keeps of the order of the transactions.
+use Rattle.std.proofs.Common.{◌≡◌, ℕ, zero, suc, ◌+◌, ◌-◌, ◌<◌, ◌≤◌, ◌==◌, nat_lt, min, cond, true, false, List, [], ◌∷◌, ◌++◌, length, take, drop, slice_get, Option, None, Some, IsSome, refl, arith, ap, sym, subst, inl, inr}
+use Rattle.std.specs.List.{AllByRecursion, flat_map}
+use Rattle.std.proofs.lemmas.Bool.{cases_lt}
+use Rattle.std.proofs.lemmas.Bool.Decides.{nat_tests}
+use Rattle.std.proofs.lemmas.List.{length-drop}
+use Rattle.chains.specs.KeyWrites.{KeyWrites, latest}
+use Rattle.extents.specs.Usages.{AreOut}
+use Rattle.group.specs.CommitOrder as orders
+use Rattle.group.specs.Queued.{QueuedValue, numbers_of}
+use Rattle.transactions.specs.declared.stage.GroupStage.{GroupStage}
+use Rattle.transactions.specs.declared.stage.GroupStage.TheVariants.{NoGroup, Storing, Stored, Turning}
+use Rattle.transactions.specs.declared.stage.NextStep.TheVariants as steps
+use Rattle.transactions.specs.Values.{TransactionsValue, versions_after, claimed, claimed_by, is_turning}
+use Rattle.transactions.specs.Order.{StageFits, HasExtent, IsInOrder}
+use Rattle.transactions.specs.Steps.{step_of, due, grouped, next_extent, extent_of, extent_at, place_behind, stage_behind, wrote_extent, at_stage, published}
+
+-- ---- commits that wait
+
+pub has_extent : (queue : List QueuedValue) (k : ℕ) (q : QueuedValue) → AllByRecursion HasExtent queue → slice_get queue k ≡ Some q → 0 < length q.stored
+has_extent [] k q all found = absurd cc
+has_extent (x ∷ xs) zero q all found = let same : x ≡ q = cc in subst (λ (z : QueuedValue). 0 < length z.stored) same all.0
+has_extent (x ∷ xs) (suc k) q all found = has_extent xs k q all.1 found
+
+pub all-drop : (n : ℕ) (queue : List QueuedValue) → AllByRecursion HasExtent queue → AllByRecursion HasExtent (drop n queue)
+all-drop zero queue all = all
+all-drop (suc n) [] all = tt
+all-drop (suc n) (x ∷ xs) all = all-drop n xs all.1
+
+pub all-push : (queue : List QueuedValue) (q : QueuedValue) → AllByRecursion HasExtent queue → HasExtent q → AllByRecursion HasExtent (queue ++ q ∷ [])
+all-push [] q all last = (last, tt)
+all-push (x ∷ xs) q all last = (all.0, all-push xs q all.1 last)
+
+pub versions_after-split : (v : List KeyWrites) (n : ℕ) (qs : List QueuedValue) → versions_after (versions_after v (take n qs)) (drop n qs) ≡ versions_after v qs
+versions_after-split v zero qs = refl
+versions_after-split v (suc n) [] = refl
+versions_after-split v (suc n) (x ∷ xs) = versions_after-split x.after n xs
+
+some_at : {A : Type 0} (xs : List A) (k : ℕ) → k < length xs → IsSome (slice_get xs k)
+some_at [] k low = absurd (omega arith)
+some_at (x ∷ xs) zero low = refl
+some_at (x ∷ xs) (suc k) low = some_at xs k (omega arith)
+
+-- ---- stages
+
+-- a stage that asks for an extent is at a member
+step-write : (member extent group : ℕ) → step_of (Storing member extent) group ≡ steps.WriteExtent → member < group
+step-write member extent group asks = elim (cases_lt member group) [
+  | inl less ↦ less
+  | inr behind ↦ let no : nat_lt member group ≡ false = grind (arith, nat_tests) in let other : step_of (Storing member extent) group ≡ steps.SyncHeap = rw no refl in absurd cc
+]
+
+-- what a stage asks for is there
+extent_is_there : (s : GroupStage) (group : ℕ) (queue : List QueuedValue) → group ≤ length queue → StageFits s group queue → step_of s group ≡ steps.WriteExtent → IsSome (extent_of queue s)
+extent_is_there NoGroup group queue within fits asks = absurd cc
+extent_is_there Stored group queue within fits asks = absurd cc
+extent_is_there Turning group queue within fits asks = absurd cc
+extent_is_there (Storing member extent) group queue within fits asks =
+    let less : member < group = step-write member extent group asks in
+    at_member (slice_get queue member) refl less
+  where
+    at_member : (o : Option QueuedValue) → slice_get queue member ≡ o → member < group → IsSome (extent_at o extent)
+    at_member None none less = absurd (let some : IsSome (slice_get queue member) = some_at queue member (omega (arith, within)) in let not : IsSome {T = QueuedValue} None = subst (λ (o : Option QueuedValue). IsSome o) none some in cc)
+    at_member (Some q) found less = some_at q.stored extent (fits.2 less q found)
+
+pub next_extent-some : (v : TransactionsValue) → IsInOrder v → due v ≡ steps.WriteExtent → IsSome (next_extent v)
+next_extent-some v order asks = extent_is_there v.stage v.group v.queue order.group_within order.stage_fits asks
+
+-- the next place fits too
+place_behind-fits : (group : ℕ) (queue : List QueuedValue) (member extent : ℕ) (o : Option QueuedValue) → slice_get queue member ≡ o → AllByRecursion HasExtent queue → 0 < group → member < group → StageFits (place_behind o member extent) group queue
+place_behind-fits group queue member extent None found all some less = (some, omega arith, λ low q there. has_extent queue (member + 1) q all there)
+place_behind-fits group queue member extent (Some q) found all some less = elim (cases_lt (extent + 1) (length q.stored)) [
+  | inl more ↦
+      let test : nat_lt (extent + 1) (length q.stored) ≡ true = grind (arith, nat_tests) in
+      rw test (some, omega arith, λ low p there. let same : q ≡ p = cc in subst (λ (z : QueuedValue). extent + 1 < length z.stored) same more)
+  | inr last ↦
+      let test : nat_lt (extent + 1) (length q.stored) ≡ false = grind (arith, nat_tests) in
+      rw test (some, omega arith, λ low p there. has_extent queue (member + 1) p all there)
+]
+
+wrote-fits : (s : GroupStage) (group : ℕ) (queue : List QueuedValue) → AllByRecursion HasExtent queue → StageFits s group queue → step_of s group ≡ steps.WriteExtent → StageFits (stage_behind queue s) group queue
+wrote-fits NoGroup group queue all fits asks = absurd cc
+wrote-fits Stored group queue all fits asks = absurd cc
+wrote-fits Turning group queue all fits asks = absurd cc
+wrote-fits (Storing member extent) group queue all fits asks = place_behind-fits group queue member extent (slice_get queue member) refl all fits.0 (step-write member extent group asks)
+
+claimed-place : (o : Option QueuedValue) (member extent group waiting : ℕ) → claimed_by (place_behind o member extent) group waiting ≡ waiting
+claimed-place None member extent group waiting = refl
+claimed-place (Some q) member extent group waiting =
+    elim (nat_lt (extent + 1) (length q.stored)) as (λ b. claimed_by (cond b (Storing member (extent + 1)) (Storing (member + 1) 0)) group waiting ≡ waiting) [ true ↦ refl | false ↦ refl ]
+
+claimed-behind : (queue : List QueuedValue) (s : GroupStage) (group waiting : ℕ) → claimed_by (stage_behind queue s) group waiting ≡ claimed_by s group waiting
+claimed-behind queue NoGroup group waiting = refl
+claimed-behind queue Stored group waiting = refl
+claimed-behind queue Turning group waiting = refl
+claimed-behind queue (Storing member extent) group waiting = claimed-place (slice_get queue member) member extent group waiting
+
+sync-fits : (s : GroupStage) (group : ℕ) (queue : List QueuedValue) → StageFits s group queue → step_of s group ≡ steps.SyncHeap → 0 < group
+sync-fits NoGroup group queue fits asks = absurd cc
+sync-fits Stored group queue fits asks = absurd cc
+sync-fits Turning group queue fits asks = absurd cc
+sync-fits (Storing member extent) group queue fits asks = fits.0
+
+sync-claimed : (s : GroupStage) (group waiting : ℕ) → step_of s group ≡ steps.SyncHeap → claimed_by s group waiting ≡ waiting
+sync-claimed NoGroup group waiting asks = absurd cc
+sync-claimed Stored group waiting asks = absurd cc
+sync-claimed Turning group waiting asks = absurd cc
+sync-claimed (Storing member extent) group waiting asks = refl
+
+begin-is : (s : GroupStage) (group : ℕ) → step_of s group ≡ steps.BeginSlot → s ≡ Stored
+begin-is NoGroup group asks = absurd cc
+begin-is Stored group asks = refl
+begin-is Turning group asks = absurd cc
+begin-is (Storing member extent) group asks =
+    elim (cases_lt member group) [
+      | inl less ↦ let test : nat_lt member group ≡ true = grind (arith, nat_tests) in let other : step_of (Storing member extent) group ≡ steps.WriteExtent = rw test refl in absurd cc
+      | inr behind ↦ let test : nat_lt member group ≡ false = grind (arith, nat_tests) in let other : step_of (Storing member extent) group ≡ steps.SyncHeap = rw test refl in absurd cc
+    ]
+
+pub advance-is : (s : GroupStage) (group : ℕ) → step_of s group ≡ steps.AdvanceSlot → s ≡ Turning
+advance-is NoGroup group asks = absurd cc
+advance-is Stored group asks = absurd cc
+advance-is Turning group asks = refl
+advance-is (Storing member extent) group asks =
+    elim (cases_lt member group) [
+      | inl less ↦ let test : nat_lt member group ≡ true = grind (arith, nat_tests) in let other : step_of (Storing member extent) group ≡ steps.WriteExtent = rw test refl in absurd cc
+      | inr behind ↦ let test : nat_lt member group ≡ false = grind (arith, nat_tests) in let other : step_of (Storing member extent) group ≡ steps.SyncHeap = rw test refl in absurd cc
+    ]
+
+-- ---- the steps
+
+pub slot_left : (v : TransactionsValue) → IsInOrder v → due v ≡ steps.BeginSlot → v.used < v.slots
+slot_left v order asks =
+    let is : v.stage ≡ Stored = begin-is v.stage v.group asks in
+    let fits : 0 < v.group = subst (λ (s : GroupStage). StageFits s v.group v.queue) is order.stage_fits in
+    let claims : claimed v ≡ length v.queue = ap (λ (s : GroupStage). claimed_by s v.group (length v.queue)) is in
+    omega (arith, fits, claims, order.room, order.group_within)
+
+no_group-claims : (s : GroupStage) (group : ℕ) (queue : List QueuedValue) → StageFits s group queue → group ≡ 0 → claimed_by s group (length queue) ≡ length queue
+no_group-claims NoGroup group queue fits none = refl
+no_group-claims Stored group queue fits none = refl
+no_group-claims Turning group queue fits none = absurd (omega (arith, fits, none))
+no_group-claims (Storing member extent) group queue fits none = refl
+
+-- where no group stands no slot is in the writing
+pub no_group-turns : (s : GroupStage) (group : ℕ) (queue : List QueuedValue) → StageFits s group queue → group ≡ 0 → is_turning s ≡ false
+no_group-turns NoGroup group queue fits none = refl
+no_group-turns Stored group queue fits none = refl
+no_group-turns Turning group queue fits none = absurd (omega (arith, fits, none))
+no_group-turns (Storing member extent) group queue fits none = refl
+
+group_begins : (v : TransactionsValue) → IsInOrder v → v.group ≡ 0 → 0 < length v.queue → IsInOrder (record v { group = min (length v.queue) 16; stage = Storing 0 0 })
+group_begins v order none some =
+    let claims = no_group-claims v.stage v.group v.queue order.stage_fits none in record {
+      split = order.split;
+      latest = order.latest;
+      group_within = omega arith;
+      group_few = omega arith;
+      stage_fits = (omega arith, omega arith, λ low q there. has_extent v.queue 0 q order.stored there);
+      stored = order.stored;
+      out = order.out;
+      room = omega (arith, claims, order.room);
+      slots_few = order.slots_few;
+    }
+
+pub keeps-grouped : (v : TransactionsValue) → IsInOrder v → IsInOrder (grouped v)
+keeps-grouped v order =
+    elim (cases_lt 0 v.group) [
+      | inl some ↦ let test : (v.group == 0) ≡ false = grind (arith, nat_tests) in rw test order
+      | inr none ↦
+          let test : (v.group == 0) ≡ true = grind (arith, nat_tests) in
+          elim (cases_lt 0 (length v.queue)) [
+            | inl waits ↦ let waiting : nat_lt 0 (length v.queue) ≡ true = grind (arith, nat_tests) in rw (test, waiting) (group_begins v order (omega arith) waits)
+            | inr idle ↦ let empty : nat_lt 0 (length v.queue) ≡ false = grind (arith, nat_tests) in rw (test, empty) order
+          ]
+    ]
+
+pub keeps-wrote : (v : TransactionsValue) → IsInOrder v → due v ≡ steps.WriteExtent → IsInOrder (wrote_extent v)
+keeps-wrote v order asks =
+    let claims = claimed-behind v.queue v.stage v.group (length v.queue) in record {
+      split = order.split;
+      latest = order.latest;
+      group_within = order.group_within;
+      group_few = order.group_few;
+      stage_fits = wrote-fits v.stage v.group v.queue order.stored order.stage_fits asks;
+      stored = order.stored;
+      out = order.out;
+      room = omega (arith, claims, order.room);
+      slots_few = order.slots_few;
+    }
+
+pub keeps-synced : (v : TransactionsValue) → IsInOrder v → due v ≡ steps.SyncHeap → IsInOrder (at_stage Stored v)
+keeps-synced v order asks =
+    let claims = sync-claimed v.stage v.group (length v.queue) asks in record {
+      split = order.split;
+      latest = order.latest;
+      group_within = order.group_within;
+      group_few = order.group_few;
+      stage_fits = sync-fits v.stage v.group v.queue order.stage_fits asks;
+      stored = order.stored;
+      out = order.out;
+      room = omega (arith, claims, order.room);
+      slots_few = order.slots_few;
+    }
+
+pub keeps-begun : (v : TransactionsValue) → IsInOrder v → due v ≡ steps.BeginSlot → IsInOrder (at_stage Turning v)
+keeps-begun v order asks =
+    let is : v.stage ≡ Stored = begin-is v.stage v.group asks in
+    let fits : 0 < v.group = subst (λ (s : GroupStage). StageFits s v.group v.queue) is order.stage_fits in
+    let claims : claimed v ≡ length v.queue = ap (λ (s : GroupStage). claimed_by s v.group (length v.queue)) is in record {
+      split = order.split;
+      latest = order.latest;
+      group_within = order.group_within;
+      group_few = order.group_few;
+      stage_fits = fits;
+      stored = order.stored;
+      out = order.out;
+      room = omega (arith, fits, claims, order.room, order.group_within);
+      slots_few = order.slots_few;
+    }
+
+pub keeps-published : (v : TransactionsValue) → IsInOrder v → due v ≡ steps.AdvanceSlot → AreOut (published v).usages (flat_map numbers_of (drop v.group v.queue)) → IsInOrder (published v)
+keeps-published v order asks out =
+    let is : v.stage ≡ Turning = advance-is v.stage v.group asks in
+    let claims : claimed v ≡ 1 + (length v.queue - v.group) = ap (λ (s : GroupStage). claimed_by s v.group (length v.queue)) is in
+    let rest = length-drop v.group v.queue in record {
+      split = omega (arith, order.split, rest, order.group_within);
+      latest = subst (λ (m : List KeyWrites). latest m ≤ orders.last_time v.heads) (sym (versions_after-split v.versions v.group v.queue)) order.latest;
+      group_within = omega arith;
+      group_few = omega arith;
+      stage_fits = refl;
+      stored = all-drop v.group v.queue order.stored;
+      out = out;
+      room = omega (arith, claims, rest, order.room, order.group_within);
+      slots_few = order.slots_few;
+    }

@@ -1,0 +1,275 @@
+//! Commits, one after another and beside each other.
+use crate::bytes::{has_extents, spells};
+use crate::dialogue::{says, says_later, stored};
+use disk::Area;
+use std::test::Fail;
+
+#[test]
+fn one_record_step_by_step(rt: HostRuntime) -> Result<(), Fail> {
+    says(
+        &rt,
+        rt.alloc(),
+        "at 1 7 0 | none
+at 1 7 1 | refused: not yet 0
+begin t | snapshot 0
+put t 1 7 61 | ok
+get t 1 7 | value 61
+submit t 9 100 | queued
+pump | wrote extent
+pump | heap synced
+pump | body written
+pump | body synced
+pump | gate written
+redeem t | waiting
+at 1 7 100 | refused: not yet 0
+pump | published 1
+pump | idle
+redeem t | done 100
+at 1 7 99 | none
+at 1 7 100 | value 61
+at 1 7 101 | refused: not yet 100
+times 9 | times 100
+reopen | last 100 floor 0
+at 1 7 99 | none
+at 1 7 100 | value 61
+at 1 7 101 | refused: not yet 100
+times 9 | times 100
+",
+    )
+}
+
+#[test]
+fn commit_times_rise(rt: HostRuntime) -> Result<(), Fail> {
+    says(
+        &rt,
+        rt.alloc(),
+        "begin a | snapshot 0
+put a 1 7 61 | ok
+submit a 1 100 | queued
+flush | idle
+redeem a | done 100
+begin a | snapshot 100
+put a 1 7 62 | ok
+submit a 2 100 | queued
+flush | idle
+redeem a | done 101
+begin a | snapshot 101
+put a 1 7 63 | ok
+submit a 3 50 | queued
+flush | idle
+redeem a | done 102
+at 1 7 100 | value 61
+at 1 7 101 | value 62
+at 1 7 102 | value 63
+",
+    )
+}
+
+#[test]
+fn no_commit_is_later_than_the_last_time(rt: HostRuntime) -> Result<(), Fail> {
+    says(
+        &rt,
+        rt.alloc(),
+        "begin a | snapshot 0
+put a 1 7 61 | ok
+submit a 1 9223372036854775808 | refused: clock end
+begin a | snapshot 0
+begin b | snapshot 0
+begin c | snapshot 0
+put a 1 7 61 | ok
+put b 1 8 62 | ok
+put c 1 8 62 | ok
+submit a 1 9223372036854775807 | queued
+submit b 1 0 | refused: clock end
+submit c 1 9223372036854775807 | refused: clock end
+flush | idle
+redeem a | done 9223372036854775807
+begin d | snapshot 9223372036854775807
+put d 1 8 62 | ok
+submit d 1 0 | refused: clock end
+begin e | snapshot 9223372036854775807
+submit e 1 0 | readonly 9223372036854775807
+at 1 7 9223372036854775807 | value 61
+at 1 7 9223372036854775808 | refused: not yet 9223372036854775807
+reopen | last 9223372036854775807 floor 0
+",
+    )
+}
+
+#[test]
+fn the_first_of_two_writers_wins(rt: HostRuntime) -> Result<(), Fail> {
+    says(
+        &rt,
+        rt.alloc(),
+        "begin a | snapshot 0
+begin b | snapshot 0
+put a 1 7 61 | ok
+put b 1 7 62 | ok
+submit a 1 100 | queued
+submit b 2 100 | refused: conflict 1 7
+redeem b | refused: name
+flush | idle
+redeem a | done 100
+at 1 7 100 | value 61
+times 1 | times 100
+times 2 | times
+",
+    )
+}
+
+#[test]
+fn a_conflict_names_the_least_key(rt: HostRuntime) -> Result<(), Fail> {
+    says(
+        &rt,
+        rt.alloc(),
+        "begin t | snapshot 0
+put t 1 9 61 | ok
+put t 1 3 61 | ok
+put t 1 7 61 | ok
+begin a | snapshot 0
+put a 1 9 62 | ok
+submit a 1 100 | queued
+begin b | snapshot 0
+put b 1 7 62 | ok
+submit b 1 110 | queued
+flush | idle
+submit t 1 120 | refused: conflict 1 7
+at 1 3 110 | none
+",
+    )
+}
+
+#[test]
+fn a_deletion_conflicts(rt: HostRuntime) -> Result<(), Fail> {
+    says_later(
+        &rt,
+        rt.alloc(),
+        "begin a | snapshot 130
+begin b | snapshot 130
+begin c | snapshot 130
+del a 1 7 | ok
+put b 1 7 64 | ok
+del c 1 7 | ok
+submit a 1 0 | queued
+submit b 1 0 | refused: conflict 1 7
+flush | idle
+submit c 1 0 | refused: conflict 1 7
+at 1 7 131 | none
+",
+    )
+}
+
+#[test]
+fn write_skew_stands(rt: HostRuntime) -> Result<(), Fail> {
+    says(
+        &rt,
+        rt.alloc(),
+        "begin a | snapshot 0
+put a 1 1 78 | ok
+put a 1 2 79 | ok
+submit a 1 100 | queued
+flush | idle
+begin b | snapshot 100
+begin c | snapshot 100
+get b 1 1 | value 78
+get c 1 2 | value 79
+put b 1 2 62 | ok
+put c 1 1 63 | ok
+submit b 2 0 | queued
+submit c 2 0 | queued
+flush | idle
+redeem b | done 101
+redeem c | done 102
+at 1 1 102 | value 63
+at 1 2 102 | value 62
+times 2 | times 101 102
+",
+    )
+}
+
+#[test]
+fn nothing_written_uses_no_slot(rt: HostRuntime) -> Result<(), Fail> {
+    let mut disk = stored(
+        &rt,
+        rt.alloc(),
+        "begin t | snapshot 0
+put t 1 7 61 | ok
+del t 1 7 | ok
+get t 1 7 | none
+submit t 9 100 | readonly 0
+redeem t | refused: name
+pump | idle
+begin t | snapshot 0
+put t 1 7 61 | ok
+abort t | ok
+flush | idle
+times 9 | times
+",
+    )?;
+    has_extents(&rt, rt.alloc(), &mut disk, &[])?;
+    spells(&rt, rt.alloc(), &mut disk, Area::Status, 512, "..z 8192")
+}
+
+#[test]
+fn what_is_absent_is_not_deleted(rt: HostRuntime) -> Result<(), Fail> {
+    says_later(
+        &rt,
+        rt.alloc(),
+        "begin t | snapshot 130
+del t 1 8 | refused: missing
+get t 1 7 | value 63
+del t 1 7 | ok
+del t 1 7 | refused: missing
+get t 1 7 | none
+submit t 5 140 | queued
+flush | idle
+redeem t | done 140
+at 1 7 139 | value 63
+at 1 7 140 | none
+begin t | snapshot 140
+del t 1 7 | refused: missing
+submit t 5 150 | readonly 140
+",
+    )
+}
+
+#[test]
+fn what_stood_at_each_time(rt: HostRuntime) -> Result<(), Fail> {
+    says_later(
+        &rt,
+        rt.alloc(),
+        "at 1 7 99 | none
+at 1 7 100 | value 61
+at 1 7 109 | value 61
+at 1 7 110 | value 62
+at 1 7 119 | value 62
+at 1 7 120 | none
+at 1 7 129 | none
+at 1 7 130 | value 63
+at 1 7 131 | refused: not yet 130
+at 2 7 130 | none
+times 1 | times 100
+times 3 | times 120
+times 5 | times
+",
+    )
+}
+
+#[test]
+fn a_transaction_reads_what_is_published(rt: HostRuntime) -> Result<(), Fail> {
+    says_later(
+        &rt,
+        rt.alloc(),
+        "begin a | snapshot 130
+put a 1 7 64 | ok
+submit a 5 140 | queued
+begin b | snapshot 130
+get b 1 7 | value 63
+flush | idle
+get b 1 7 | value 63
+begin c | snapshot 140
+get c 1 7 | value 64
+redeem a | done 140
+",
+    )
+}

@@ -1,0 +1,26 @@
+//! Worked examples of the whole program: scripts with their answers, stores as bytes, stops, and
+//! refusals of the disk. There is nothing here but tests.
+#![tactic(auto)]
+
+#[cfg(test)]
+mod bad_input;
+#[cfg(test)]
+mod bytes;
+#[cfg(test)]
+mod calls;
+#[cfg(test)]
+mod commits;
+#[cfg(test)]
+mod dialogue;
+#[cfg(test)]
+mod groups;
+#[cfg(test)]
+mod limits;
+#[cfg(test)]
+mod names;
+#[cfg(test)]
+mod records;
+#[cfg(test)]
+mod refused_calls;
+#[cfg(test)]
+mod stops;

@@ -1,0 +1,66 @@
+//! The limits of values and of write sets.
+use crate::bytes::has_extents;
+use crate::dialogue::stored_by_parts;
+use std::test::Fail;
+
+#[test]
+fn a_value_has_its_limits(rt: HostRuntime) -> Result<(), Fail> {
+    let parts = [(
+        "begin t | snapshot 0
+put t 1 7A | ok
+put t 1 8A | ok
+put t 1 9 | refused: bad value
+put t 1 9B | refused: bad value
+put t 1 9C | refused: bad value
+get t 1 7 | valueA
+submit t 1 100 | queued
+pump | wrote extent
+pump | wrote extent
+flush | idle
+at 1 8 100 | valueA
+at 1 9 100 | none
+reopen | last 100 floor 0
+at 1 8 100 | valueA
+",
+        1,
+    )];
+    let mut disk = stored_by_parts(&rt, rt.alloc(), 16, parts.as_slice())?;
+    let extents = [
+        "01000000 02000000 0c100000 00000000",
+        "02000000 00000000 0c100000 00000000",
+    ];
+    has_extents(&rt, rt.alloc(), &mut disk, extents.as_slice())
+}
+
+#[test]
+fn a_write_set_has_its_limit(rt: HostRuntime) -> Result<(), Fail> {
+    let parts = [
+        ("begin t | snapshot 0\n", 1),
+        ("put t 1 # 61 | ok\n", 1024),
+        (
+            "put t 1 1024 61 | refused: too many keys
+put t 1 5 61 | ok
+submit t 1 100 | queued
+pump | wrote extent
+pump | wrote extent
+pump | heap synced
+pump | body written
+pump | body synced
+pump | gate written
+pump | published 1
+pump | idle
+reopen | last 100 floor 0
+at 1 0 100 | value 61
+at 1 1023 100 | value 61
+at 1 1024 100 | none
+",
+            1,
+        ),
+    ];
+    let mut disk = stored_by_parts(&rt, rt.alloc(), 16, parts.as_slice())?;
+    let extents = [
+        "01000000 02000000 f01f0000 00000000",
+        "02000000 00000000 10180000 00000000",
+    ];
+    has_extents(&rt, rt.alloc(), &mut disk, extents.as_slice())
+}
