@@ -149,10 +149,11 @@ fn with_own_writes(rt: &impl Abort, alloc: Global, store: &mut Store<MemDisk>) -
 
 /// Whether records 3 and 5 were found.
 fn are_three_and_five(found: &[(u64, SharedValue)]) -> bool {
-    match found {
-        [(3, first), (5, second)] => is_field(first, b"a") && is_field(second, b"b"),
-        _ => false,
+    if found.len() != 2 {
+        return false;
     }
+    let are_records = found[0].0 == 3 && found[1].0 == 5;
+    are_records && is_field(&found[0].1, b"a") && is_field(&found[1].1, b"b")
 }
 
 #[test]
