@@ -1,0 +1,64 @@
+-- Conflicts in memory are those of the commit order.
+use Rattle.std.proofs.Common.{◌≡◌, ℕ, ◌≤◌, ◌&&◌, ◌||◌, nat_lt, Bool, true, false, cond, List, [], ◌∷◌, ◌++◌, find, Option, None, Some, refl, arith, ap, sym, subst, ◌∙◌, append_assoc, append-nil}
+use Rattle.std.proofs.lemmas.Bool.Decides.{nat_tests}
+use Rattle.history.specs.declared.key.Key.{Key}
+use Rattle.history.specs.declared.time.TimedWrite.{TimedWrite}
+use Rattle.history.specs.Key.{write_in}
+use Rattle.history.specs.Histories as histories
+use Rattle.history.specs.Histories.{Commit, History, timed_write, HasRisingTimes}
+use Rattle.history.specs.Conflicts.{is_written_after, first_conflict}
+use Rattle.image.specs.Values.{Value}
+use Rattle.chains.specs.KeyWrites.{KeyWrites, writes_of}
+use Rattle.chains.specs.Writes.{last_time, last_time_after}
+use Rattle.group.specs.Queued.{QueuedValue}
+use Rattle.transactions.specs.Values.{versions_after}
+use Rattle.standing.specs.Standing.{HasWrites, AllWait}
+
+-- the last write of a key is later than a time exactly where a commit later than it wrote the key
+later-written : (s before : ℕ) (h : History Value) (key : Key) → HasRisingTimes before h → nat_lt s (last_time_after before (histories.writes_of h key)) ≡ (nat_lt s before || is_written_after h s key)
+later-written s before [] key rising = elim (nat_lt s before) as (λ b. b ≡ (b || false)) [ true ↦ refl | false ↦ refl ]
+later-written s before (c ∷ cs) key rising = by-write (write_in c.writes key) refl (λ up. later-written s before cs key up) (later-written s c.time cs key rising.2)
+  where
+    lower : (t : ℕ) (h : History Value) → before ≤ t → HasRisingTimes t h → HasRisingTimes before h
+    lower t [] le up = tt
+    lower t (d ∷ ds) le up = (omega (arith, up.0), up.1, up.2)
+
+    late : (b d r : Bool) → (b ≡ true → d ≡ true) → (d || r) ≡ (b || ((d && true) || r))
+    late true true r then = refl
+    late true false r then = absurd (let is = then refl in cc)
+    late false true r then = refl
+    late false false r then = refl
+
+    skip : (b d r : Bool) → (b || r) ≡ (b || ((d && false) || r))
+    skip true d r = refl
+    skip false true r = refl
+    skip false false r = refl
+
+    by-write : (o : Option (Option Value)) → write_in c.writes key ≡ o
+        → (HasRisingTimes before cs → nat_lt s (last_time_after before (histories.writes_of cs key)) ≡ (nat_lt s before || is_written_after cs s key))
+        → nat_lt s (last_time_after c.time (histories.writes_of cs key)) ≡ (nat_lt s c.time || is_written_after cs s key)
+        → nat_lt s (last_time_after before (histories.writes_of (c ∷ cs) key)) ≡ (nat_lt s before || is_written_after (c ∷ cs) s key)
+    by-write None none passed met = rw none (passed (lower c.time cs (omega (arith, rising.0)) rising.2) ∙ skip (nat_lt s before) (nat_lt s c.time) (is_written_after cs s key))
+    by-write (Some w) some passed met =
+        let order : nat_lt s before ≡ true → nat_lt s c.time ≡ true = λ early. let up = rising.0 in grind (arith, nat_tests) in
+        rw some (met ∙ late (nat_lt s before) (nat_lt s c.time) (is_written_after cs s key) order)
+
+pub key-later : (s : ℕ) (h : History Value) (key : Key) → HasRisingTimes 0 h → nat_lt s (last_time (histories.writes_of h key)) ≡ is_written_after h s key
+key-later s h key rising = later-written s 0 h key rising ∙ (let none : nat_lt s 0 ≡ false = grind (arith, nat_tests) in rw none refl)
+
+find-same : (p q : Key → Bool) (keys : List Key) → ((key : Key) → p key ≡ q key) → find p keys ≡ find q keys
+find-same p q [] same = refl
+find-same p q (k ∷ ks) same = rw (same k) (ap (λ (o : Option Key). cond (q k) (Some k) o) (find-same p q ks same))
+
+pub conflicts-same : (s : ℕ) (versions : List KeyWrites) (h : History Value) (keys : List Key) → HasRisingTimes 0 h → HasWrites versions h
+    → find (λ key. nat_lt s (last_time (writes_of versions key))) keys ≡ first_conflict h s keys
+conflicts-same s versions h keys rising has =
+    find-same (λ key. nat_lt s (last_time (writes_of versions key))) (is_written_after h s) keys (λ key. ap (λ (ws : List (TimedWrite Value)). nat_lt s (last_time ws)) (has.writes key) ∙ key-later s h key rising)
+
+-- the versions after all that wait are those of the commit order
+pub ordered-has : (before : History Value) (versions : List KeyWrites) (qs : List QueuedValue) (cs : History Value) → HasWrites versions before → AllWait before qs cs → HasWrites (versions_after versions qs) (before ++ cs)
+ordered-has before versions [] [] has all = subst (λ (h : History Value). HasWrites versions h) (sym (append-nil before)) has
+ordered-has before versions [] (c ∷ cs) has all = absurd all
+ordered-has before versions (q ∷ qs) [] has all = absurd all
+ordered-has before versions (q ∷ qs) (c ∷ cs) has all =
+    subst (λ (h : History Value). HasWrites (versions_after q.after qs) h) (append_assoc before (c ∷ []) cs) (ordered-has (before ++ c ∷ []) q.after qs cs all.0.after all.1)

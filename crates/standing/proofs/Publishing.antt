@@ -1,0 +1,274 @@
+-- A group begins, goes its way and is published.
+use Rattle.std.proofs.Common.{◌≡◌, ◌≢◌, ℕ, zero, suc, ◌+◌, ◌-◌, ◌<◌, ◌≤◌, ◌==◌, ◌&&◌, nat_lt, min, Bool, true, false, cond, List, [], ◌∷◌, ◌++◌, length, take, drop, map, Option, None, Some, Result, Ok, Err, MatchBool, MatchOption, MatchResult, refl, arith, ap, sym, subst, ◌∙◌, inl, inr, append_assoc, length-append}
+use Rattle.std.proofs.lemmas.Bool.{cases_lt}
+use Rattle.std.proofs.lemmas.Bool.Decides.{nat_tests}
+use Rattle.history.specs.Histories.{Commit, History}
+use Rattle.history.specs.Machine.{Machine, commit_order, IsMachine}
+use Rattle.history.specs.Steps as steps
+use Rattle.history.specs.Steps.{Event, Step, Run}
+use Rattle.image.specs.Values.{Value, IsValue}
+use Rattle.chains.specs.KeyWrites.{KeyWrites}
+use Rattle.disk.specs.Calls.{DiskState}
+use Rattle.status.specs.SlotCalls.{SlotStage}
+use Rattle.status.specs.SlotCalls as slots
+use Rattle.status.specs.TurnState.{TurnState}
+use Rattle.group.specs.Queued.{QueuedValue}
+use Rattle.group.specs.declared.answers.Did.{Did}
+use Rattle.group.specs.declared.answers.Did.TheVariants as did
+use Rattle.group.specs.declared.answers.PumpFault.{PumpFault}
+use Rattle.group.specs.declared.answers.PumpFault.TheVariants as pump
+use Rattle.group.specs.declared.queued.StoredExtent.{StoredExtent}
+use Rattle.transactions.specs.Values.{TransactionsValue, versions_after}
+use Rattle.transactions.specs.Steps as groups
+use Rattle.transactions.specs.declared.stage.GroupStage.{GroupStage}
+use Rattle.transactions.specs.declared.stage.GroupStage.TheVariants.{NoGroup, Storing, Stored, Turning}
+use Rattle.transactions.specs.declared.stage.NextStep.{NextStep}
+use Rattle.transactions.specs.declared.stage.NextStep.TheVariants as next
+use Rattle.transactions.proofs.Kept.{advance-is}
+use Rattle.store.specs.Values.{StoreValue}
+use Rattle.store.specs.Pumps.{Pumps, TakesStep, WritesExtent, TurnsSlot, IsTurned, started, begun}
+use Rattle.standing.specs.Standing.{Name, name_of, name_at, HasWrites, Waits, AllWait, IsStaged, StandsInMemory}
+use Rattle.standing.specs.Laws.{begins_in, ends_in}
+
+-- ---- the queue and the machine's
+
+all_wait-length : (before : History Value) (qs : List QueuedValue) (cs : History Value) → AllWait before qs cs → length qs ≡ length cs
+all_wait-length before [] [] all = refl
+all_wait-length before [] (c ∷ cs) all = absurd all
+all_wait-length before (q ∷ qs) [] all = absurd all
+all_wait-length before (q ∷ qs) (c ∷ cs) all = ap suc (all_wait-length (before ++ c ∷ []) qs cs all.1)
+
+append-none : (h : History Value) → h ++ [] ≡ h
+append-none [] = refl
+append-none (c ∷ cs) = ap (λ (ds : History Value). c ∷ ds) (append-none cs)
+
+front-has : (n : ℕ) (before : History Value) (versions : List KeyWrites) (qs : List QueuedValue) (cs : History Value) → HasWrites versions before → AllWait before qs cs → HasWrites (versions_after versions (take n qs)) (before ++ take n cs)
+front-has zero before versions qs cs has all = subst (λ (h : History Value). HasWrites versions h) (sym (append-none before)) has
+front-has (suc n) before versions [] [] has all = subst (λ (h : History Value). HasWrites versions h) (sym (append-none before)) has
+front-has (suc n) before versions [] (c ∷ cs) has all = absurd all
+front-has (suc n) before versions (q ∷ qs) [] has all = absurd all
+front-has (suc n) before versions (q ∷ qs) (c ∷ cs) has all =
+    subst (λ (h : History Value). HasWrites (versions_after q.after (take n qs)) h) (append_assoc before (c ∷ []) (take n cs)) (front-has n (before ++ c ∷ []) q.after qs cs all.0.after all.1)
+
+rest-waits : (n : ℕ) (before : History Value) (qs : List QueuedValue) (cs : History Value) → AllWait before qs cs → AllWait (before ++ take n cs) (drop n qs) (drop n cs)
+rest-waits zero before qs cs all = subst (λ (h : History Value). AllWait h qs cs) (sym (append-none before)) all
+rest-waits (suc n) before [] [] all = tt
+rest-waits (suc n) before [] (c ∷ cs) all = absurd all
+rest-waits (suc n) before (q ∷ qs) [] all = absurd all
+rest-waits (suc n) before (q ∷ qs) (c ∷ cs) all = subst (λ (h : History Value). AllWait h (drop n qs) (drop n cs)) (append_assoc before (c ∷ []) (take n cs)) (rest-waits n (before ++ c ∷ []) qs cs all.1)
+
+taken-and-rest : (n : ℕ) (cs : History Value) → take n cs ++ drop n cs ≡ cs
+taken-and-rest zero cs = refl
+taken-and-rest (suc n) [] = refl
+taken-and-rest (suc n) (c ∷ cs) = ap (λ (ds : History Value). c ∷ ds) (taken-and-rest n cs)
+
+length-taken : (n : ℕ) (cs : History Value) → n ≤ length cs → length (take n cs) ≡ n
+length-taken zero cs low = refl
+length-taken (suc n) [] low = absurd (omega arith)
+length-taken (suc n) (c ∷ cs) low = ap suc (length-taken n cs (omega arith))
+
+-- ---- what each step leaves
+
+-- what is not told apart from a stage on its way
+pub restaged : (v : TransactionsValue) (m : Machine Value) (stage : GroupStage) → StandsInMemory v m → (IsStaged stage → 0 < v.group) → StandsInMemory (groups.at_stage stage v) m
+restaged v m stage stands staged = record {
+  names = stands.names;
+  rising = stands.rising;
+  published = stands.published;
+  versions = stands.versions;
+  queue = stands.queue;
+  group = stands.group;
+  staged = staged;
+  snapshots = stands.snapshots;
+  floors = stands.floors;
+  raising = stands.raising;
+  failed = stands.failed;
+}
+
+pub breaks : (v : TransactionsValue) (m : Machine Value) → StandsInMemory v m → StandsInMemory (groups.broken v) (steps.broken m)
+breaks v m stands = record {
+  names = stands.names;
+  rising = stands.rising;
+  published = stands.published;
+  versions = stands.versions;
+  queue = stands.queue;
+  group = stands.group;
+  staged = stands.staged;
+  snapshots = stands.snapshots;
+  floors = stands.floors;
+  raising = stands.raising;
+  failed = refl;
+}
+
+pub publishes : (v : TransactionsValue) (m : Machine Value) → StandsInMemory v m → m.group ≤ length m.queue → StandsInMemory (groups.published v) (steps.group_published m)
+publishes v m stands few =
+    let g = m.group in
+    let has : HasWrites (versions_after v.versions (take g v.queue)) (m.published ++ take g m.queue) = front-has g m.published v.versions v.queue m.queue stands.versions stands.queue in
+    let waits : AllWait (m.published ++ take g m.queue) (drop g v.queue) (drop g m.queue) = rest-waits g m.published v.queue m.queue stands.queue in
+    let whole : (m.published ++ take g m.queue) ++ drop g m.queue ≡ commit_order m = append_assoc m.published (take g m.queue) (drop g m.queue) ∙ ap (λ (h : History Value). m.published ++ h) (taken-and-rest g m.queue) in
+    let many : length (m.published ++ take g m.queue) ≡ length m.published + g = simp length-append (omega (arith, length-taken g m.queue few)) in
+    let same : g ≡ v.group = sym stands.group in
+    record {
+      names = stands.names ∙ sym (ap (λ (h : History Value). map name_of h) whole);
+      rising = stands.rising;
+      published = omega (arith, many, stands.published, stands.group);
+      versions = subst (λ (n : ℕ). HasWrites (versions_after v.versions (take n v.queue)) (m.published ++ take g m.queue)) same has;
+      queue = subst (λ (n : ℕ). AllWait (m.published ++ take g m.queue) (drop n v.queue) (drop g m.queue)) same waits;
+      group = refl;
+      staged = λ none. absurd none;
+      snapshots = stands.snapshots;
+      floors = stands.floors;
+      raising = stands.raising;
+      failed = stands.failed;
+    }
+
+-- ---- a group begins
+
+grouped-stands : (v : TransactionsValue) (m : Machine Value) → StandsInMemory v m → 0 < length v.queue → StandsInMemory (record v { group = min (length v.queue) 16; stage = Storing 0 0 }) (steps.grouped m)
+grouped-stands v m stands some =
+    let same = all_wait-length m.published v.queue m.queue stands.queue in
+    record {
+      names = stands.names;
+      rising = stands.rising;
+      published = stands.published;
+      versions = stands.versions;
+      queue = stands.queue;
+      group = omega (arith, same);
+      staged = λ stage. omega arith;
+      snapshots = stands.snapshots;
+      floors = stands.floors;
+      raising = stands.raising;
+      failed = stands.failed;
+    }
+
+-- the machine of a store whose group may have begun
+pub record Begins (v : TransactionsValue) (m : Machine Value) : Type 0 where
+  pub mid : Machine Value
+  pub run : (later : List (Event Value)) (after : Machine Value) → Run IsValue mid later after → Run IsValue m (begins_in m ++ later) after
+  pub stands : StandsInMemory (groups.grouped v) mid
+  pub works : mid.failed ≡ m.failed
+  pub few : mid.group ≤ length mid.queue
+
+pub begins : (v : TransactionsValue) (m : Machine Value) → StandsInMemory v m → IsMachine IsValue m → m.failed ≡ false → Begins v m
+begins v m stands machine works =
+    by-tests (m.group == 0) refl (nat_lt 0 (length m.queue)) refl
+  where
+    many : length v.queue ≡ length m.queue
+    many = all_wait-length m.published v.queue m.queue stands.queue
+
+    by-tests : (a : Bool) → (m.group == 0) ≡ a → (b : Bool) → nat_lt 0 (length m.queue) ≡ b → Begins v m
+    by-tests true none true some =
+        let group : m.group ≡ 0 = grind (arith, nat_tests) in
+        let waits : 0 < length m.queue = grind (arith, nat_tests) in
+        let here : (v.group == 0) ≡ true = ap (λ (n : ℕ). n == 0) stands.group ∙ none in
+        let there : nat_lt 0 (length v.queue) ≡ true = ap (λ (n : ℕ). nat_lt 0 n) many ∙ some in
+        let queued : m.queue ≢ [] = λ empty. let zero : length m.queue ≡ 0 = ap (λ (h : History Value). length h) empty in absurd (omega (arith, zero, waits)) in
+        record {
+          mid = steps.grouped m;
+          run = λ later after goes. rw (none, some) (steps.grouped m, (works, group, queued, refl), goes);
+          stands = rw (here, there) (grouped-stands v m stands (omega (arith, many, waits)));
+          works = refl;
+          few = omega arith;
+        }
+    by-tests true none false idle =
+        let here : (v.group == 0) ≡ true = ap (λ (n : ℕ). n == 0) stands.group ∙ none in
+        let there : nat_lt 0 (length v.queue) ≡ false = ap (λ (n : ℕ). nat_lt 0 n) many ∙ idle in
+        record { mid = m; run = λ later after goes. rw (none, idle) goes; stands = rw (here, there) stands; works = refl; few = machine.group_queued }
+    by-tests false some b any =
+        let here : (v.group == 0) ≡ false = ap (λ (n : ℕ). n == 0) stands.group ∙ some in
+        record { mid = m; run = λ later after goes. rw some goes; stands = rw here stands; works = refl; few = machine.group_queued }
+
+-- ---- what a step ends in
+
+abbrev Ends : Machine Value → Result Did PumpFault → TransactionsValue → Type 0
+Ends m answer v = (after : Machine Value) × Run IsValue m (ends_in answer) after × StandsInMemory v after
+
+-- nothing of the machine's
+stays : (m : Machine Value) (said what : Did) (v w : TransactionsValue) → ends_in (Ok what) ≡ [] → said ≡ what → w ≡ v → StandsInMemory v m → Ends m (Ok said) w
+stays m said what v w none is same stands =
+    subst (λ (d : Did). Ends m (Ok d) w) (sym is) (m, subst (λ (es : List (Event Value)). Run IsValue m es m) (sym none) refl, subst (λ (x : TransactionsValue). StandsInMemory x m) (sym same) stands)
+
+fails : (m : Machine Value) (why : PumpFault) (v w : TransactionsValue) → m.failed ≡ false → w ≡ groups.broken v → StandsInMemory v m → Ends m (Err why) w
+fails m why v w works same stands = (steps.broken m, (steps.broken m, (works, refl), refl), subst (λ (x : TransactionsValue). StandsInMemory x (steps.broken m)) (sym same) (breaks v m stands))
+
+-- a stage that asks for a write or a sync of the heap is one of a group
+write-staged : (s : GroupStage) (group : ℕ) → groups.step_of s group ≡ next.WriteExtent → IsStaged s
+write-staged NoGroup group asks = absurd cc
+write-staged Stored group asks = absurd cc
+write-staged Turning group asks = absurd cc
+write-staged (Storing member extent) group asks = tt
+
+sync-staged : (s : GroupStage) (group : ℕ) → groups.step_of s group ≡ next.SyncHeap → IsStaged s
+sync-staged NoGroup group asks = absurd cc
+sync-staged Stored group asks = absurd cc
+sync-staged Turning group asks = absurd cc
+sync-staged (Storing member extent) group asks = tt
+
+begin-staged : (s : GroupStage) (group : ℕ) → groups.step_of s group ≡ next.BeginSlot → IsStaged s
+begin-staged NoGroup group asks = absurd cc
+begin-staged Stored group asks = tt
+begin-staged Turning group asks = absurd cc
+begin-staged (Storing member extent) group asks = tt
+
+-- ---- the steps
+
+wrote-ends : (tells : Bool) (o : Option StoredExtent) (old new : StoreValue) (answer : Result Did PumpFault) (m : Machine Value) → StandsInMemory old.transactions m → m.failed ≡ false → groups.due old.transactions ≡ next.WriteExtent
+    → MatchOption o ⊥ (λ stored. WritesExtent tells stored old answer new) → Ends m answer new.transactions
+wrote-ends tells None old new answer m stands works asks takes = absurd takes
+wrote-ends tells (Some stored) old new (Ok said) m stands works asks takes =
+    stays m said did.WroteExtent (groups.wrote_extent old.transactions) new.transactions refl takes.steps.answer.0 takes.steps.answer.1
+    (restaged old.transactions m (groups.stage_behind old.transactions.queue old.transactions.stage) stands (λ _. stands.staged (write-staged old.transactions.stage old.transactions.group asks)))
+wrote-ends tells (Some stored) old new (Err why) m stands works asks takes = fails m why old.transactions new.transactions works takes.steps.answer.1 stands
+
+turned-ends : (stage : SlotStage) (turn : TurnState) (old new : StoreValue) (what : Did) (m : Machine Value) → StandsInMemory old.transactions m → m.failed ≡ false → 0 < old.transactions.group → m.group ≤ length m.queue
+    → IsTurned stage turn old what new → Ends m (Ok what) new.transactions
+turned-ends slots.Begun turn old new what m stands works some few is = stays m what did.BodyWritten old.transactions new.transactions refl is.0 is.1 stands
+turned-ends slots.BodyWritten turn old new what m stands works some few is = stays m what did.BodySynced old.transactions new.transactions refl is.0 is.1 stands
+turned-ends slots.BodySynced turn old new what m stands works some few is = stays m what did.GateWritten old.transactions new.transactions refl is.0 is.1 stands
+turned-ends slots.GateWritten turn old new what m stands works some few is =
+    subst (λ (d : Did). Ends m (Ok d) new.transactions) (sym is.0)
+    (steps.group_published m, (steps.group_published m, (works, some, stands.group, refl), refl), subst (λ (x : TransactionsValue). StandsInMemory x (steps.group_published m)) (sym is.1) (publishes old.transactions m stands few))
+turned-ends slots.Opened turn old new what m stands works some few is = absurd is
+
+slot-ends : (tells : Bool) (turn : TurnState) (old new : StoreValue) (answer : Result Did PumpFault) (m : Machine Value) → StandsInMemory old.transactions m → m.failed ≡ false → 0 < old.transactions.group → m.group ≤ length m.queue
+    → TurnsSlot tells turn old answer new → Ends m answer new.transactions
+slot-ends tells turn old new (Ok what) m stands works some few turns = turned-ends turn.stage turn old new what m stands works some few turns.answer
+slot-ends tells turn old new (Err why) m stands works some few turns = fails m why old.transactions new.transactions works turns.answer.transactions stands
+
+advance-ends : (tells : Bool) (o : Option TurnState) (old new : StoreValue) (answer : Result Did PumpFault) (m : Machine Value) → StandsInMemory old.transactions m → m.failed ≡ false → 0 < old.transactions.group → m.group ≤ length m.queue
+    → MatchOption o ⊥ (λ turn. TurnsSlot tells turn old answer new) → Ends m answer new.transactions
+advance-ends tells None old new answer m stands works some few takes = absurd takes
+advance-ends tells (Some turn) old new answer m stands works some few takes = slot-ends tells turn old new answer m stands works some few takes
+
+synced-ends : (old new : StoreValue) (answer : Result Did PumpFault) (m : Machine Value) → StandsInMemory old.transactions m → m.failed ≡ false → groups.due old.transactions ≡ next.SyncHeap
+    → MatchResult answer (λ said. (said ≡ did.HeapSynced) × (new.transactions ≡ groups.at_stage Stored old.transactions)) (λ why. (why ≡ pump.Failed) × (new.transactions ≡ groups.broken old.transactions)) → Ends m answer new.transactions
+synced-ends old new (Ok said) m stands works asks is =
+    stays m said did.HeapSynced (groups.at_stage Stored old.transactions) new.transactions refl is.0 is.1 (restaged old.transactions m Stored stands (λ _. stands.staged (sync-staged old.transactions.stage old.transactions.group asks)))
+synced-ends old new (Err why) m stands works asks is = fails m why old.transactions new.transactions works is.1 stands
+
+step-ends : (tells : Bool) (s : NextStep) (old new : StoreValue) (answer : Result Did PumpFault) (m : Machine Value) → StandsInMemory old.transactions m → m.failed ≡ false → m.group ≤ length m.queue → groups.due old.transactions ≡ s
+    → TakesStep tells s old answer new → Ends m answer new.transactions
+step-ends tells next.Idle old new answer m stands works few asks takes =
+    subst (λ (r : Result Did PumpFault). Ends m r new.transactions) (sym takes.0) (m, refl, subst (λ (x : StoreValue). StandsInMemory x.transactions m) (sym takes.1) stands)
+step-ends tells next.WriteExtent old new answer m stands works few asks takes = wrote-ends tells (groups.next_extent old.transactions) old new answer m stands works asks takes
+step-ends tells next.SyncHeap old new answer m stands works few asks takes = synced-ends old new answer m stands works asks takes.steps.answer
+step-ends tells next.BeginSlot old new answer m stands works few asks takes =
+    let some : 0 < old.transactions.group = stands.staged (begin-staged old.transactions.stage old.transactions.group asks) in
+    slot-ends tells _ (begun old) new answer m (restaged old.transactions m Turning stands (λ _. some)) works some few takes.turns
+step-ends tells next.AdvanceSlot old new answer m stands works few asks takes =
+    let is : old.transactions.stage ≡ Turning = advance-is old.transactions.stage old.transactions.group asks in
+    let some : 0 < old.transactions.group = stands.staged (subst (λ (s : GroupStage). IsStaged s) (sym is) tt) in
+    advance-ends tells old.turn old new answer m stands works some few takes
+
+pub pump-run : (tells : Bool) (old new : StoreValue) (answer : Result Did PumpFault) (m : Machine Value) → StandsInMemory old.transactions m → IsMachine IsValue m → Pumps tells old answer new
+    → MatchBool m.failed ((answer ≡ Err pump.Failed) × StandsInMemory new.transactions m) ((after : Machine Value) × Run IsValue m (begins_in m ++ ends_in answer) after × StandsInMemory new.transactions after)
+pump-run tells old new answer m stands machine pumps =
+    by-failure m.failed refl (subst (λ (b : Bool). MatchBool b ((answer ≡ Err pump.Failed) × (new ≡ old)) (TakesStep tells (groups.next_step old.transactions) (started old) answer new)) stands.failed pumps)
+  where
+    by-failure : (b : Bool) → m.failed ≡ b → MatchBool b ((answer ≡ Err pump.Failed) × (new ≡ old)) (TakesStep tells (groups.next_step old.transactions) (started old) answer new)
+        → MatchBool b ((answer ≡ Err pump.Failed) × StandsInMemory new.transactions m) ((after : Machine Value) × Run IsValue m (begins_in m ++ ends_in answer) after × StandsInMemory new.transactions after)
+    by-failure true failed is = (is.0, subst (λ (x : StoreValue). StandsInMemory x.transactions m) (sym is.1) stands)
+    by-failure false works takes =
+        let begun = begins old.transactions m stands machine works in
+        let ends = step-ends tells (groups.next_step old.transactions) (started old) new answer begun.mid begun.stands (begun.works ∙ works) begun.few refl takes in
+        (ends.0, begun.run (ends_in answer) ends.0 ends.1, ends.2)
