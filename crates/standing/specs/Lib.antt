@@ -1,2 +1,5 @@
 pub mod Standing
 pub mod Laws
+pub mod OnDisk
+pub mod Stands
+pub mod Calls

@@ -1,0 +1,52 @@
+-- The calls of a store that stands for a state of the machine: each is one of its steps, with its answer, and the store stands for the state after it.
+use Rattle.std.specs.Prelude.{ℕ, ◌≡◌, ◌<◌, ◌^◌, ◌++◌, Bool, IsTrue, List, Result, Ok, Err, MatchBool}
+use Rattle.disk.specs.Areas.{AreSound}
+use Rattle.history.specs.Machine.{Machine}
+use Rattle.history.specs.Answers as answers
+use Rattle.history.specs.Steps.{Step, Run, Began, BeginRefused, Aborted, begun}
+use Rattle.history.specs.Steps as steps
+use Rattle.image.specs.Values.{Value, IsValue}
+use Rattle.snapshot.specs.Txn.{TxnValue, AreTxnWrites}
+use Rattle.group.specs.Tickets.{TicketValue}
+use Rattle.group.specs.declared.answers.BeginFault.{BeginFault}
+use Rattle.group.specs.declared.answers.BeginFault.TheVariants as fault
+use Rattle.group.specs.declared.answers.Did.{Did}
+use Rattle.group.specs.declared.answers.PumpFault.{PumpFault}
+use Rattle.group.specs.declared.answers.PumpFault.TheVariants as pump
+use Rattle.group.specs.declared.answers.Redeemed.{Redeemed}
+use Rattle.group.specs.declared.answers.Submitted.{Submitted}
+use Rattle.group.specs.declared.answers.SubmitFault.{SubmitFault}
+use Rattle.transactions.specs.Values.{is_own}
+use Rattle.store.specs.Calls as stores
+use Rattle.store.specs.Values.{StoreValue}
+use Rattle.store.specs.Pumps.{Pumps}
+use Rattle.standing.specs.Laws.{submission_of, event_of, begins_in, ends_in, RedeemsAs}
+use Rattle.standing.specs.Stands.{Stands}
+
+-- what a begin leads to, by its answer
+abbrev pub BeginsOn : Bool → Machine Value → Result TxnValue BeginFault → StoreValue → Type 0
+BeginsOn tells m (Ok txn) new = Step IsValue m (Began txn.snapshot) (begun m) × Stands tells new (begun m)
+BeginsOn tells m (Err fault.NoMemory) new = Step IsValue m (BeginRefused steps.NoMemory) m × Stands tells new m
+BeginsOn tells m (Err fault.Failed) new = Step IsValue m (BeginRefused steps.Failed) m × Stands tells new m
+
+abbrev pub BeginStands : Type 0
+BeginStands = (tells : Bool) (old new : StoreValue) (answer : Result TxnValue BeginFault) (m : Machine Value) → Stands tells old m → stores.Begins old answer new → BeginsOn tells m answer new
+
+-- an own transaction is given up, and a stranger changes nothing
+abbrev pub AbortStands : Type 0
+AbortStands = (tells : Bool) (old new : StoreValue) (txn : TxnValue) (m : Machine Value) → Stands tells old m → stores.Aborts old txn new
+    → MatchBool (is_own old.transactions txn) ((after : Machine Value) × Step IsValue m (Aborted txn.snapshot) after × Stands tells new after) (Stands tells new m)
+
+abbrev pub SubmitStands : Type 0
+SubmitStands = (tells : Bool) (old new : StoreValue) (txn : TxnValue) (label now : ℕ) (answer : Result Submitted SubmitFault) (m : Machine Value) → Stands tells old m
+    → AreTxnWrites txn.state txn.snapshot txn.writes → label < 2 ^ 64 → stores.Submits old txn label now answer new
+    → MatchBool (is_own old.transactions txn) ((after : Machine Value) × Step IsValue m (event_of m (submission_of txn label now) answer) after × Stands tells new after) (Stands tells new m)
+
+-- a disk that tells its bytes is sound at any time
+abbrev pub PumpStands : Type 0
+PumpStands = (tells : Bool) (old new : StoreValue) (answer : Result Did PumpFault) (m : Machine Value) → Stands tells old m → (IsTrue tells → AreSound new.disk.areas) → Pumps tells old answer new
+    → MatchBool m.failed ((answer ≡ Err pump.Failed) × Stands tells new m) ((after : Machine Value) × Run IsValue m (begins_in m ++ ends_in answer) after × Stands tells new after)
+
+abbrev pub RedeemStands : Type 0
+RedeemStands = (tells : Bool) (old new : StoreValue) (ticket : TicketValue) (answer : Redeemed) (m : Machine Value) → Stands tells old m → stores.Redeems old ticket answer new
+    → RedeemsAs (answers.redeemed_by m ticket.time) answer × Stands tells new m

@@ -1,0 +1,135 @@
+-- What a store's disk stands for: what a stop may leave, and how the commits that wait are stored.
+use Rattle.std.specs.Prelude.{ℕ, ◌≡◌, ◌+◌, ◌++◌, IsTrue, false, List, [], ◌∷◌, length, map, take, drop, Option, MatchOption}
+use Rattle.std.specs.List.{AllByRecursion, flat_map}
+use Rattle.disk.specs.Areas.{Areas, Image, AreSound, LeavesImage}
+use Rattle.wire.specs.Spelling.{IsSpelled, kind_of}
+use Rattle.wire.specs.declared.slot.Body.TheVariants.{Commit as CommitBody}
+use Rattle.wire.specs.declared.slot.Member.{Member as Entry}
+use Rattle.wire.specs.declared.slot.Slot.{Slot}
+use Rattle.history.specs.declared.key.Key.{Key}
+use Rattle.history.specs.Histories as histories
+use Rattle.history.specs.Histories.{Commit, History}
+use Rattle.history.specs.Fronts.{OnFront}
+use Rattle.history.specs.Machine.{Machine}
+use Rattle.image.specs.Values.{Value}
+use Rattle.image.specs.Reading.{Reading}
+use Rattle.image.specs.Facts.{latest}
+use Rattle.image.specs.Plans.{stored_record, stored_member}
+use Rattle.image.specs.StandsFor.{StandsFor}
+use Rattle.extents.specs.Usages.{IsKept}
+use Rattle.deltas.specs.Extents.{extent_bytes}
+use Rattle.deltas.specs.Packing.{bodies}
+use Rattle.status.specs.declared.header.Header.{Header}
+use Rattle.status.specs.Header.{total}
+use Rattle.status.specs.Rules.{is_built}
+use Rattle.status.specs.SlotCalls.{Begun}
+use Rattle.status.specs.TurnState.{TurnState}
+use Rattle.reading.specs.Records.{record_bytes}
+use Rattle.reading.specs.Layouts.{Layout, StoredMember, IsLayoutOf, HoldsLayout, live, extents_of}
+use Rattle.reading.specs.Keeping.{RestsAs}
+use Rattle.reading.specs.Opening.{AreBuilt}
+use Rattle.reading.specs.SlotTurns.{IsTurnAt}
+use Rattle.reading.specs.Turn.{Group, laid_out, IsStoring}
+use Rattle.group.specs.Queued.{QueuedValue, numbers_of, stored_as}
+use Rattle.group.specs.Sealing.{chain_of, first_number}
+use Rattle.transactions.specs.declared.stage.GroupStage.{GroupStage}
+use Rattle.transactions.specs.declared.stage.GroupStage.TheVariants.{NoGroup, Storing, Stored, Turning}
+use Rattle.store.specs.Values.{StoreValue}
+
+-- ---- images of a store
+
+-- The image stands for this history with these floors, and the store builds the kinds of all its slots.
+pub record IsImageOf (header : Header) (image : Image) (h : History Value) (floors : ℕ → ℕ) : Type 0 where
+  pub layout : Layout
+  pub reading : Reading
+  pub laid : IsLayoutOf header layout reading
+  pub held : HoldsLayout header image layout
+  pub stands : StandsFor reading h floors
+  pub profile_built : IsTrue (is_built header.profile 1)
+  pub built : AreBuilt header layout.slots
+
+-- ---- commits that wait
+
+-- the value of each key after a history
+abbrev pub values_in : History Value → Key → Option Value
+values_in h key = latest (histories.writes_of h key)
+
+-- a commit's records as bytes, in the bodies of its extents, over the values that those before it leave
+abbrev pub packed : History Value → Commit Value → List (List ℕ)
+packed before c = bodies (map record_bytes (map (stored_record (values_in before)) c.writes))
+
+-- a commit waits with its records in its extents
+pub record IsPacked (before : History Value) (q : QueuedValue) (c : Commit Value) : Type 0 where
+  pub many : length q.stored ≡ length (packed before c)
+  pub stored : q.stored ≡ stored_as (numbers_of q) (map extent_bytes (chain_of (numbers_of q) (packed before c)))
+  pub first : q.entry.first ≡ first_number (numbers_of q)
+  pub extents : q.entry.extents ≡ length q.stored
+
+-- and so do all, each over those before it
+abbrev pub AllPacked : History Value → List QueuedValue → History Value → Type 0
+AllPacked before [] [] = Unit {0}
+AllPacked before [] (c ∷ cs) = ⊥
+AllPacked before (q ∷ qs) [] = ⊥
+AllPacked before (q ∷ qs) (c ∷ cs) = IsPacked before q c × AllPacked (before ++ c ∷ []) qs cs
+
+-- what its slot is to name
+abbrev pub member_of : History Value → QueuedValue → Commit Value → StoredMember
+member_of before q c = record { entry = q.entry; member = stored_member (values_in before) c; extents = chain_of (numbers_of q) (packed before c) }
+
+abbrev pub members_of : History Value → List QueuedValue → History Value → List StoredMember
+members_of before [] cs = []
+members_of before (q ∷ qs) [] = []
+members_of before (q ∷ qs) (c ∷ cs) = member_of before q c ∷ members_of (before ++ c ∷ []) qs cs
+
+-- ---- the group that is being written
+
+-- the slot of this number that names these commits
+abbrev pub slot_for : ℕ → List QueuedValue → Slot
+slot_for number qs = record { number = number; body = CommitBody (record { items = map (λ q. q.entry) qs }) }
+
+-- the first of these commits that wait, as many as the group has
+abbrev pub group_for : Layout → ℕ → History Value → List QueuedValue → History Value → Group
+group_for layout size h qs cs = record { members = members_of h (take size qs) (take size cs); slot = slot_for (length layout.slots) (take size qs) }
+
+-- how many extents of the group are written before this one of this member
+abbrev pub written_before : List QueuedValue → ℕ → ℕ → ℕ
+written_before qs member extent = length (flat_map numbers_of (take member qs)) + extent
+
+-- the slot in the writing is the group's
+pub record IsTurnOf (header : Header) (layout : Layout) (group : Group) (t : TurnState) (areas : Areas) : Type 0 where
+  pub number : t.number ≡ length layout.slots
+  pub long : length t.body ≡ 511
+  pub spelled : IsSpelled header.profile (length layout.slots) t.body group.slot
+  pub at : IsTurnAt header layout group.slot (laid_out layout group) t.stage areas
+
+-- the areas at a stage of the group
+abbrev pub IsAtStage : Header → Layout → Group → List QueuedValue → GroupStage → Option TurnState → Areas → Type 0
+IsAtStage header layout group qs NoGroup turn areas = RestsAs header layout areas
+IsAtStage header layout group qs (Storing member extent) turn areas =
+    IsStoring header layout group (take (written_before qs member extent) (extents_of group.members)) (drop (written_before qs member extent) (extents_of group.members)) areas
+IsAtStage header layout group qs Stored turn areas = IsTurnAt header layout group.slot (laid_out layout group) Begun areas
+IsAtStage header layout group qs Turning turn areas = MatchOption turn ⊥ (λ t. IsTurnOf header layout group t areas)
+
+-- ---- the store
+
+-- No call was refused. The disk has a log that stands for what is published, beside it what is written of the group, and no live chain has an extent that is not kept.
+pub record Works (header : Header) (v : StoreValue) (m : Machine Value) : Type 0 where
+  pub layout : Layout
+  pub reading : Reading
+  pub laid : IsLayoutOf header layout reading
+  pub stands : StandsFor reading m.published m.floors
+  pub built : AreBuilt header layout.slots
+  pub used : v.log.used ≡ length layout.slots
+  pub kept : AllByRecursion (λ e. IsKept v.transactions.usages e.number) (live layout)
+  pub packed : AllPacked m.published v.transactions.queue m.queue
+  pub at : IsAtStage header layout (group_for layout m.group m.published v.transactions.queue m.queue) v.transactions.queue v.transactions.stage v.turn v.disk.areas
+  pub sound : AreSound v.disk.areas
+
+-- Whatever a stop may leave stands for a front of the commit order: for what is published, or also for the whole group whose slot is in the writing.
+pub record StandsOnDisk (v : StoreValue) (m : Machine Value) : Type 0 where
+  pub header : Header
+  pub profile : v.log.profile ≡ header.profile
+  pub slots : v.log.slots ≡ total header
+  pub profile_built : IsTrue (is_built header.profile 1)
+  pub leaves : (image : Image) → LeavesImage v.disk.areas image → OnFront (IsImageOf header image) m
+  pub works : m.failed ≡ false → Works header v m
