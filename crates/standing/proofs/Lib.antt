@@ -6,3 +6,10 @@ pub mod Deciding
 pub mod Submitting
 pub mod Publishing
 pub mod Answering
+pub mod Contents
+pub mod Packed
+pub mod Naming
+pub mod Places
+pub mod Usages
+pub mod Joining
+pub mod Pumping

@@ -144,6 +144,8 @@ grouped-stands v m stands some =
 -- the machine of a store whose group may have begun
 pub record Begins (v : TransactionsValue) (m : Machine Value) : Type 0 where
   pub mid : Machine Value
+  -- it differs in its group alone
+  pub is : mid ≡ record m { group = mid.group }
   pub run : (later : List (Event Value)) (after : Machine Value) → Run IsValue mid later after → Run IsValue m (begins_in m ++ later) after
   pub stands : StandsInMemory (groups.grouped v) mid
   pub works : mid.failed ≡ m.failed
@@ -165,6 +167,7 @@ begins v m stands machine works =
         let queued : m.queue ≢ [] = λ empty. let zero : length m.queue ≡ 0 = ap (λ (h : History Value). length h) empty in absurd (omega (arith, zero, waits)) in
         record {
           mid = steps.grouped m;
+          is = refl;
           run = λ later after goes. rw (none, some) (steps.grouped m, (works, group, queued, refl), goes);
           stands = rw (here, there) (grouped-stands v m stands (omega (arith, many, waits)));
           works = refl;
@@ -173,10 +176,10 @@ begins v m stands machine works =
     by-tests true none false idle =
         let here : (v.group == 0) ≡ true = ap (λ (n : ℕ). n == 0) stands.group ∙ none in
         let there : nat_lt 0 (length v.queue) ≡ false = ap (λ (n : ℕ). nat_lt 0 n) many ∙ idle in
-        record { mid = m; run = λ later after goes. rw (none, idle) goes; stands = rw (here, there) stands; works = refl; few = machine.group_queued }
+        record { mid = m; is = refl; run = λ later after goes. rw (none, idle) goes; stands = rw (here, there) stands; works = refl; few = machine.group_queued }
     by-tests false some b any =
         let here : (v.group == 0) ≡ false = ap (λ (n : ℕ). n == 0) stands.group ∙ some in
-        record { mid = m; run = λ later after goes. rw some goes; stands = rw here stands; works = refl; few = machine.group_queued }
+        record { mid = m; is = refl; run = λ later after goes. rw some goes; stands = rw here stands; works = refl; few = machine.group_queued }
 
 -- ---- what a step ends in
 
@@ -192,19 +195,19 @@ fails : (m : Machine Value) (why : PumpFault) (v w : TransactionsValue) → m.fa
 fails m why v w works same stands = (steps.broken m, (steps.broken m, (works, refl), refl), subst (λ (x : TransactionsValue). StandsInMemory x (steps.broken m)) (sym same) (breaks v m stands))
 
 -- a stage that asks for a write or a sync of the heap is one of a group
-write-staged : (s : GroupStage) (group : ℕ) → groups.step_of s group ≡ next.WriteExtent → IsStaged s
+pub write-staged : (s : GroupStage) (group : ℕ) → groups.step_of s group ≡ next.WriteExtent → IsStaged s
 write-staged NoGroup group asks = absurd cc
 write-staged Stored group asks = absurd cc
 write-staged Turning group asks = absurd cc
 write-staged (Storing member extent) group asks = tt
 
-sync-staged : (s : GroupStage) (group : ℕ) → groups.step_of s group ≡ next.SyncHeap → IsStaged s
+pub sync-staged : (s : GroupStage) (group : ℕ) → groups.step_of s group ≡ next.SyncHeap → IsStaged s
 sync-staged NoGroup group asks = absurd cc
 sync-staged Stored group asks = absurd cc
 sync-staged Turning group asks = absurd cc
 sync-staged (Storing member extent) group asks = tt
 
-begin-staged : (s : GroupStage) (group : ℕ) → groups.step_of s group ≡ next.BeginSlot → IsStaged s
+pub begin-staged : (s : GroupStage) (group : ℕ) → groups.step_of s group ≡ next.BeginSlot → IsStaged s
 begin-staged NoGroup group asks = absurd cc
 begin-staged Stored group asks = tt
 begin-staged Turning group asks = absurd cc

@@ -32,6 +32,7 @@ use Rattle.reading.specs.SlotTurns.{IsTurnAt}
 use Rattle.reading.specs.Turn.{Group, laid_out, IsStoring}
 use Rattle.group.specs.Queued.{QueuedValue, numbers_of, stored_as}
 use Rattle.group.specs.Sealing.{chain_of, first_number}
+use Rattle.transactions.specs.Values.{TransactionsValue}
 use Rattle.transactions.specs.declared.stage.GroupStage.{GroupStage}
 use Rattle.transactions.specs.declared.stage.GroupStage.TheVariants.{NoGroup, Storing, Stored, Turning}
 use Rattle.store.specs.Values.{StoreValue}
@@ -87,9 +88,9 @@ members_of before (q ∷ qs) (c ∷ cs) = member_of before q c ∷ members_of (b
 abbrev pub slot_for : ℕ → List QueuedValue → Slot
 slot_for number qs = record { number = number; body = CommitBody (record { items = map (λ q. q.entry) qs }) }
 
--- the first of these commits that wait, as many as the group has
-abbrev pub group_for : Layout → ℕ → History Value → List QueuedValue → History Value → Group
-group_for layout size h qs cs = record { members = members_of h (take size qs) (take size cs); slot = slot_for (length layout.slots) (take size qs) }
+-- the group, which is the first of the commits that wait
+abbrev pub group_of : Layout → TransactionsValue → Machine Value → Group
+group_of layout v m = record { members = members_of m.published (take v.group v.queue) (take v.group m.queue); slot = slot_for (length layout.slots) (take v.group v.queue) }
 
 -- how many extents of the group are written before this one of this member
 abbrev pub written_before : List QueuedValue → ℕ → ℕ → ℕ
@@ -122,7 +123,7 @@ pub record Works (header : Header) (v : StoreValue) (m : Machine Value) : Type 0
   pub used : v.log.used ≡ length layout.slots
   pub kept : AllByRecursion (λ e. IsKept v.transactions.usages e.number) (live layout)
   pub packed : AllPacked m.published v.transactions.queue m.queue
-  pub at : IsAtStage header layout (group_for layout m.group m.published v.transactions.queue m.queue) v.transactions.queue v.transactions.stage v.turn v.disk.areas
+  pub at : IsAtStage header layout (group_of layout v.transactions m) v.transactions.queue v.transactions.stage v.turn v.disk.areas
   pub sound : AreSound v.disk.areas
 
 -- Whatever a stop may leave stands for a front of the commit order: for what is published, or also for the whole group whose slot is in the writing.

@@ -1,0 +1,492 @@
+-- A step of a group keeps what the store stands for, in memory and on its disk.
+use Rattle.std.proofs.Common.{◌≡◌, ◌≢◌, cond, slice_get, ℕ, zero, suc, ◌+◌, ◌-◌, ◌<◌, ◌≤◌, ◌==◌, nat_lt, Bool, true, false, List, [], ◌∷◌, ◌++◌, length, take, drop, map, Option, None, Some, is_some, Result, Ok, Err, MatchBool, MatchOption, MatchResult, refl, arith, ap, sym, subst, ◌∙◌, inl, inr, length-append}
+use Rattle.std.specs.Prelude.{IsTrue, min}
+use Rattle.std.specs.List.{AllByRecursion, flat_map}
+use Rattle.std.proofs.lemmas.Bool.{cases_lt}
+use Rattle.std.proofs.lemmas.Bool.Decides.{nat_tests}
+use Rattle.history.specs.Histories.{Commit, History}
+use Rattle.history.specs.Machine.{Machine, IsMachine}
+use Rattle.history.specs.Fronts.{OnFront}
+use Rattle.history.specs.Steps as steps
+use Rattle.history.specs.Steps.{Event, Run}
+use Rattle.history.proofs.Machines.{run-machine}
+use Rattle.image.specs.Values.{Value, IsValue}
+use Rattle.image.specs.Reading.{Reading}
+use Rattle.image.specs.Plans.{with_group}
+use Rattle.disk.specs.Areas.{Areas, Image, AreSound, LeavesImage}
+use Rattle.disk.specs.Calls.{DiskState, Writes, Syncs}
+use Rattle.disk.specs.declared.area.Area.TheVariants.{Heap}
+use Rattle.wire.specs.declared.slot.Body.{Body}
+use Rattle.wire.specs.declared.slot.Body.TheVariants.{Commit as CommitBody, Archived, Reclaimed, Floor}
+use Rattle.wire.specs.declared.slot.Member.{Member as Entry}
+use Rattle.wire.specs.declared.slot.Slot.{Slot}
+use Rattle.wire.specs.Spelling.{spelling, IsSpelled}
+use Rattle.image.specs.StandsFor.{StandsFor}
+use Rattle.reading.specs.SlotTurns.{IsTurnAt}
+use Rattle.extents.specs.Usages.{IsKept, AreOut}
+use Rattle.deltas.specs.Extents.{Extent, extent_start, extent_bytes}
+use Rattle.status.specs.declared.header.Header.{Header}
+use Rattle.status.specs.Header.{total}
+use Rattle.status.specs.Rules.{is_built}
+use Rattle.status.specs.SlotCalls.{SlotStage, IsSlotCall}
+use Rattle.status.specs.SlotCalls as slots
+use Rattle.status.specs.TurnState.{TurnState, LogState}
+use Rattle.disk.specs.declared.area.DeviceFault.{DeviceFault}
+use Rattle.reading.specs.Layouts.{Layout, live, extents_of}
+use Rattle.reading.specs.Turn as turns
+use Rattle.reading.specs.Turn.{laid_out}
+use Rattle.reading.proofs.Layouts.{live_more}
+use Rattle.reading.proofs.Standing.{rests_hold}
+use Rattle.group.specs.Queued.{QueuedValue, numbers_of}
+use Rattle.group.specs.declared.answers.Did.{Did}
+use Rattle.group.specs.declared.answers.Did.TheVariants as did
+use Rattle.group.specs.declared.answers.PumpFault.{PumpFault}
+use Rattle.group.specs.declared.answers.PumpFault.TheVariants as pump
+use Rattle.group.specs.declared.queued.StoredExtent.{StoredExtent}
+use Rattle.transactions.specs.Order.{IsInOrder, StageFits}
+use Rattle.transactions.specs.Values.{TransactionsValue, is_turning, claimed_by}
+use Rattle.transactions.specs.Steps as groups
+use Rattle.transactions.specs.Steps.{IsCommitOf}
+use Rattle.transactions.specs.declared.stage.GroupStage.{GroupStage}
+use Rattle.transactions.specs.declared.stage.GroupStage.TheVariants.{NoGroup, Storing, Stored, Turning}
+use Rattle.transactions.specs.declared.stage.NextStep.{NextStep}
+use Rattle.transactions.specs.declared.stage.NextStep.TheVariants as next
+use Rattle.transactions.proofs.Kept.{advance-is, keeps-grouped, keeps-wrote, keeps-synced, keeps-begun, keeps-published}
+use Rattle.transactions.proofs.Publishing.{out-front, out-rest}
+use Rattle.store.specs.Values.{StoreValue, IsInStep, TurnsGroup, IsOnItsWay}
+use Rattle.store.specs.Pumps.{Pumps, TakesStep, WritesExtent, TurnsSlot, IsTurned, started, begun, Steps as StoreSteps, BeginsSlot}
+use Rattle.standing.specs.Standing.{IsStaged, StandsInMemory}
+use Rattle.standing.specs.OnDisk.{IsImageOf, AllPacked, written_before, group_of, IsAtStage, IsTurnOf, Works, StandsOnDisk}
+use Rattle.standing.specs.Stands.{Stands}
+use Rattle.standing.specs.Laws.{begins_in, ends_in}
+use Rattle.standing.proofs.Packed.{packed-rest, length-mapped}
+use Rattle.standing.proofs.Places.{IsNext, next-is, IsBehind, behind-is, take-next, drop-next, none-left}
+use Rattle.standing.proofs.Usages.{AllKept, all-published}
+use Rattle.standing.proofs.Joining as joining
+use Rattle.standing.proofs.Joining.{numbers-split}
+use Rattle.standing.proofs.Publishing.{restaged, breaks, publishes, begins, write-staged, sync-staged, begin-staged}
+
+-- ---- room in the log
+
+claims-some : (s : GroupStage) (group waiting : ℕ) → 0 < group → group ≤ waiting → 0 < claimed_by s group waiting
+claims-some NoGroup group waiting some within = omega (arith, some, within)
+claims-some (Storing member extent) group waiting some within = omega (arith, some, within)
+claims-some Stored group waiting some within = omega (arith, some, within)
+claims-some Turning group waiting some within = omega arith
+
+room-left : (header : Header) (v : StoreValue) (m : Machine Value) → IsInOrder v.transactions → IsInStep v → (v.log.slots ≡ total header) → (w : Works header v m) → 0 < v.transactions.group → length w.layout.slots < total header
+room-left header v m order in_step slots_are w some =
+    let claims = claims-some v.transactions.stage v.transactions.group (length v.transactions.queue) some order.group_within in
+    omega (arith, claims, order.room, in_step.slots, in_step.used, slots_are, w.used)
+
+-- ---- what a stop may leave
+
+stage-leaves : (header : Header) (v : StoreValue) (m : Machine Value) → StandsInMemory v.transactions m → IsMachine IsValue m → IsInOrder v.transactions → IsTrue (is_built header.profile 1)
+    → (w : Works header v m) → ((0 < v.transactions.group) → length w.layout.slots < total header) → (s : GroupStage) (o : Option TurnState) → StageFits s v.transactions.group v.transactions.queue
+    → IsAtStage header w.layout (group_of w.layout v.transactions m) v.transactions.queue s o v.disk.areas → (image : Image) → LeavesImage v.disk.areas image → OnFront (IsImageOf header image) m
+stage-leaves header v m memory machine order built w room NoGroup o fits at image left =
+    inl record { layout = w.layout; reading = w.reading; laid = w.laid; held = rests_hold header w.layout v.disk.areas image at left; stands = w.stands; profile_built = built; built = w.built }
+stage-leaves header v m memory machine order built w room (Storing member extent) o fits at image left =
+    joining.leaves_at header v.transactions m w.layout w.reading memory machine order w.laid w.stands built w.built w.kept w.packed fits.0 (room fits.0) (turns.Storing _ _) v.disk.areas image at left
+stage-leaves header v m memory machine order built w room Stored o fits at image left =
+    joining.leaves_at header v.transactions m w.layout w.reading memory machine order w.laid w.stands built w.built w.kept w.packed fits (room fits) (turns.Turning slots.Begun) v.disk.areas image at left
+stage-leaves header v m memory machine order built w room Turning None fits at image left = absurd at
+stage-leaves header v m memory machine order built w room Turning (Some t) fits at image left =
+    joining.leaves_at header v.transactions m w.layout w.reading memory machine order w.laid w.stands built w.built w.kept w.packed fits (room fits) (turns.Turning t.stage) v.disk.areas image at.at left
+
+on-disk : (header : Header) (v : StoreValue) (m : Machine Value) → StandsInMemory v.transactions m → IsMachine IsValue m → IsInOrder v.transactions → IsInStep v → v.log.profile ≡ header.profile → v.log.slots ≡ total header
+    → IsTrue (is_built header.profile 1) → Works header v m → StandsOnDisk v m
+on-disk header v m memory machine order in_step profile slots_are built w = record {
+  header = header;
+  profile = profile;
+  slots = slots_are;
+  profile_built = built;
+  leaves = stage-leaves header v m memory machine order built w (room-left header v m order in_step slots_are w) v.transactions.stage v.turn order.stage_fits w.at;
+  works = λ _. w;
+}
+
+-- what is said of a store but that its state is one of the machine's
+pub record Parts (tells : Bool) (v : StoreValue) (m : Machine Value) : Type 0 where
+  pub memory : StandsInMemory v.transactions m
+  pub order : IsInOrder v.transactions
+  pub in_step : IsInStep v
+  pub disk : IsTrue tells → StandsOnDisk v m
+
+-- ---- a group begins
+
+no-group : (s : GroupStage) (group : ℕ) (qs : List QueuedValue) → StageFits s group qs → group ≡ 0 → s ≡ NoGroup
+no-group NoGroup group qs fits none = refl
+no-group Stored group qs fits none = absurd (omega (arith, fits, none))
+no-group Turning group qs fits none = absurd (omega (arith, fits, none))
+no-group (Storing member extent) group qs fits none = absurd (omega (arith, fits.0, none))
+
+started-works : (header : Header) (v : StoreValue) (m : Machine Value) (size : ℕ) → IsInOrder v.transactions → v.transactions.group ≡ 0 → Works header v m
+    → Works header (record v { transactions = record v.transactions { group = size; stage = Storing 0 0 } }) (record m { group = size })
+started-works header v m size order none w =
+    let is : v.transactions.stage ≡ NoGroup = no-group v.transactions.stage v.transactions.group v.transactions.queue order.stage_fits none in
+    let at = subst (λ (s : GroupStage). IsAtStage header w.layout (group_of w.layout v.transactions m) v.transactions.queue s v.turn v.disk.areas) is w.at in
+    record {
+      layout = w.layout;
+      reading = w.reading;
+      laid = w.laid;
+      stands = w.stands;
+      built = w.built;
+      used = w.used;
+      kept = w.kept;
+      packed = w.packed;
+      at = record { rests = at; parts_are = refl; written = tt };
+      sound = w.sound;
+    }
+
+regrouped : (header : Header) (v : StoreValue) (m : Machine Value) (size : ℕ) → Works header v m → Works header v (record m { group = size })
+regrouped header v m size w = record {
+  layout = w.layout;
+  reading = w.reading;
+  laid = w.laid;
+  stands = w.stands;
+  built = w.built;
+  used = w.used;
+  kept = w.kept;
+  packed = w.packed;
+  at = w.at;
+  sound = w.sound;
+}
+
+started-in_step : (v : StoreValue) → IsInOrder v.transactions → IsInStep v → IsInStep (started v)
+started-in_step v order in_step =
+    by-tests (v.transactions.group == 0) refl (nat_lt 0 (length v.transactions.queue)) refl
+  where
+    by-tests : (a : Bool) → (v.transactions.group == 0) ≡ a → (b : Bool) → nat_lt 0 (length v.transactions.queue) ≡ b → IsInStep (started v)
+    by-tests true none true some =
+        let is : v.transactions.stage ≡ NoGroup = no-group v.transactions.stage v.transactions.group v.transactions.queue order.stage_fits (grind (arith, nat_tests)) in
+        rw (none, some) (record {
+          slots = in_step.slots;
+          used = in_step.used;
+          turns = λ works.
+              let was = in_step.turns works in
+              record { turning = sym (ap is_turning is) ∙ was.turning; writing = was.writing; turn = was.turn };
+        })
+    by-tests true none false idle = rw (none, idle) in_step
+    by-tests false some b any = rw some in_step
+
+begun-works : (header : Header) (v : StoreValue) (m : Machine Value) (size : ℕ) → IsInOrder v.transactions → Works header v m → StandsInMemory (groups.grouped v.transactions) (record m { group = size }) → Works header (started v) (record m { group = size })
+begun-works header v m size order w stands =
+    by-tests (v.transactions.group == 0) refl (nat_lt 0 (length v.transactions.queue)) refl stands
+  where
+    by-tests : (a : Bool) → (v.transactions.group == 0) ≡ a → (b : Bool) → nat_lt 0 (length v.transactions.queue) ≡ b → StandsInMemory (groups.grouped v.transactions) (record m { group = size }) → Works header (started v) (record m { group = size })
+    by-tests true none true some stands =
+        let now : StandsInMemory (record v.transactions { group = min (length v.transactions.queue) 16; stage = Storing 0 0 }) (record m { group = size }) = rw (none, some) at stands in
+        let same : min (length v.transactions.queue) 16 ≡ size = now.group in
+        rw (none, some) (subst (λ (n : ℕ). Works header (record v { transactions = record v.transactions { group = n; stage = Storing 0 0 } }) (record m { group = size })) (sym same)
+        (started-works header v m size order (grind (arith, nat_tests)) w))
+    by-tests true none false idle stands = rw (none, idle) (regrouped header v m size w)
+    by-tests false some b any stands = rw some (regrouped header v m size w)
+
+-- ---- a device call of the group
+
+commit-is : (es : List Entry) (body : Body) → IsCommitOf es body → body ≡ CommitBody (record { items = es })
+commit-is es (CommitBody members) is = λ i. CommitBody (record { items = is i })
+commit-is es (Archived run) is = absurd is
+commit-is es (Reclaimed anchors) is = absurd is
+commit-is es (Floor relation floor) is = absurd is
+
+-- the call that the store makes is the group's next one, and it answers so
+pub record Goes (header : Header) (v : StoreValue) (m : Machine Value) (w : Works header v m) (answer : Result (Unit {0}) DeviceFault) (new : Areas) : Type 0 where
+  pub stage : turns.Stage
+  pub at : turns.IsAt header w.layout (group_of w.layout v.transactions m) stage v.disk.areas
+  pub bytes : List ℕ
+  pub long : length bytes ≡ 511
+  pub spelled : IsSpelled header.profile (length w.layout.slots) bytes ((group_of w.layout v.transactions m).slot)
+  pub call : turns.IsCallOf w.layout bytes stage answer v.disk.areas new
+  pub some : 0 < v.transactions.group
+
+-- a store with these parts on the disk of another
+abbrev with_parts : StoreValue → TransactionsValue → LogState → Option TurnState → StoreValue
+with_parts new transactions log turn = record { transactions = transactions; log = log; turn = turn; disk = new.disk }
+
+module _ (header : Header) (v new : StoreValue) (m : Machine Value) (memory : StandsInMemory v.transactions m) (machine : IsMachine IsValue m) (order : IsInOrder v.transactions) (in_step : IsInStep v)
+    (profile : v.log.profile ≡ header.profile) (slots_are : v.log.slots ≡ total header) (built : IsTrue (is_built header.profile 1)) (w : Works header v m) where
+  -- a refused call leaves what a stop within it leaves, and the store has failed
+  breaks-disk : (fault : DeviceFault) (log : LogState) (turn : Option TurnState) → Goes header v m w (Err fault) new.disk.areas → log.profile ≡ v.log.profile → log.slots ≡ v.log.slots
+      → StandsOnDisk (with_parts new (groups.broken v.transactions) log turn) (steps.broken m)
+  breaks-disk fault log turn goes same many = record {
+    header = header;
+    profile = same ∙ profile;
+    slots = many ∙ slots_are;
+    profile_built = built;
+    leaves = λ image left.
+        joining.leaves_within header v.transactions m w.layout w.reading memory machine order w.laid w.stands built w.built w.kept w.packed goes.some (room-left header v m order in_step slots_are w goes.some)
+        goes.bytes goes.long goes.spelled goes.stage (Err fault) v.disk.areas new.disk.areas image goes.at w.sound goes.call left;
+    works = λ no. absurd cc;
+  }
+
+  -- one that is made leads on
+  goes-on : (goes : Goes header v m w (Ok tt) new.disk.areas) → turns.IsAt header w.layout (group_of w.layout v.transactions m) (turns.stage_after goes.stage) new.disk.areas
+  goes-on goes =
+      joining.leads header v.transactions m w.layout w.reading memory machine order w.laid w.stands built w.built w.kept w.packed goes.some (room-left header v m order in_step slots_are w goes.some)
+      goes.bytes goes.long goes.spelled goes.stage v.disk.areas new.disk.areas goes.at w.sound goes.call
+
+  -- the bytes that spell the group's slot
+  slot-bytes : 0 < v.transactions.group → (bytes : List ℕ) × (length bytes ≡ 511) × IsSpelled header.profile (length w.layout.slots) bytes ((group_of w.layout v.transactions m).slot)
+  slot-bytes some =
+      let room = room-left header v m order in_step slots_are w some in (
+        spelling header.profile (group_of w.layout v.transactions m).slot,
+        joining.long header v.transactions m w.layout w.reading memory machine order w.laid w.stands built w.built w.kept w.packed some room,
+        joining.spelled header v.transactions m w.layout w.reading memory machine order w.laid w.stands built w.built w.kept w.packed some room,
+      )
+
+  -- the works of the store after a step that changes its stage alone
+  staged-works : (s : GroupStage) (log : LogState) (turn : Option TurnState) → log.used ≡ v.log.used → AreSound new.disk.areas
+      → IsAtStage header w.layout (group_of w.layout v.transactions m) v.transactions.queue s turn new.disk.areas → Works header (with_parts new (groups.at_stage s v.transactions) log turn) m
+  staged-works s log turn used sound at = record {
+    layout = w.layout;
+    reading = w.reading;
+    laid = w.laid;
+    stands = w.stands;
+    built = w.built;
+    used = used ∙ w.used;
+    kept = w.kept;
+    packed = w.packed;
+    at = at;
+    sound = sound;
+  }
+
+  -- ---- an extent is written
+
+  module _ (answer : Result (Unit {0}) DeviceFault) (member extent : ℕ) (is : v.transactions.stage ≡ Storing member extent) (low : member < v.transactions.group) (stored : StoredExtent)
+      (there : groups.extent_at (slice_get v.transactions.queue member) extent ≡ Some stored) (call : Writes Heap (extent_start stored.extent) stored.image answer v.disk.areas new.disk.areas) where
+    abbrev all : List Extent
+    all = extents_of ((group_of w.layout v.transactions m).members)
+
+    abbrev k : ℕ
+    k = written_before v.transactions.queue member extent
+
+    found : IsNext (drop k all) stored
+    found = next-is v.transactions.group m.published v.transactions.queue m.queue member extent stored w.packed low there
+
+    storing : turns.IsStoring header w.layout (group_of w.layout v.transactions m) (take k all) (found.extent ∷ found.rest) v.disk.areas
+    storing =
+        let at = subst (λ (s : GroupStage). IsAtStage header w.layout (group_of w.layout v.transactions m) v.transactions.queue s v.turn v.disk.areas) is w.at in
+        subst (λ (es : List Extent). turns.IsStoring header w.layout (group_of w.layout v.transactions m) (take k all) es v.disk.areas) found.is at
+
+    some : 0 < v.transactions.group
+    some = omega (arith, low)
+
+    abbrev wrote-goes : Goes header v m w answer new.disk.areas
+    wrote-goes =
+        let bytes = slot-bytes some in record {
+          stage = turns.Storing (take k all) (found.extent ∷ found.rest);
+          at = storing;
+          bytes = bytes.0;
+          long = bytes.1;
+          spelled = bytes.2;
+          call = subst (λ (n : ℕ). Writes Heap (extent_start n) (extent_bytes found.extent) answer v.disk.areas new.disk.areas) (sym found.number)
+              (subst (λ (image : List ℕ). Writes Heap (extent_start stored.extent) image answer v.disk.areas new.disk.areas) (sym found.bytes) call);
+          some = some;
+        }
+
+    wrote-at : turns.IsStoring header w.layout (group_of w.layout v.transactions m) (take k all ++ found.extent ∷ []) found.rest new.disk.areas
+        → IsAtStage header w.layout (group_of w.layout v.transactions m) v.transactions.queue (groups.stage_behind v.transactions.queue v.transactions.stage) v.turn new.disk.areas
+    wrote-at on =
+        let behind = behind-is v.transactions.queue member extent stored (slice_get v.transactions.queue member) refl there in
+        let next : turns.IsStoring header w.layout (group_of w.layout v.transactions m) (take (suc k) all) (drop (suc k) all) new.disk.areas =
+        subst (λ (es : List Extent). turns.IsStoring header w.layout (group_of w.layout v.transactions m) (take (suc k) all) es new.disk.areas) (sym (drop-next k all found.extent found.rest found.is))
+        (subst (λ (es : List Extent). turns.IsStoring header w.layout (group_of w.layout v.transactions m) es found.rest new.disk.areas) (sym (take-next k all found.extent found.rest found.is)) on) in
+        let there' : IsAtStage header w.layout (group_of w.layout v.transactions m) v.transactions.queue (Storing behind.member behind.extent) v.turn new.disk.areas =
+        subst (λ (n : ℕ). turns.IsStoring header w.layout (group_of w.layout v.transactions m) (take n all) (drop n all) new.disk.areas) (sym behind.written_is) next in
+        let stage : groups.stage_behind v.transactions.queue v.transactions.stage ≡ Storing behind.member behind.extent = ap (groups.stage_behind v.transactions.queue) is ∙ behind.is in
+        subst (λ (s : GroupStage). IsAtStage header w.layout (group_of w.layout v.transactions m) v.transactions.queue s v.turn new.disk.areas) (sym stage) there'
+
+  -- ---- the heap is synced
+
+  module _ (answer : Result (Unit {0}) DeviceFault) (member extent : ℕ) (is : v.transactions.stage ≡ Storing member extent) (past : member ≡ v.transactions.group) (some : 0 < v.transactions.group)
+      (call : Syncs Heap answer v.disk.areas new.disk.areas) where
+    abbrev whole : List Extent
+    whole = extents_of (group_of w.layout v.transactions m).members
+
+    abbrev at_end : ℕ
+    at_end = written_before v.transactions.queue member extent
+
+    none : drop at_end whole ≡ []
+    none =
+        let named = joining.numbers header v.transactions m w.layout w.reading memory machine order w.laid w.stands built w.built w.kept w.packed some (room-left header v m order in_step slots_are w some) in
+        let many : length whole ≡ length (flat_map numbers_of (take v.transactions.group v.transactions.queue)) = sym (length-mapped (λ (e : Extent). e.number) whole) ∙ ap (λ (l : List ℕ). length l) named in
+        let same : length (flat_map numbers_of (take member v.transactions.queue)) ≡ length (flat_map numbers_of (take v.transactions.group v.transactions.queue)) = ap (λ (n : ℕ). length (flat_map numbers_of (take n v.transactions.queue))) past in
+        none-left at_end whole (omega (arith, many, same))
+
+    abbrev synced-goes : Goes header v m w answer new.disk.areas
+    synced-goes =
+        let bytes = slot-bytes some in
+        let at = subst (λ (s : GroupStage). IsAtStage header w.layout (group_of w.layout v.transactions m) v.transactions.queue s v.turn v.disk.areas) is w.at in record {
+          stage = turns.Storing (take at_end whole) [];
+          at = subst (λ (es : List Extent). turns.IsStoring header w.layout (group_of w.layout v.transactions m) (take at_end whole) es v.disk.areas) none at;
+          bytes = bytes.0;
+          long = bytes.1;
+          spelled = bytes.2;
+          call = call;
+          some = some;
+        }
+
+  -- ---- the slot is begun, or goes on
+
+  abbrev named : Slot
+  named = (group_of w.layout v.transactions m).slot
+
+  abbrev slot-goes : (answer : Result (Unit {0}) DeviceFault) (t : TurnState) → IsTurnOf header w.layout (group_of w.layout v.transactions m) t v.disk.areas → 0 < v.transactions.group
+      → IsSlotCall t.number t.body t.stage answer v.disk.areas new.disk.areas → Goes header v m w answer new.disk.areas
+  slot-goes answer t is some call = record {
+    stage = turns.Turning t.stage;
+    at = is.at;
+    bytes = t.body;
+    long = is.long;
+    spelled = is.spelled;
+    call = subst (λ (n : ℕ). IsSlotCall n t.body t.stage answer v.disk.areas new.disk.areas) is.number call;
+    some = some;
+  }
+
+  -- the slot that is begun is the group's
+  begun-turn : (body : Body) → IsCommitOf (groups.entries v.transactions) body → IsTurnAt header w.layout named (laid_out w.layout (group_of w.layout v.transactions m)) slots.Begun v.disk.areas → 0 < v.transactions.group
+      → IsTurnOf header w.layout (group_of w.layout v.transactions m) (record { number = v.log.used; body = spelling v.log.profile (record { number = v.log.used; body = body }); stage = slots.Begun }) v.disk.areas
+  begun-turn body commit at some =
+      let room = room-left header v m order in_step slots_are w some in
+      let number = sym w.used in
+      let what = sym (commit-is (groups.entries v.transactions) body commit) in
+      let same : Path Slot named (record { number = v.log.used; body = body }) = λ i. record { number = number i; body = what i } in
+      let bytes : spelling header.profile named ≡ spelling v.log.profile (record { number = v.log.used; body = body }) = let p = sym profile in λ i. spelling (p i) (same i) in
+      record {
+        number = w.used;
+        long = subst (λ (l : List ℕ). length l ≡ 511) bytes (joining.long header v.transactions m w.layout w.reading memory machine order w.laid w.stands built w.built w.kept w.packed some room);
+        spelled = subst (λ (l : List ℕ). IsSpelled header.profile (length w.layout.slots) l named) bytes
+            (joining.spelled header v.transactions m w.layout w.reading memory machine order w.laid w.stands built w.built w.kept w.packed some room);
+        at = at;
+      }
+
+  -- ---- the group is published
+
+  published-works : 0 < v.transactions.group → (number : ℕ) → number ≡ length w.layout.slots → AreSound new.disk.areas → IsTurnAt header w.layout named (laid_out w.layout (group_of w.layout v.transactions m)) slots.Opened new.disk.areas
+      → Works header (with_parts new (groups.published v.transactions) (record v.log { used = number + 1; writing = false }) None) (steps.group_published m)
+  published-works some number last sound at =
+      let room = room-left header v m order in_step slots_are w some in
+      let group : turns.Group = group_of w.layout v.transactions m in
+      let size : v.transactions.group ≡ m.group = memory.group in
+      record {
+        layout = laid_out w.layout (group_of w.layout v.transactions m);
+        reading = with_group w.reading (turns.members_of (group_of w.layout v.transactions m));
+        laid = joining.laid_then header v.transactions m w.layout w.reading memory machine order w.laid w.stands built w.built w.kept w.packed some room;
+        stands = subst (λ (n : ℕ). StandsFor (with_group w.reading (turns.members_of (group_of w.layout v.transactions m))) (m.published ++ take n m.queue) m.floors) size
+            (joining.stands_then header v.transactions m w.layout w.reading memory machine order w.laid w.stands built w.built w.kept w.packed some room);
+        built = joining.built_then header v.transactions m w.layout w.reading memory machine order w.laid w.stands built w.built w.kept w.packed some room;
+        used = let long : length (w.layout.slots ++ named ∷ []) ≡ length w.layout.slots + 1 = length-append w.layout.slots (named ∷ []) in omega (arith, long, last);
+        kept = subst (AllKept (groups.published v.transactions).usages) (sym (live_more w.layout (group_of w.layout v.transactions m)))
+            (all-published v.transactions.usages (flat_map numbers_of (take v.transactions.group v.transactions.queue)) (live w.layout) (extents_of (group_of w.layout v.transactions m).members)
+            (joining.out header v.transactions m w.layout w.reading memory machine order w.laid w.stands built w.built w.kept w.packed some room)
+            (joining.numbers header v.transactions m w.layout w.reading memory machine order w.laid w.stands built w.built w.kept w.packed some room)
+            w.kept);
+        packed = subst (λ (n : ℕ). AllPacked (m.published ++ take n m.queue) (drop v.transactions.group v.transactions.queue) (drop n m.queue)) size (packed-rest v.transactions.group m.published v.transactions.queue m.queue w.packed);
+        at = record { status = at.status; parts = at.new_parts };
+        sound = sound;
+      }
+
+-- ---- the store after a step
+
+abbrev Ends : Bool → Machine Value → Result Did PumpFault → StoreValue → Type 0
+Ends tells m answer v = (after : Machine Value) × Run IsValue m (ends_in answer) after × Parts tells v after
+
+same-store : (new : StoreValue) (transactions : TransactionsValue) (log : LogState) (turn : Option TurnState) → new.transactions ≡ transactions → new.log ≡ log → new.turn ≡ turn → with_parts new transactions log turn ≡ new
+same-store new transactions log turn a b c = let x = sym a in let y = sym b in let z = sym c in λ i. record { transactions = x i; log = y i; turn = z i; disk = new.disk }
+
+broken-order : (v : TransactionsValue) → IsInOrder v → IsInOrder (groups.broken v)
+broken-order v order = record {
+  split = order.split;
+  latest = order.latest;
+  group_within = order.group_within;
+  group_few = order.group_few;
+  stage_fits = order.stage_fits;
+  stored = order.stored;
+  out = order.out;
+  room = order.room;
+  slots_few = order.slots_few;
+}
+
+-- a refused call
+fails-parts : (tells : Bool) (v new : StoreValue) (m : Machine Value) → Parts tells v m → IsMachine IsValue m → (works : m.failed ≡ false) → (log : LogState) (turn : Option TurnState) → log.profile ≡ v.log.profile → log.slots ≡ v.log.slots → log.used ≡ v.log.used
+    → ((told : IsTrue tells) → (d : StandsOnDisk v m) → Goes d.header v m (d.works works) (Err (record {})) new.disk.areas) → Parts tells (with_parts new (groups.broken v.transactions) log turn) (steps.broken m)
+fails-parts tells v new m parts machine works log turn same many used goes = record {
+  memory = breaks v.transactions m parts.memory;
+  order = broken-order v.transactions parts.order;
+  in_step = record { slots = many ∙ parts.in_step.slots; used = used ∙ parts.in_step.used; turns = λ no. absurd cc };
+  disk = λ told.
+      let d = parts.disk told in
+      breaks-disk d.header v new m parts.memory machine parts.order parts.in_step d.profile d.slots d.profile_built (d.works works) (record {}) log turn (goes told d) same many;
+}
+
+fails-step : (tells : Bool) (v new : StoreValue) (m : Machine Value) (why : PumpFault) → Parts tells v m → IsMachine IsValue m → (works : m.failed ≡ false) → (log : LogState) (turn : Option TurnState) → log.profile ≡ v.log.profile → log.slots ≡ v.log.slots → log.used ≡ v.log.used
+    → new.transactions ≡ groups.broken v.transactions → new.log ≡ log → new.turn ≡ turn
+    → ((told : IsTrue tells) → (d : StandsOnDisk v m) → Goes d.header v m (d.works works) (Err (record {})) new.disk.areas) → Ends tells m (Err why) new
+fails-step tells v new m why parts machine works log turn same many used a b c goes =
+    (steps.broken m, (steps.broken m, (works, refl), refl), subst (λ (x : StoreValue). Parts tells x (steps.broken m)) (same-store new (groups.broken v.transactions) log turn a b c) (fails-parts tells v new m parts machine works log turn same many used goes))
+
+-- a call that is made, and tells nothing of the machine
+stays-step : (tells : Bool) (v new : StoreValue) (m : Machine Value) (said what : Did) → ends_in (Ok what) ≡ [] → said ≡ what → (transactions : TransactionsValue) (log : LogState) (turn : Option TurnState) → new.transactions ≡ transactions → new.log ≡ log → new.turn ≡ turn
+    → Parts tells (with_parts new transactions log turn) m → Ends tells m (Ok said) new
+stays-step tells v new m said what none is transactions log turn a b c parts =
+    subst (λ (d : Did). Ends tells m (Ok d) new) (sym is)
+    (m, subst (λ (es : List (Event Value)). Run IsValue m es m) (sym none) refl, subst (λ (x : StoreValue). Parts tells x m) (same-store new transactions log turn a b c) parts)
+
+-- ---- an extent
+
+pub record IsStoring (s : GroupStage) (group : ℕ) : Type 0 where
+  pub member : ℕ
+  pub extent : ℕ
+  pub is : s ≡ Storing member extent
+  pub low : member < group
+
+storing-is : (s : GroupStage) (group : ℕ) → groups.step_of s group ≡ next.WriteExtent → IsStoring s group
+storing-is NoGroup group asks = absurd cc
+storing-is Stored group asks = absurd cc
+storing-is Turning group asks = absurd cc
+storing-is (Storing member extent) group asks = elim (cases_lt member group) [
+  | inl low ↦ record { member = member; extent = extent; is = refl; low = low }
+  | inr past ↦ let no : nat_lt member group ≡ false = grind (arith, nat_tests) in let other : groups.step_of (Storing member extent) group ≡ next.SyncHeap = rw no refl in absurd cc
+]
+
+behind-turning : (qs : List QueuedValue) (member extent : ℕ) (o : Option QueuedValue) → is_turning (groups.place_behind o member extent) ≡ false
+behind-turning qs member extent None = refl
+behind-turning qs member extent (Some q) = elim (nat_lt (extent + 1) (length q.stored)) as (λ (b : Bool). is_turning (cond b (Storing member (extent + 1)) (Storing (member + 1) 0)) ≡ false) [ true ↦ refl | false ↦ refl ]
+
+wrote-step : (tells : Bool) (v new : StoreValue) (answer : Result Did PumpFault) (m : Machine Value) → Parts tells v m → IsMachine IsValue m → (works : m.failed ≡ false) → groups.due v.transactions ≡ next.WriteExtent → (IsTrue tells → AreSound new.disk.areas)
+    → (o : Option StoredExtent) → groups.next_extent v.transactions ≡ o → MatchOption o ⊥ (λ stored. WritesExtent tells stored v answer new) → Ends tells m answer new
+wrote-step tells v new answer m parts machine works asks sound None found takes = absurd takes
+wrote-step tells v new answer m parts machine works asks sound (Some stored) found takes =
+    let at = storing-is v.transactions.stage v.transactions.group asks in
+    let there : groups.extent_at (slice_get v.transactions.queue at.member) at.extent ≡ Some stored = subst (λ (s : GroupStage). groups.extent_of v.transactions.queue s ≡ Some stored) at.is found in
+    by-answer answer at there takes
+  where
+    by-answer : (answer : Result Did PumpFault) (at : IsStoring v.transactions.stage v.transactions.group) → groups.extent_at (slice_get v.transactions.queue at.member) at.extent ≡ Some stored → WritesExtent tells stored v answer new → Ends tells m answer new
+    by-answer (Err why) at there takes =
+        fails-step tells v new m why parts machine works v.log v.turn refl refl refl takes.steps.answer.1 takes.steps.log takes.steps.turn
+        (λ told d. wrote-goes d.header v new m parts.memory machine parts.order parts.in_step d.profile d.slots d.profile_built (d.works works) (Err (record {})) at.member at.extent at.is at.low stored there (takes.call.areas told))
+    by-answer (Ok said) at there takes =
+        let stage = groups.stage_behind v.transactions.queue v.transactions.stage in
+        let memory = restaged v.transactions m stage parts.memory (λ _. omega (arith, at.low)) in
+        let order = keeps-wrote v.transactions parts.order asks in
+        let turning : is_turning stage ≡ is_turning v.transactions.stage =
+        ap (λ (s : GroupStage). is_turning (groups.stage_behind v.transactions.queue s)) at.is ∙ behind-turning v.transactions.queue at.member at.extent (slice_get v.transactions.queue at.member) ∙ sym (ap is_turning at.is) in
+        let in_step : IsInStep (with_parts new (groups.wrote_extent v.transactions) v.log v.turn) = record {
+          slots = parts.in_step.slots;
+          used = parts.in_step.used;
+          turns = λ on. let was = parts.in_step.turns on in record { turning = turning ∙ was.turning; writing = was.writing; turn = was.turn };
+        } in
+        stays-step tells v new m said did.WroteExtent refl takes.steps.answer.0 (groups.wrote_extent v.transactions) v.log v.turn takes.steps.answer.1 takes.steps.log takes.steps.turn (record {
+          memory = memory;
+          order = order;
+          in_step = in_step;
+          disk = λ told.
+              let d = parts.disk told in
+              let w = d.works works in
+              let goes = wrote-goes d.header v new m parts.memory machine parts.order parts.in_step d.profile d.slots d.profile_built w (Ok tt) at.member at.extent at.is at.low stored there (takes.call.areas told) in
+              on-disk d.header (with_parts new (groups.wrote_extent v.transactions) v.log v.turn) m memory machine order in_step d.profile d.slots d.profile_built
+              (staged-works d.header v new m parts.memory machine parts.order parts.in_step d.profile d.slots d.profile_built w stage v.log v.turn refl (sound told)
+              (wrote-at d.header v new m parts.memory machine parts.order parts.in_step d.profile d.slots d.profile_built w (Ok tt) at.member at.extent at.is at.low stored there (takes.call.areas told)
+              (goes-on d.header v new m parts.memory machine parts.order parts.in_step d.profile d.slots d.profile_built w goes)));
+        })
