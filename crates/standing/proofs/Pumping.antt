@@ -24,6 +24,7 @@ use Rattle.wire.specs.Spelling.{spelling, IsSpelled}
 use Rattle.image.specs.StandsFor.{StandsFor}
 use Rattle.reading.specs.SlotTurns.{IsTurnAt}
 use Rattle.extents.specs.Usages.{IsKept, AreOut}
+use Rattle.extents.specs.declared.usage.Usage.TheVariants.{Kept}
 use Rattle.deltas.specs.Extents.{Extent, extent_start, extent_bytes}
 use Rattle.status.specs.declared.header.Header.{Header}
 use Rattle.status.specs.Header.{total}
@@ -54,7 +55,7 @@ use Rattle.transactions.specs.declared.stage.NextStep.TheVariants as next
 use Rattle.transactions.proofs.Kept.{advance-is, keeps-grouped, keeps-wrote, keeps-synced, keeps-begun, keeps-published}
 use Rattle.transactions.proofs.Publishing.{out-front, out-rest}
 use Rattle.store.specs.Values.{StoreValue, IsInStep, TurnsGroup, IsOnItsWay}
-use Rattle.store.specs.Pumps.{Pumps, TakesStep, WritesExtent, TurnsSlot, IsTurned, started, begun, Steps as StoreSteps, BeginsSlot}
+use Rattle.store.specs.Pumps.{Pumps, TakesStep, WritesExtent, TurnsSlot, IsTurned, started, begun, Steps as StoreSteps, BeginsSlot, SyncsHeap}
 use Rattle.standing.specs.Standing.{IsStaged, StandsInMemory}
 use Rattle.standing.specs.OnDisk.{IsImageOf, AllPacked, written_before, group_of, IsAtStage, IsTurnOf, Works, StandsOnDisk}
 use Rattle.standing.specs.Stands.{Stands}
@@ -409,20 +410,20 @@ broken-order v order = record {
 }
 
 -- a refused call
-fails-parts : (tells : Bool) (v new : StoreValue) (m : Machine Value) → Parts tells v m → IsMachine IsValue m → (works : m.failed ≡ false) → (log : LogState) (turn : Option TurnState) → log.profile ≡ v.log.profile → log.slots ≡ v.log.slots → log.used ≡ v.log.used
-    → ((told : IsTrue tells) → (d : StandsOnDisk v m) → Goes d.header v m (d.works works) (Err (record {})) new.disk.areas) → Parts tells (with_parts new (groups.broken v.transactions) log turn) (steps.broken m)
+fails-parts : (tells : Bool) (v new : StoreValue) (m : Machine Value) → (parts : Parts tells v m) → IsMachine IsValue m → (works : m.failed ≡ false) → (log : LogState) (turn : Option TurnState) → log.profile ≡ v.log.profile → log.slots ≡ v.log.slots → log.used ≡ v.log.used
+    → ((told : IsTrue tells) → Goes (parts.disk told).header v m ((parts.disk told).works works) (Err (record {})) new.disk.areas) → Parts tells (with_parts new (groups.broken v.transactions) log turn) (steps.broken m)
 fails-parts tells v new m parts machine works log turn same many used goes = record {
   memory = breaks v.transactions m parts.memory;
   order = broken-order v.transactions parts.order;
   in_step = record { slots = many ∙ parts.in_step.slots; used = used ∙ parts.in_step.used; turns = λ no. absurd cc };
   disk = λ told.
       let d = parts.disk told in
-      breaks-disk d.header v new m parts.memory machine parts.order parts.in_step d.profile d.slots d.profile_built (d.works works) (record {}) log turn (goes told d) same many;
+      breaks-disk d.header v new m parts.memory machine parts.order parts.in_step d.profile d.slots d.profile_built (d.works works) (record {}) log turn (goes told) same many;
 }
 
-fails-step : (tells : Bool) (v new : StoreValue) (m : Machine Value) (why : PumpFault) → Parts tells v m → IsMachine IsValue m → (works : m.failed ≡ false) → (log : LogState) (turn : Option TurnState) → log.profile ≡ v.log.profile → log.slots ≡ v.log.slots → log.used ≡ v.log.used
+fails-step : (tells : Bool) (v new : StoreValue) (m : Machine Value) (why : PumpFault) → (parts : Parts tells v m) → IsMachine IsValue m → (works : m.failed ≡ false) → (log : LogState) (turn : Option TurnState) → log.profile ≡ v.log.profile → log.slots ≡ v.log.slots → log.used ≡ v.log.used
     → new.transactions ≡ groups.broken v.transactions → new.log ≡ log → new.turn ≡ turn
-    → ((told : IsTrue tells) → (d : StandsOnDisk v m) → Goes d.header v m (d.works works) (Err (record {})) new.disk.areas) → Ends tells m (Err why) new
+    → ((told : IsTrue tells) → Goes (parts.disk told).header v m ((parts.disk told).works works) (Err (record {})) new.disk.areas) → Ends tells m (Err why) new
 fails-step tells v new m why parts machine works log turn same many used a b c goes =
     (steps.broken m, (steps.broken m, (works, refl), refl), subst (λ (x : StoreValue). Parts tells x (steps.broken m)) (same-store new (groups.broken v.transactions) log turn a b c) (fails-parts tells v new m parts machine works log turn same many used goes))
 
@@ -465,7 +466,7 @@ wrote-step tells v new answer m parts machine works asks sound (Some stored) fou
     by-answer : (answer : Result Did PumpFault) (at : IsStoring v.transactions.stage v.transactions.group) → groups.extent_at (slice_get v.transactions.queue at.member) at.extent ≡ Some stored → WritesExtent tells stored v answer new → Ends tells m answer new
     by-answer (Err why) at there takes =
         fails-step tells v new m why parts machine works v.log v.turn refl refl refl takes.steps.answer.1 takes.steps.log takes.steps.turn
-        (λ told d. wrote-goes d.header v new m parts.memory machine parts.order parts.in_step d.profile d.slots d.profile_built (d.works works) (Err (record {})) at.member at.extent at.is at.low stored there (takes.call.areas told))
+        (λ told. let d = parts.disk told in wrote-goes d.header v new m parts.memory machine parts.order parts.in_step d.profile d.slots d.profile_built (d.works works) (Err (record {})) at.member at.extent at.is at.low stored there (takes.call.areas told))
     by-answer (Ok said) at there takes =
         let stage = groups.stage_behind v.transactions.queue v.transactions.stage in
         let memory = restaged v.transactions m stage parts.memory (λ _. omega (arith, at.low)) in
@@ -489,4 +490,294 @@ wrote-step tells v new answer m parts machine works asks sound (Some stored) fou
               (staged-works d.header v new m parts.memory machine parts.order parts.in_step d.profile d.slots d.profile_built w stage v.log v.turn refl (sound told)
               (wrote-at d.header v new m parts.memory machine parts.order parts.in_step d.profile d.slots d.profile_built w (Ok tt) at.member at.extent at.is at.low stored there (takes.call.areas told)
               (goes-on d.header v new m parts.memory machine parts.order parts.in_step d.profile d.slots d.profile_built w goes)));
+        })
+
+-- ---- the heap
+
+pub record IsAllStored (s : GroupStage) (group : ℕ) : Type 0 where
+  pub member : ℕ
+  pub extent : ℕ
+  pub is : s ≡ Storing member extent
+  pub past : member ≡ group
+  pub some : 0 < group
+
+all-stored : (s : GroupStage) (group : ℕ) (qs : List QueuedValue) → StageFits s group qs → groups.step_of s group ≡ next.SyncHeap → IsAllStored s group
+all-stored NoGroup group qs fits asks = absurd cc
+all-stored Stored group qs fits asks = absurd cc
+all-stored Turning group qs fits asks = absurd cc
+all-stored (Storing member extent) group qs fits asks = elim (cases_lt member group) [
+  | inl low ↦ let yes : nat_lt member group ≡ true = grind (arith, nat_tests) in let other : groups.step_of (Storing member extent) group ≡ next.WriteExtent = rw yes refl in absurd cc
+  | inr past ↦ let within = fits.1 in record { member = member; extent = extent; is = refl; past = omega (arith, past, within); some = fits.0 }
+]
+
+synced-step : (tells : Bool) (v new : StoreValue) (answer : Result Did PumpFault) (m : Machine Value) → Parts tells v m → IsMachine IsValue m → (works : m.failed ≡ false) → groups.due v.transactions ≡ next.SyncHeap → (IsTrue tells → AreSound new.disk.areas)
+    → SyncsHeap tells v answer new → Ends tells m answer new
+synced-step tells v new answer m parts machine works asks sound takes =
+    by-answer answer (all-stored v.transactions.stage v.transactions.group v.transactions.queue parts.order.stage_fits asks) takes
+  where
+    by-answer : (answer : Result Did PumpFault) → IsAllStored v.transactions.stage v.transactions.group → SyncsHeap tells v answer new → Ends tells m answer new
+    by-answer (Err why) at takes =
+        fails-step tells v new m why parts machine works v.log v.turn refl refl refl takes.steps.answer.1 takes.steps.log takes.steps.turn
+        (λ told. let d = parts.disk told in synced-goes d.header v new m parts.memory machine parts.order parts.in_step d.profile d.slots d.profile_built (d.works works) (Err (record {})) at.member at.extent at.is at.past at.some (takes.call.areas told))
+    by-answer (Ok said) at takes =
+        let memory = restaged v.transactions m Stored parts.memory (λ _. at.some) in
+        let order = keeps-synced v.transactions parts.order asks in
+        let in_step : IsInStep (with_parts new (groups.at_stage Stored v.transactions) v.log v.turn) = record {
+          slots = parts.in_step.slots;
+          used = parts.in_step.used;
+          turns = λ on. let was = parts.in_step.turns on in record { turning = sym (ap is_turning at.is) ∙ was.turning; writing = was.writing; turn = was.turn };
+        } in
+        stays-step tells v new m said did.HeapSynced refl takes.steps.answer.0 (groups.at_stage Stored v.transactions) v.log v.turn takes.steps.answer.1 takes.steps.log takes.steps.turn (record {
+          memory = memory;
+          order = order;
+          in_step = in_step;
+          disk = λ told.
+              let d = parts.disk told in
+              let w = d.works works in
+              let goes = synced-goes d.header v new m parts.memory machine parts.order parts.in_step d.profile d.slots d.profile_built w (Ok tt) at.member at.extent at.is at.past at.some (takes.call.areas told) in
+              on-disk d.header (with_parts new (groups.at_stage Stored v.transactions) v.log v.turn) m memory machine order in_step d.profile d.slots d.profile_built
+              (staged-works d.header v new m parts.memory machine parts.order parts.in_step d.profile d.slots d.profile_built w Stored v.log v.turn refl (sound told)
+              (goes-on d.header v new m parts.memory machine parts.order parts.in_step d.profile d.slots d.profile_built w goes));
+        })
+
+-- ---- the slot
+
+-- the turn of the slot is the group's, where the store tells what is on its disk
+abbrev IsGroupTurn : (tells : Bool) (v : StoreValue) (m : Machine Value) → (IsTrue tells → StandsOnDisk v m) → m.failed ≡ false → TurnState → Type 0
+IsGroupTurn tells v m disk works t = (told : IsTrue tells) → IsTurnOf (disk told).header ((disk told).works works).layout (group_of ((disk told).works works).layout v.transactions m) t v.disk.areas
+
+-- a slot on its way: the store has the stage and the turn of it
+module _ (tells : Bool) (v new : StoreValue) (m : Machine Value) (t : TurnState) (parts : Parts tells v m) (machine : IsMachine IsValue m) (works : m.failed ≡ false) (turning : v.transactions.stage ≡ Turning) (number : t.number ≡ v.log.used)
+    (writing : v.log.writing ≡ true) (own : IsGroupTurn tells v m parts.disk works t) (sound : IsTrue tells → AreSound new.disk.areas) where
+  group-some : 0 < v.transactions.group
+  group-some = subst (λ (s : GroupStage). StageFits s v.transactions.group v.transactions.queue) turning parts.order.stage_fits
+
+  -- the next call of the slot is made
+  led : (stage : SlotStage) → t.stage ≡ stage → (IsTrue tells → IsSlotCall t.number t.body t.stage (Ok tt) v.disk.areas new.disk.areas) → (told : IsTrue tells) →
+      IsTurnAt (parts.disk told).header ((parts.disk told).works works).layout (group_of ((parts.disk told).works works).layout v.transactions m).slot
+      (laid_out ((parts.disk told).works works).layout (group_of ((parts.disk told).works works).layout v.transactions m)) (slots.slot_stage_after stage) new.disk.areas
+  led stage is call told =
+      let d = parts.disk told in
+      let w = d.works works in
+      let goes = slot-goes d.header v new m parts.memory machine parts.order parts.in_step d.profile d.slots d.profile_built w (Ok tt) t (own told) group-some (call told) in
+      subst (λ (s : SlotStage). IsTurnAt d.header w.layout (group_of w.layout v.transactions m).slot (laid_out w.layout (group_of w.layout v.transactions m)) (slots.slot_stage_after s) new.disk.areas) is
+      (goes-on d.header v new m parts.memory machine parts.order parts.in_step d.profile d.slots d.profile_built w goes)
+
+  -- what the store is then
+  between : (stage : SlotStage) → t.stage ≡ stage → IsOnItsWay (slots.slot_stage_after stage) → (IsTrue tells → IsSlotCall t.number t.body t.stage (Ok tt) v.disk.areas new.disk.areas) → (said what : Did) → ends_in (Ok what) ≡ [] → said ≡ what
+      → new.transactions ≡ v.transactions → new.log ≡ v.log → new.turn ≡ Some (record t { stage = slots.slot_stage_after stage }) → Ends tells m (Ok said) new
+  between stage is way call said what none same a b c =
+      let after : Option TurnState = Some (record t { stage = slots.slot_stage_after stage }) in
+      let in_step : IsInStep (with_parts new v.transactions v.log after) = record {
+        slots = parts.in_step.slots;
+        used = parts.in_step.used;
+        turns = λ on. record { turning = ap is_turning turning; writing = writing; turn = (number, way) };
+      } in
+      stays-step tells v new m said what none same v.transactions v.log after a b c (record {
+        memory = parts.memory;
+        order = parts.order;
+        in_step = in_step;
+        disk = λ told.
+            let d = parts.disk told in
+            let w = d.works works in
+            let mine = own told in
+            let at : IsAtStage d.header w.layout (group_of w.layout v.transactions m) v.transactions.queue Turning after new.disk.areas = record { number = mine.number; long = mine.long; spelled = mine.spelled; at = led stage is call told } in
+            on-disk d.header (with_parts new v.transactions v.log after) m parts.memory machine parts.order in_step d.profile d.slots d.profile_built (record {
+              layout = w.layout;
+              reading = w.reading;
+              laid = w.laid;
+              stands = w.stands;
+              built = w.built;
+              used = w.used;
+              kept = w.kept;
+              packed = w.packed;
+              at = subst (λ (s : GroupStage). IsAtStage d.header w.layout (group_of w.layout v.transactions m) v.transactions.queue s after new.disk.areas) (sym turning) at;
+              sound = sound told;
+            });
+      })
+
+  -- and where its gate is open
+  opens : t.stage ≡ slots.GateWritten → (IsTrue tells → IsSlotCall t.number t.body t.stage (Ok tt) v.disk.areas new.disk.areas) → groups.due v.transactions ≡ next.AdvanceSlot → (said : Did) → said ≡ did.Published v.transactions.group
+      → new.transactions ≡ groups.published v.transactions → new.log ≡ record v.log { used = t.number + 1; writing = false } → new.turn ≡ None → Ends tells m (Ok said) new
+  opens is call asks said same a b c =
+      let log : LogState = record v.log { used = t.number + 1; writing = false } in
+      let memory = publishes v.transactions m parts.memory machine.group_queued in
+      let rest : AreOut v.transactions.usages (flat_map numbers_of (take v.transactions.group v.transactions.queue) ++ flat_map numbers_of (drop v.transactions.group v.transactions.queue)) =
+      subst (λ (l : List ℕ). AreOut v.transactions.usages l) (numbers-split v.transactions.group v.transactions.queue) parts.order.out in
+      let order = keeps-published v.transactions parts.order asks
+          (out-rest v.transactions.usages (flat_map numbers_of (take v.transactions.group v.transactions.queue)) (flat_map numbers_of (drop v.transactions.group v.transactions.queue)) Kept rest) in
+      let step : steps.Step IsValue m (steps.Published v.transactions.group) (steps.group_published m) = (works, group-some, parts.memory.group, refl) in
+      let machine' : IsMachine IsValue (steps.group_published m) = run-machine IsValue m (steps.group_published m) (steps.Published v.transactions.group ∷ []) machine (steps.group_published m, step, refl) in
+      let in_step : IsInStep (with_parts new (groups.published v.transactions) log None) = record {
+        slots = parts.in_step.slots;
+        used = omega (arith, number, parts.in_step.used);
+        turns = λ on. record { turning = refl; writing = refl; turn = tt };
+      } in
+      let after : Parts tells (with_parts new (groups.published v.transactions) log None) (steps.group_published m) = record {
+        memory = memory;
+        order = order;
+        in_step = in_step;
+        disk = λ told.
+            let d = parts.disk told in
+            let w = d.works works in
+            on-disk d.header (with_parts new (groups.published v.transactions) log None) (steps.group_published m) memory machine' order in_step d.profile d.slots d.profile_built
+            (published-works d.header v new m parts.memory machine parts.order parts.in_step d.profile d.slots d.profile_built w group-some t.number (own told).number (sound told) (led slots.GateWritten is call told));
+      } in
+      subst (λ (e : Did). Ends tells m (Ok e) new) (sym same)
+      (steps.group_published m, (steps.group_published m, step, refl), subst (λ (x : StoreValue). Parts tells x (steps.group_published m)) (same-store new (groups.published v.transactions) log None a b c) after)
+
+  turned : (stage : SlotStage) → t.stage ≡ stage → (IsTrue tells → IsSlotCall t.number t.body t.stage (Ok tt) v.disk.areas new.disk.areas) → groups.due v.transactions ≡ next.AdvanceSlot → (what : Did) → IsTurned stage t v what new → Ends tells m (Ok what) new
+  turned slots.Begun is call asks what to = between slots.Begun is tt call what did.BodyWritten refl to.0 to.1 to.2 to.3
+  turned slots.BodyWritten is call asks what to = between slots.BodyWritten is tt call what did.BodySynced refl to.0 to.1 to.2 to.3
+  turned slots.BodySynced is call asks what to = between slots.BodySynced is tt call what did.GateWritten refl to.0 to.1 to.2 to.3
+  turned slots.GateWritten is call asks what to = opens is call asks what to.0 to.1 to.2 to.3
+  turned slots.Opened is call asks what to = absurd to
+
+  slot-step : groups.due v.transactions ≡ next.AdvanceSlot → (answer : Result Did PumpFault) → TurnsSlot tells t v answer new → Ends tells m answer new
+  slot-step asks (Ok what) turns = turned t.stage refl turns.call.areas asks what turns.answer
+  slot-step asks (Err why) turns =
+      fails-step tells v new m why parts machine works v.log None refl refl refl turns.answer.transactions turns.answer.log turns.answer.turn
+      (λ told. let d = parts.disk told in slot-goes d.header v new m parts.memory machine parts.order parts.in_step d.profile d.slots d.profile_built (d.works works) (Err (record {})) t (own told) group-some (turns.call.areas told))
+
+-- ---- the slot is begun
+
+begin-is : (s : GroupStage) (group : ℕ) → groups.step_of s group ≡ next.BeginSlot → s ≡ Stored
+begin-is NoGroup group asks = absurd cc
+begin-is Stored group asks = refl
+begin-is Turning group asks = absurd cc
+begin-is (Storing member extent) group asks =
+    elim (nat_lt member group) as (λ (b : Bool). cond b next.WriteExtent next.SyncHeap ≡ next.BeginSlot → Storing member extent ≡ Stored) [ true ↦ λ no. absurd cc | false ↦ λ no. absurd cc ] asks
+
+-- the group's slot is in the writing, and no call of it is made: the store is on its way to the first one
+module _ (tells : Bool) (v new : StoreValue) (m : Machine Value) (parts : Parts tells v m) (machine : IsMachine IsValue m) (works : m.failed ≡ false) (stored : v.transactions.stage ≡ Stored)
+    (sound : IsTrue tells → AreSound new.disk.areas) (body : Body) (commit : IsCommitOf (groups.entries v.transactions) body) where
+  abbrev first : TurnState
+  first = record { number = v.log.used; body = spelling v.log.profile (record { number = v.log.used; body = body }); stage = slots.Begun }
+
+  some-stored : 0 < v.transactions.group
+  some-stored = subst (λ (s : GroupStage). StageFits s v.transactions.group v.transactions.queue) stored parts.order.stage_fits
+
+  first-turn : (told : IsTrue tells) → IsTurnOf (parts.disk told).header ((parts.disk told).works works).layout (group_of ((parts.disk told).works works).layout v.transactions m) first v.disk.areas
+  first-turn told =
+      let d = parts.disk told in
+      let w = d.works works in
+      begun-turn d.header v new m parts.memory machine parts.order parts.in_step d.profile d.slots d.profile_built w body commit
+      (subst (λ (s : GroupStage). IsAtStage d.header w.layout (group_of w.layout v.transactions m) v.transactions.queue s v.turn v.disk.areas) stored w.at) some-stored
+
+  abbrev first-goes : (answer : Result (Unit {0}) DeviceFault) (told : IsTrue tells) → IsSlotCall first.number first.body slots.Begun answer v.disk.areas new.disk.areas → Goes (parts.disk told).header v m ((parts.disk told).works works) answer new.disk.areas
+  first-goes answer told call =
+      let d = parts.disk told in
+      slot-goes d.header v new m parts.memory machine parts.order parts.in_step d.profile d.slots d.profile_built (d.works works) answer first (first-turn told) some-stored call
+
+  begun-step : groups.due v.transactions ≡ next.BeginSlot → (answer : Result Did PumpFault) → TurnsSlot tells first (begun v) answer new → Ends tells m answer new
+  begun-step asks (Ok what) to =
+      let after : Option TurnState = Some (record first { stage = slots.BodyWritten }) in
+      let log : LogState = record v.log { writing = true } in
+      let memory = restaged v.transactions m Turning parts.memory (λ _. some-stored) in
+      let order = keeps-begun v.transactions parts.order asks in
+      let in_step : IsInStep (with_parts new (groups.at_stage Turning v.transactions) log after) = record {
+        slots = parts.in_step.slots;
+        used = parts.in_step.used;
+        turns = λ on. record { turning = refl; writing = refl; turn = (refl, tt) };
+      } in
+      stays-step tells v new m what did.BodyWritten refl to.answer.0 (groups.at_stage Turning v.transactions) log after to.answer.1 to.answer.2 to.answer.3 (record {
+        memory = memory;
+        order = order;
+        in_step = in_step;
+        disk = λ told.
+            let d = parts.disk told in
+            let w = d.works works in
+            let mine = first-turn told in
+            let on = goes-on d.header v new m parts.memory machine parts.order parts.in_step d.profile d.slots d.profile_built w (first-goes (Ok tt) told (to.call.areas told)) in
+            on-disk d.header (with_parts new (groups.at_stage Turning v.transactions) log after) m memory machine order in_step d.profile d.slots d.profile_built
+            (staged-works d.header v new m parts.memory machine parts.order parts.in_step d.profile d.slots d.profile_built w Turning log after refl (sound told)
+            (record { number = mine.number; long = mine.long; spelled = mine.spelled; at = on }));
+      })
+  begun-step asks (Err why) to =
+      let log : LogState = record v.log { writing = true } in
+      let same : groups.broken (groups.at_stage Turning v.transactions) ≡ groups.at_stage Turning (groups.broken v.transactions) = refl in
+      let parts' : Parts tells (with_parts new (groups.broken v.transactions) log None) (steps.broken m) = fails-parts tells v new m parts machine works log None refl refl refl (λ told. first-goes (Err (record {})) told (to.call.areas told)) in
+      (steps.broken m, (steps.broken m, (works, refl), refl), subst (λ (x : StoreValue). Parts tells x (steps.broken m))
+      (same-store new (groups.at_stage Turning (groups.broken v.transactions)) log None to.answer.transactions to.answer.log to.answer.turn) (record {
+        memory = restaged (groups.broken v.transactions) (steps.broken m) Turning parts'.memory (λ _. some-stored);
+        order = broken-order (groups.at_stage Turning v.transactions) (keeps-begun v.transactions parts.order asks);
+        in_step = record { slots = parts'.in_step.slots; used = parts'.in_step.used; turns = λ no. absurd cc };
+        disk = λ told.
+            let d = parts'.disk told in record { header = d.header; profile = d.profile; slots = d.slots; profile_built = d.profile_built; leaves = d.leaves; works = λ no. absurd cc };
+      }))
+
+-- ---- every step
+
+advance-step : (tells : Bool) (v new : StoreValue) (m : Machine Value) → (parts : Parts tells v m) → IsMachine IsValue m → (works : m.failed ≡ false) → groups.due v.transactions ≡ next.AdvanceSlot → (IsTrue tells → AreSound new.disk.areas) → (answer : Result Did PumpFault)
+    → MatchOption v.turn ⊥ (λ turn. TurnsSlot tells turn v answer new) → Ends tells m answer new
+advance-step tells v new m parts machine works asks sound answer takes =
+    by-turn v.turn refl takes
+  where
+    on : v.transactions.failed ≡ false
+    on = parts.memory.failed ∙ works
+
+    is : v.transactions.stage ≡ Turning
+    is = advance-is v.transactions.stage v.transactions.group asks
+
+    by-turn : (o : Option TurnState) → v.turn ≡ o → MatchOption o ⊥ (λ turn. TurnsSlot tells turn v answer new) → Ends tells m answer new
+    by-turn None at takes = absurd takes
+    by-turn (Some t) at takes =
+        let turns = parts.in_step.turns on in
+        let mine : MatchOption (Some t) (Unit {0}) (λ t. (t.number ≡ v.log.used) × IsOnItsWay t.stage) = subst (λ (o : Option TurnState). MatchOption o (Unit {0}) (λ t. (t.number ≡ v.log.used) × IsOnItsWay t.stage)) at turns.turn in
+        slot-step tells v new m t parts machine works is mine.0 (turns.writing ∙ ap (λ (o : Option TurnState). is_some o) at)
+        (λ told.
+            let d = parts.disk told in
+            let w = d.works works in
+            subst (λ (o : Option TurnState). IsAtStage d.header w.layout (group_of w.layout v.transactions m) v.transactions.queue Turning o v.disk.areas) at
+            (subst (λ (s : GroupStage). IsAtStage d.header w.layout (group_of w.layout v.transactions m) v.transactions.queue s v.turn v.disk.areas) is w.at))
+        sound asks answer takes
+
+step : (tells : Bool) (s : NextStep) (v new : StoreValue) (answer : Result Did PumpFault) (m : Machine Value) → Parts tells v m → IsMachine IsValue m → m.failed ≡ false → groups.due v.transactions ≡ s → (IsTrue tells → AreSound new.disk.areas)
+    → TakesStep tells s v answer new → Ends tells m answer new
+step tells next.Idle v new answer m parts machine works asks sound takes =
+    subst (λ (r : Result Did PumpFault). Ends tells m r new) (sym takes.0) (m, refl, subst (λ (x : StoreValue). Parts tells x m) (sym takes.1) parts)
+step tells next.WriteExtent v new answer m parts machine works asks sound takes = wrote-step tells v new answer m parts machine works asks sound (groups.next_extent v.transactions) refl takes
+step tells next.SyncHeap v new answer m parts machine works asks sound takes = synced-step tells v new answer m parts machine works asks sound takes
+step tells next.BeginSlot v new answer m parts machine works asks sound takes =
+    begun-step tells v new m parts machine works (begin-is v.transactions.stage v.transactions.group asks) sound takes.body takes.commit asks answer takes.turns
+step tells next.AdvanceSlot v new answer m parts machine works asks sound takes = advance-step tells v new m parts machine works asks sound answer takes
+
+-- the store whose group may have begun
+started-parts : (tells : Bool) (v : StoreValue) (m : Machine Value) (size : ℕ) → Stands tells v m → m.failed ≡ false → StandsInMemory (groups.grouped v.transactions) (record m { group = size }) → IsMachine IsValue (record m { group = size }) → Parts tells (started v) (record m { group = size })
+started-parts tells v m size stands works memory machine =
+    let order = keeps-grouped v.transactions stands.order in
+    let in_step = started-in_step v stands.order stands.in_step in
+    record {
+      memory = memory;
+      order = order;
+      in_step = in_step;
+      disk = λ told.
+          let d = stands.disk told in
+          on-disk d.header (started v) (record m { group = size }) memory machine order in_step d.profile d.slots d.profile_built (begun-works d.header v m size stands.order (d.works works) memory);
+    }
+
+pub pump-stands : (tells : Bool) (old new : StoreValue) (answer : Result Did PumpFault) (m : Machine Value) → Stands tells old m → (IsTrue tells → AreSound new.disk.areas) → Pumps tells old answer new
+    → MatchBool m.failed ((answer ≡ Err pump.Failed) × Stands tells new m) ((after : Machine Value) × Run IsValue m (begins_in m ++ ends_in answer) after × Stands tells new after)
+pump-stands tells old new answer m stands sound pumps =
+    by-failure m.failed refl (subst (λ (b : Bool). MatchBool b ((answer ≡ Err pump.Failed) × (new ≡ old)) (TakesStep tells (groups.next_step old.transactions) (started old) answer new)) stands.memory.failed pumps)
+  where
+    by-failure : (b : Bool) → m.failed ≡ b → MatchBool b ((answer ≡ Err pump.Failed) × (new ≡ old)) (TakesStep tells (groups.next_step old.transactions) (started old) answer new)
+        → MatchBool b ((answer ≡ Err pump.Failed) × Stands tells new m) ((after : Machine Value) × Run IsValue m (begins_in m ++ ends_in answer) after × Stands tells new after)
+    by-failure true failed is = (is.0, subst (λ (x : StoreValue). Stands tells x m) (sym is.1) stands)
+    by-failure false works takes =
+        let begun = begins old.transactions m stands.memory stands.machine works in
+        let run-mid : Run IsValue m (begins_in m ++ []) begun.mid = begun.run [] begun.mid refl in
+        let machine : IsMachine IsValue begun.mid = run-machine IsValue m begun.mid (begins_in m ++ []) stands.machine run-mid in
+        let is : begun.mid ≡ record m { group = begun.mid.group } = begun.is in
+        let memory : StandsInMemory (groups.grouped old.transactions) (record m { group = begun.mid.group }) = subst (λ (x : Machine Value). StandsInMemory (groups.grouped old.transactions) x) is begun.stands in
+        let parts = subst (λ (x : Machine Value). Parts tells (started old) x) (sym is)
+        (started-parts tells old m begun.mid.group stands works memory (subst (λ (x : Machine Value). IsMachine IsValue x) is machine)) in
+        let ends = step tells (groups.next_step old.transactions) (started old) new answer begun.mid parts machine (begun.works ∙ works) refl sound takes in
+        let run : Run IsValue m (begins_in m ++ ends_in answer) ends.0 = begun.run (ends_in answer) ends.0 ends.1 in
+        (ends.0, run, record {
+          memory = ends.2.memory;
+          machine = run-machine IsValue m ends.0 (begins_in m ++ ends_in answer) stands.machine run;
+          order = ends.2.order;
+          in_step = ends.2.in_step;
+          disk = ends.2.disk;
         })
