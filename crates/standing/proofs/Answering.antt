@@ -1,5 +1,5 @@
 -- Tickets, labels and views answer as the machine does.
-use Rattle.std.proofs.Common.{◌≡◌, ◌≢◌, ℕ, zero, suc, ◌<◌, ◌≤◌, ◌==◌, ◌||◌, nat_lt, nat_le, Bool, true, false, cond, List, [], ◌∷◌, ◌++◌, length, take, map, Option, None, Some, Result, Ok, Err, MatchBool, MatchResult, refl, arith, ap, sym, subst, ◌∙◌, inl, inr}
+use Rattle.std.proofs.Common.{◌≡◌, ℕ, zero, suc, ◌<◌, ◌≤◌, ◌==◌, ◌||◌, nat_lt, nat_le, Bool, true, false, cond, List, [], ◌∷◌, length, take, map, Option, Result, Ok, Err, MatchBool, MatchResult, refl, arith, ap, sym, subst, ◌∙◌, inl, inr}
 use Rattle.std.specs.List.{list_any, filter}
 use Rattle.std.proofs.lemmas.Bool.{cases_eq}
 use Rattle.std.proofs.lemmas.Bool.Decides.{nat_tests}
@@ -21,7 +21,7 @@ use Rattle.group.specs.declared.commit_order.Standing.TheVariants as standing
 use Rattle.group.specs.declared.answers.Redeemed.{Redeemed}
 use Rattle.group.specs.declared.answers.Redeemed.TheVariants as redeemed
 use Rattle.group.proofs.Heads.{redeemed-rising}
-use Rattle.timequery.specs.View.{ViewValue, RefusesTime, AnswersAt}
+use Rattle.timequery.specs.View.{ViewValue, AnswersAt}
 use Rattle.timequery.specs.declared.fault.QueryFault.{QueryFault}
 use Rattle.timequery.specs.declared.fault.QueryFault.TheVariants as query
 use Rattle.transactions.specs.Values.{TransactionsValue}

@@ -9,11 +9,10 @@ use Rattle.history.specs.declared.key.Key.{Key}
 use Rattle.history.specs.declared.key.KeyWrite.{KeyWrite}
 use Rattle.history.specs.Histories.{IsWrite}
 use Rattle.image.specs.Values.{Value, IsField, IsValue}
-use Rattle.image.specs.Reading.{Content, Anchor, Delta, Gone, HeapRecord}
+use Rattle.image.specs.Reading.{Anchor, Delta}
 use Rattle.image.specs.Facts.{mask_of, changed_of, delta_bytes, anchor_bytes, stored_over, stored}
 use Rattle.image.specs.Plans.{stored_record}
 use Rattle.deltas.specs.Records.{IsContent, AreChanged, content_of}
-use Rattle.deltas.specs.Records as heap
 use Rattle.reading.specs.Records.{IsRecord}
 
 -- which fields differ

@@ -1,12 +1,12 @@
 -- The group that is being written may follow what is published, and what a stop may leave while it is written.
-use Rattle.std.proofs.Common.{◌≡◌, ◌≢◌, ◌⊎◌, ℕ, zero, suc, ◌+◌, ◌<◌, ◌≤◌, ◌-◌, List, [], ◌∷◌, ◌++◌, length, take, drop, map, Bool, true, false, Option, None, Some, slice_get, Result, Ok, Err, refl, arith, ap, sym, subst, ◌∙◌, inl, inr, append_assoc}
+use Rattle.std.proofs.Common.{◌≡◌, ◌≢◌, ◌⊎◌, ℕ, zero, suc, ◌<◌, ◌≤◌, List, [], ◌∷◌, ◌++◌, length, take, drop, map, Option, Result, Ok, refl, arith, ap, sym, subst, ◌∙◌, inl, inr}
 use Rattle.std.specs.Prelude.{IsTrue}
 use Rattle.std.specs.List.{AllByRecursion, flat_map}
 use Rattle.std.proofs.lemmas.List.Concat.{flat_map-append}
 use mathlib.Core.Path.{fun_ext}
 use Rattle.history.specs.declared.key.Key.{Key}
-use Rattle.history.specs.Histories.{Commit, History, MayAllFollow}
-use Rattle.history.specs.Machine.{Machine, commit_order, IsMachine}
+use Rattle.history.specs.Histories.{History, MayAllFollow}
+use Rattle.history.specs.Machine.{Machine, IsMachine}
 use Rattle.history.specs.Fronts.{OnFront}
 use Rattle.history.proofs.Histories.{may_follow-behind, may_follow-front}
 use Rattle.disk.specs.Areas.{Areas, Image, AreSound, LeavesImage}
@@ -21,7 +21,7 @@ use Rattle.image.specs.Plans.{stored_members, IsGroupOf, with_group}
 use Rattle.image.specs.StandsFor.{StandsFor}
 use Rattle.image.proofs.Recent.{latest-is, stored-is_group}
 use Rattle.extents.specs.declared.usage.Usage.{Usage}
-use Rattle.extents.specs.declared.usage.Usage.TheVariants.{Free, Out, Kept}
+use Rattle.extents.specs.declared.usage.Usage.TheVariants.{Out, Kept}
 use Rattle.extents.specs.Usages as usages
 use Rattle.extents.specs.Usages.{HasUsage, IsKept, IsOut, AreOut, IsNoneOf}
 use Rattle.extents.proofs.Frames.{are_apart}
@@ -31,7 +31,6 @@ use Rattle.status.specs.Header.{total}
 use Rattle.status.specs.Rules.{is_built}
 use Rattle.status.specs.SlotCalls.{SlotStage}
 use Rattle.status.specs.SlotCalls as slots
-use Rattle.status.specs.TurnState.{TurnState}
 use Rattle.reading.specs.Extents.{Extent, IsExtent, AreDistinct}
 use Rattle.reading.specs.Layouts.{Layout, StoredMember, IsStoredMember, IsLayoutOf, HoldsLayout, live, extents_of}
 use Rattle.reading.specs.Opening.{AreBuilt}
@@ -45,9 +44,8 @@ use Rattle.group.specs.Queued.{QueuedValue, numbers_of}
 use Rattle.transactions.specs.Values.{TransactionsValue}
 use Rattle.transactions.specs.Order.{IsInOrder}
 use Rattle.transactions.proofs.Publishing.{out-front}
-use Rattle.store.specs.Values.{StoreValue}
 use Rattle.standing.specs.Standing.{AllWait, StandsInMemory}
-use Rattle.standing.specs.OnDisk.{IsImageOf, values_in, AllPacked, members_of, slot_for, group_of}
+use Rattle.standing.specs.OnDisk.{IsImageOf, values_in, AllPacked, group_of}
 use Rattle.standing.proofs.Packed.{as-many, wait-front, packed-front, entries-named, members-are, members-stored, extents-numbered, length-mapped}
 use Rattle.standing.proofs.Naming.{spelling-long, slot-spelled}
 

@@ -13,3 +13,4 @@ pub mod Places
 pub mod Usages
 pub mod Joining
 pub mod Pumping
+pub mod Calling

@@ -1,20 +1,16 @@
 -- The slot that names the commits of a group, and its one spelling.
-use Rattle.std.proofs.Common.{◌≡◌, ℕ, suc, ◌+◌, ◌*◌, ◌<◌, ◌≤◌, ◌^◌, nat_le, true, false, List, [], ◌∷◌, ◌++◌, length, map, Option, None, Some, refl, arith, ap, sym, subst, ◌∙◌, ⊎_elim, length-append}
+use Rattle.std.proofs.Common.{◌≡◌, ℕ, ◌+◌, ◌*◌, ◌<◌, ◌≤◌, ◌^◌, nat_le, true, false, List, [], ◌∷◌, ◌++◌, length, map, refl, arith, ap, sym, subst, ◌∙◌, ⊎_elim, length-append}
 use Rattle.std.specs.List.{AllByRecursion, flat_map}
 use Rattle.std.proofs.lemmas.Bool.{cases_lt}
 use Rattle.std.proofs.lemmas.Bool.Decides.{nat_tests}
 use Rattle.std.proofs.lemmas.List.{length-replicate}
 use Rattle.std.proofs.lemmas.List.Concat.{flat_map-cons}
-use Rattle.history.specs.declared.key.Key.{Key}
-use Rattle.history.specs.declared.key.KeyWrite.{KeyWrite}
 use Rattle.history.specs.Histories.{Commit, History, last_after, last, MayFollow, MayAllFollow}
-use Rattle.history.proofs.Histories.{rising-from_following}
 use Rattle.image.specs.Values.{Value, IsValue}
 use Rattle.image.specs.Plans.{stored_record}
 use Rattle.wire.specs.declared.slot.Member.{Member as Entry}
 use Rattle.wire.specs.declared.slot.Body.TheVariants.{Commit as CommitBody}
-use Rattle.wire.specs.declared.slot.Slot.{Slot}
-use Rattle.wire.specs.Spelling.{member_bytes, front_of, fields_of, spelling, IsMember, Rises, AreMembers, IsSpelled, u16_bytes, u32_bytes, u64_bytes}
+use Rattle.wire.specs.Spelling.{member_bytes, front_of, fields_of, spelling, IsMember, Rises, IsSpelled, u32_bytes, u64_bytes}
 use Rattle.deltas.specs.Packing.{bodies_from, bodies}
 use Rattle.deltas.specs.Chains.{IsNumber}
 use Rattle.reading.specs.Records.{record_bytes}
@@ -22,7 +18,7 @@ use Rattle.group.specs.Queued.{QueuedValue, numbers_of}
 use Rattle.group.specs.Sealing.{first_number}
 use Rattle.standing.specs.Standing.{Waits, AllWait}
 use Rattle.standing.specs.OnDisk.{values_in, packed, IsPacked, AllPacked, slot_for}
-use Rattle.standing.proofs.Packed.{length-numbers, length-mapped, all-first, all-last, as-many}
+use Rattle.standing.proofs.Packed.{length-numbers, length-mapped, all-first, all-last}
 
 -- ---- how many extents
 

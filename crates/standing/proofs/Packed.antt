@@ -1,5 +1,5 @@
 -- The commits that wait, stored in their extents over what comes before them.
-use Rattle.std.proofs.Common.{◌≡◌, ◌≢◌, ℕ, zero, suc, ◌+◌, ◌<◌, ◌≤◌, ◌^◌, nat_le, Bool, true, false, cond, List, [], ◌∷◌, ◌++◌, length, take, drop, map, Option, None, Some, refl, arith, ap, sym, subst, ◌∙◌, append_assoc, append-nil, length-append, ⊎_elim}
+use Rattle.std.proofs.Common.{◌≡◌, ℕ, zero, suc, ◌+◌, ◌<◌, ◌≤◌, ◌^◌, nat_le, true, false, cond, List, [], ◌∷◌, ◌++◌, length, take, drop, map, Option, None, Some, refl, arith, ap, sym, subst, ◌∙◌, append_assoc, append-nil, length-append, ⊎_elim}
 use Rattle.std.proofs.lemmas.Bool.{cases_lt}
 use Rattle.std.proofs.lemmas.Bool.Decides.{nat_tests}
 use Rattle.std.specs.Prelude.{unwrap_or, option_map}
@@ -8,7 +8,6 @@ use Rattle.std.proofs.lemmas.List.{map-append}
 use Rattle.std.proofs.lemmas.List.Concat.{flat_map-cons}
 use mathlib.Core.Path.{fun_ext}
 use Rattle.history.specs.declared.key.Key.{Key}
-use Rattle.history.specs.declared.key.KeyWrite.{KeyWrite}
 use Rattle.history.specs.Key.{write_in}
 use Rattle.history.specs.Time.{value_at, value_after}
 use Rattle.history.specs.Histories as histories
@@ -23,7 +22,7 @@ use Rattle.image.specs.Facts.{latest}
 use Rattle.image.specs.Plans.{stored_record, stored_member, stored_members}
 use Rattle.chains.specs.KeyWrites.{KeyWrites}
 use Rattle.chains.specs.KeyWrites as chains
-use Rattle.deltas.specs.Extents.{Extent, extent_bytes, IsExtent, AreLinked, first_of, IsChain}
+use Rattle.deltas.specs.Extents.{Extent, IsExtent, AreLinked, first_of}
 use Rattle.deltas.specs.Records.{spelling, record_of}
 use Rattle.deltas.specs.Records as heap
 use Rattle.deltas.specs.Packing.{bodies_from, bodies}
@@ -33,7 +32,7 @@ use Rattle.deltas.proofs.Packed.{bodies_of_records_fit}
 use Rattle.wire.specs.declared.slot.Member.{Member as Entry}
 use Rattle.reading.specs.Records.{record_bytes, IsRecord}
 use Rattle.reading.specs.Layouts.{StoredMember, IsStoredMember, extents_of}
-use Rattle.group.specs.Queued.{QueuedValue, numbers_of, stored_as}
+use Rattle.group.specs.Queued.{QueuedValue, numbers_of}
 use Rattle.group.specs.Sealing.{chain_of, first_number}
 use Rattle.group.specs.declared.queued.StoredExtent.{StoredExtent}
 use Rattle.transactions.specs.Submits.{bodies_over}

@@ -1,10 +1,10 @@
 -- Which of the group's extents is written next.
-use Rattle.std.proofs.Common.{◌≡◌, ℕ, zero, suc, ◌+◌, ◌<◌, ◌≤◌, ◌==◌, nat_lt, Bool, true, false, cond, List, [], ◌∷◌, ◌++◌, length, take, drop, map, Option, None, Some, slice_get, refl, arith, ap, sym, subst, ◌∙◌, inl, inr, length-append}
-use Rattle.std.specs.List.{AllByRecursion, flat_map}
+use Rattle.std.proofs.Common.{◌≡◌, ℕ, zero, suc, ◌+◌, ◌<◌, ◌≤◌, nat_lt, true, false, List, [], ◌∷◌, ◌++◌, length, take, drop, map, Option, None, Some, slice_get, refl, arith, ap, sym, subst, ◌∙◌, inl, inr, length-append}
+use Rattle.std.specs.List.{flat_map}
 use Rattle.std.proofs.lemmas.Bool.{cases_lt}
 use Rattle.std.proofs.lemmas.Bool.Decides.{nat_tests}
 use Rattle.std.proofs.lemmas.List.Concat.{flat_map-cons}
-use Rattle.history.specs.Histories.{Commit, History}
+use Rattle.history.specs.Histories.{History}
 use Rattle.image.specs.Values.{Value}
 use Rattle.deltas.specs.Extents.{Extent, extent_bytes}
 use Rattle.reading.specs.Layouts.{StoredMember, extents_of}
@@ -14,7 +14,7 @@ use Rattle.group.specs.declared.queued.StoredExtent.{StoredExtent}
 use Rattle.transactions.specs.Steps.{extent_at, place_behind}
 use Rattle.transactions.specs.declared.stage.GroupStage.{GroupStage}
 use Rattle.transactions.specs.declared.stage.GroupStage.TheVariants.{Storing}
-use Rattle.standing.specs.OnDisk.{packed, IsPacked, AllPacked, member_of, members_of, written_before}
+use Rattle.standing.specs.OnDisk.{packed, AllPacked, member_of, members_of, written_before}
 use Rattle.standing.proofs.Packed.{length-numbers}
 
 -- the next of these is the extent that is stored

@@ -1,34 +1,20 @@
 -- A group begins, goes its way and is published.
-use Rattle.std.proofs.Common.{◌≡◌, ◌≢◌, ℕ, zero, suc, ◌+◌, ◌-◌, ◌<◌, ◌≤◌, ◌==◌, ◌&&◌, nat_lt, min, Bool, true, false, cond, List, [], ◌∷◌, ◌++◌, length, take, drop, map, Option, None, Some, Result, Ok, Err, MatchBool, MatchOption, MatchResult, refl, arith, ap, sym, subst, ◌∙◌, inl, inr, append_assoc, length-append}
-use Rattle.std.proofs.lemmas.Bool.{cases_lt}
+use Rattle.std.proofs.Common.{◌≡◌, ◌≢◌, ℕ, zero, suc, ◌+◌, ◌<◌, ◌≤◌, ◌==◌, nat_lt, min, Bool, true, false, List, [], ◌∷◌, ◌++◌, length, take, drop, map, refl, arith, ap, sym, subst, ◌∙◌, append_assoc, length-append}
 use Rattle.std.proofs.lemmas.Bool.Decides.{nat_tests}
-use Rattle.history.specs.Histories.{Commit, History}
+use Rattle.history.specs.Histories.{History}
 use Rattle.history.specs.Machine.{Machine, commit_order, IsMachine}
 use Rattle.history.specs.Steps as steps
 use Rattle.history.specs.Steps.{Event, Step, Run}
 use Rattle.image.specs.Values.{Value, IsValue}
 use Rattle.chains.specs.KeyWrites.{KeyWrites}
-use Rattle.disk.specs.Calls.{DiskState}
-use Rattle.status.specs.SlotCalls.{SlotStage}
-use Rattle.status.specs.SlotCalls as slots
-use Rattle.status.specs.TurnState.{TurnState}
 use Rattle.group.specs.Queued.{QueuedValue}
-use Rattle.group.specs.declared.answers.Did.{Did}
-use Rattle.group.specs.declared.answers.Did.TheVariants as did
-use Rattle.group.specs.declared.answers.PumpFault.{PumpFault}
-use Rattle.group.specs.declared.answers.PumpFault.TheVariants as pump
-use Rattle.group.specs.declared.queued.StoredExtent.{StoredExtent}
 use Rattle.transactions.specs.Values.{TransactionsValue, versions_after}
 use Rattle.transactions.specs.Steps as groups
 use Rattle.transactions.specs.declared.stage.GroupStage.{GroupStage}
 use Rattle.transactions.specs.declared.stage.GroupStage.TheVariants.{NoGroup, Storing, Stored, Turning}
-use Rattle.transactions.specs.declared.stage.NextStep.{NextStep}
 use Rattle.transactions.specs.declared.stage.NextStep.TheVariants as next
-use Rattle.transactions.proofs.Kept.{advance-is}
-use Rattle.store.specs.Values.{StoreValue}
-use Rattle.store.specs.Pumps.{Pumps, TakesStep, WritesExtent, TurnsSlot, IsTurned, started, begun}
-use Rattle.standing.specs.Standing.{Name, name_of, name_at, HasWrites, Waits, AllWait, IsStaged, StandsInMemory}
-use Rattle.standing.specs.Laws.{begins_in, ends_in}
+use Rattle.standing.specs.Standing.{name_of, HasWrites, AllWait, IsStaged, StandsInMemory}
+use Rattle.standing.specs.Laws.{begins_in}
 
 -- ---- the queue and the machine's
 
@@ -181,18 +167,7 @@ begins v m stands machine works =
         let here : (v.group == 0) ≡ false = ap (λ (n : ℕ). n == 0) stands.group ∙ some in
         record { mid = m; is = refl; run = λ later after goes. rw some goes; stands = rw here stands; works = refl; few = machine.group_queued }
 
--- ---- what a step ends in
-
-abbrev Ends : Machine Value → Result Did PumpFault → TransactionsValue → Type 0
-Ends m answer v = (after : Machine Value) × Run IsValue m (ends_in answer) after × StandsInMemory v after
-
--- nothing of the machine's
-stays : (m : Machine Value) (said what : Did) (v w : TransactionsValue) → ends_in (Ok what) ≡ [] → said ≡ what → w ≡ v → StandsInMemory v m → Ends m (Ok said) w
-stays m said what v w none is same stands =
-    subst (λ (d : Did). Ends m (Ok d) w) (sym is) (m, subst (λ (es : List (Event Value)). Run IsValue m es m) (sym none) refl, subst (λ (x : TransactionsValue). StandsInMemory x m) (sym same) stands)
-
-fails : (m : Machine Value) (why : PumpFault) (v w : TransactionsValue) → m.failed ≡ false → w ≡ groups.broken v → StandsInMemory v m → Ends m (Err why) w
-fails m why v w works same stands = (steps.broken m, (steps.broken m, (works, refl), refl), subst (λ (x : TransactionsValue). StandsInMemory x (steps.broken m)) (sym same) (breaks v m stands))
+-- ---- stages
 
 -- a stage that asks for a write or a sync of the heap is one of a group
 pub write-staged : (s : GroupStage) (group : ℕ) → groups.step_of s group ≡ next.WriteExtent → IsStaged s
@@ -212,66 +187,3 @@ begin-staged NoGroup group asks = absurd cc
 begin-staged Stored group asks = tt
 begin-staged Turning group asks = absurd cc
 begin-staged (Storing member extent) group asks = tt
-
--- ---- the steps
-
-wrote-ends : (tells : Bool) (o : Option StoredExtent) (old new : StoreValue) (answer : Result Did PumpFault) (m : Machine Value) → StandsInMemory old.transactions m → m.failed ≡ false → groups.due old.transactions ≡ next.WriteExtent
-    → MatchOption o ⊥ (λ stored. WritesExtent tells stored old answer new) → Ends m answer new.transactions
-wrote-ends tells None old new answer m stands works asks takes = absurd takes
-wrote-ends tells (Some stored) old new (Ok said) m stands works asks takes =
-    stays m said did.WroteExtent (groups.wrote_extent old.transactions) new.transactions refl takes.steps.answer.0 takes.steps.answer.1
-    (restaged old.transactions m (groups.stage_behind old.transactions.queue old.transactions.stage) stands (λ _. stands.staged (write-staged old.transactions.stage old.transactions.group asks)))
-wrote-ends tells (Some stored) old new (Err why) m stands works asks takes = fails m why old.transactions new.transactions works takes.steps.answer.1 stands
-
-turned-ends : (stage : SlotStage) (turn : TurnState) (old new : StoreValue) (what : Did) (m : Machine Value) → StandsInMemory old.transactions m → m.failed ≡ false → 0 < old.transactions.group → m.group ≤ length m.queue
-    → IsTurned stage turn old what new → Ends m (Ok what) new.transactions
-turned-ends slots.Begun turn old new what m stands works some few is = stays m what did.BodyWritten old.transactions new.transactions refl is.0 is.1 stands
-turned-ends slots.BodyWritten turn old new what m stands works some few is = stays m what did.BodySynced old.transactions new.transactions refl is.0 is.1 stands
-turned-ends slots.BodySynced turn old new what m stands works some few is = stays m what did.GateWritten old.transactions new.transactions refl is.0 is.1 stands
-turned-ends slots.GateWritten turn old new what m stands works some few is =
-    subst (λ (d : Did). Ends m (Ok d) new.transactions) (sym is.0)
-    (steps.group_published m, (steps.group_published m, (works, some, stands.group, refl), refl), subst (λ (x : TransactionsValue). StandsInMemory x (steps.group_published m)) (sym is.1) (publishes old.transactions m stands few))
-turned-ends slots.Opened turn old new what m stands works some few is = absurd is
-
-slot-ends : (tells : Bool) (turn : TurnState) (old new : StoreValue) (answer : Result Did PumpFault) (m : Machine Value) → StandsInMemory old.transactions m → m.failed ≡ false → 0 < old.transactions.group → m.group ≤ length m.queue
-    → TurnsSlot tells turn old answer new → Ends m answer new.transactions
-slot-ends tells turn old new (Ok what) m stands works some few turns = turned-ends turn.stage turn old new what m stands works some few turns.answer
-slot-ends tells turn old new (Err why) m stands works some few turns = fails m why old.transactions new.transactions works turns.answer.transactions stands
-
-advance-ends : (tells : Bool) (o : Option TurnState) (old new : StoreValue) (answer : Result Did PumpFault) (m : Machine Value) → StandsInMemory old.transactions m → m.failed ≡ false → 0 < old.transactions.group → m.group ≤ length m.queue
-    → MatchOption o ⊥ (λ turn. TurnsSlot tells turn old answer new) → Ends m answer new.transactions
-advance-ends tells None old new answer m stands works some few takes = absurd takes
-advance-ends tells (Some turn) old new answer m stands works some few takes = slot-ends tells turn old new answer m stands works some few takes
-
-synced-ends : (old new : StoreValue) (answer : Result Did PumpFault) (m : Machine Value) → StandsInMemory old.transactions m → m.failed ≡ false → groups.due old.transactions ≡ next.SyncHeap
-    → MatchResult answer (λ said. (said ≡ did.HeapSynced) × (new.transactions ≡ groups.at_stage Stored old.transactions)) (λ why. (why ≡ pump.Failed) × (new.transactions ≡ groups.broken old.transactions)) → Ends m answer new.transactions
-synced-ends old new (Ok said) m stands works asks is =
-    stays m said did.HeapSynced (groups.at_stage Stored old.transactions) new.transactions refl is.0 is.1 (restaged old.transactions m Stored stands (λ _. stands.staged (sync-staged old.transactions.stage old.transactions.group asks)))
-synced-ends old new (Err why) m stands works asks is = fails m why old.transactions new.transactions works is.1 stands
-
-step-ends : (tells : Bool) (s : NextStep) (old new : StoreValue) (answer : Result Did PumpFault) (m : Machine Value) → StandsInMemory old.transactions m → m.failed ≡ false → m.group ≤ length m.queue → groups.due old.transactions ≡ s
-    → TakesStep tells s old answer new → Ends m answer new.transactions
-step-ends tells next.Idle old new answer m stands works few asks takes =
-    subst (λ (r : Result Did PumpFault). Ends m r new.transactions) (sym takes.0) (m, refl, subst (λ (x : StoreValue). StandsInMemory x.transactions m) (sym takes.1) stands)
-step-ends tells next.WriteExtent old new answer m stands works few asks takes = wrote-ends tells (groups.next_extent old.transactions) old new answer m stands works asks takes
-step-ends tells next.SyncHeap old new answer m stands works few asks takes = synced-ends old new answer m stands works asks takes.steps.answer
-step-ends tells next.BeginSlot old new answer m stands works few asks takes =
-    let some : 0 < old.transactions.group = stands.staged (begin-staged old.transactions.stage old.transactions.group asks) in
-    slot-ends tells _ (begun old) new answer m (restaged old.transactions m Turning stands (λ _. some)) works some few takes.turns
-step-ends tells next.AdvanceSlot old new answer m stands works few asks takes =
-    let is : old.transactions.stage ≡ Turning = advance-is old.transactions.stage old.transactions.group asks in
-    let some : 0 < old.transactions.group = stands.staged (subst (λ (s : GroupStage). IsStaged s) (sym is) tt) in
-    advance-ends tells old.turn old new answer m stands works some few takes
-
-pub pump-run : (tells : Bool) (old new : StoreValue) (answer : Result Did PumpFault) (m : Machine Value) → StandsInMemory old.transactions m → IsMachine IsValue m → Pumps tells old answer new
-    → MatchBool m.failed ((answer ≡ Err pump.Failed) × StandsInMemory new.transactions m) ((after : Machine Value) × Run IsValue m (begins_in m ++ ends_in answer) after × StandsInMemory new.transactions after)
-pump-run tells old new answer m stands machine pumps =
-    by-failure m.failed refl (subst (λ (b : Bool). MatchBool b ((answer ≡ Err pump.Failed) × (new ≡ old)) (TakesStep tells (groups.next_step old.transactions) (started old) answer new)) stands.failed pumps)
-  where
-    by-failure : (b : Bool) → m.failed ≡ b → MatchBool b ((answer ≡ Err pump.Failed) × (new ≡ old)) (TakesStep tells (groups.next_step old.transactions) (started old) answer new)
-        → MatchBool b ((answer ≡ Err pump.Failed) × StandsInMemory new.transactions m) ((after : Machine Value) × Run IsValue m (begins_in m ++ ends_in answer) after × StandsInMemory new.transactions after)
-    by-failure true failed is = (is.0, subst (λ (x : StoreValue). StandsInMemory x.transactions m) (sym is.1) stands)
-    by-failure false works takes =
-        let begun = begins old.transactions m stands machine works in
-        let ends = step-ends tells (groups.next_step old.transactions) (started old) new answer begun.mid begun.stands (begun.works ∙ works) begun.few refl takes in
-        (ends.0, begun.run (ends_in answer) ends.0 ends.1, ends.2)

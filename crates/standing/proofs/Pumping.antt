@@ -1,20 +1,18 @@
 -- A step of a group keeps what the store stands for, in memory and on its disk.
-use Rattle.std.proofs.Common.{◌≡◌, ◌≢◌, cond, slice_get, ℕ, zero, suc, ◌+◌, ◌-◌, ◌<◌, ◌≤◌, ◌==◌, nat_lt, Bool, true, false, List, [], ◌∷◌, ◌++◌, length, take, drop, map, Option, None, Some, is_some, Result, Ok, Err, MatchBool, MatchOption, MatchResult, refl, arith, ap, sym, subst, ◌∙◌, inl, inr, length-append}
+use Rattle.std.proofs.Common.{◌≡◌, cond, slice_get, ℕ, suc, ◌+◌, ◌<◌, ◌≤◌, ◌==◌, nat_lt, Bool, true, false, List, [], ◌∷◌, ◌++◌, length, take, drop, Option, None, Some, is_some, Result, Ok, Err, MatchBool, MatchOption, refl, arith, ap, sym, subst, ◌∙◌, inl, inr, length-append}
 use Rattle.std.specs.Prelude.{IsTrue, min}
-use Rattle.std.specs.List.{AllByRecursion, flat_map}
+use Rattle.std.specs.List.{flat_map}
 use Rattle.std.proofs.lemmas.Bool.{cases_lt}
 use Rattle.std.proofs.lemmas.Bool.Decides.{nat_tests}
-use Rattle.history.specs.Histories.{Commit, History}
 use Rattle.history.specs.Machine.{Machine, IsMachine}
 use Rattle.history.specs.Fronts.{OnFront}
 use Rattle.history.specs.Steps as steps
 use Rattle.history.specs.Steps.{Event, Run}
 use Rattle.history.proofs.Machines.{run-machine}
 use Rattle.image.specs.Values.{Value, IsValue}
-use Rattle.image.specs.Reading.{Reading}
 use Rattle.image.specs.Plans.{with_group}
 use Rattle.disk.specs.Areas.{Areas, Image, AreSound, LeavesImage}
-use Rattle.disk.specs.Calls.{DiskState, Writes, Syncs}
+use Rattle.disk.specs.Calls.{Writes, Syncs}
 use Rattle.disk.specs.declared.area.Area.TheVariants.{Heap}
 use Rattle.wire.specs.declared.slot.Body.{Body}
 use Rattle.wire.specs.declared.slot.Body.TheVariants.{Commit as CommitBody, Archived, Reclaimed, Floor}
@@ -23,7 +21,7 @@ use Rattle.wire.specs.declared.slot.Slot.{Slot}
 use Rattle.wire.specs.Spelling.{spelling, IsSpelled}
 use Rattle.image.specs.StandsFor.{StandsFor}
 use Rattle.reading.specs.SlotTurns.{IsTurnAt}
-use Rattle.extents.specs.Usages.{IsKept, AreOut}
+use Rattle.extents.specs.Usages.{AreOut}
 use Rattle.extents.specs.declared.usage.Usage.TheVariants.{Kept}
 use Rattle.deltas.specs.Extents.{Extent, extent_start, extent_bytes}
 use Rattle.status.specs.declared.header.Header.{Header}
@@ -33,7 +31,7 @@ use Rattle.status.specs.SlotCalls.{SlotStage, IsSlotCall}
 use Rattle.status.specs.SlotCalls as slots
 use Rattle.status.specs.TurnState.{TurnState, LogState}
 use Rattle.disk.specs.declared.area.DeviceFault.{DeviceFault}
-use Rattle.reading.specs.Layouts.{Layout, live, extents_of}
+use Rattle.reading.specs.Layouts.{live, extents_of}
 use Rattle.reading.specs.Turn as turns
 use Rattle.reading.specs.Turn.{laid_out}
 use Rattle.reading.proofs.Layouts.{live_more}
@@ -53,19 +51,19 @@ use Rattle.transactions.specs.declared.stage.GroupStage.TheVariants.{NoGroup, St
 use Rattle.transactions.specs.declared.stage.NextStep.{NextStep}
 use Rattle.transactions.specs.declared.stage.NextStep.TheVariants as next
 use Rattle.transactions.proofs.Kept.{advance-is, keeps-grouped, keeps-wrote, keeps-synced, keeps-begun, keeps-published}
-use Rattle.transactions.proofs.Publishing.{out-front, out-rest}
-use Rattle.store.specs.Values.{StoreValue, IsInStep, TurnsGroup, IsOnItsWay}
-use Rattle.store.specs.Pumps.{Pumps, TakesStep, WritesExtent, TurnsSlot, IsTurned, started, begun, Steps as StoreSteps, BeginsSlot, SyncsHeap}
-use Rattle.standing.specs.Standing.{IsStaged, StandsInMemory}
+use Rattle.transactions.proofs.Publishing.{out-rest}
+use Rattle.store.specs.Values.{StoreValue, IsInStep, IsOnItsWay}
+use Rattle.store.specs.Pumps.{Pumps, TakesStep, WritesExtent, TurnsSlot, IsTurned, started, begun, SyncsHeap}
+use Rattle.standing.specs.Standing.{StandsInMemory}
 use Rattle.standing.specs.OnDisk.{IsImageOf, AllPacked, written_before, group_of, IsAtStage, IsTurnOf, Works, StandsOnDisk}
 use Rattle.standing.specs.Stands.{Stands}
 use Rattle.standing.specs.Laws.{begins_in, ends_in}
 use Rattle.standing.proofs.Packed.{packed-rest, length-mapped}
-use Rattle.standing.proofs.Places.{IsNext, next-is, IsBehind, behind-is, take-next, drop-next, none-left}
+use Rattle.standing.proofs.Places.{IsNext, next-is, behind-is, take-next, drop-next, none-left}
 use Rattle.standing.proofs.Usages.{AllKept, all-published}
 use Rattle.standing.proofs.Joining as joining
 use Rattle.standing.proofs.Joining.{numbers-split}
-use Rattle.standing.proofs.Publishing.{restaged, breaks, publishes, begins, write-staged, sync-staged, begin-staged}
+use Rattle.standing.proofs.Publishing.{restaged, breaks, publishes, begins}
 
 -- ---- room in the log
 
@@ -605,7 +603,7 @@ module _ (tells : Bool) (v new : StoreValue) (m : Machine Value) (t : TurnState)
       let rest : AreOut v.transactions.usages (flat_map numbers_of (take v.transactions.group v.transactions.queue) ++ flat_map numbers_of (drop v.transactions.group v.transactions.queue)) =
       subst (λ (l : List ℕ). AreOut v.transactions.usages l) (numbers-split v.transactions.group v.transactions.queue) parts.order.out in
       let order = keeps-published v.transactions parts.order asks
-          (out-rest v.transactions.usages (flat_map numbers_of (take v.transactions.group v.transactions.queue)) (flat_map numbers_of (drop v.transactions.group v.transactions.queue)) Kept rest) in
+      (out-rest v.transactions.usages (flat_map numbers_of (take v.transactions.group v.transactions.queue)) (flat_map numbers_of (drop v.transactions.group v.transactions.queue)) Kept rest) in
       let step : steps.Step IsValue m (steps.Published v.transactions.group) (steps.group_published m) = (works, group-some, parts.memory.group, refl) in
       let machine' : IsMachine IsValue (steps.group_published m) = run-machine IsValue m (steps.group_published m) (steps.Published v.transactions.group ∷ []) machine (steps.group_published m, step, refl) in
       let in_step : IsInStep (with_parts new (groups.published v.transactions) log None) = record {
@@ -696,15 +694,18 @@ module _ (tells : Bool) (v new : StoreValue) (m : Machine Value) (parts : Parts 
   begun-step asks (Err why) to =
       let log : LogState = record v.log { writing = true } in
       let same : groups.broken (groups.at_stage Turning v.transactions) ≡ groups.at_stage Turning (groups.broken v.transactions) = refl in
-      let parts' : Parts tells (with_parts new (groups.broken v.transactions) log None) (steps.broken m) = fails-parts tells v new m parts machine works log None refl refl refl (λ told. first-goes (Err (record {})) told (to.call.areas told)) in
-      (steps.broken m, (steps.broken m, (works, refl), refl), subst (λ (x : StoreValue). Parts tells x (steps.broken m))
-      (same-store new (groups.at_stage Turning (groups.broken v.transactions)) log None to.answer.transactions to.answer.log to.answer.turn) (record {
-        memory = restaged (groups.broken v.transactions) (steps.broken m) Turning parts'.memory (λ _. some-stored);
-        order = broken-order (groups.at_stage Turning v.transactions) (keeps-begun v.transactions parts.order asks);
-        in_step = record { slots = parts'.in_step.slots; used = parts'.in_step.used; turns = λ no. absurd cc };
-        disk = λ told.
-            let d = parts'.disk told in record { header = d.header; profile = d.profile; slots = d.slots; profile_built = d.profile_built; leaves = d.leaves; works = λ no. absurd cc };
-      }))
+      let parts' : Parts tells (with_parts new (groups.broken v.transactions) log None) (steps.broken m) = fails-parts tells v new m parts machine works log None refl refl refl (λ told. first-goes (Err (record {})) told (to.call.areas told)) in (
+        steps.broken m,
+        (steps.broken m, (works, refl), refl),
+        subst (λ (x : StoreValue). Parts tells x (steps.broken m))
+            (same-store new (groups.at_stage Turning (groups.broken v.transactions)) log None to.answer.transactions to.answer.log to.answer.turn) (record {
+              memory = restaged (groups.broken v.transactions) (steps.broken m) Turning parts'.memory (λ _. some-stored);
+              order = broken-order (groups.at_stage Turning v.transactions) (keeps-begun v.transactions parts.order asks);
+              in_step = record { slots = parts'.in_step.slots; used = parts'.in_step.used; turns = λ no. absurd cc };
+              disk = λ told.
+                  let d = parts'.disk told in record { header = d.header; profile = d.profile; slots = d.slots; profile_built = d.profile_built; leaves = d.leaves; works = λ no. absurd cc };
+            }),
+      )
 
 -- ---- every step
 
@@ -726,10 +727,10 @@ advance-step tells v new m parts machine works asks sound answer takes =
         let mine : MatchOption (Some t) (Unit {0}) (λ t. (t.number ≡ v.log.used) × IsOnItsWay t.stage) = subst (λ (o : Option TurnState). MatchOption o (Unit {0}) (λ t. (t.number ≡ v.log.used) × IsOnItsWay t.stage)) at turns.turn in
         slot-step tells v new m t parts machine works is mine.0 (turns.writing ∙ ap (λ (o : Option TurnState). is_some o) at)
         (λ told.
-            let d = parts.disk told in
-            let w = d.works works in
-            subst (λ (o : Option TurnState). IsAtStage d.header w.layout (group_of w.layout v.transactions m) v.transactions.queue Turning o v.disk.areas) at
-            (subst (λ (s : GroupStage). IsAtStage d.header w.layout (group_of w.layout v.transactions m) v.transactions.queue s v.turn v.disk.areas) is w.at))
+        let d = parts.disk told in
+        let w = d.works works in
+        subst (λ (o : Option TurnState). IsAtStage d.header w.layout (group_of w.layout v.transactions m) v.transactions.queue Turning o v.disk.areas) at
+        (subst (λ (s : GroupStage). IsAtStage d.header w.layout (group_of w.layout v.transactions m) v.transactions.queue s v.turn v.disk.areas) is w.at))
         sound asks answer takes
 
 step : (tells : Bool) (s : NextStep) (v new : StoreValue) (answer : Result Did PumpFault) (m : Machine Value) → Parts tells v m → IsMachine IsValue m → m.failed ≡ false → groups.due v.transactions ≡ s → (IsTrue tells → AreSound new.disk.areas)
@@ -773,11 +774,14 @@ pump-stands tells old new answer m stands sound pumps =
         let parts = subst (λ (x : Machine Value). Parts tells (started old) x) (sym is)
         (started-parts tells old m begun.mid.group stands works memory (subst (λ (x : Machine Value). IsMachine IsValue x) is machine)) in
         let ends = step tells (groups.next_step old.transactions) (started old) new answer begun.mid parts machine (begun.works ∙ works) refl sound takes in
-        let run : Run IsValue m (begins_in m ++ ends_in answer) ends.0 = begun.run (ends_in answer) ends.0 ends.1 in
-        (ends.0, run, record {
-          memory = ends.2.memory;
-          machine = run-machine IsValue m ends.0 (begins_in m ++ ends_in answer) stands.machine run;
-          order = ends.2.order;
-          in_step = ends.2.in_step;
-          disk = ends.2.disk;
-        })
+        let run : Run IsValue m (begins_in m ++ ends_in answer) ends.0 = begun.run (ends_in answer) ends.0 ends.1 in (
+          ends.0,
+          run,
+          record {
+            memory = ends.2.memory;
+            machine = run-machine IsValue m ends.0 (begins_in m ++ ends_in answer) stands.machine run;
+            order = ends.2.order;
+            in_step = ends.2.in_step;
+            disk = ends.2.disk;
+          },
+        )

@@ -1,9 +1,9 @@
 -- The extents of live chains stay kept.
-use Rattle.std.proofs.Common.{◌≡◌, ◌≢◌, ℕ, List, [], ◌∷◌, ◌++◌, map, refl, sym, subst, ap, ◌∙◌}
+use Rattle.std.proofs.Common.{◌≡◌, ℕ, List, [], ◌∷◌, ◌++◌, map, sym, subst}
 use Rattle.std.specs.List.{AllByRecursion}
 use Rattle.extents.specs.declared.usage.Usage.{Usage}
-use Rattle.extents.specs.declared.usage.Usage.TheVariants.{Free, Out, Kept}
-use Rattle.extents.specs.Usages.{HasUsage, IsFree, IsKept, IsOut, with_usage, with_usages, AreOut}
+use Rattle.extents.specs.declared.usage.Usage.TheVariants.{Out, Kept}
+use Rattle.extents.specs.Usages.{IsKept, with_usage, with_usages, AreOut}
 use Rattle.extents.proofs.Frames.{other_stays, are_apart, now_has, first_changed, used_stays}
 use Rattle.deltas.specs.Extents.{Extent}
 use Rattle.group.specs.Taking.{AreLeastFree}

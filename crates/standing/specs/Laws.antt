@@ -1,19 +1,18 @@
 -- The calls of a store are steps of the machine.
-use Rattle.std.specs.Prelude.{ℕ, ◌≡◌, ◌<◌, ◌^◌, ◌==◌, ◌&&◌, ◌++◌, nat_lt, Bool, List, [], ◌∷◌, length, Option, Result, Ok, Err, MatchBool, if◌then◌else◌}
+use Rattle.std.specs.Prelude.{ℕ, ◌≡◌, ◌==◌, ◌&&◌, nat_lt, List, [], ◌∷◌, length, Option, Result, Ok, Err, MatchBool, if◌then◌else◌}
 use Rattle.history.specs.declared.key.Key.{Key}
 use Rattle.history.specs.Histories.{History, last}
-use Rattle.history.specs.Machine.{Machine, IsMachine}
+use Rattle.history.specs.Machine.{Machine}
 use Rattle.history.specs.Answers as answers
 use Rattle.history.specs.Submissions as submissions
 use Rattle.history.specs.Submissions.{Submission, Decision, commit_made}
 use Rattle.history.specs.Steps.{Event, Step, Run, Began, BeginRefused, Aborted, Decided, Refused, GroupBegan, Published, Broke, begun}
 use Rattle.history.specs.Steps as steps
 use Rattle.image.specs.Values.{Value, IsValue}
-use Rattle.snapshot.specs.Txn.{TxnValue, AreTxnWrites}
+use Rattle.snapshot.specs.Txn.{TxnValue}
 use Rattle.group.specs.declared.answers.BeginFault.{BeginFault}
 use Rattle.group.specs.declared.answers.BeginFault.TheVariants as fault
 use Rattle.group.specs.CommitOrder as orders
-use Rattle.group.specs.Tickets.{TicketValue}
 use Rattle.group.specs.declared.answers.Redeemed.{Redeemed}
 use Rattle.group.specs.declared.answers.Redeemed.TheVariants as redeemed
 use Rattle.timequery.specs.View.{ViewValue}
@@ -24,15 +23,12 @@ use Rattle.group.specs.declared.answers.Submitted.{Submitted}
 use Rattle.group.specs.declared.answers.Submitted.TheVariants as submitted
 use Rattle.group.specs.declared.answers.SubmitFault.{SubmitFault}
 use Rattle.group.specs.declared.answers.SubmitFault.TheVariants as refused
-use Rattle.transactions.specs.Values.{TransactionsValue, is_own}
+use Rattle.transactions.specs.Values.{TransactionsValue}
 use Rattle.transactions.specs.Calls as calls
-use Rattle.transactions.specs.Submits.{Submits}
 use Rattle.group.specs.declared.answers.Did.{Did}
 use Rattle.group.specs.declared.answers.Did.TheVariants as did
 use Rattle.group.specs.declared.answers.PumpFault.{PumpFault}
-use Rattle.group.specs.declared.answers.PumpFault.TheVariants as pump
 use Rattle.store.specs.Values.{StoreValue}
-use Rattle.store.specs.Pumps.{Pumps}
 use Rattle.standing.specs.Standing.{HasWrites, StandsInMemory}
 
 -- what the machine does in a begin, by its answer
@@ -40,15 +36,6 @@ abbrev pub BeginsAs : Machine Value → Result TxnValue BeginFault → Transacti
 BeginsAs m (Ok txn) new = Step IsValue m (Began txn.snapshot) (begun m) × StandsInMemory new (begun m)
 BeginsAs m (Err fault.NoMemory) new = Step IsValue m (BeginRefused steps.NoMemory) m × StandsInMemory new m
 BeginsAs m (Err fault.Failed) new = Step IsValue m (BeginRefused steps.Failed) m × StandsInMemory new m
-
--- a begin is one of the machine's: its snapshot is the last published time
-abbrev pub BeginIsStep : Type 0
-BeginIsStep = (old new : TransactionsValue) (answer : Result TxnValue BeginFault) (m : Machine Value) → StandsInMemory old m → calls.Begins old answer new → BeginsAs m answer new
-
--- an own transaction is given up, and a stranger changes nothing
-abbrev pub AbortIsStep : Type 0
-AbortIsStep = (old new : TransactionsValue) (txn : TxnValue) (m : Machine Value) → StandsInMemory old m → calls.Aborts old txn new
-    → MatchBool (is_own old txn) ((after : Machine Value) × Step IsValue m (Aborted txn.snapshot) after × StandsInMemory new after) (StandsInMemory new m)
 
 -- ---- submits
 
@@ -68,12 +55,6 @@ event_of m s (Err refused.NoMemory) = Refused s steps.NoMemory
 event_of m s (Err refused.Failed) = Refused s steps.Failed
 event_of m s (Err refused.Stranger) = Refused s steps.Failed
 
--- The submit of an own transaction is the machine's: a conflict is answered exactly where a later commit in the commit order wrote a key of its write set, with the least such key; else it is queued at the time that is later than all. A stranger changes nothing.
-abbrev pub SubmitIsStep : Type 0
-SubmitIsStep = (old new : TransactionsValue) (txn : TxnValue) (label now : ℕ) (answer : Result Submitted SubmitFault) (m : Machine Value) → StandsInMemory old m → IsMachine IsValue m
-    → AreTxnWrites txn.state txn.snapshot txn.writes → label < 2 ^ 64 → Submits old txn label now answer new
-    → MatchBool (is_own old txn) ((after : Machine Value) × Step IsValue m (event_of m (submission_of txn label now) answer) after × StandsInMemory new after) (StandsInMemory new m)
-
 -- ---- steps of a group
 
 -- a group begins in a step, where none stands and commits wait
@@ -91,11 +72,6 @@ ends_in (Ok did.GateWritten) = []
 ends_in (Ok (did.Published count)) = Published count ∷ []
 ends_in (Err why) = Broke ∷ []
 
--- A step of a store that has failed changes nothing; in any other a group may begin, and its last step publishes it. A refused device call fails the store.
-abbrev pub PumpIsRun : Type 0
-PumpIsRun = (tells : Bool) (old new : StoreValue) (answer : Result Did PumpFault) (m : Machine Value) → StandsInMemory old.transactions m → IsMachine IsValue m → Pumps tells old answer new
-    → MatchBool m.failed ((answer ≡ Err pump.Failed) × StandsInMemory new.transactions m) ((after : Machine Value) × Run IsValue m (begins_in m ++ ends_in answer) after × StandsInMemory new.transactions after)
-
 -- ---- tickets and labels
 
 -- a ticket is answered as the machine does, or it is a stranger's
@@ -104,10 +80,6 @@ RedeemsAs said (redeemed.Done time) = said ≡ answers.Done time
 RedeemsAs said (redeemed.Waiting ticket) = said ≡ answers.Waiting
 RedeemsAs said redeemed.InDoubt = said ≡ answers.InDoubt
 RedeemsAs said redeemed.Stranger = Unit {0}
-
-abbrev pub RedeemIsAnswered : Type 0
-RedeemIsAnswered = (old new : TransactionsValue) (ticket : TicketValue) (answer : Redeemed) (m : Machine Value) → StandsInMemory old m → calls.Redeems old ticket answer new
-    → RedeemsAs (answers.redeemed_by m ticket.time) answer × StandsInMemory new m
 
 abbrev pub TimesAreOfLabel : Type 0
 TimesAreOfLabel = (v : TransactionsValue) (m : Machine Value) (label : ℕ) → StandsInMemory v m → orders.times_of label (calls.order_of v) ≡ answers.times_of m.published label

@@ -2,9 +2,8 @@
 use Rattle.std.specs.Prelude.{ℕ, ◌≡◌, ◌+◌, ◌++◌, IsTrue, false, List, [], ◌∷◌, length, map, take, drop, Option, MatchOption}
 use Rattle.std.specs.List.{AllByRecursion, flat_map}
 use Rattle.disk.specs.Areas.{Areas, Image, AreSound, LeavesImage}
-use Rattle.wire.specs.Spelling.{IsSpelled, kind_of}
+use Rattle.wire.specs.Spelling.{IsSpelled}
 use Rattle.wire.specs.declared.slot.Body.TheVariants.{Commit as CommitBody}
-use Rattle.wire.specs.declared.slot.Member.{Member as Entry}
 use Rattle.wire.specs.declared.slot.Slot.{Slot}
 use Rattle.history.specs.declared.key.Key.{Key}
 use Rattle.history.specs.Histories as histories

@@ -1,33 +1,36 @@
-//! A store's calls are steps of the machine: laws, each as a function with nothing to do.
+//! A store's calls are steps of the machine, and keep what a stop may leave: laws, each as a function
+//! with nothing to do.
 #![tactic(auto)]
 
-ghost use Rattle.standing.specs.Laws.{BeginIsStep, AbortIsStep, SubmitIsStep, PumpIsRun, RedeemIsAnswered, TimesAreOfLabel, ViewIsOfHistory, AtIsAnswered};
+ghost use Rattle.standing.specs.Laws.{TimesAreOfLabel, ViewIsOfHistory, AtIsAnswered};
+ghost use Rattle.standing.specs.Calls.{BeginStands, AbortStands, SubmitStands, PumpStands, RedeemStands};
 
 /// A begin takes the last published time as its snapshot.
-pub fn begin_is_step()
-    ensures { BeginIsStep }
+pub fn begin_stands()
+    ensures { BeginStands }
 {}
 
 /// A transaction that is aborted gives its snapshot up.
-pub fn abort_is_step()
-    ensures { AbortIsStep }
+pub fn abort_stands()
+    ensures { AbortStands }
 {}
 
 /// A submit answers a conflict exactly where a later commit in the commit order wrote a key of its
 /// write set, and else queues the writes at a time later than all before.
-pub fn submit_is_step()
-    ensures { SubmitIsStep }
+pub fn submit_stands()
+    ensures { SubmitStands }
 {}
 
 /// In a step of a group the machine's group begins, is published, or the machine fails, or nothing
-/// of the machine's happens.
-pub fn pump_is_run()
-    ensures { PumpIsRun }
+/// of the machine's happens. Before the step and after it, made or refused, whatever a stop may
+/// leave stands for what is published, or for that with the whole group.
+pub fn pump_stands()
+    ensures { PumpStands }
 {}
 
 /// A ticket is answered as the machine says.
-pub fn redeem_is_answered()
-    ensures { RedeemIsAnswered }
+pub fn redeem_stands()
+    ensures { RedeemStands }
 {}
 
 /// The times of a label are those of the published history.

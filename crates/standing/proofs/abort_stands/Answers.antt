@@ -1,0 +1,5 @@
+use Rattle.standing.proofs.Calling.{abort-stands}
+use Rattle.standing.proofs.abort_stands.Goals as goal
+
+pub returns : goal.returns
+returns c = abort-stands

@@ -1,0 +1,5 @@
+use Rattle.standing.proofs.Pumping.{pump-stands}
+use Rattle.standing.proofs.pump_stands.Goals as goal
+
+pub returns : goal.returns
+returns c = pump-stands

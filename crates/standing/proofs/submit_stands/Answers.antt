@@ -1,0 +1,5 @@
+use Rattle.standing.proofs.Calling.{submit-stands}
+use Rattle.standing.proofs.submit_stands.Goals as goal
+
+pub returns : goal.returns
+returns c = submit-stands
