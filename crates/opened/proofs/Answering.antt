@@ -1,9 +1,9 @@
 -- Views are answered by the history, after a stop as before it.
-use Rattle.std.proofs.Common.{◌≡◌, inl, inr, ℕ, zero, suc, ◌+◌, ◌≤◌, ◌==◌, nat_lt, Bool, true, false, IsTrue, List, [], ◌∷◌, ◌++◌, take, Option, None, Some, Result, Ok, Err, MatchBool, refl, arith, ap, sym, subst, ◌∙◌}
+use Rattle.std.proofs.Common.{◌≡◌, inl, inr, ℕ, zero, suc, ◌≤◌, ◌==◌, nat_lt, Bool, true, false, IsTrue, [], ◌∷◌, ◌++◌, take, Option, None, Some, Result, Err, MatchBool, refl, arith, ap, sym, subst, ◌∙◌}
 use Rattle.std.proofs.lemmas.Bool.Decides.{nat_tests}
 use Rattle.disk.specs.Calls.{DiskState}
 use Rattle.history.specs.declared.key.Key.{Key}
-use Rattle.history.specs.Histories.{History, HasRisingTimes, last, last_after, state}
+use Rattle.history.specs.Histories.{History, HasRisingTimes, last, last_after}
 use Rattle.history.specs.Answers.{at_answer}
 use Rattle.history.specs.Floors.{Raising}
 use Rattle.history.specs.Fronts.{OnFront, OnRaised}
@@ -15,7 +15,7 @@ use Rattle.timequery.specs.declared.fault.QueryFault.{QueryFault}
 use Rattle.timequery.specs.declared.fault.QueryFault.TheVariants as query
 use Rattle.store.specs.Values.{StoreValue}
 use Rattle.store.specs.Calls.{IsViewOf, AnswersAtView}
-use Rattle.standing.specs.Laws.{SaysAt, ViewStands}
+use Rattle.standing.specs.Laws.{SaysAt}
 use Rattle.standing.specs.Stands.{Stands}
 use Rattle.standing.proofs.Answering.{view-stands, at-answered}
 use Rattle.opened.specs.Laws.{OpensAgain, AnswersBy}

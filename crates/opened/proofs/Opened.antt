@@ -1,14 +1,12 @@
 -- A store that is opened on an image that stands for a history.
-use Rattle.std.proofs.Common.{◌≡◌, ℕ, ◌+◌, ◌<◌, ◌≤◌, Bool, false, IsTrue, List, [], ◌∷◌, ◌++◌, length, map, refl, arith, ap, sym, subst, ◌∙◌, inl}
+use Rattle.std.proofs.Common.{◌≡◌, ℕ, ◌≤◌, Bool, IsTrue, List, [], ◌∷◌, ◌++◌, length, map, refl, arith, ap, sym, subst, ◌∙◌, inl}
 use Rattle.std.specs.List.{AllByRecursion}
 use Rattle.std.proofs.lemmas.List.{append-nil, length-map}
 use Rattle.std.proofs.lemmas.List.Sorted.{IsPermutation-refl}
-use Rattle.disk.specs.Areas.{Areas, Image, AreSound, IsSound, LeavesImage, image_of, area_of, settled_area, settled_on}
-use Rattle.disk.specs.declared.area.Area.{Area}
+use Rattle.disk.specs.Areas.{Areas, Image, AreSound, LeavesImage, image_of, settled_on}
 use Rattle.disk.specs.declared.area.Area.TheVariants.{Status, Heap, Archive}
 use Rattle.disk.specs.Calls.{DiskState}
 use Rattle.history.specs.declared.key.Key.{Key}
-use Rattle.history.specs.declared.time.TimedWrite.{TimedWrite}
 use Rattle.history.specs.Histories as histories
 use Rattle.history.specs.Histories.{Commit, History, HasRisingTimes, commits_after, last}
 use Rattle.history.specs.Fronts.{OnFront}
@@ -18,7 +16,7 @@ use Rattle.history.proofs.Machines.{opened-machine}
 use Rattle.image.specs.Values.{Value, IsValue}
 use Rattle.image.specs.Reading.{Head, OldRecord, Reading}
 use Rattle.image.specs.Log.{AreRisingAfter, last_time_after, reclaim_mark, reclaim_mark_after}
-use Rattle.image.specs.Facts.{old_writes, heap_commits, heap_facts}
+use Rattle.image.specs.Facts.{old_writes, heap_commits}
 use Rattle.image.specs.StandsFor.{head_of, IsAnchorUpto}
 use Rattle.image.proofs.Standing.{last_time-heads, heads-rising, rises, floor-range}
 use Rattle.chains.specs.KeyWrites.{writes_of, IsOrdered}

@@ -1,6 +1,6 @@
 -- A store that is opened again.
-use Rattle.std.proofs.Common.{◌≡◌, ℕ, Bool, IsTrue, ap, sym, subst}
-use Rattle.disk.specs.Areas.{Areas, Image, AreSound, LeavesImage, image_of}
+use Rattle.std.proofs.Common.{◌≡◌, ℕ, Bool, IsTrue, subst}
+use Rattle.disk.specs.Areas.{Image, AreSound, LeavesImage, image_of}
 use Rattle.disk.specs.Calls.{DiskState}
 use Rattle.disk.proofs.Stops.{LeavesImage-read}
 use Rattle.history.specs.Histories.{History}
