@@ -1,23 +1,28 @@
 -- Views are answered by the history, after a stop as before it.
-use Rattle.std.proofs.Common.{◌≡◌, inl, inr, ℕ, zero, suc, ◌≤◌, ◌==◌, nat_lt, Bool, true, false, IsTrue, [], ◌∷◌, ◌++◌, take, Option, None, Some, Result, Err, MatchBool, refl, arith, ap, sym, subst, ◌∙◌}
+use Rattle.std.proofs.Common.{◌≡◌, inl, inr, ℕ, zero, suc, ◌≤◌, ◌==◌, nat_lt, Bool, true, false, IsTrue, List, [], ◌∷◌, ◌++◌, map, take, Option, None, Some, Result, Err, MatchBool, refl, arith, ap, sym, subst, ◌∙◌}
+use Rattle.std.specs.List.{filter}
 use Rattle.std.proofs.lemmas.Bool.Decides.{nat_tests}
+use Rattle.std.proofs.lemmas.List.{append-nil, map-append}
+use Rattle.std.proofs.lemmas.List.Elements.{filter-append}
 use Rattle.disk.specs.Calls.{DiskState}
 use Rattle.history.specs.declared.key.Key.{Key}
-use Rattle.history.specs.Histories.{History, HasRisingTimes, last, last_after}
-use Rattle.history.specs.Answers.{at_answer}
+use Rattle.history.specs.Histories.{Commit, History, HasRisingTimes, last, last_after}
+use Rattle.history.specs.Answers.{at_answer, times_of}
 use Rattle.history.specs.Floors.{Raising}
 use Rattle.history.specs.Fronts.{OnFront, OnRaised}
 use Rattle.history.specs.Machine.{Machine, opened}
 use Rattle.history.proofs.Histories.{state-append, last_after-append, rising-from_following, times-earlier, may_follow-behind}
 use Rattle.image.specs.Values.{Value, IsValue}
+use Rattle.group.specs.CommitOrder as orders
 use Rattle.timequery.specs.View.{ViewValue}
 use Rattle.timequery.specs.declared.fault.QueryFault.{QueryFault}
 use Rattle.timequery.specs.declared.fault.QueryFault.TheVariants as query
+use Rattle.transactions.specs.Calls.{order_of}
 use Rattle.store.specs.Values.{StoreValue}
 use Rattle.store.specs.Calls.{IsViewOf, AnswersAtView}
 use Rattle.standing.specs.Laws.{SaysAt}
 use Rattle.standing.specs.Stands.{Stands}
-use Rattle.standing.proofs.Answering.{view-stands, at-answered}
+use Rattle.standing.proofs.Answering.{view-stands, at-answered, times-of_label}
 use Rattle.opened.specs.Laws.{OpensAgain, AnswersBy}
 use Rattle.opened.proofs.Fronts.{front-says}
 use Rattle.opened.proofs.Reopened.{reopen-stands}
@@ -77,3 +82,28 @@ answers-stay tells v m disk mark again asked view key time answer stands told op
         rising-take (last m.published) m.group m.queue (rising-from_following IsValue m.published m.queue (may_follow-behind IsValue [] m.published m.queue stands.machine.history)) in
         subst (λ said. SaysAt said answer) (answer-append m.published (take m.group m.queue) m.floors key time up early) (by view asked key time answer is own answers)
     by-front (inr (inr by)) = absurd (no_raise (AnswersBy again) m m.raising stands.memory.raising by)
+
+-- ---- labels
+
+times-append : (label : ℕ) (h more : History Value) → times_of (h ++ more) label ≡ times_of h label ++ times_of more label
+times-append label h more =
+    ap (λ (l : History Value). map (λ (c : Commit Value). c.time) l) (filter-append (λ (c : Commit Value). c.label == label) h more)
+    ∙ map-append (λ (c : Commit Value). c.time) (filter (λ (c : Commit Value). c.label == label) h) (filter (λ (c : Commit Value). c.label == label) more)
+
+pub labels-stay : (tells : Bool) (v : StoreValue) (m : Machine Value) (disk : DiskState) (mark : ℕ) (again : StoreValue) (label : ℕ) → Stands tells v m → IsTrue tells → OpensAgain tells v disk mark again
+    → (more : List ℕ) × (orders.times_of label (order_of again.transactions) ≡ orders.times_of label (order_of v.transactions) ++ more)
+labels-stay tells v m disk mark again label stands told opens = by-front (reopen-stands tells v m disk mark again stands told opens)
+  where
+    before : orders.times_of label (order_of v.transactions) ≡ times_of m.published label
+    before = times-of_label v.transactions m label stands.memory
+
+    by-front : OnFront (λ h floors. Stands tells again (opened h floors)) m → (more : List ℕ) × (orders.times_of label (order_of again.transactions) ≡ orders.times_of label (order_of v.transactions) ++ more)
+    by-front (inl now) = ([], times-of_label again.transactions (opened m.published m.floors) label now.memory ∙ sym before ∙ sym (append-nil (orders.times_of label (order_of v.transactions))))
+    by-front (inr (inl now)) =
+        let group : History Value = take m.group m.queue in (
+          times_of group label,
+          times-of_label again.transactions (opened (m.published ++ group) m.floors) label now.memory
+              ∙ times-append label m.published group
+              ∙ ap (λ (ts : List ℕ). ts ++ times_of group label) (sym before),
+        )
+    by-front (inr (inr now)) = absurd (no_raise (λ h floors. Stands tells again (opened h floors)) m m.raising stands.memory.raising now)

@@ -1,5 +1,5 @@
 -- What opening a store, formatting a disk and closing a store stand for.
-use Rattle.std.specs.Prelude.{ℕ, ◌≡◌, ◌≤◌, Bool, IsTrue, [], Option, Result}
+use Rattle.std.specs.Prelude.{ℕ, ◌≡◌, ◌≤◌, ◌++◌, Bool, IsTrue, List, [], Option, Result}
 use Rattle.disk.specs.Areas.{Areas, Image, AreSound, LeavesImage, image_of}
 use Rattle.disk.specs.Calls.{DiskState}
 use Rattle.history.specs.declared.key.Key.{Key}
@@ -9,12 +9,15 @@ use Rattle.history.specs.Machine.{Machine, opened}
 use Rattle.history.specs.Answers.{at_answer}
 use Rattle.image.specs.Values.{Value}
 use Rattle.status.specs.declared.header.Header.{Header}
-use Rattle.status.specs.Header.{new_header}
-use Rattle.recovery.specs.Format.{IsFormatted}
+use Rattle.status.specs.Header.{new_header, total}
+use Rattle.status.specs.Reading.{ReadsHeader}
+use Rattle.recovery.specs.Format.{IsFormatted, LeavesShut}
 use Rattle.recovery.specs.Faults.{IsReadFault}
 use Rattle.recovery.specs.declared.fault.OpenFault.{OpenFault}
+use Rattle.group.specs.CommitOrder.{times_of}
 use Rattle.timequery.specs.View.{ViewValue}
 use Rattle.timequery.specs.declared.fault.QueryFault.{QueryFault}
+use Rattle.transactions.specs.Calls.{order_of}
 use Rattle.store.specs.Values.{StoreValue}
 use Rattle.store.specs.Calls.{IsViewOf, AnswersAtView}
 use Rattle.store.specs.Opens.{Opens, OpenRefuses}
@@ -41,7 +44,12 @@ abbrev pub FormatStands : Type 0
 FormatStands = (slots : ℕ) (old new : Areas) → IsFormatted slots old new
     → IsImageOf (new_header 1 slots) (image_of new) [] (λ relation. 0) × ((image : Image) → LeavesImage new image → IsImageOf (new_header 1 slots) image [] (λ relation. 0))
 
--- so a store that is opened on it, or on what a stop left of it, stands for the empty history
+-- Where a stop within a format left all slots closed, a header of no more slots that is read there stands for the empty history too.
+abbrev pub FormatStops : Type 0
+FormatStops = (slots : ℕ) (new : Areas) (image : Image) (header : Header) → LeavesShut slots new.status → LeavesImage new image → ReadsHeader image.status header → total header ≤ slots
+    → IsImageOf header image [] (λ relation. 0)
+
+-- a store that is opened on a formatted disk, or on what a stop left of it, stands for the empty history
 abbrev pub FormatOpens : Type 0
 FormatOpens = (tells : Bool) (slots : ℕ) (old new : Areas) (disk : DiskState) (mark : ℕ) (v : StoreValue)
     → IsFormatted slots old new → LeavesImage new (image_of disk.areas) → AreSound disk.areas → Opens tells disk mark v → IsTrue tells → Stands tells v (opened [] (λ relation. 0))
@@ -93,3 +101,10 @@ abbrev pub AnswersStay : Type 0
 AnswersStay = (tells : Bool) (v : StoreValue) (m : Machine Value) (disk : DiskState) (mark : ℕ) (again asked : StoreValue) (view : ViewValue) (key : Key) (time : ℕ) (answer : Result (Option Value) QueryFault)
     → Stands tells v m → IsTrue tells → OpensAgain tells v disk mark again → IsViewOf again view → asked.transactions.mark ≡ again.transactions.mark → AnswersAtView asked view key time answer
     → time ≤ last m.published → SaysAt (at_answer m.published m.floors key time) answer
+
+-- ---- labels
+
+-- the times of a label that were told before the stop are told after it, with at most later ones behind them
+abbrev pub LabelsStay : Type 0
+LabelsStay = (tells : Bool) (v : StoreValue) (m : Machine Value) (disk : DiskState) (mark : ℕ) (again : StoreValue) (label : ℕ) → Stands tells v m → IsTrue tells → OpensAgain tells v disk mark again
+    → (more : List ℕ) × (times_of label (order_of again.transactions) ≡ times_of label (order_of v.transactions) ++ more)

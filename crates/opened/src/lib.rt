@@ -1,7 +1,7 @@
 //! What opening a store, formatting a disk and closing a store stand for: laws, each as a function with nothing to do.
 #![tactic(auto)]
 
-ghost use Rattle.opened.specs.Laws.{OpenStands, OpenRefusesFor, FormatStands, FormatOpens, CloseLeaves, ReopenStands, ReopenRefuses, ClosedIsLeft, StandsAnswers, KeptAnswers, AnswersStay};
+ghost use Rattle.opened.specs.Laws.{OpenStands, OpenRefusesFor, FormatStands, FormatStops, FormatOpens, CloseLeaves, ReopenStands, ReopenRefuses, ClosedIsLeft, StandsAnswers, KeptAnswers, AnswersStay, LabelsStay};
 
 /// On an image that stands for a history an opened store stands for it. Where opening is refused,
 /// the device or memory gave out, and the disk still holds the image.
@@ -13,6 +13,7 @@ pub fn open_stands()
 /// A formatted disk stands for the empty history, and so does a store that is opened on it.
 pub fn format_stands()
     ensures leaves { FormatStands }
+    ensures stops { FormatStops }
     ensures opens { FormatOpens }
 {}
 
@@ -29,9 +30,10 @@ pub fn reopen_stands()
     ensures closed { ClosedIsLeft }
 {}
 
-/// Views are answered by the history, and after a stop as before it.
+/// Views are answered by the history, and after a stop as before it. So are the times of a label.
 pub fn answers_are_kept()
     ensures stands { StandsAnswers }
     ensures kept { KeptAnswers }
     ensures stay { AnswersStay }
+    ensures labels { LabelsStay }
 {}

@@ -1,4 +1,4 @@
-use Rattle.opened.proofs.Answering.{stands-answers, kept-answers, answers-stay}
+use Rattle.opened.proofs.Answering.{stands-answers, kept-answers, answers-stay, labels-stay}
 use Rattle.opened.proofs.answers_are_kept.Goals as goal
 
 pub returns-clause-stands : goal.returns-clause-stands
@@ -9,3 +9,6 @@ returns-clause-kept c = kept-answers
 
 pub returns-clause-stay : goal.returns-clause-stay
 returns-clause-stay c = answers-stay
+
+pub returns-clause-labels : goal.returns-clause-labels
+returns-clause-labels c = labels-stay
