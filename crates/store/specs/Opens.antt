@@ -2,6 +2,7 @@
 use Rattle.std.specs.Prelude.{ℕ, ◌≡◌, Bool, false, IsTrue, [], length, map, None, Err}
 use Rattle.disk.specs.Areas.{image_of, settled_on}
 use Rattle.disk.specs.Calls.{DiskState}
+use Rattle.chains.specs.KeyWrites.{IsOrdered}
 use Rattle.status.specs.Header.{total}
 use Rattle.recovery.specs.Faults.{IsImageFault}
 use Rattle.recovery.specs.Names.{refusals_at_opening}
@@ -26,6 +27,7 @@ pub record Opens (tells : Bool) (old : DiskState) (mark : ℕ) (v : StoreValue) 
   pub recovered : Recovered
   pub read : IsTrue tells → IsReadFrom (image_of old.areas) recovered
   pub new_is : v ≡ opened_on mark recovered v.disk
+  pub ordered : IsOrdered v.transactions.versions
   pub settled : IsTrue tells → v.disk.areas ≡ settled_on (image_of old.areas)
   pub refused : v.disk.refused ≡ old.refused
 

@@ -4,8 +4,10 @@ ghost use Rattle.store.specs.Heads.{head_as};
 ghost use Rattle.store.specs.Opens.{Opens, OpenRefuses};
 
 use crate::store::Store;
+use chains::Bound;
 use disk::Disk;
 use group::CommitHead;
+use history::Key;
 use recovery::{CommitName, OpenFault, Recovered, read_image};
 use status::StatusLog;
 use std::alloc::{AllocError, Global};
@@ -56,6 +58,12 @@ impl<D: Disk> Store<D> {
             chains,
             last: _,
         } = recovered;
+        let first = Key {
+            relation: 0,
+            record: 0,
+        };
+        // The versions are in the order of their keys.
+        let _least = chains.least(Bound::From(first));
         Ok(Store {
             alloc,
             transactions: Transactions::of_recovered(

@@ -34,6 +34,7 @@ returns-clause-ok g c =
       recovered = r;
       read = c.in-Ok.ensures.found;
       new_is = rw (log_is, c.of_recovered.ensures, slots_are, heads_are, many) refl;
+      ordered = rw c.of_recovered.ensures c.least-least.ensures.ordered;
       settled = c.in-Ok.ensures.settled;
       refused = c.in-Ok.ensures.refused;
     }

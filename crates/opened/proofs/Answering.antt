@@ -1,0 +1,109 @@
+-- Views are answered by the history, after a stop as before it.
+use Rattle.std.proofs.Common.{◌≡◌, inl, inr, ℕ, zero, suc, ◌≤◌, ◌==◌, nat_lt, Bool, true, false, IsTrue, List, [], ◌∷◌, ◌++◌, map, take, Option, None, Some, Result, Err, MatchBool, refl, arith, ap, sym, subst, ◌∙◌}
+use Rattle.std.specs.List.{filter}
+use Rattle.std.proofs.lemmas.Bool.Decides.{nat_tests}
+use Rattle.std.proofs.lemmas.List.{append-nil, map-append}
+use Rattle.std.proofs.lemmas.List.Elements.{filter-append}
+use Rattle.disk.specs.Calls.{DiskState}
+use Rattle.history.specs.declared.key.Key.{Key}
+use Rattle.history.specs.Histories.{Commit, History, HasRisingTimes, last, last_after}
+use Rattle.history.specs.Answers.{at_answer, times_of}
+use Rattle.history.specs.Floors.{Raising}
+use Rattle.history.specs.Fronts.{OnFront, OnRaised}
+use Rattle.history.specs.Machine.{Machine, opened}
+use Rattle.history.proofs.Histories.{state-append, last_after-append, rising-from_following, times-earlier, may_follow-behind}
+use Rattle.image.specs.Values.{Value, IsValue}
+use Rattle.group.specs.CommitOrder as orders
+use Rattle.timequery.specs.View.{ViewValue}
+use Rattle.timequery.specs.declared.fault.QueryFault.{QueryFault}
+use Rattle.timequery.specs.declared.fault.QueryFault.TheVariants as query
+use Rattle.transactions.specs.Calls.{order_of}
+use Rattle.store.specs.Values.{StoreValue}
+use Rattle.store.specs.Calls.{IsViewOf, AnswersAtView}
+use Rattle.standing.specs.Laws.{SaysAt}
+use Rattle.standing.specs.Stands.{Stands}
+use Rattle.standing.proofs.Answering.{view-stands, at-answered, times-of_label}
+use Rattle.opened.specs.Laws.{OpensAgain, AnswersBy}
+use Rattle.opened.proofs.Fronts.{front-says}
+use Rattle.opened.proofs.Reopened.{reopen-stands}
+
+-- ---- a store's own views
+
+own-mark : (b : Bool) (said : Type 0) (other : Type 0) → b ≡ true → MatchBool b said other → said
+own-mark true said other own is = is
+own-mark false said other own is = absurd cc
+
+mark-same : (a b : ℕ) → a ≡ b → (a == b) ≡ true
+mark-same a b same = grind (arith, nat_tests)
+
+pub stands-answers : (tells : Bool) (v : StoreValue) (m : Machine Value) → Stands tells v m → AnswersBy v m.published m.floors
+stands-answers tells v m stands view asked key time answer is mark answers =
+    let marked : view.mark ≡ v.transactions.mark = ap (λ (w : ViewValue). w.mark) is in
+    own-mark (view.mark == asked.transactions.mark) (SaysAt (at_answer m.published m.floors key time) answer) (answer ≡ Err query.Stranger) (mark-same view.mark asked.transactions.mark (marked ∙ sym mark))
+    (at-answered asked view m.published m.floors key time answer (view-stands v view m stands.memory is) answers)
+
+pub kept-answers : (tells : Bool) (v : StoreValue) (m : Machine Value) (disk : DiskState) (mark : ℕ) (again : StoreValue)
+    → Stands tells v m → IsTrue tells → OpensAgain tells v disk mark again → OnFront (AnswersBy again) m
+kept-answers tells v m disk mark again stands told opens =
+    front-says (λ h floors. Stands tells again (opened h floors)) (AnswersBy again) m (λ h floors now. stands-answers tells again (opened h floors) now) (reopen-stands tells v m disk mark again stands told opens)
+
+-- ---- answers that stay
+
+rising-take : (t n : ℕ) (h : History Value) → HasRisingTimes t h → HasRisingTimes t (take n h)
+rising-take t zero h up = tt
+rising-take t (suc n) [] up = tt
+rising-take t (suc n) (c ∷ cs) up = (up.0, up.1, rising-take c.time n cs up.2)
+
+no_earlier : (t : ℕ) (h : History Value) → HasRisingTimes t h → t ≤ last_after t h
+no_earlier t [] up = omega arith
+no_earlier t (c ∷ cs) up = let rest = no_earlier c.time cs up.2 in omega (arith, up.0, rest)
+
+-- a query up to the last time is answered as before, also with more commits
+answer-append : (h more : History Value) (floors : ℕ → ℕ) (key : Key) (time : ℕ) → HasRisingTimes (last h) more → time ≤ last h → at_answer (h ++ more) floors key time ≡ at_answer h floors key time
+answer-append h more floors key time up early =
+    let later : last h ≤ last (h ++ more) = let low = no_earlier (last h) more up in omega (arith, low, last_after-append 0 h more) in
+    let before : nat_lt (last h) time ≡ false = grind (arith, nat_tests) in
+    let after : nat_lt (last (h ++ more)) time ≡ false = let upto : time ≤ last (h ++ more) = omega (arith, later, early) in grind (arith, nat_tests) in
+    rw (before, after, state-append h more time key (times-earlier time (last h) more early up)) refl
+
+no_raise : (P : History Value → (ℕ → ℕ) → Type 0) (m : Machine Value) (o : Option Raising) → o ≡ None → OnRaised P m o → ⊥
+no_raise P m None none on = on
+no_raise P m (Some r) none on = absurd cc
+
+pub answers-stay : (tells : Bool) (v : StoreValue) (m : Machine Value) (disk : DiskState) (mark : ℕ) (again asked : StoreValue) (view : ViewValue) (key : Key) (time : ℕ) (answer : Result (Option Value) QueryFault)
+    → Stands tells v m → IsTrue tells → OpensAgain tells v disk mark again → IsViewOf again view → asked.transactions.mark ≡ again.transactions.mark → AnswersAtView asked view key time answer
+    → time ≤ last m.published → SaysAt (at_answer m.published m.floors key time) answer
+answers-stay tells v m disk mark again asked view key time answer stands told opens is own answers early = by-front (kept-answers tells v m disk mark again stands told opens)
+  where
+    by-front : OnFront (AnswersBy again) m → SaysAt (at_answer m.published m.floors key time) answer
+    by-front (inl by) = by view asked key time answer is own answers
+    by-front (inr (inl by)) =
+        let up : HasRisingTimes (last m.published) (take m.group m.queue) =
+        rising-take (last m.published) m.group m.queue (rising-from_following IsValue m.published m.queue (may_follow-behind IsValue [] m.published m.queue stands.machine.history)) in
+        subst (λ said. SaysAt said answer) (answer-append m.published (take m.group m.queue) m.floors key time up early) (by view asked key time answer is own answers)
+    by-front (inr (inr by)) = absurd (no_raise (AnswersBy again) m m.raising stands.memory.raising by)
+
+-- ---- labels
+
+times-append : (label : ℕ) (h more : History Value) → times_of (h ++ more) label ≡ times_of h label ++ times_of more label
+times-append label h more =
+    ap (λ (l : History Value). map (λ (c : Commit Value). c.time) l) (filter-append (λ (c : Commit Value). c.label == label) h more)
+    ∙ map-append (λ (c : Commit Value). c.time) (filter (λ (c : Commit Value). c.label == label) h) (filter (λ (c : Commit Value). c.label == label) more)
+
+pub labels-stay : (tells : Bool) (v : StoreValue) (m : Machine Value) (disk : DiskState) (mark : ℕ) (again : StoreValue) (label : ℕ) → Stands tells v m → IsTrue tells → OpensAgain tells v disk mark again
+    → (more : List ℕ) × (orders.times_of label (order_of again.transactions) ≡ orders.times_of label (order_of v.transactions) ++ more)
+labels-stay tells v m disk mark again label stands told opens = by-front (reopen-stands tells v m disk mark again stands told opens)
+  where
+    before : orders.times_of label (order_of v.transactions) ≡ times_of m.published label
+    before = times-of_label v.transactions m label stands.memory
+
+    by-front : OnFront (λ h floors. Stands tells again (opened h floors)) m → (more : List ℕ) × (orders.times_of label (order_of again.transactions) ≡ orders.times_of label (order_of v.transactions) ++ more)
+    by-front (inl now) = ([], times-of_label again.transactions (opened m.published m.floors) label now.memory ∙ sym before ∙ sym (append-nil (orders.times_of label (order_of v.transactions))))
+    by-front (inr (inl now)) =
+        let group : History Value = take m.group m.queue in (
+          times_of group label,
+          times-of_label again.transactions (opened (m.published ++ group) m.floors) label now.memory
+              ∙ times-append label m.published group
+              ∙ ap (λ (ts : List ℕ). ts ++ times_of group label) (sym before),
+        )
+    by-front (inr (inr now)) = absurd (no_raise (λ h floors. Stands tells again (opened h floors)) m m.raising stands.memory.raising now)

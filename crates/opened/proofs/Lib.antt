@@ -1,0 +1,7 @@
+pub mod OnlyCommits
+pub mod Versions
+pub mod Fronts
+pub mod Opened
+pub mod Formatted
+pub mod Reopened
+pub mod Answering

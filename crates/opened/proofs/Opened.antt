@@ -1,0 +1,217 @@
+-- A store that is opened on an image that stands for a history.
+use Rattle.std.proofs.Common.{◌≡◌, ℕ, ◌≤◌, Bool, IsTrue, List, [], ◌∷◌, ◌++◌, length, map, refl, arith, ap, sym, subst, ◌∙◌, inl}
+use Rattle.std.specs.List.{AllByRecursion}
+use Rattle.std.proofs.lemmas.List.{append-nil, length-map}
+use Rattle.std.proofs.lemmas.List.Sorted.{IsPermutation-refl}
+use Rattle.disk.specs.Areas.{Areas, Image, AreSound, LeavesImage, image_of, settled_on}
+use Rattle.disk.specs.declared.area.Area.TheVariants.{Status, Heap, Archive}
+use Rattle.disk.specs.Calls.{DiskState}
+use Rattle.history.specs.declared.key.Key.{Key}
+use Rattle.history.specs.Histories as histories
+use Rattle.history.specs.Histories.{Commit, History, HasRisingTimes, commits_after, last}
+use Rattle.history.specs.Fronts.{OnFront}
+use Rattle.history.specs.Machine.{opened}
+use Rattle.history.proofs.Histories.{commits_after-all}
+use Rattle.history.proofs.Machines.{opened-machine}
+use Rattle.image.specs.Values.{Value, IsValue}
+use Rattle.image.specs.Reading.{Head, OldRecord, Reading}
+use Rattle.image.specs.Log.{AreRisingAfter, last_time_after, reclaim_mark, reclaim_mark_after}
+use Rattle.image.specs.Facts.{old_writes, heap_commits}
+use Rattle.image.specs.StandsFor.{head_of, IsAnchorUpto}
+use Rattle.image.proofs.Standing.{last_time-heads, heads-rising, rises, floor-range}
+use Rattle.chains.specs.KeyWrites.{writes_of, IsOrdered}
+use Rattle.extents.specs.declared.usage.Usage.{Usage}
+use Rattle.extents.specs.Usages.{IsKept}
+use Rattle.group.specs.CommitOrder as orders
+use Rattle.status.specs.declared.header.Header.{Header}
+use Rattle.status.specs.Header.{total}
+use Rattle.reading.specs.Extents.{Extent}
+use Rattle.reading.specs.Layouts.{Layout, live}
+use Rattle.reading.specs.Keeping.{RestsAs}
+use Rattle.reading.specs.Opening.{unread, unread_layout}
+use Rattle.reading.proofs.OpensAsOne.{opens_once}
+use Rattle.reading.proofs.Ways.{synced_rests}
+use Rattle.recovery.specs.declared.recovered.Recovered.{Recovered}
+use Rattle.recovery.specs.declared.recovered.CommitName.{CommitName}
+use Rattle.recovery.specs.Names.{head_named}
+use Rattle.recovery.specs.HeapReads.{numbers_in}
+use Rattle.recovery.specs.ReadsImage.{IsOpening, IsReadAs, IsReadFrom}
+use Rattle.recovery.specs.Laws.{IsHistoryRead}
+use Rattle.recovery.proofs.HistoryRead.{stands_opening, history_read}
+use Rattle.transactions.specs.Order.{IsInOrder}
+use Rattle.store.specs.Heads.{head_as}
+use Rattle.store.specs.Values.{StoreValue, IsInStep}
+use Rattle.store.specs.Opens.{Opens, opened_on}
+use Rattle.store.proofs.Opened.{rising-opened, last-opened}
+use Rattle.standing.specs.Standing.{Name, name_of, name_at, StandsInMemory}
+use Rattle.standing.specs.OnDisk.{IsImageOf, Works, StandsOnDisk}
+use Rattle.standing.specs.Stands.{Stands}
+use Rattle.opened.proofs.OnlyCommits.{no_reclaim, no_anchor}
+use Rattle.opened.proofs.Versions.{latest-history}
+
+-- ---- the disk, once it is synced
+
+settled-sound : (areas : Areas) → AreSound areas → AreSound (settled_on (image_of areas))
+settled-sound areas sound Status = record { firm = omega arith; settled = λ none. refl; are_bytes = (sound Status).are_bytes }
+settled-sound areas sound Heap = record { firm = omega arith; settled = λ none. refl; are_bytes = (sound Heap).are_bytes }
+settled-sound areas sound Archive = record { firm = omega arith; settled = λ none. refl; are_bytes = (sound Archive).are_bytes }
+
+-- a stop leaves just the image
+settled-left : (image left : Image) → LeavesImage (settled_on image) left → left ≡ image
+settled-left image left leaves =
+    let status = leaves.status.settled refl in
+    let heap = leaves.heap.settled refl in
+    let archive = leaves.archive.settled refl in
+    λ i. record { status = status i; heap = heap i; archive = archive i }
+
+-- ---- the commits that the log names
+
+named : (items : List CommitName) (h : History Value) → map head_named items ≡ map head_of h → map name_at (map head_as items) ≡ map name_of h
+named [] [] same = refl
+named [] (c ∷ cs) same = absurd cc
+named (n ∷ ns) [] same = absurd cc
+named (n ∷ ns) (c ∷ cs) same =
+    let first : head_named n ≡ head_of c = cc in
+    let rest : map head_named ns ≡ map head_of cs = cc in
+    let one : name_at (head_as n) ≡ name_of c = ap (λ (x : Head). record { time = x.time; label = x.label }) first in
+    ap (λ (x : Name). x ∷ map name_at (map head_as ns)) one ∙ ap (λ (xs : List Name). name_of c ∷ xs) (named ns cs rest)
+
+kept-numbers : (usages : List Usage) (es : List Extent) → AllByRecursion (IsKept usages) (numbers_in es) → AllByRecursion (λ (e : Extent). IsKept usages e.number) es
+kept-numbers usages [] kept = tt
+kept-numbers usages (e ∷ es) kept = (kept.0, kept-numbers usages es kept.1)
+
+-- ---- what was read
+
+module _ (old : DiskState) (mark : ℕ) (disk : DiskState) (r : Recovered) (header : Header) (h : History Value) (floors : ℕ → ℕ)
+    (read : IsReadFrom (image_of old.areas) r) (image : IsImageOf header (image_of old.areas) h floors)
+    (settled : disk.areas ≡ settled_on (image_of old.areas)) (ordered : IsOrdered r.chains) (sound : AreSound old.areas) where
+  opening : IsOpening header (image_of old.areas) (unread_layout image.layout) (unread image.reading)
+  opening = stands_opening header (image_of old.areas) image.layout image.reading h floors image.laid image.held image.stands image.profile_built image.built
+
+  same : (r.header ≡ header) × (read.layout ≡ unread_layout image.layout) × (read.reading ≡ unread image.reading)
+  same = opens_once r.header header (image_of old.areas) read.layout (unread_layout image.layout) read.reading (unread image.reading) read.opening.opens opening.opens
+
+  is : IsReadAs (unread_layout image.layout) (unread image.reading) r
+  is = subst (λ (l : Layout). IsReadAs l (unread image.reading) r) same.1 (subst (λ (x : Reading). IsReadAs read.layout x r) same.2 read.is)
+
+  so : IsHistoryRead h floors r
+  so = history_read header (image_of old.areas) image.layout image.reading h floors image.laid image.held image.stands image.profile_built image.built r read
+
+  rising : HasRisingTimes 0 h
+  rising = rises image.reading h floors image.stands
+
+  -- all is in the heap
+  unmarked : reclaim_mark image.reading.log ≡ 0
+  unmarked = ap (λ l. reclaim_mark_after 0 l) (sym image.laid.heap.log_is) ∙ no_reclaim header.profile 0 image.layout.slots image.built
+
+  no_anchors : image.reading.anchors ≡ []
+  no_anchors = no_anchor image.reading.anchors (subst (λ (n : ℕ). AllByRecursion (IsAnchorUpto n) image.reading.anchors) unmarked image.stands.opens.reads.anchor_times)
+
+  commits : heap_commits image.reading ≡ h
+  commits = image.stands.opens.write_sets ∙ ap (λ (n : ℕ). commits_after n h) unmarked ∙ commits_after-all 0 0 h (omega arith) rising
+
+  writes : (key : Key) → writes_of r.chains key ≡ histories.writes_of h key
+  writes key =
+      is.writes key
+      ∙ ap (λ (olds : List OldRecord). old_writes olds key ++ histories.writes_of (heap_commits image.reading) key) no_anchors
+      ∙ ap (λ (l : History Value). histories.writes_of l key) commits
+
+  -- ---- memory
+
+  many : length r.commits.items ≡ length h
+  many = sym (length-map r.commits.items head_named) ∙ ap (λ (l : List Head). length l) so.commits ∙ length-map h head_of
+
+  heads_rise : orders.IsRisingAfter 0 (map head_as r.commits.items)
+  heads_rise = rising-opened 0 r.commits.items (subst (λ (l : List Head). AreRisingAfter 0 l) (sym so.commits) (heads-rising 0 h rising))
+
+  heads_last : orders.last_time (map head_as r.commits.items) ≡ last h
+  heads_last = last-opened 0 r.commits.items ∙ ap (λ (l : List Head). last_time_after 0 l) so.commits ∙ last_time-heads 0 h
+
+  memory : StandsInMemory (opened_on mark r disk).transactions (opened h floors)
+  memory = record {
+    names = named r.commits.items h so.commits ∙ ap (λ (l : History Value). map name_of l) (sym (append-nil h));
+    rising = heads_rise;
+    published = many;
+    versions = record { ordered = ordered; writes = writes };
+    queue = tt;
+    group = refl;
+    staged = λ staged. absurd staged;
+    snapshots = IsPermutation-refl [];
+    floors = so.floor;
+    raising = refl;
+    failed = refl;
+  }
+
+  -- ---- what holds of the store by itself
+
+  has_room : r.used ≤ total r.header
+  has_room = let fits = image.held.log.opens.fits in let all = ap total same.0 in let used = is.used in omega (arith, fits, all, used)
+
+  few_slots : total r.header ≤ 65536
+  few_slots = let few = image.held.log.opens.has_room.few in let all = ap total same.0 in omega (arith, few, all)
+
+  order : IsInOrder (opened_on mark r disk).transactions
+  order = record {
+    split = omega (arith, length-map r.commits.items head_as);
+    latest = let upto = latest-history r.chains h ordered writes rising in omega (arith, upto, heads_last);
+    group_within = omega arith;
+    group_few = omega arith;
+    stage_fits = refl;
+    stored = tt;
+    out = record { each = tt; distinct = tt };
+    room = omega (arith, has_room);
+    slots_few = few_slots;
+  }
+
+  in_step : IsInStep (opened_on mark r disk)
+  in_step = record { slots = refl; used = refl; turns = λ works. record { turning = refl; writing = refl; turn = tt } }
+
+  -- ---- the disk
+
+  rests : RestsAs header image.layout disk.areas
+  rests = subst (λ (areas : Areas). RestsAs header image.layout areas) (sym settled) (synced_rests header image.layout (image_of old.areas) image.held)
+
+  works : Works header (opened_on mark r disk) (opened h floors)
+  works = record {
+    layout = image.layout;
+    reading = image.reading;
+    laid = image.laid;
+    stands = image.stands;
+    built = image.built;
+    used = is.used;
+    kept = kept-numbers r.extents (live image.layout) is.extents.kept;
+    packed = tt;
+    at = rests;
+    sound = subst (λ (areas : Areas). AreSound areas) (sym settled) (settled-sound old.areas sound);
+  }
+
+  leaves : (left : Image) → LeavesImage disk.areas left → OnFront (IsImageOf header left) (opened h floors)
+  leaves left may =
+      let just : left ≡ image_of old.areas = settled-left (image_of old.areas) left (subst (λ (areas : Areas). LeavesImage areas left) settled may) in
+      inl (subst (λ (i : Image). IsImageOf header i h floors) (sym just) image)
+
+  on_disk : StandsOnDisk (opened_on mark r disk) (opened h floors)
+  on_disk = record {
+    header = header;
+    profile = ap (λ (x : Header). x.profile) same.0;
+    slots = ap total same.0;
+    profile_built = image.profile_built;
+    leaves = leaves;
+    works = λ works_on. works;
+  }
+
+  pub opened-stands : (tells : Bool) → Stands tells (opened_on mark r disk) (opened h floors)
+  opened-stands tells = record {
+    memory = memory;
+    machine = opened-machine IsValue h floors image.stands.opens.history (floor-range image.reading h floors image.stands);
+    order = order;
+    in_step = in_step;
+    disk = λ tells_so. on_disk;
+  }
+
+pub open-stands : (tells : Bool) (old : DiskState) (mark : ℕ) (v : StoreValue) (header : Header) (h : History Value) (floors : ℕ → ℕ)
+    → Opens tells old mark v → IsTrue tells → AreSound old.areas → IsImageOf header (image_of old.areas) h floors → Stands tells v (opened h floors)
+open-stands tells old mark v header h floors opens told sound image =
+    let ordered : IsOrdered opens.recovered.chains = subst (λ (w : StoreValue). IsOrdered w.transactions.versions) opens.new_is opens.ordered in
+    subst (λ (w : StoreValue). Stands tells w (opened h floors)) (sym opens.new_is)
+    (opened-stands old mark v.disk opens.recovered header h floors (opens.read told) image (opens.settled told) ordered sound tells)

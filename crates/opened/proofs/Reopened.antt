@@ -1,0 +1,59 @@
+-- A store that is opened again.
+use Rattle.std.proofs.Common.{◌≡◌, ℕ, Bool, IsTrue, subst}
+use Rattle.disk.specs.Areas.{Image, AreSound, LeavesImage, image_of}
+use Rattle.disk.specs.Calls.{DiskState}
+use Rattle.disk.proofs.Stops.{LeavesImage-read}
+use Rattle.history.specs.Histories.{History}
+use Rattle.history.specs.Fronts.{OnFront}
+use Rattle.history.specs.Machine.{Machine, opened}
+use Rattle.image.specs.Values.{Value}
+use Rattle.status.specs.declared.header.Header.{Header}
+use Rattle.reading.specs.Opening.{unread, unread_layout}
+use Rattle.recovery.specs.Faults.{IsReadFault}
+use Rattle.recovery.specs.declared.fault.OpenFault.{OpenFault}
+use Rattle.recovery.proofs.OneAnswer.{opening_only}
+use Rattle.recovery.proofs.HistoryRead.{stands_opening}
+use Rattle.store.specs.Values.{StoreValue}
+use Rattle.store.specs.Opens.{OpenRefuses}
+use Rattle.standing.specs.OnDisk.{IsImageOf}
+use Rattle.standing.specs.Stands.{Stands}
+use Rattle.opened.specs.Laws.{OpensAgain}
+use Rattle.opened.proofs.Fronts.{front-says, front-is}
+use Rattle.opened.proofs.Opened.{open-stands}
+
+-- ---- a refusal
+
+pub open-refuses : (tells : Bool) (old new : DiskState) (why : OpenFault) (header : Header) (h : History Value) (floors : ℕ → ℕ)
+    → OpenRefuses tells old why new → IsTrue tells → IsImageOf header (image_of old.areas) h floors → IsReadFault why × (image_of new.areas ≡ image_of old.areas)
+open-refuses tells old new why header h floors refuses told image =
+    let opening = stands_opening header (image_of old.areas) image.layout image.reading h floors image.laid image.held image.stands image.profile_built image.built in
+    (opening_only header (image_of old.areas) (unread_layout image.layout) (unread image.reading) why opening (refuses.fault told), refuses.image told)
+
+-- ---- closing
+
+pub close-leaves : (tells : Bool) (v : StoreValue) (m : Machine Value) (disk : DiskState) → Stands tells v m → IsTrue tells → disk ≡ v.disk
+    → (header : Header) × ((image : Image) → LeavesImage disk.areas image → OnFront (IsImageOf header image) m)
+close-leaves tells v m disk stands told same =
+    let on = stands.disk told in
+    (on.header, λ image left. on.leaves image (subst (λ (d : DiskState). LeavesImage d.areas image) same left))
+
+pub closed-left : (v : StoreValue) (disk : DiskState) → disk ≡ v.disk → AreSound disk.areas → LeavesImage v.disk.areas (image_of disk.areas)
+closed-left v disk same sound = subst (λ (d : DiskState). LeavesImage d.areas (image_of disk.areas)) same (LeavesImage-read disk.areas sound)
+
+-- ---- opening again
+
+pub reopen-stands : (tells : Bool) (v : StoreValue) (m : Machine Value) (disk : DiskState) (mark : ℕ) (again : StoreValue)
+    → Stands tells v m → IsTrue tells → OpensAgain tells v disk mark again → OnFront (λ h floors. Stands tells again (opened h floors)) m
+reopen-stands tells v m disk mark again stands told opens =
+    let on = stands.disk told in
+    front-says (IsImageOf on.header (image_of disk.areas)) (λ h floors. Stands tells again (opened h floors)) m
+    (λ h floors image. open-stands tells disk mark again on.header h floors opens.opens told opens.sound image)
+    (on.leaves (image_of disk.areas) opens.left)
+
+pub reopen-refuses : (tells : Bool) (v : StoreValue) (m : Machine Value) (disk new : DiskState) (why : OpenFault)
+    → Stands tells v m → IsTrue tells → LeavesImage v.disk.areas (image_of disk.areas) → OpenRefuses tells disk why new → IsReadFault why × (image_of new.areas ≡ image_of disk.areas)
+reopen-refuses tells v m disk new why stands told left refuses =
+    let on = stands.disk told in
+    front-is (IsImageOf on.header (image_of disk.areas)) m
+    (λ h floors image. open-refuses tells disk new why on.header h floors refuses told image)
+    (on.leaves (image_of disk.areas) left)

@@ -1,0 +1,11 @@
+use Rattle.opened.proofs.Reopened.{reopen-stands, reopen-refuses, closed-left}
+use Rattle.opened.proofs.reopen_stands.Goals as goal
+
+pub returns-clause-opens : goal.returns-clause-opens
+returns-clause-opens c = reopen-stands
+
+pub returns-clause-refuses : goal.returns-clause-refuses
+returns-clause-refuses c = reopen-refuses
+
+pub returns-clause-closed : goal.returns-clause-closed
+returns-clause-closed c = closed-left

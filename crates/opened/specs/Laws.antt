@@ -1,0 +1,110 @@
+-- What opening a store, formatting a disk and closing a store stand for.
+use Rattle.std.specs.Prelude.{ℕ, ◌≡◌, ◌≤◌, ◌++◌, Bool, IsTrue, List, [], Option, Result}
+use Rattle.disk.specs.Areas.{Areas, Image, AreSound, LeavesImage, image_of}
+use Rattle.disk.specs.Calls.{DiskState}
+use Rattle.history.specs.declared.key.Key.{Key}
+use Rattle.history.specs.Histories.{History, last}
+use Rattle.history.specs.Fronts.{OnFront}
+use Rattle.history.specs.Machine.{Machine, opened}
+use Rattle.history.specs.Answers.{at_answer}
+use Rattle.image.specs.Values.{Value}
+use Rattle.status.specs.declared.header.Header.{Header}
+use Rattle.status.specs.Header.{new_header, total}
+use Rattle.status.specs.Reading.{ReadsHeader}
+use Rattle.recovery.specs.Format.{IsFormatted, LeavesShut}
+use Rattle.recovery.specs.Faults.{IsReadFault}
+use Rattle.recovery.specs.declared.fault.OpenFault.{OpenFault}
+use Rattle.group.specs.CommitOrder.{times_of}
+use Rattle.timequery.specs.View.{ViewValue}
+use Rattle.timequery.specs.declared.fault.QueryFault.{QueryFault}
+use Rattle.transactions.specs.Calls.{order_of}
+use Rattle.store.specs.Values.{StoreValue}
+use Rattle.store.specs.Calls.{IsViewOf, AnswersAtView}
+use Rattle.store.specs.Opens.{Opens, OpenRefuses}
+use Rattle.standing.specs.Laws.{SaysAt}
+use Rattle.standing.specs.OnDisk.{IsImageOf}
+use Rattle.standing.specs.Stands.{Stands}
+
+-- ---- opening
+
+-- on an image that stands for a history an opened store stands for it
+abbrev pub OpenStands : Type 0
+OpenStands = (tells : Bool) (old : DiskState) (mark : ℕ) (v : StoreValue) (header : Header) (h : History Value) (floors : ℕ → ℕ)
+    → Opens tells old mark v → IsTrue tells → AreSound old.areas → IsImageOf header (image_of old.areas) h floors → Stands tells v (opened h floors)
+
+-- where opening such an image is refused, the device or memory gave out, and the disk still holds the image
+abbrev pub OpenRefusesFor : Type 0
+OpenRefusesFor = (tells : Bool) (old new : DiskState) (why : OpenFault) (header : Header) (h : History Value) (floors : ℕ → ℕ)
+    → OpenRefuses tells old why new → IsTrue tells → IsImageOf header (image_of old.areas) h floors → IsReadFault why × (image_of new.areas ≡ image_of old.areas)
+
+-- ---- formatting
+
+-- a formatted disk holds an image of the empty history, and whatever a stop may leave of it is one
+abbrev pub FormatStands : Type 0
+FormatStands = (slots : ℕ) (old new : Areas) → IsFormatted slots old new
+    → IsImageOf (new_header 1 slots) (image_of new) [] (λ relation. 0) × ((image : Image) → LeavesImage new image → IsImageOf (new_header 1 slots) image [] (λ relation. 0))
+
+-- Where a stop within a format left all slots closed, a header of no more slots that is read there stands for the empty history too.
+abbrev pub FormatStops : Type 0
+FormatStops = (slots : ℕ) (new : Areas) (image : Image) (header : Header) → LeavesShut slots new.status → LeavesImage new image → ReadsHeader image.status header → total header ≤ slots
+    → IsImageOf header image [] (λ relation. 0)
+
+-- a store that is opened on a formatted disk, or on what a stop left of it, stands for the empty history
+abbrev pub FormatOpens : Type 0
+FormatOpens = (tells : Bool) (slots : ℕ) (old new : Areas) (disk : DiskState) (mark : ℕ) (v : StoreValue)
+    → IsFormatted slots old new → LeavesImage new (image_of disk.areas) → AreSound disk.areas → Opens tells disk mark v → IsTrue tells → Stands tells v (opened [] (λ relation. 0))
+
+-- ---- closing, and opening again
+
+-- Closing hands the store's disk back: whatever a stop may leave of it stands for a front of the commit order.
+abbrev pub CloseLeaves : Type 0
+CloseLeaves = (tells : Bool) (v : StoreValue) (m : Machine Value) (disk : DiskState) → Stands tells v m → IsTrue tells → disk ≡ v.disk
+    → (header : Header) × ((image : Image) → LeavesImage disk.areas image → OnFront (IsImageOf header image) m)
+
+-- A store is opened again: the disk holds what a stop may have left of it.
+pub record OpensAgain (tells : Bool) (v : StoreValue) (disk : DiskState) (mark : ℕ) (again : StoreValue) : Type 0 where
+  pub left : LeavesImage v.disk.areas (image_of disk.areas)
+  pub sound : AreSound disk.areas
+  pub opens : Opens tells disk mark again
+
+-- It stands for a front of the commit order: all that was published, and of the group in the writing all or nothing.
+abbrev pub ReopenStands : Type 0
+ReopenStands = (tells : Bool) (v : StoreValue) (m : Machine Value) (disk : DiskState) (mark : ℕ) (again : StoreValue)
+    → Stands tells v m → IsTrue tells → OpensAgain tells v disk mark again → OnFront (λ h floors. Stands tells again (opened h floors)) m
+
+-- Where that is refused, the device or memory gave out, and the disk still holds what the stop left.
+abbrev pub ReopenRefuses : Type 0
+ReopenRefuses = (tells : Bool) (v : StoreValue) (m : Machine Value) (disk new : DiskState) (why : OpenFault)
+    → Stands tells v m → IsTrue tells → LeavesImage v.disk.areas (image_of disk.areas) → OpenRefuses tells disk why new → IsReadFault why × (image_of new.areas ≡ image_of disk.areas)
+
+-- the disk that a closed store hands back holds what a stop may have left, so it may be opened again
+abbrev pub ClosedIsLeft : Type 0
+ClosedIsLeft = (v : StoreValue) (disk : DiskState) → disk ≡ v.disk → AreSound disk.areas → LeavesImage v.disk.areas (image_of disk.areas)
+
+-- ---- queries
+
+-- Every view that is taken of the store now is answered by this history, also when it is asked later: a store knows its own views by its mark.
+abbrev pub AnswersBy : StoreValue → History Value → (ℕ → ℕ) → Type 0
+AnswersBy v h floors = (view : ViewValue) (asked : StoreValue) (key : Key) (time : ℕ) (answer : Result (Option Value) QueryFault)
+    → IsViewOf v view → asked.transactions.mark ≡ v.transactions.mark → AnswersAtView asked view key time answer → SaysAt (at_answer h floors key time) answer
+
+abbrev pub StandsAnswers : Type 0
+StandsAnswers = (tells : Bool) (v : StoreValue) (m : Machine Value) → Stands tells v m → AnswersBy v m.published m.floors
+
+-- once it is opened again, all its views are answered by one front of the commit order
+abbrev pub KeptAnswers : Type 0
+KeptAnswers = (tells : Bool) (v : StoreValue) (m : Machine Value) (disk : DiskState) (mark : ℕ) (again : StoreValue)
+    → Stands tells v m → IsTrue tells → OpensAgain tells v disk mark again → OnFront (AnswersBy again) m
+
+-- and up to the last time that was published they are answered as before
+abbrev pub AnswersStay : Type 0
+AnswersStay = (tells : Bool) (v : StoreValue) (m : Machine Value) (disk : DiskState) (mark : ℕ) (again asked : StoreValue) (view : ViewValue) (key : Key) (time : ℕ) (answer : Result (Option Value) QueryFault)
+    → Stands tells v m → IsTrue tells → OpensAgain tells v disk mark again → IsViewOf again view → asked.transactions.mark ≡ again.transactions.mark → AnswersAtView asked view key time answer
+    → time ≤ last m.published → SaysAt (at_answer m.published m.floors key time) answer
+
+-- ---- labels
+
+-- the times of a label that were told before the stop are told after it, with at most later ones behind them
+abbrev pub LabelsStay : Type 0
+LabelsStay = (tells : Bool) (v : StoreValue) (m : Machine Value) (disk : DiskState) (mark : ℕ) (again : StoreValue) (label : ℕ) → Stands tells v m → IsTrue tells → OpensAgain tells v disk mark again
+    → (more : List ℕ) × (times_of label (order_of again.transactions) ≡ times_of label (order_of v.transactions) ++ more)
