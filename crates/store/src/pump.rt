@@ -1,5 +1,6 @@
 //! The steps of a group to the disk.
-ghost use Rattle.std.specs.Prelude.{◌≡◌, ◌<◌, false, IsSome, None};
+ghost use Rattle.std.specs.Prelude.{◌≡◌, ◌<◌, false, IsTrue, IsSome, None};
+ghost use Rattle.disk.specs.Areas.{AreSound};
 ghost use Rattle.transactions.specs.Steps.{due, next_extent};
 ghost use Rattle.store.specs.Pumps.{Pumps, TakesStep, SyncsHeap, BeginsSlot, TurnsSlot, store_of, did_at};
 
@@ -18,7 +19,8 @@ impl<D: Disk> Store<D> {
     /// first 16 that wait. Each step makes one write or sync of the disk. `Idle` is answered where no
     /// group stands and no commit waits.
     pub fn pump(&mut self) -> Result<Did, PumpFault>
-        ensures { Pumps D.tells self.old result self.new }
+        ensures is { Pumps D.tells self.old result self.new }
+        ensures sound { IsTrue D.tells → AreSound self.new.disk.areas }
     {
         if self.transactions.has_failed() {
             return Err(PumpFault::Failed);
@@ -36,7 +38,8 @@ impl<D: Disk> Store<D> {
     fn write_extent(&mut self) -> Result<Did, PumpFault>
         requires due { due self.old.transactions ≡ NextStep.WriteExtent }
         requires extent { IsSome (next_extent self.old.transactions) }
-        ensures { TakesStep D.tells NextStep.WriteExtent self.old result self.new }
+        ensures is { TakesStep D.tells NextStep.WriteExtent self.old result self.new }
+        ensures sound { IsTrue D.tells → AreSound self.new.disk.areas }
     {
         let Some(stored) = self.transactions.next_extent() else {
             unreachable!()
@@ -56,7 +59,8 @@ impl<D: Disk> Store<D> {
 
     fn sync_heap(&mut self) -> Result<Did, PumpFault>
         requires { due self.old.transactions ≡ NextStep.SyncHeap }
-        ensures { SyncsHeap D.tells self.old result self.new }
+        ensures is { SyncsHeap D.tells self.old result self.new }
+        ensures sound { IsTrue D.tells → AreSound self.new.disk.areas }
     {
         match self.disk.sync(Area::Heap) {
             Err(DeviceFault) => {
@@ -75,7 +79,8 @@ impl<D: Disk> Store<D> {
         requires due { due self.old.transactions ≡ NextStep.BeginSlot }
         requires works { self.old.transactions.failed ≡ false }
         requires room { self.old.transactions.used < self.old.transactions.slots }
-        ensures { BeginsSlot D.tells self.old result self.new }
+        ensures is { BeginsSlot D.tells self.old result self.new }
+        ensures sound { IsTrue D.tells → AreSound self.new.disk.areas }
     {
         let body = self.transactions.slot_body();
         match self.log.begin_slot(body) {
@@ -98,7 +103,8 @@ impl<D: Disk> Store<D> {
     fn advance_slot(&mut self) -> Result<Did, PumpFault>
         requires due { due self.old.transactions ≡ NextStep.AdvanceSlot }
         requires works { self.old.transactions.failed ≡ false }
-        ensures { TakesStep D.tells NextStep.AdvanceSlot self.old result self.new }
+        ensures is { TakesStep D.tells NextStep.AdvanceSlot self.old result self.new }
+        ensures sound { IsTrue D.tells → AreSound self.new.disk.areas }
     {
         match mem::replace(&mut self.turn, None) {
             None => unreachable!(),
