@@ -1,0 +1,68 @@
+-- Whatever a stop may leave of a store survives, with all that was acknowledged.
+use Rattle.std.proofs.Common.{◌≡◌, ℕ, ◌≤◌, ◌+◌, Bool, List, [], ◌∷◌, ◌++◌, take, drop, length, Option, None, refl, ap, sym, subst, ◌∙◌, inl, inr, arith, append_assoc}
+use Rattle.std.specs.Prelude.{IsTrue, Contains}
+use Rattle.std.specs.List.{AllByRecursion}
+use Rattle.std.proofs.lemmas.List.{take-append-drop}
+use Rattle.std.proofs.lemmas.List.Elements.{Contains-append_left}
+use Rattle.disk.specs.Areas.{Image, AreSound, LeavesImage, image_of}
+use Rattle.disk.specs.Calls.{DiskState}
+use Rattle.history.specs.Answers as answers
+use Rattle.history.specs.Floors.{Raising}
+use Rattle.history.specs.Fronts.{OnFront, OnRaised}
+use Rattle.history.specs.Histories.{Commit, History}
+use Rattle.history.specs.Machine.{Machine, commit_order, opened}
+use Rattle.history.proofs.Tickets.{done-published}
+use Rattle.image.specs.Values.{Value, IsValue}
+use Rattle.status.specs.declared.header.Header.{Header}
+use Rattle.recovery.specs.declared.fault.OpenFault.{OpenFault}
+use Rattle.recovery.specs.Faults.{IsReadFault}
+use Rattle.store.specs.Values.{StoreValue}
+use Rattle.store.specs.Opens.{Opens, OpenRefuses}
+use Rattle.standing.specs.OnDisk.{IsImageOf, StandsOnDisk}
+use Rattle.standing.specs.Stands.{Stands}
+use Rattle.opened.proofs.Opened.{open-stands}
+use Rattle.opened.proofs.Reopened.{open-refuses}
+use Rattle.opened.proofs.Answering.{stands-answers}
+use Rattle.run.specs.Promise.{HasCommitAt, IsPrefixOf, IsKeptAs, Survives}
+
+-- an image that stands for a history is kept as it
+kept-as : (tells : Bool) (header : Header) (image : Image) (h : History Value) (floors : ℕ → ℕ) → IsTrue tells → IsImageOf header image h floors → IsKeptAs tells image h floors
+kept-as tells header image h floors told is = record {
+  header = header;
+  stands = is;
+  opens = λ disk new why same refuses. (open-refuses tells disk new why header h floors refuses told (subst (λ (i : Image). IsImageOf header i h floors) (sym same) is)).0;
+  answers = λ disk mark again same sound opens.
+      let stands = open-stands tells disk mark again header h floors opens told sound (subst (λ (i : Image). IsImageOf header i h floors) (sym same) is) in
+      (stands, stands-answers tells again (opened h floors) stands);
+}
+
+-- what is acknowledged is published, so it is in each front
+all-published : (m : Machine Value) (front : History Value) (times : List ℕ) → ((c : Commit Value) → Contains m.published c → Contains front c) → AllByRecursion (λ (t : ℕ). answers.redeemed_by m t ≡ answers.Done t) times → AllByRecursion (HasCommitAt front) times
+all-published m front [] within all = tt
+all-published m front (t ∷ ts) within all =
+    let found = (done-published m t).0 all.0 in
+    ((found.0, within found.0 found.1, found.2), all-published m front ts within all.1)
+
+pub survives : (tells : Bool) (v : StoreValue) (m : Machine Value) (times : List ℕ) → Stands tells v m → IsTrue tells → AllByRecursion (λ (t : ℕ). answers.redeemed_by m t ≡ answers.Done t) times → (image : Image) → LeavesImage v.disk.areas image
+    → Survives tells (commit_order m) times m.floors image
+survives tells v m times stands told all image left =
+    let d = stands.disk told in
+    by-front d (d.leaves image left)
+  where
+    no-raise : (o : Option Raising) → o ≡ None → (P : History Value → (ℕ → ℕ) → Type 0) → OnRaised P m o → ⊥
+    no-raise o none P raised = subst (λ (r : Option Raising). OnRaised P m r) none raised
+
+    by-front : (d : StandsOnDisk v m) → OnFront (IsImageOf d.header image) m → Survives tells (commit_order m) times m.floors image
+    by-front d (inl is) = record {
+      front = m.published;
+      prefix = (m.queue, refl);
+      acknowledged = all-published m m.published times (λ c has. has) all;
+      kept = kept-as tells d.header image m.published m.floors told is;
+    }
+    by-front d (inr (inl is)) = record {
+      front = m.published ++ take m.group m.queue;
+      prefix = (drop m.group m.queue, sym (append_assoc m.published (take m.group m.queue) (drop m.group m.queue) ∙ ap (λ (l : History Value). m.published ++ l) (take-append-drop m.group m.queue)));
+      acknowledged = all-published m (m.published ++ take m.group m.queue) times (λ c has. Contains-append_left m.published (take m.group m.queue) c has) all;
+      kept = kept-as tells d.header image (m.published ++ take m.group m.queue) m.floors told is;
+    }
+    by-front d (inr (inr raised)) = absurd (no-raise m.raising stands.memory.raising (IsImageOf d.header image) raised)
