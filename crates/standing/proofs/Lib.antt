@@ -6,3 +6,4 @@ pub mod Deciding
 pub mod Submitting
 pub mod Publishing
 pub mod Answering
+pub mod Calls

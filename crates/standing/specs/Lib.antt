@@ -1,5 +1,4 @@
 pub mod Standing
 pub mod Laws
-pub mod OnDisk
 pub mod Stands
 pub mod Calls

@@ -1,5 +1,6 @@
 //! The steps of a group to the disk.
-ghost use Rattle.std.specs.Prelude.{◌≡◌, ◌<◌, false, IsSome, None};
+ghost use Rattle.std.specs.Prelude.{◌≡◌, ◌<◌, false, IsTrue, IsSome, None};
+ghost use Rattle.disk.specs.Areas.{AreSound};
 ghost use Rattle.transactions.specs.Steps.{due, next_extent};
 ghost use Rattle.store.specs.Pumps.{Pumps, TakesStep, SyncsHeap, BeginsSlot, TurnsSlot, store_of, did_at};
 
@@ -18,7 +19,8 @@ impl<D: Disk> Store<D> {
     /// first 16 that wait. Each step makes one write or sync of the disk. `Idle` is answered where no
     /// group stands and no commit waits.
     pub fn pump(&mut self) -> Result<Did, PumpFault>
-        ensures { Pumps D.tells self.old result self.new }
+        ensures is { Pumps D.tells self.old result self.new }
+        ensures sound { IsTrue D.tells → AreSound self.new.disk.areas }
     {
         if self.transactions.has_failed() {
             return Err(PumpFault::Failed);

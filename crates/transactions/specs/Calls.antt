@@ -1,5 +1,5 @@
 -- The calls that ask nothing of the disk.
-use Rattle.std.specs.Prelude.{ℕ, ◌≡◌, ◌==◌, true, false, [], None, Result, Ok, Err, MatchBool, if◌then◌else◌}
+use Rattle.std.specs.Prelude.{ℕ, ◌≡◌, ◌≤◌, ◌==◌, true, false, [], length, None, Result, Ok, Err, MatchBool, if◌then◌else◌}
 use Rattle.snapshot.specs.OpenTable.{snapshot_of, with_opened}
 use Rattle.snapshot.specs.Txn.{TxnValue}
 use Rattle.group.specs.CommitOrder as orders
@@ -28,6 +28,7 @@ pub record IsBegun (old : TransactionsValue) (txn : TxnValue) (new : Transaction
   pub state : txn.state ≡ old.versions
   pub writes : txn.writes ≡ []
   pub fresh : snapshot_of txn.number old.opened ≡ None
+  pub within : txn.number ≤ length old.opened
   pub new_is : new ≡ record old { opened = with_opened old.opened txn.number txn.snapshot }
 
 abbrev pub Begins : TransactionsValue → Result TxnValue BeginFault → TransactionsValue → Type 0
