@@ -38,7 +38,8 @@ impl<D: Disk> Store<D> {
     fn write_extent(&mut self) -> Result<Did, PumpFault>
         requires due { due self.old.transactions ≡ NextStep.WriteExtent }
         requires extent { IsSome (next_extent self.old.transactions) }
-        ensures { TakesStep D.tells NextStep.WriteExtent self.old result self.new }
+        ensures is { TakesStep D.tells NextStep.WriteExtent self.old result self.new }
+        ensures sound { IsTrue D.tells → AreSound self.new.disk.areas }
     {
         let Some(stored) = self.transactions.next_extent() else {
             unreachable!()
@@ -58,7 +59,8 @@ impl<D: Disk> Store<D> {
 
     fn sync_heap(&mut self) -> Result<Did, PumpFault>
         requires { due self.old.transactions ≡ NextStep.SyncHeap }
-        ensures { SyncsHeap D.tells self.old result self.new }
+        ensures is { SyncsHeap D.tells self.old result self.new }
+        ensures sound { IsTrue D.tells → AreSound self.new.disk.areas }
     {
         match self.disk.sync(Area::Heap) {
             Err(DeviceFault) => {
@@ -77,7 +79,8 @@ impl<D: Disk> Store<D> {
         requires due { due self.old.transactions ≡ NextStep.BeginSlot }
         requires works { self.old.transactions.failed ≡ false }
         requires room { self.old.transactions.used < self.old.transactions.slots }
-        ensures { BeginsSlot D.tells self.old result self.new }
+        ensures is { BeginsSlot D.tells self.old result self.new }
+        ensures sound { IsTrue D.tells → AreSound self.new.disk.areas }
     {
         let body = self.transactions.slot_body();
         match self.log.begin_slot(body) {
@@ -100,7 +103,8 @@ impl<D: Disk> Store<D> {
     fn advance_slot(&mut self) -> Result<Did, PumpFault>
         requires due { due self.old.transactions ≡ NextStep.AdvanceSlot }
         requires works { self.old.transactions.failed ≡ false }
-        ensures { TakesStep D.tells NextStep.AdvanceSlot self.old result self.new }
+        ensures is { TakesStep D.tells NextStep.AdvanceSlot self.old result self.new }
+        ensures sound { IsTrue D.tells → AreSound self.new.disk.areas }
     {
         match mem::replace(&mut self.turn, None) {
             None => unreachable!(),
