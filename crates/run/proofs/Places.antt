@@ -302,13 +302,14 @@ opened_here places m s within = elim (cases_lt m (length places)) [
 
 -- ---- tickets
 
+-- what is found first is found still, and what is found later by what comes later
+later-cases : (b first old new : Bool) → (old ≡ true → new ≡ true) → cond b first old ≡ true → cond b first new ≡ true
+later-cases true first old new goes waits = waits
+later-cases false first old new goes waits = goes waits
+
 pub awaited-push : (heads : List CommitHead) (head : CommitHead) (time : ℕ) → is_awaited time heads ≡ true → is_awaited time (heads ++ head ∷ []) ≡ true
 awaited-push [] head time waits = absurd cc
-awaited-push (x ∷ xs) head time waits = by-test (x.time == time) waits
-  where
-    by-test : (b : Bool) → cond b x.awaited (is_awaited time xs) ≡ true → cond b x.awaited (is_awaited time (xs ++ head ∷ [])) ≡ true
-    by-test true waits = waits
-    by-test false waits = awaited-push xs head time waits
+awaited-push (x ∷ xs) head time waits = later-cases (x.time == time) x.awaited (is_awaited time xs) (is_awaited time (xs ++ head ∷ [])) (λ rest. awaited-push xs head time rest) waits
 
 pub awaited-redeemed : (heads : List CommitHead) (time other : ℕ) → time ≢ other → is_awaited time heads ≡ true → is_awaited time (redeemed other heads) ≡ true
 awaited-redeemed [] time other apart waits = waits
@@ -321,12 +322,8 @@ awaited-redeemed (x ∷ xs) time other apart waits =
           rw (there, here) rest
       | inr differs ↦
           let there : (x.time == other) ≡ false = grind (arith, nat_tests) in
-          rw there (by-test (x.time == time) waits)
+          rw there (later-cases (x.time == time) x.awaited (is_awaited time xs) (is_awaited time (redeemed other xs)) (λ rest. awaited-redeemed xs time other apart rest) waits)
     ]
-  where
-    by-test : (b : Bool) → cond b x.awaited (is_awaited time xs) ≡ true → cond b x.awaited (is_awaited time (redeemed other xs)) ≡ true
-    by-test true waits = waits
-    by-test false waits = awaited-redeemed xs time other apart waits
 
 last-least : (t : ℕ) (heads : List CommitHead) → IsRisingAfter t heads → t ≤ last_time_after t heads
 last-least t [] rising = omega arith

@@ -191,9 +191,9 @@ Does w c a next = ⊥
 
 -- one call after another
 abbrev pub Run : World → List Call → List Answer → World → Type 0
-Run w [] [] last = last ≡ w
-Run w (c ∷ cs) (a ∷ as) last = (next : World) × Does w c a next × Run next cs as last
-Run w cs as last = ⊥
+Run w [] [] end = end ≡ w
+Run w (c ∷ cs) (a ∷ said) end = (next : World) × Does w c a next × Run next cs said end
+Run w cs said end = ⊥
 
 -- from each world of the store and the places the call leads by this answer to one of theirs after it
 abbrev pub Goes : Bool → StoreValue → List Held → Call → Answer → StoreValue → List Held → Type 0

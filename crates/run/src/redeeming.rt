@@ -1,5 +1,6 @@
 //! The calls of tickets.
 ghost use Rattle.std.specs.Prelude.{◌≡◌, ◌++◌, ◌∷◌, []};
+ghost use Rattle.run.specs.declared.calls.Call.{Call};
 ghost use Rattle.run.specs.Places.{redeem_answer};
 ghost use Rattle.run.specs.Runs.{Goes};
 

@@ -47,7 +47,7 @@ fn step<D: Disk>(
     places: &mut [Held],
     call: Call<'_>,
 ) -> (Answer, Held)
-    ensures { Goes D.tells store.old places.old call result.0 store.new (places.new ++ result.1 ∷ []) }
+    ensures { Goes D.tells store.old places.old call.entry result.0 store.new (places.new ++ result.1 ∷ []) }
 {
     match call {
         Call::Begin => begin(store, places),

@@ -1,6 +1,7 @@
 //! The calls of transactions.
 ghost use Rattle.std.specs.Prelude.{◌≡◌, ◌++◌, ◌∷◌, [], IfOk};
 ghost use Rattle.std.specs.Option.{option_copied};
+ghost use Rattle.run.specs.declared.calls.Call.{Call};
 ghost use Rattle.run.specs.Places.{begin_answer, submit_answer};
 ghost use Rattle.run.specs.Runs.{Goes};
 
@@ -83,7 +84,7 @@ pub(crate) fn get<D: Disk>(
 
 // One more holder of the value that was found.
 fn shared(found: Option<&SharedValue>) -> Result<Option<SharedValue>, AllocError>
-    ensures { IfOk result (λ value. value ≡ option_copied found) }
+    ensures { IfOk result (λ value. value ≡ option_copied found.entry) }
 {
     match found {
         None => Ok(None),

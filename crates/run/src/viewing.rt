@@ -1,5 +1,6 @@
 //! The calls of views, and those that ask of what is published.
 ghost use Rattle.std.specs.Prelude.{◌≡◌, ◌++◌, ◌∷◌, []};
+ghost use Rattle.run.specs.declared.calls.Call.{Call};
 ghost use Rattle.run.specs.Places.{view_answer};
 ghost use Rattle.run.specs.Runs.{Goes};
 
