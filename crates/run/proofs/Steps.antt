@@ -144,6 +144,13 @@ over-keeps v t (held.Transaction u) apart = (refl, closed_other v.opened u.numbe
 over-keeps v t (held.Ticket u) apart = (refl, λ waits. waits)
 over-keeps v t (held.View u) apart = refl
 
+-- the places without the transaction that is over, where the machine goes on
+pub over-places : (v : TransactionsValue) (h h' : History Value) (xs : List Held) (ps : List Place) (i : ℕ) (t : TxnValue) → slice_get xs i ≡ Some (held.Transaction t) → GoesOn h h' → ArePlaces v h xs ps
+    → ArePlaces (over v t.number) h' (slice_set xs i held.Nothing) (slice_set ps i Free)
+over-places v h h' xs ps i t here goes are =
+    move v (over v t.number) h h' (slice_set xs i held.Nothing) (slice_set ps i Free) (free v h xs ps i (held.Transaction t) are here)
+    (λ j x p at shown. stays v (over v t.number) h h' x p (over-keeps v t x (λ clash. freed_apart v h xs ps i (held.Transaction t) are here j x at clash)) goes shown)
+
 -- ---- abort
 
 pub abort-goes : (tells : Bool) (v v' : StoreValue) (xs : List Held) (i : ℕ) (t : TxnValue) → slice_get xs i ≡ Some (held.Transaction t) → AreTxnWrites t.state t.snapshot t.writes → stores.Aborts v t v'
@@ -157,14 +164,12 @@ abort-goes tells v v' xs i t here are aborts w is =
     let after = did.0 in
     let over_is : v'.transactions ≡ over v.transactions t.number = by-over (is_own v.transactions t) mine aborts.transactions in
     let goes = run-goes_on m after (Aborted t.snapshot ∷ []) did.2.machine (after, did.1, refl) in
-    let freed = free v.transactions m.published xs w.places i (held.Transaction t) is.places here in
-    let kept = move v.transactions (over v.transactions t.number) m.published after.published (slice_set xs i held.Nothing) (slice_set w.places i Free) freed
-    (λ j x p at shown. stays v.transactions (over v.transactions t.number) m.published after.published x p (over-keeps v.transactions t x (λ clash. freed_apart v.transactions m.published xs w.places i (held.Transaction t) is.places here j x at clash)) goes shown) in (
+    let places = over-places v.transactions m.published after.published xs w.places i t here goes is.places in (
       spent (moved w after) i,
       at_transaction (λ (p : Place). Aborts w i p (spent (moved w after) i)) v.transactions m.published t (place_at w.places i) shows (after, did.1, refl),
       record {
         stands = did.2;
-        places = push_nothing v'.transactions after.published (slice_set xs i held.Nothing) (slice_set w.places i Free) (subst (λ (u : TransactionsValue). ArePlaces u after.published (slice_set xs i held.Nothing) (slice_set w.places i Free)) (sym over_is) kept);
+        places = push_nothing v'.transactions after.published (slice_set xs i held.Nothing) (slice_set w.places i Free) (subst (λ (u : TransactionsValue). ArePlaces u after.published (slice_set xs i held.Nothing) (slice_set w.places i Free)) (sym over_is) places);
       },
     )
   where
@@ -175,15 +180,3 @@ abort-goes tells v v' xs i t here are aborts w is =
     by-over : (b : Bool) → b ≡ true → v'.transactions ≡ cond b (over v.transactions t.number) v.transactions → v'.transactions ≡ over v.transactions t.number
     by-over true mine did = did
     by-over false mine did = absurd cc
-
--- ---- views
-
-pub view-goes : (tells : Bool) (v : StoreValue) (xs : List Held) (r : Result ViewValue AllocError) → IfOk r (stores.IsViewOf v) → Goes tells v xs call.View (view_answer r).0 v (xs ++ (view_answer r).1 ∷ [])
-view-goes tells v xs (Ok view) of w is =
-    let h = w.machine.published in
-    let shows : ShowsAs v.transactions h (held.View view) (Views h w.machine.floors) = (ap (λ (x : ViewValue). x.mark) of, view-stands v view w.machine is.stands.memory of) in (
-      leaves w (Views h w.machine.floors),
-      refl,
-      record { stands = is.stands; places = push v.transactions h xs w.places (held.View view) (Views h w.machine.floors) is.places shows (λ j b at clash. view-no_clash view b clash) },
-    )
-view-goes tells v xs (Err why) of w is = (same w, refl, same-world tells v xs w is)

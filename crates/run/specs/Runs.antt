@@ -1,5 +1,6 @@
 -- What each call answers and does, and lists of calls.
-use Rattle.std.specs.Prelude.{ℕ, ◌≡◌, ◌≢◌, ◌↔◌, ◌++◌, Bool, List, [], ◌∷◌, map, is_some, IsSome, Option, None, Some, Result, Ok, Err, IfOk, OnOk, OnErr, MatchBool, if◌then◌else◌}
+use Rattle.std.specs.Prelude.{ℕ, ◌≡◌, ◌≢◌, ◌↔◌, ◌++◌, Bool, List, [], ◌∷◌, map, is_some, IsSome, Option, None, Some, Result, Ok, Err, IfOk, OnOk, OnErr, MatchBool, Vec, if◌then◌else◌}
+use Rattle.std.specs.declared.alloc.Global.{Global}
 use Rattle.std.specs.declared.alloc.AllocError.{AllocError}
 use Rattle.history.specs.declared.key.Key.{Key}
 use Rattle.history.specs.declared.key.KeyWrite.{KeyWrite}
@@ -81,8 +82,8 @@ abbrev pub Gets : World → Key → Place → Result (Option Value) AllocError �
 Gets w key (Running snapshot writes) said next = IfOk said (λ value. value ≡ seen w.machine.published snapshot writes key) × (next ≡ same w)
 Gets w key place said next = ⊥
 
-abbrev pub Scans : World → ℕ → Place → Result (List (ℕ × Value)) AllocError → World → Type 0
-Scans w relation (Running snapshot writes) said next = IfOk said (λ found. IsScanSeen w.machine.published snapshot writes relation found) × (next ≡ same w)
+abbrev pub Scans : World → ℕ → Place → Result (Vec (ℕ × Value) Global) AllocError → World → Type 0
+Scans w relation (Running snapshot writes) said next = IfOk said (λ found. IsScanSeen w.machine.published snapshot writes relation found.items) × (next ≡ same w)
 Scans w relation place said next = ⊥
 
 -- what a running transaction submits
@@ -146,8 +147,8 @@ abbrev pub Closes : World → ℕ → Place → World → Type 0
 Closes w i (Views history floors) next = next ≡ spent w i
 Closes w i place next = ⊥
 
-abbrev pub ListsTimes : World → ℕ → Result (List ℕ) AllocError → World → Type 0
-ListsTimes w label said next = IfOk said (λ times. times ≡ answers.times_of w.machine.published label) × (next ≡ same w)
+abbrev pub ListsTimes : World → ℕ → Result (Vec ℕ Global) AllocError → World → Type 0
+ListsTimes w label said next = IfOk said (λ times. times.items ≡ answers.times_of w.machine.published label) × (next ≡ same w)
 
 -- ---- calls
 
@@ -175,8 +176,7 @@ Does w call.Begin (answer.Begin said) next = Begins w said next
 Does w (call.Put i key fields) (answer.Put said) next = Puts w i key (map (λ field. field.now) fields.now) (place_at w.places i) said next
 Does w (call.Delete i key) (answer.Delete said) next = Deletes w i key (place_at w.places i) said next
 Does w (call.Get i key) (answer.Get said) next = Gets w key (place_at w.places i) said next
-Does w (call.Scan i relation) (answer.Scan (Ok found)) next = Scans w relation (place_at w.places i) (Ok found.items) next
-Does w (call.Scan i relation) (answer.Scan (Err why)) next = Scans w relation (place_at w.places i) (Err why) next
+Does w (call.Scan i relation) (answer.Scan said) next = Scans w relation (place_at w.places i) said next
 Does w (call.Submit i label now) (answer.Submit said) next = Submits w i label now (place_at w.places i) said next
 Does w (call.Abort i) answer.Abort next = Aborts w i (place_at w.places i) next
 Does w call.Pump (answer.Pump said) next = Pumps w said next
@@ -185,8 +185,7 @@ Does w (call.GiveUp i) answer.GiveUp next = GivesUp w i (place_at w.places i) ne
 Does w call.View (answer.View said) next = Shows w said next
 Does w (call.At i key time) (answer.At said) next = Asks w key time (place_at w.places i) said next
 Does w (call.End i) answer.End next = Closes w i (place_at w.places i) next
-Does w (call.TimesOf label) (answer.TimesOf (Ok times)) next = ListsTimes w label (Ok times.items) next
-Does w (call.TimesOf label) (answer.TimesOf (Err why)) next = ListsTimes w label (Err why) next
+Does w (call.TimesOf label) (answer.TimesOf said) next = ListsTimes w label said next
 Does w c a next = ⊥
 
 -- one call after another

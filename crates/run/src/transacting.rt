@@ -39,7 +39,7 @@ pub(crate) fn put<D: Disk>(
     key: Key,
     fields: &[&[u8]],
 ) -> Answer
-    ensures { Goes D.tells store.now places.old (Call.Put transaction key fields) result store.now (places.new ++ Held.Nothing ∷ []) }
+    ensures { Goes D.tells store.now places.old (Call.Put transaction key fields.entry) result store.now (places.new ++ Held.Nothing ∷ []) }
 {
     let _ = store;
     let Some(mut txn) = take_transaction(places, transaction) else {
@@ -151,6 +151,8 @@ pub(crate) fn abort<D: Disk>(
     let Some(txn) = take_transaction(places, transaction) else {
         return Answer::Unknown;
     };
+    // A transaction's writes are in range.
+    let _count = txn.writes().len();
     store.abort(txn);
     Answer::Abort
 }
