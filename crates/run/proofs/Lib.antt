@@ -1,0 +1,9 @@
+pub mod Lists
+pub mod Places
+pub mod Steps
+pub mod Reading
+pub mod Submitting
+pub mod Pumping
+pub mod Tickets
+pub mod Views
+pub mod Runs

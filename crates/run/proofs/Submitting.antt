@@ -1,0 +1,168 @@
+-- A submit.
+use Rattle.std.proofs.Common.{◌≡◌, ℕ, ◌<◌, ◌≤◌, ◌^◌, Bool, true, false, List, [], ◌∷◌, ◌++◌, Some, None, Option, Result, Ok, Err, MatchBool, refl, sym, ◌∙◌, ap, subst, arith}
+use Rattle.std.specs.Prelude.{slice_get, slice_set}
+use Rattle.history.specs.Histories.{Commit, History, last}
+use Rattle.history.specs.Machine.{Machine, commit_order}
+use Rattle.history.specs.Steps.{Event, Step, Decided}
+use Rattle.history.specs.Steps as steps
+use Rattle.history.specs.Submissions as submissions
+use Rattle.history.specs.Submissions.{Submission, commit_made}
+use Rattle.history.proofs.Histories.{last_after-append}
+use Rattle.history.proofs.Runs.{step-added}
+use Rattle.image.specs.Values.{Value, IsValue}
+use Rattle.snapshot.specs.Txn.{TxnValue, AreTxnWrites}
+use Rattle.group.specs.CommitOrder.{is_awaited, last_time, last_time_after, IsRisingAfter}
+use Rattle.group.specs.Tickets.{TicketValue}
+use Rattle.group.specs.declared.commit_order.CommitHead.{CommitHead}
+use Rattle.group.specs.declared.answers.Submitted.{Submitted}
+use Rattle.group.specs.declared.answers.Submitted.TheVariants as submitted
+use Rattle.group.specs.declared.answers.SubmitFault.{SubmitFault}
+use Rattle.group.specs.declared.answers.SubmitFault.TheVariants as refused
+use Rattle.transactions.specs.Values.{TransactionsValue, is_own, over}
+use Rattle.transactions.specs.Submits as submits
+use Rattle.transactions.specs.Submits.{JoinsQueue, with_queued, SubmitsOwn, AnswersSubmit}
+use Rattle.transactions.proofs.Orders.{last_time-push}
+use Rattle.store.specs.Values.{StoreValue}
+use Rattle.store.specs.Calls as stores
+use Rattle.standing.specs.Standing.{StandsInMemory}
+use Rattle.standing.specs.Laws.{submission_of, event_of}
+use Rattle.standing.specs.Stands.{Stands}
+use Rattle.standing.proofs.Submitting.{order-last}
+use Rattle.standing.proofs.Calls.{submit-stands}
+use Rattle.run.specs.declared.calls.Call.TheVariants as call
+use Rattle.run.specs.declared.calls.Answer.TheVariants as answer
+use Rattle.run.specs.declared.calls.SubmitOutcome.{SubmitOutcome}
+use Rattle.run.specs.declared.calls.SubmitOutcome.TheVariants as outcome
+use Rattle.run.specs.declared.held.Held.{Held}
+use Rattle.run.specs.declared.held.Held.TheVariants as held
+use Rattle.run.specs.Places.{Place, Free, Running, Waits, place_at, IsOwnTicket, ShowsAs, Clash, ArePlaces, submit_answer}
+use Rattle.run.specs.Worlds.{World, IsWorld, leaves, put, moved}
+use Rattle.run.specs.Runs.{Does, Goes, Submits}
+use Rattle.run.specs.Runs as told
+use Rattle.run.proofs.Places.{push, push_nothing, move, own_transaction, own_ticket, at_transaction, GoesOn, goes_on-same, run-goes_on, Keeps, stays, awaited-push, awaited-early, awaited-new}
+use Rattle.run.proofs.Steps.{own-is, over-places}
+
+-- the transactions after a submit of the store's own transaction, by the answer
+abbrev pub Left : TransactionsValue → TxnValue → ℕ → Result Submitted SubmitFault → TransactionsValue → Type 0
+Left v t label (Ok (submitted.ReadOnly snapshot)) new = (snapshot ≡ t.snapshot) × (new ≡ v)
+Left v t label (Ok (submitted.Queued ticket)) new = (ticket.mark ≡ v.mark) × JoinsQueue v label ticket.time t.writes new
+Left v t label (Err refused.Stranger) new = ⊥
+Left v t label (Err why) new = new ≡ v
+
+left-by : (v new : TransactionsValue) (t : TxnValue) (label now : ℕ) (r : Result Submitted SubmitFault) → AnswersSubmit v t label now r new → Left v t label r new
+left-by v new t label now (Ok (submitted.ReadOnly snapshot)) says = (says.1, says.2)
+left-by v new t label now (Ok (submitted.Queued ticket)) says = (says.1, says.2)
+left-by v new t label now (Err (refused.Conflict key)) says = says.1
+left-by v new t label now (Err refused.HeapFull) says = says.1
+left-by v new t label now (Err refused.StatusFull) says = says.1
+left-by v new t label now (Err refused.ClockEnd) says = says.1
+left-by v new t label now (Err refused.NoMemory) says = says.1
+left-by v new t label now (Err refused.Failed) says = says.1
+left-by v new t label now (Err refused.Stranger) says = absurd says.0
+
+left-is : (v new : TransactionsValue) (t : TxnValue) (label now : ℕ) (r : Result Submitted SubmitFault) → SubmitsOwn v t label now r new → Left v t label r new
+left-is v new t label now r says = by-failure v.failed says
+  where
+    by-failure : (b : Bool) → MatchBool b ((r ≡ Err refused.Failed) × (new ≡ v)) (AnswersSubmit v t label now r new) → Left v t label r new
+    by-failure true says = subst (λ (x : Result Submitted SubmitFault). Left v t label x new) (sym says.0) says.1
+    by-failure false says = left-by v new t label now r says
+
+-- the last is later than those before it
+rising-later : (t : ℕ) (heads : List CommitHead) (head : CommitHead) → IsRisingAfter t (heads ++ head ∷ []) → last_time_after t heads < head.time
+rising-later t [] head rising = rising.0
+rising-later t (x ∷ xs) head rising = rising-later x.time xs head rising.2
+
+queued-keeps : (v : TransactionsValue) (label time : ℕ) (t : TxnValue) (numbers : List ℕ) (x : Held) → Keeps v (with_queued v label time t.writes numbers) x
+queued-keeps v label time t numbers held.Nothing = tt
+queued-keeps v label time t numbers (held.Transaction u) = (refl, refl)
+queued-keeps v label time t numbers (held.Ticket u) = (refl, λ waits. awaited-push v.heads (record { time = time; label = label; awaited = true }) u.time waits)
+queued-keeps v label time t numbers (held.View u) = refl
+
+-- a ticket of a later time is no other's
+later-apart : (v : TransactionsValue) (h : History Value) (ticket : TicketValue) (b : Held) (p : Place) → IsRisingAfter 0 v.heads → last_time v.heads < ticket.time → ShowsAs v h b p → Clash (held.Ticket ticket) b → ⊥
+later-apart v h ticket held.Nothing p rising later shows clash = clash
+later-apart v h ticket (held.Transaction u) p rising later shows clash = clash
+later-apart v h ticket (held.Ticket u) p rising later shows clash =
+    let early = awaited-early 0 u.time v.heads rising (own_ticket v h u p shows).awaited in
+    absurd (omega (arith, early, later, clash))
+later-apart v h ticket (held.View u) p rising later shows clash = clash
+
+-- the time of a commit that was queued is that of the machine's
+queued-time : (v new : TransactionsValue) (m after : Machine Value) (label time : ℕ) (t : TxnValue) (numbers : List ℕ) (s : Submission Value) → StandsInMemory new after → new ≡ with_queued v label time t.writes numbers
+    → Step IsValue m (Decided s (submissions.Queues (commit_made m s))) after → time ≡ (commit_made m s).time
+queued-time v new m after label time t numbers s stands is step =
+    let head : CommitHead = record { time = time; label = label; awaited = true } in
+    let heads : last_time new.heads ≡ time = ap (λ (x : TransactionsValue). last_time x.heads) is ∙ last_time-push 0 v.heads head in
+    let order : last (commit_order after) ≡ (commit_made m s).time =
+    ap (λ (h : History Value). last h) (step-added IsValue m after (Decided s (submissions.Queues (commit_made m s))) step) ∙ last_after-append 0 (commit_order m) (commit_made m s ∷ []) in
+    sym heads ∙ order-last new after stands ∙ order
+
+pub submit-goes : (tells : Bool) (v v' : StoreValue) (xs : List Held) (i : ℕ) (t : TxnValue) (label now : ℕ) (r : Result Submitted SubmitFault) → slice_get xs i ≡ Some (held.Transaction t) → AreTxnWrites t.state t.snapshot t.writes → label < 2 ^ 64
+    → stores.Submits v t label now r v' → Goes tells v xs (call.Submit i label now) (submit_answer r).0 v' (slice_set xs i held.Nothing ++ (submit_answer r).1 ∷ [])
+submit-goes tells v v' xs i t label now r here are range submits w is =
+    let m = w.machine in
+    let shows = is.places.each i (held.Transaction t) here in
+    let own = own_transaction v.transactions m.published t (place_at w.places i) shows in
+    let mine = own-is v m tells t is.stands are own in
+    let did = by-own (is_own v.transactions t) mine (submit-stands tells v v' t label now r m is.stands are range submits) in
+    let left = left-is (over v.transactions t.number) v'.transactions t label now r (by-over (is_own v.transactions t) mine submits.transactions) in
+    let goes = run-goes_on m did.0 (event_of m (submission_of t label now) r ∷ []) did.2.machine (did.0, did.1, refl) in
+    let places = over-places v.transactions m.published did.0.published xs w.places i t here goes is.places in
+    by-result r left did.0 did.1 did.2 shows places
+  where
+    by-own : (b : Bool) → b ≡ true → MatchBool b ((after : Machine Value) × Step IsValue w.machine (event_of w.machine (submission_of t label now) r) after × Stands tells v' after) (Stands tells v' w.machine)
+        → (after : Machine Value) × Step IsValue w.machine (event_of w.machine (submission_of t label now) r) after × Stands tells v' after
+    by-own true mine did = did
+    by-own false mine did = absurd cc
+
+    by-over : (b : Bool) → b ≡ true → MatchBool b (SubmitsOwn (over v.transactions t.number) t label now r v'.transactions) ((r ≡ Err refused.Stranger) × (v'.transactions ≡ v.transactions)) → SubmitsOwn (over v.transactions t.number) t label now r v'.transactions
+    by-over true mine did = did
+    by-over false mine did = absurd cc
+
+    -- it is over, and leaves nothing
+    nothing : (said : Result SubmitOutcome SubmitFault) (event : Event Value) (after : Machine Value) → Step IsValue w.machine event after → Stands tells v' after → ShowsAs v.transactions w.machine.published (held.Transaction t) (place_at w.places i)
+        → ArePlaces (over v.transactions t.number) after.published (slice_set xs i held.Nothing) (slice_set w.places i Free) → v'.transactions ≡ over v.transactions t.number → told.Submitted w.machine (submission_of t label now) said event Free
+        → (next : World) × Submits w i label now (place_at w.places i) said next × IsWorld tells v' (slice_set xs i held.Nothing ++ held.Nothing ∷ []) next
+    nothing said event after step stands shows places same says = (
+      leaves (put (moved w after) i Free) Free,
+      at_transaction (λ (p : Place). Submits w i label now p said (leaves (put (moved w after) i Free) Free)) v.transactions w.machine.published t (place_at w.places i) shows (event, after, Free, says, step, refl),
+      record {
+        stands = stands;
+        places = push_nothing v'.transactions after.published (slice_set xs i held.Nothing) (slice_set w.places i Free) (subst (λ (u : TransactionsValue). ArePlaces u after.published (slice_set xs i held.Nothing) (slice_set w.places i Free)) (sym same) places);
+      },
+    )
+
+    by-result : (o : Result Submitted SubmitFault) → Left (over v.transactions t.number) t label o v'.transactions → (after : Machine Value) → Step IsValue w.machine (event_of w.machine (submission_of t label now) o) after → Stands tells v' after
+        → ShowsAs v.transactions w.machine.published (held.Transaction t) (place_at w.places i) → ArePlaces (over v.transactions t.number) after.published (slice_set xs i held.Nothing) (slice_set w.places i Free)
+        → (next : World) × Does w (call.Submit i label now) (submit_answer o).0 next × IsWorld tells v' (slice_set xs i held.Nothing ++ (submit_answer o).1 ∷ []) next
+    by-result (Ok (submitted.ReadOnly snapshot)) left after step stands shows places =
+        nothing (Ok (outcome.ReadOnly snapshot)) (Decided (submission_of t label now) submissions.Reads) after step stands shows places left.1 (left.0, refl, refl)
+    by-result (Ok (submitted.Queued ticket)) left after step stands shows places =
+        let m = w.machine in
+        let s = submission_of t label now in
+        let old = over v.transactions t.number in
+        let joins = left.1 in
+        let new = with_queued old label ticket.time t.writes joins.numbers in
+        let head : CommitHead = record { time = ticket.time; label = label; awaited = true } in
+        let rising_new : IsRisingAfter 0 (old.heads ++ head ∷ []) = subst (λ (u : TransactionsValue). IsRisingAfter 0 u.heads) joins.new_is stands.memory.rising in
+        let later = rising-later 0 old.heads head rising_new in
+        let time = queued-time old v'.transactions m after label ticket.time t joins.numbers s stands.memory joins.new_is step in
+        let kept = move old new after.published after.published (slice_set xs i held.Nothing) (slice_set w.places i Free) places (λ j x p at shown. stays old new after.published after.published x p (queued-keeps old label ticket.time t joins.numbers x) (goes_on-same after.published) shown) in
+        let own : IsOwnTicket new ticket = record { mark = left.0; awaited = awaited-new 0 old.heads ticket.time label is.stands.memory.rising later } in
+        let pushed = push new after.published (slice_set xs i held.Nothing) (slice_set w.places i Free) (held.Ticket ticket) (Waits (commit_made m s).time) kept (own, time)
+        (λ j b at clash. later-apart old after.published ticket b (place_at (slice_set w.places i Free) j) is.stands.memory.rising later (places.each j b at) clash) in (
+          leaves (put (moved w after) i Free) (Waits (commit_made m s).time),
+          at_transaction (λ (p : Place). Submits w i label now p (Ok outcome.Queued) (leaves (put (moved w after) i Free) (Waits (commit_made m s).time))) v.transactions w.machine.published t (place_at w.places i) shows
+              (Decided s (submissions.Queues (commit_made m s)), after, Waits (commit_made m s).time, (refl, refl), step, refl),
+          record {
+            stands = stands;
+            places = subst (λ (u : TransactionsValue). ArePlaces u after.published (slice_set xs i held.Nothing ++ held.Ticket ticket ∷ []) (slice_set w.places i Free ++ Waits (commit_made m s).time ∷ [])) (sym joins.new_is) pushed;
+          },
+        )
+    by-result (Err (refused.Conflict key)) left after step stands shows places = nothing (Err (refused.Conflict key)) (Decided (submission_of t label now) (submissions.Conflicts key)) after step stands shows places left (refl, refl)
+    by-result (Err refused.HeapFull) left after step stands shows places = nothing (Err refused.HeapFull) (steps.Refused (submission_of t label now) steps.NoRoom) after step stands shows places left (refl, refl)
+    by-result (Err refused.StatusFull) left after step stands shows places = nothing (Err refused.StatusFull) (steps.Refused (submission_of t label now) steps.NoRoom) after step stands shows places left (refl, refl)
+    by-result (Err refused.ClockEnd) left after step stands shows places = nothing (Err refused.ClockEnd) (Decided (submission_of t label now) submissions.Ends) after step stands shows places left (refl, refl)
+    by-result (Err refused.NoMemory) left after step stands shows places = nothing (Err refused.NoMemory) (steps.Refused (submission_of t label now) steps.NoMemory) after step stands shows places left (refl, refl)
+    by-result (Err refused.Failed) left after step stands shows places = nothing (Err refused.Failed) (steps.Refused (submission_of t label now) steps.Failed) after step stands shows places left (refl, refl)
+    by-result (Err refused.Stranger) left after step stands shows places = absurd left

@@ -1,0 +1,118 @@
+-- The calls of tickets.
+use Rattle.std.proofs.Common.{◌≡◌, ℕ, ◌==◌, nat_le, Bool, true, false, cond, List, [], ◌∷◌, ◌++◌, Some, None, Option, MatchBool, refl, sym, ◌∙◌, ap, subst, arith}
+use Rattle.std.specs.Prelude.{slice_get, slice_set}
+use Rattle.std.proofs.lemmas.Bool.Decides.{nat_tests}
+use Rattle.history.specs.Histories.{History}
+use Rattle.history.specs.Answers as answers
+use Rattle.image.specs.Values.{Value}
+use Rattle.group.specs.CommitOrder as orders
+use Rattle.group.specs.CommitOrder.{is_awaited, last_published}
+use Rattle.group.specs.Tickets.{TicketValue}
+use Rattle.group.specs.declared.commit_order.Standing.{Standing}
+use Rattle.group.specs.declared.commit_order.Standing.TheVariants as standing
+use Rattle.group.specs.declared.answers.Redeemed.{Redeemed}
+use Rattle.group.specs.declared.answers.Redeemed.TheVariants as redeemed
+use Rattle.transactions.specs.Values.{TransactionsValue}
+use Rattle.transactions.specs.Calls as calls
+use Rattle.store.specs.Values.{StoreValue}
+use Rattle.store.specs.Calls as stores
+use Rattle.standing.specs.Laws.{RedeemsAs}
+use Rattle.standing.specs.Stands.{Stands}
+use Rattle.standing.proofs.Calls.{redeem-stands}
+use Rattle.run.specs.declared.calls.Call.TheVariants as call
+use Rattle.run.specs.declared.calls.Answer.TheVariants as answer
+use Rattle.run.specs.declared.calls.RedeemOutcome.TheVariants as told
+use Rattle.run.specs.declared.held.Held.{Held}
+use Rattle.run.specs.declared.held.Held.TheVariants as held
+use Rattle.run.specs.Places.{Place, Free, Waits, place_at, HasNoTicket, IsNoTicket, IsOwnTicket, ShowsAs, Clash, ArePlaces, redeem_answer}
+use Rattle.run.specs.Worlds.{World, IsWorld, same, spent}
+use Rattle.run.specs.Runs.{Does, Goes, Redeems, GivesUp}
+use Rattle.run.proofs.Lists.{set-get}
+use Rattle.run.proofs.Places.{push_nothing, free, move, freed_apart, own_ticket, at_ticket, no_ticket, goes_on-same, Keeps, stays, awaited-redeemed}
+
+pub lacks-ticket : (tells : Bool) (v : StoreValue) (xs : List Held) (i : ℕ) → HasNoTicket (slice_get xs i) → (w : World) → IsWorld tells v xs w → IsNoTicket (place_at w.places i)
+lacks-ticket tells v xs i none w is = no_ticket v.transactions w.machine.published xs w.places i is.places none
+
+-- the transactions after the store's own ticket is shown, by the answer
+abbrev pub Left : TransactionsValue → TicketValue → Redeemed → TransactionsValue → Type 0
+Left old k (redeemed.Done time) new = new ≡ record old { heads = orders.redeemed k.time old.heads }
+Left old k (redeemed.Waiting back) new = (back ≡ k) × (new ≡ old)
+Left old k redeemed.InDoubt new = new ≡ old
+Left old k redeemed.Stranger new = ⊥
+
+left-by : (old new : TransactionsValue) (k : TicketValue) (r : Redeemed) (late : Bool) → calls.AnswersTicket old k (cond late standing.Published standing.Waiting) r new → Left old k r new
+left-by old new k r true says = subst (λ (x : Redeemed). Left old k x new) (sym says.0) says.1
+left-by old new k r false says = by-failure old.failed says
+  where
+    by-failure : (b : Bool) → (r ≡ cond b redeemed.InDoubt (redeemed.Waiting k)) × (new ≡ old) → Left old k r new
+    by-failure true says = subst (λ (x : Redeemed). Left old k x new) (sym says.0) says.1
+    by-failure false says = subst (λ (x : Redeemed). Left old k x new) (sym says.0) (refl, says.1)
+
+left-is : (old new : TransactionsValue) (k : TicketValue) (r : Redeemed) → IsOwnTicket old k → calls.Redeems old k r new → Left old k r new
+left-is old new k r own redeems =
+    let mark : (k.mark == old.mark) ≡ true = let is = own.mark in grind (arith, nat_tests) in
+    by-mark (k.mark == old.mark) (is_awaited k.time old.heads) mark own.awaited redeems
+  where
+    by-mark : (b c : Bool) → b ≡ true → c ≡ true
+        → MatchBool b (calls.AnswersTicket old k (cond c (cond (nat_le k.time (last_published (calls.order_of old))) standing.Published standing.Waiting) standing.Unknown) r new) ((r ≡ redeemed.Stranger) × (new ≡ old)) → Left old k r new
+    by-mark true true mark waits says = left-by old new k r (nat_le k.time (last_published (calls.order_of old))) says
+    by-mark true false mark waits says = absurd cc
+    by-mark false c mark waits says = absurd cc
+
+redeemed-keeps : (v : TransactionsValue) (k : TicketValue) (x : Held) → (Clash (held.Ticket k) x → ⊥) → Keeps v (record v { heads = orders.redeemed k.time v.heads }) x
+redeemed-keeps v k held.Nothing apart = tt
+redeemed-keeps v k (held.Transaction t) apart = (refl, refl)
+redeemed-keeps v k (held.Ticket t) apart = (refl, λ waits. awaited-redeemed v.heads t.time k.time (λ same. apart (sym same)) waits)
+redeemed-keeps v k (held.View t) apart = refl
+
+pub redeem-goes : (tells : Bool) (v v' : StoreValue) (xs : List Held) (i : ℕ) (k : TicketValue) (r : Redeemed) → slice_get xs i ≡ Some (held.Ticket k) → stores.Redeems v k r v'
+    → Goes tells v xs (call.Redeem i) (redeem_answer r).0 v' (slice_set xs i (redeem_answer r).1 ++ held.Nothing ∷ [])
+redeem-goes tells v v' xs i k r here redeems w is =
+    let h = w.machine.published in
+    let shows = is.places.each i (held.Ticket k) here in
+    let own = own_ticket v.transactions h k (place_at w.places i) shows in
+    let did = redeem-stands tells v v' k r w.machine is.stands redeems in
+    let left = left-is v.transactions v'.transactions k r own redeems.transactions in
+    let freed = free v.transactions h xs w.places i (held.Ticket k) is.places here in
+    let moved = move v.transactions (record v.transactions { heads = orders.redeemed k.time v.transactions.heads }) h h (slice_set xs i held.Nothing) (slice_set w.places i Free) freed
+    (λ j x p at shown. stays v.transactions (record v.transactions { heads = orders.redeemed k.time v.transactions.heads }) h h x p (redeemed-keeps v.transactions k x (λ clash. freed_apart v.transactions h xs w.places i (held.Ticket k) is.places here j x at clash)) (goes_on-same h) shown) in
+    by-result r left did.0 shows did.1 freed moved
+  where
+    by-result : (o : Redeemed) → Left v.transactions k o v'.transactions → RedeemsAs (answers.redeemed_by w.machine k.time) o → ShowsAs v.transactions w.machine.published (held.Ticket k) (place_at w.places i) → Stands tells v' w.machine
+        → ArePlaces v.transactions w.machine.published (slice_set xs i held.Nothing) (slice_set w.places i Free)
+        → ArePlaces (record v.transactions { heads = orders.redeemed k.time v.transactions.heads }) w.machine.published (slice_set xs i held.Nothing) (slice_set w.places i Free)
+        → (next : World) × Does w (call.Redeem i) (redeem_answer o).0 next × IsWorld tells v' (slice_set xs i (redeem_answer o).1 ++ held.Nothing ∷ []) next
+    by-result (redeemed.Done time) left says shows stands freed moved = (
+      spent w i,
+      at_ticket (λ (p : Place). Redeems w i p (told.Done time) (spent w i)) v.transactions w.machine.published k (place_at w.places i) shows (says, refl),
+      record {
+        stands = stands;
+        places = push_nothing v'.transactions w.machine.published (slice_set xs i held.Nothing) (slice_set w.places i Free) (subst (λ (t : TransactionsValue). ArePlaces t w.machine.published (slice_set xs i held.Nothing) (slice_set w.places i Free)) (sym left) moved);
+      },
+    )
+    by-result (redeemed.Waiting back) left says shows stands freed moved =
+        let still : slice_set xs i (held.Ticket back) ≡ xs = ap (λ (t : TicketValue). slice_set xs i (held.Ticket t)) left.0 ∙ set-get xs i (held.Ticket k) here in (
+          same w,
+          at_ticket (λ (p : Place). Redeems w i p told.Waiting (same w)) v.transactions w.machine.published k (place_at w.places i) shows (says, refl),
+          record {
+            stands = stands;
+            places = subst (λ (l : List Held). ArePlaces v'.transactions w.machine.published (l ++ held.Nothing ∷ []) (w.places ++ Free ∷ [])) (sym still)
+                (push_nothing v'.transactions w.machine.published xs w.places (subst (λ (t : TransactionsValue). ArePlaces t w.machine.published xs w.places) (sym left.1) is.places));
+          },
+        )
+    by-result redeemed.InDoubt left says shows stands freed moved = (
+      spent w i,
+      at_ticket (λ (p : Place). Redeems w i p told.InDoubt (spent w i)) v.transactions w.machine.published k (place_at w.places i) shows (says, refl),
+      record {
+        stands = stands;
+        places = push_nothing v'.transactions w.machine.published (slice_set xs i held.Nothing) (slice_set w.places i Free) (subst (λ (t : TransactionsValue). ArePlaces t w.machine.published (slice_set xs i held.Nothing) (slice_set w.places i Free)) (sym left) freed);
+      },
+    )
+    by-result redeemed.Stranger left says shows stands freed moved = absurd left
+
+pub give_up-goes : (tells : Bool) (v : StoreValue) (xs : List Held) (i : ℕ) (k : TicketValue) → slice_get xs i ≡ Some (held.Ticket k) → Goes tells v xs (call.GiveUp i) answer.GiveUp v (slice_set xs i held.Nothing ++ held.Nothing ∷ [])
+give_up-goes tells v xs i k here w is =
+    (spent w i,
+      at_ticket (λ (p : Place). GivesUp w i p (spent w i)) v.transactions w.machine.published k (place_at w.places i) (is.places.each i (held.Ticket k) here) refl,
+      record { stands = is.stands; places = push_nothing v.transactions w.machine.published (slice_set xs i held.Nothing) (slice_set w.places i Free) (free v.transactions w.machine.published xs w.places i (held.Ticket k) is.places here) },
+    )

@@ -1,0 +1,57 @@
+use Rattle.std.proofs.Common.{◌≡◌, ◌+◌, ℕ, List, [], ◌∷◌, ◌++◌, length, take, drop, get_or, refl, arith, ap, subst, sym, ◌∙◌}
+use Rattle.std.proofs.lemmas.List.{take_more, take_all, drop_all, append-nil}
+use Rattle.history.specs.Machine.{Machine}
+use Rattle.image.specs.Values.{Value}
+use Rattle.run.specs.declared.calls.Call.{Call}
+use Rattle.run.specs.declared.calls.Call.TheVariants.{Begin}
+use Rattle.run.specs.declared.calls.Answer.{Answer}
+use Rattle.run.specs.declared.held.Held.{Held}
+use Rattle.run.specs.Worlds.{World, IsWorld, started}
+use Rattle.run.specs.Runs.{Run}
+use Rattle.run.proofs.Runs.{run-push, started-world}
+use Rattle.run.proofs.runner.run.Goals as goal
+
+-- a vector lent as a slice, which keeps its length, holds the slice's new elements
+lent_back : (new old : List Held) (n : ℕ) → length new ≡ length old → n ≡ length old → take n (new ++ drop (length new) old) ≡ new
+lent_back new old n same is =
+    ap (λ (l : List Held). take n (new ++ l)) (drop_all (length new) old (omega arith))
+    ∙ ap (λ (l : List Held). take n l) (append-nil new)
+    ∙ take_all n new (omega arith)
+
+pub loop-call-init : goal.loop-call-init
+loop-call-init g c = record {
+  answers_room = omega (arith, c.in_ok-answers.ensures.capacity);
+  answers_made = c.in_ok-answers.ensures.len;
+  places_room = omega (arith, c.in_ok-places.ensures.capacity);
+  places_made = c.in_ok-places.ensures.len;
+  so_far = λ m s. (
+    started m,
+    subst (λ (l : List Answer). Run (started m) [] l (started m)) (sym c.in_ok-answers.ensures.items) refl,
+    subst (λ (l : List Held). IsWorld g.D.Disk.tells c.args.store.now l (started m)) (sym c.in_ok-places.ensures.items) (started-world g.D.Disk.tells c.args.store.now m s),
+  );
+}
+
+pub loop-call-preserved : goal.loop-call-preserved
+loop-call-preserved g c =
+    let call : Call = get_or c.args.calls.now c.loop-call.call-index Begin in
+    let calls : List Call = take c.loop-call.call-index c.args.calls.now in
+    let places : c.push_reserved-in-loop-call.new.self.items ≡ c.step-answer.new.places ++ c.step-answer.result.1 ∷ [] =
+    c.push_reserved-in-loop-call.ensures.items
+    ∙ ap (λ (l : List Held). l ++ c.step-answer.result.1 ∷ [])
+    (lent_back c.step-answer.new.places c.loop-call.places.items c.loop-call.places.len (c.step-answer.auto.places ∙ ap length c.deref_mut.ensures.value) (sym c.deref_mut.ensures.len ∙ ap length c.deref_mut.ensures.value)) in
+    let more : take (c.loop-call.call-index + 1) c.args.calls.now ≡ calls ++ call ∷ [] = take_more c.args.calls.now c.loop-call.call-index Begin (omega arith) in
+    record {
+      answers_room = omega arith;
+      answers_made = omega arith;
+      places_room = omega arith;
+      places_made = omega arith;
+      so_far = λ m s.
+          let before = c.loop-call.invariant.so_far m s in
+          let did = c.step-answer.ensures before.0 (subst (λ (l : List Held). IsWorld g.D.Disk.tells c.loop-call.store l before.0) (sym c.deref_mut.ensures.value) before.2) in (
+            did.0,
+            subst (λ (l : List Call). Run (started m) l c.push_reserved.new.self.items did.0) (sym more)
+                (subst (λ (l : List Answer). Run (started m) (calls ++ call ∷ []) l did.0) (sym c.push_reserved.ensures.items)
+                (run-push (started m) calls c.loop-call.answers.items before.0 call c.step-answer.result.0 did.0 before.1 did.1)),
+            subst (λ (l : List Held). IsWorld g.D.Disk.tells c.step-answer.new.store l did.0) (sym places) did.2,
+          );
+    }

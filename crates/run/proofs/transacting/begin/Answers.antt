@@ -1,0 +1,18 @@
+use Rattle.std.proofs.Common.{◌≡◌, ◌<◌, ◌^◌, Option, Some, None, Result, Ok, Err, List, [], ◌∷◌, ◌++◌, refl, subst, sym, ap, ◌∙◌, arith}
+use Rattle.std.specs.Prelude.{slice_get, slice_set, IfOk}
+use Rattle.image.specs.Values.{Value}
+use Rattle.snapshot.specs.Txn.{TxnValue, seen_by}
+use Rattle.run.specs.declared.calls.Call.{Call}
+use Rattle.run.specs.declared.calls.Call.TheVariants as call
+use Rattle.run.specs.declared.calls.Answer.{Answer}
+use Rattle.run.specs.declared.calls.Answer.TheVariants as answer
+use Rattle.run.specs.declared.held.Held.{Held}
+use Rattle.run.specs.declared.held.Held.TheVariants as held
+use Rattle.run.specs.Runs.{Goes}
+use Rattle.run.proofs.Lists.{set-set, get-set_same}
+use Rattle.run.proofs.Steps.{begin-goes}
+use Rattle.run.proofs.transacting.begin.Goals as goal
+
+pub returns : goal.returns
+returns g c =
+    subst (λ (r : Answer × Held). Goes g.D.Disk.tells c.args.store.now c.args.places.now call.Begin r.0 c.begin.new.self (c.args.places.now ++ r.1 ∷ [])) (sym c.begun.ensures) (begin-goes g.D.Disk.tells c.args.store.now c.begin.new.self c.args.places.now c.begin.result c.begin.ensures)

@@ -1,0 +1,22 @@
+use Rattle.std.proofs.Common.{◌≡◌, ◌<◌, ◌^◌, Option, Some, None, Result, Ok, Err, List, [], ◌∷◌, ◌++◌, refl, subst, sym, ap, ◌∙◌, arith}
+use Rattle.std.specs.Prelude.{slice_get, slice_set, IfOk}
+use Rattle.image.specs.Values.{Value}
+use Rattle.snapshot.specs.Txn.{TxnValue, seen_by}
+use Rattle.run.specs.declared.calls.Call.{Call}
+use Rattle.run.specs.declared.calls.Call.TheVariants as call
+use Rattle.run.specs.declared.calls.Answer.{Answer}
+use Rattle.run.specs.declared.calls.Answer.TheVariants as answer
+use Rattle.run.specs.declared.held.Held.{Held}
+use Rattle.run.specs.declared.held.Held.TheVariants as held
+use Rattle.run.specs.Runs.{Goes}
+use Rattle.run.proofs.Lists.{set-set, get-set_same}
+use Rattle.run.proofs.Steps.{unknown-goes}
+use Rattle.run.proofs.Views.{held-view, held-no_view, lacks-view, at-goes}
+use Rattle.run.proofs.viewing.at.Goals as goal
+
+pub returns-in_default : goal.returns-in_default
+returns-in_default g c =
+    unknown-goes g.D.Disk.tells c.args.store.now c.args.places.now c.args.places.now (call.At c.args.view c.args.key c.args.time) refl (λ w is. lacks-view g.D.Disk.tells c.args.store.now c.args.places.now c.args.view (held-no_view (slice_get c.args.places.now c.args.view) c.in_default.ensures) w is)
+
+pub returns : goal.returns
+returns g c = at-goes g.D.Disk.tells c.args.store.now c.at.new.self c.args.places.now c.args.view c.args.key c.args.time c.in-Some.asked.now c.at.result (held-view (slice_get c.args.places.now c.args.view) c.in-Some.asked.now c.in-Some.ensures) c.at.ensures.is c.at.ensures.same

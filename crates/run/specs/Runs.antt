@@ -1,0 +1,199 @@
+-- What each call answers and does, and lists of calls.
+use Rattle.std.specs.Prelude.{ℕ, ◌≡◌, ◌≢◌, ◌↔◌, ◌++◌, Bool, List, [], ◌∷◌, map, is_some, IsSome, Option, None, Some, Result, Ok, Err, IfOk, OnOk, OnErr, MatchBool, Vec, if◌then◌else◌}
+use Rattle.std.specs.declared.alloc.Global.{Global}
+use Rattle.std.specs.declared.alloc.AllocError.{AllocError}
+use Rattle.history.specs.declared.key.Key.{Key}
+use Rattle.history.specs.declared.key.KeyWrite.{KeyWrite}
+use Rattle.history.specs.Answers as answers
+use Rattle.history.specs.Histories.{last, state}
+use Rattle.history.specs.Machine.{Machine}
+use Rattle.history.specs.Queries.{seen, IsScanSeen}
+use Rattle.history.specs.Steps.{Event, Step, Began, BeginRefused, Aborted, Decided, begun}
+use Rattle.history.specs.Steps as steps
+use Rattle.history.specs.Submissions as submissions
+use Rattle.history.specs.Submissions.{Submission, commit_made}
+use Rattle.image.specs.Values.{Value, IsValue}
+use Rattle.wire.specs.Values.{HasSizes}
+use Rattle.snapshot.specs.Txn.{IsFullFor}
+use Rattle.snapshot.specs.WriteSets.{with_write, without}
+use Rattle.snapshot.specs.declared.txn.TxnFault.{TxnFault}
+use Rattle.snapshot.specs.declared.txn.TxnFault.TheVariants as txn
+use Rattle.group.specs.declared.answers.BeginFault.{BeginFault}
+use Rattle.group.specs.declared.answers.BeginFault.TheVariants as begin
+use Rattle.group.specs.declared.answers.Did.{Did}
+use Rattle.group.specs.declared.answers.PumpFault.{PumpFault}
+use Rattle.group.specs.declared.answers.PumpFault.TheVariants as pump
+use Rattle.group.specs.declared.answers.SubmitFault.{SubmitFault}
+use Rattle.group.specs.declared.answers.SubmitFault.TheVariants as refused
+use Rattle.timequery.specs.declared.fault.QueryFault.{QueryFault}
+use Rattle.store.specs.Values.{StoreValue}
+use Rattle.standing.specs.Laws.{begins_in, ends_in, SaysAt}
+use Rattle.run.specs.declared.calls.Call.{Call}
+use Rattle.run.specs.declared.calls.Call.TheVariants as call
+use Rattle.run.specs.declared.calls.Answer.{Answer}
+use Rattle.run.specs.declared.calls.Answer.TheVariants as answer
+use Rattle.run.specs.declared.calls.SubmitOutcome.{SubmitOutcome}
+use Rattle.run.specs.declared.calls.SubmitOutcome.TheVariants as outcome
+use Rattle.run.specs.declared.calls.RedeemOutcome.{RedeemOutcome}
+use Rattle.run.specs.declared.calls.RedeemOutcome.TheVariants as told
+use Rattle.run.specs.declared.held.Held.{Held}
+use Rattle.run.specs.Places.{Place, Free, Running, Waits, Views, place_at, IsNoTransaction, IsNoTicket, IsNoView}
+use Rattle.run.specs.Worlds.{World, IsWorld, leaves, put, moved, same, spent}
+
+-- ---- transactions
+
+-- a transaction reads what is published now, or the store has failed, or there is no memory
+abbrev pub Begins : World → Result (Unit {0}) BeginFault → World → Type 0
+Begins w (Ok u) next = Step IsValue w.machine (Began (last w.machine.published)) (begun w.machine) × (next ≡ leaves (moved w (begun w.machine)) (Running (last w.machine.published) []))
+Begins w (Err begin.NoMemory) next = Step IsValue w.machine (BeginRefused steps.NoMemory) w.machine × (next ≡ same w)
+Begins w (Err begin.Failed) next = Step IsValue w.machine (BeginRefused steps.Failed) w.machine × (next ≡ same w)
+
+-- a put of a value: the writes after it, and which refusals come when
+pub record PutSays (writes : List (KeyWrite Value)) (key : Key) (value : Value) (said : Result (Unit {0}) TxnFault) (after : List (KeyWrite Value)) : Type 0 where
+  pub ok : OnOk said (after ≡ with_write writes (record { key = key; write = Some value }))
+  pub missing : said ≢ Err txn.Missing
+  pub too_many : (said ≡ Err txn.TooManyKeys) ↔ IsFullFor writes key
+  pub bad : (said ≡ Err txn.BadValue) ↔ ((¬ IsFullFor writes key) × (¬ HasSizes value))
+  pub err : OnErr said (after ≡ writes)
+
+-- the writes after a delete: a key that has no value at the snapshot needs no write
+abbrev pub deleted : Option Value → List (KeyWrite Value) → Key → List (KeyWrite Value)
+deleted at_snapshot writes key = if is_some at_snapshot then with_write writes (record { key = key; write = None }) else without writes key
+
+-- a delete, by the key's value at the snapshot and what the transaction sees of it
+pub record DeleteSays (at_snapshot sees : Option Value) (writes : List (KeyWrite Value)) (key : Key) (said : Result (Unit {0}) TxnFault) (after : List (KeyWrite Value)) : Type 0 where
+  pub ok : OnOk said (after ≡ deleted at_snapshot writes key)
+  pub missing : (said ≡ Err txn.Missing) ↔ (sees ≡ None)
+  pub too_many : (said ≡ Err txn.TooManyKeys) ↔ (IsSome sees × IsFullFor writes key)
+  pub bad : said ≢ Err txn.BadValue
+  pub err : OnErr said (after ≡ writes)
+
+abbrev pub Puts : World → ℕ → Key → Value → Place → Result (Unit {0}) TxnFault → World → Type 0
+Puts w i key value (Running snapshot writes) said next = (after : List (KeyWrite Value)) × PutSays writes key value said after × (next ≡ same (put w i (Running snapshot after)))
+Puts w i key value place said next = ⊥
+
+abbrev pub Deletes : World → ℕ → Key → Place → Result (Unit {0}) TxnFault → World → Type 0
+Deletes w i key (Running snapshot writes) said next =
+    (after : List (KeyWrite Value)) × DeleteSays (state w.machine.published snapshot key) (seen w.machine.published snapshot writes key) writes key said after × (next ≡ same (put w i (Running snapshot after)))
+Deletes w i key place said next = ⊥
+
+-- what is published at the snapshot, with the transaction's own writes over it
+abbrev pub Gets : World → Key → Place → Result (Option Value) AllocError → World → Type 0
+Gets w key (Running snapshot writes) said next = IfOk said (λ value. value ≡ seen w.machine.published snapshot writes key) × (next ≡ same w)
+Gets w key place said next = ⊥
+
+abbrev pub Scans : World → ℕ → Place → Result (Vec (ℕ × Value) Global) AllocError → World → Type 0
+Scans w relation (Running snapshot writes) said next = IfOk said (λ found. IsScanSeen w.machine.published snapshot writes relation found.items) × (next ≡ same w)
+Scans w relation place said next = ⊥
+
+-- what a running transaction submits
+abbrev pub submission : ℕ → List (KeyWrite Value) → ℕ → ℕ → Submission Value
+submission snapshot writes label now = record { snapshot = snapshot; label = label; now = now; writes = writes }
+
+-- the machine's event, and what the place of the call holds after it
+abbrev pub Submitted : Machine Value → Submission Value → Result SubmitOutcome SubmitFault → Event Value → Place → Type 0
+Submitted m s (Ok (outcome.ReadOnly time)) event place = (time ≡ s.snapshot) × (event ≡ Decided s submissions.Reads) × (place ≡ Free)
+Submitted m s (Ok outcome.Queued) event place = (event ≡ Decided s (submissions.Queues (commit_made m s))) × (place ≡ Waits (commit_made m s).time)
+Submitted m s (Err (refused.Conflict key)) event place = (event ≡ Decided s (submissions.Conflicts key)) × (place ≡ Free)
+Submitted m s (Err refused.ClockEnd) event place = (event ≡ Decided s submissions.Ends) × (place ≡ Free)
+Submitted m s (Err refused.HeapFull) event place = (event ≡ steps.Refused s steps.NoRoom) × (place ≡ Free)
+Submitted m s (Err refused.StatusFull) event place = (event ≡ steps.Refused s steps.NoRoom) × (place ≡ Free)
+Submitted m s (Err refused.NoMemory) event place = (event ≡ steps.Refused s steps.NoMemory) × (place ≡ Free)
+Submitted m s (Err refused.Failed) event place = (event ≡ steps.Refused s steps.Failed) × (place ≡ Free)
+Submitted m s (Err refused.Stranger) event place = ⊥
+
+-- a submit is the machine's, and the transaction is over
+abbrev pub Submits : World → ℕ → ℕ → ℕ → Place → Result SubmitOutcome SubmitFault → World → Type 0
+Submits w i label now (Running snapshot writes) said next =
+    (event : Event Value) × (after : Machine Value) × (place : Place) × Submitted w.machine (submission snapshot writes label now) said event place × Step IsValue w.machine event after × (next ≡ leaves (put (moved w after) i Free) place)
+Submits w i label now place said next = ⊥
+
+-- the transaction is over, and its snapshot given up
+abbrev pub Aborts : World → ℕ → Place → World → Type 0
+Aborts w i (Running snapshot writes) next = (after : Machine Value) × Step IsValue w.machine (Aborted snapshot) after × (next ≡ spent (moved w after) i)
+Aborts w i place next = ⊥
+
+-- ---- groups and tickets
+
+-- a step of a group is a run of the machine, and nothing where the store has failed
+abbrev pub Pumps : World → Result Did PumpFault → World → Type 0
+Pumps w said next = MatchBool w.machine.failed ((said ≡ Err pump.Failed) × (next ≡ same w))
+    ((after : Machine Value) × steps.Run IsValue w.machine (begins_in w.machine ++ ends_in said) after × (next ≡ same (moved w after)))
+
+-- a ticket is spent but by Waiting
+abbrev pub Redeems : World → ℕ → Place → RedeemOutcome → World → Type 0
+Redeems w i (Waits time) (told.Done done) next = (answers.redeemed_by w.machine time ≡ answers.Done done) × (next ≡ spent w i)
+Redeems w i (Waits time) told.Waiting next = (answers.redeemed_by w.machine time ≡ answers.Waiting) × (next ≡ same w)
+Redeems w i (Waits time) told.InDoubt next = (answers.redeemed_by w.machine time ≡ answers.InDoubt) × (next ≡ spent w i)
+Redeems w i place said next = ⊥
+
+abbrev pub GivesUp : World → ℕ → Place → World → Type 0
+GivesUp w i (Waits time) next = next ≡ spent w i
+GivesUp w i place next = ⊥
+
+-- ---- views and labels
+
+-- a view is of what is published now
+abbrev pub Shows : World → Result (Unit {0}) AllocError → World → Type 0
+Shows w (Ok u) next = next ≡ leaves w (Views w.machine.published w.machine.floors)
+Shows w (Err why) next = next ≡ same w
+
+-- it answers by the history of its moment
+abbrev pub Asks : World → Key → ℕ → Place → Result (Option Value) QueryFault → World → Type 0
+Asks w key time (Views history floors) said next = SaysAt (answers.at_answer history floors key time) said × (next ≡ same w)
+Asks w key time place said next = ⊥
+
+abbrev pub Closes : World → ℕ → Place → World → Type 0
+Closes w i (Views history floors) next = next ≡ spent w i
+Closes w i place next = ⊥
+
+abbrev pub ListsTimes : World → ℕ → Result (Vec ℕ Global) AllocError → World → Type 0
+ListsTimes w label said next = IfOk said (λ times. times.items ≡ answers.times_of w.machine.published label) × (next ≡ same w)
+
+-- ---- calls
+
+-- the place that the call names holds no such value
+abbrev pub NamesNone : World → Call → Type 0
+NamesNone w call.Begin = ⊥
+NamesNone w (call.Put i key fields) = IsNoTransaction (place_at w.places i)
+NamesNone w (call.Delete i key) = IsNoTransaction (place_at w.places i)
+NamesNone w (call.Get i key) = IsNoTransaction (place_at w.places i)
+NamesNone w (call.Scan i relation) = IsNoTransaction (place_at w.places i)
+NamesNone w (call.Submit i label now) = IsNoTransaction (place_at w.places i)
+NamesNone w (call.Abort i) = IsNoTransaction (place_at w.places i)
+NamesNone w call.Pump = ⊥
+NamesNone w (call.Redeem i) = IsNoTicket (place_at w.places i)
+NamesNone w (call.GiveUp i) = IsNoTicket (place_at w.places i)
+NamesNone w call.View = ⊥
+NamesNone w (call.At i key time) = IsNoView (place_at w.places i)
+NamesNone w (call.End i) = IsNoView (place_at w.places i)
+NamesNone w (call.TimesOf label) = ⊥
+
+-- The call may have this answer, and then lead to this world. It is Unknown exactly where the place that it names holds no such value.
+abbrev pub Does : World → Call → Answer → World → Type 0
+Does w c answer.Unknown next = NamesNone w c × (next ≡ same w)
+Does w call.Begin (answer.Begin said) next = Begins w said next
+Does w (call.Put i key fields) (answer.Put said) next = Puts w i key (map (λ field. field.now) fields.now) (place_at w.places i) said next
+Does w (call.Delete i key) (answer.Delete said) next = Deletes w i key (place_at w.places i) said next
+Does w (call.Get i key) (answer.Get said) next = Gets w key (place_at w.places i) said next
+Does w (call.Scan i relation) (answer.Scan said) next = Scans w relation (place_at w.places i) said next
+Does w (call.Submit i label now) (answer.Submit said) next = Submits w i label now (place_at w.places i) said next
+Does w (call.Abort i) answer.Abort next = Aborts w i (place_at w.places i) next
+Does w call.Pump (answer.Pump said) next = Pumps w said next
+Does w (call.Redeem i) (answer.Redeem said) next = Redeems w i (place_at w.places i) said next
+Does w (call.GiveUp i) answer.GiveUp next = GivesUp w i (place_at w.places i) next
+Does w call.View (answer.View said) next = Shows w said next
+Does w (call.At i key time) (answer.At said) next = Asks w key time (place_at w.places i) said next
+Does w (call.End i) answer.End next = Closes w i (place_at w.places i) next
+Does w (call.TimesOf label) (answer.TimesOf said) next = ListsTimes w label said next
+Does w c a next = ⊥
+
+-- one call after another
+abbrev pub Run : World → List Call → List Answer → World → Type 0
+Run w [] [] end = end ≡ w
+Run w (c ∷ cs) (a ∷ said) end = (next : World) × Does w c a next × Run next cs said end
+Run w cs said end = ⊥
+
+-- from each world of the store and the places the call leads by this answer to one of theirs after it
+abbrev pub Goes : Bool → StoreValue → List Held → Call → Answer → StoreValue → List Held → Type 0
+Goes tells old before c a new after = (w : World) → IsWorld tells old before w → (next : World) × Does w c a next × IsWorld tells new after next

@@ -1,0 +1,104 @@
+//! Calls, and what they answer.
+use chains::SharedValue;
+use group::{BeginFault, Did, PumpFault, SubmitFault};
+use history::Key;
+use snapshot::TxnFault;
+use std::alloc::AllocError;
+use timequery::QueryFault;
+
+/// A call of a store, or of a transaction, a ticket or a view that it gave out. Such a value is
+/// named by the place in the list of the call that gave it. Times are in microseconds since 1970.
+#[derive(Clone, Copy, Debug)]
+pub enum Call<'a> {
+    /// Its place holds the transaction.
+    Begin,
+    Put {
+        transaction: usize,
+        key: Key,
+        fields: &'a [&'a [u8]],
+    },
+    Delete {
+        transaction: usize,
+        key: Key,
+    },
+    Get {
+        transaction: usize,
+        key: Key,
+    },
+    Scan {
+        transaction: usize,
+        relation: u16,
+    },
+    /// Its place holds the ticket, where the commit is queued.
+    Submit {
+        transaction: usize,
+        label: u64,
+        now: u64,
+    },
+    Abort {
+        transaction: usize,
+    },
+    Pump,
+    Redeem {
+        ticket: usize,
+    },
+    GiveUp {
+        ticket: usize,
+    },
+    /// Its place holds the view.
+    View,
+    At {
+        view: usize,
+        key: Key,
+        time: u64,
+    },
+    End {
+        view: usize,
+    },
+    TimesOf {
+        label: u64,
+    },
+}
+
+/// What a submit answers where it isn't refused. A ticket is in the place of its call.
+#[derive(Clone, Copy, Debug, PartialEq, Eq)]
+pub enum SubmitOutcome {
+    /// Nothing was written. The number is the time of the snapshot, in microseconds since 1970.
+    ReadOnly(u64),
+    /// The commit waits.
+    Queued,
+}
+
+/// What becomes of a ticket that is shown.
+#[derive(Clone, Copy, Debug, PartialEq, Eq)]
+pub enum RedeemOutcome {
+    /// The commit is published, with this time in microseconds since 1970.
+    Done(u64),
+    /// The commit waits, and so does its ticket in its place.
+    Waiting,
+    /// The device failed before the commit was published: it may be found after a reopening, or not.
+    InDoubt,
+    /// The ticket is not one of this store's.
+    Stranger,
+}
+
+/// The answer to a call.
+#[derive(Drop)]
+pub enum Answer {
+    /// The place that the call names gave no such value, or the value is spent. Nothing changed.
+    Unknown,
+    Begin(Result<(), BeginFault>),
+    Put(Result<(), TxnFault>),
+    Delete(Result<(), TxnFault>),
+    Get(Result<Option<SharedValue>, AllocError>),
+    Scan(Result<Vec<(u64, SharedValue)>, AllocError>),
+    Submit(Result<SubmitOutcome, SubmitFault>),
+    Abort,
+    Pump(Result<Did, PumpFault>),
+    Redeem(RedeemOutcome),
+    GiveUp,
+    View(Result<(), AllocError>),
+    At(Result<Option<SharedValue>, QueryFault>),
+    End,
+    TimesOf(Result<Vec<u64>, AllocError>),
+}

@@ -1,0 +1,13 @@
+//! Lists of calls of a store and of what it gave out, with their answers.
+#![tactic(auto)]
+
+mod calls;
+mod held;
+mod redeeming;
+mod runner;
+mod transacting;
+mod viewing;
+
+pub use calls::{Answer, Call, RedeemOutcome, SubmitOutcome};
+pub use held::Held;
+pub use runner::run;

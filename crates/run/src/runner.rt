@@ -1,0 +1,98 @@
+//! Lists of calls.
+ghost use Rattle.std.specs.Prelude.{◌≡◌, ◌++◌, ◌∷◌, [], IfOk, OnErr};
+ghost use Rattle.history.specs.Machine.{Machine};
+ghost use Rattle.image.specs.Values.{Value};
+ghost use Rattle.standing.specs.Stands.{Stands};
+ghost use Rattle.run.specs.Worlds.{World, IsWorld, started};
+ghost use Rattle.run.specs.Runs.{Run, Goes};
+
+use crate::calls::{Answer, Call};
+use crate::held::Held;
+use crate::redeeming::{give_up, redeem};
+use crate::transacting::{abort, begin, delete, get, put, scan, submit};
+use crate::viewing::{at, end, times_of, view};
+use disk::Disk;
+use std::alloc::{AllocError, Global};
+use store::Store;
+
+/// Makes the calls in turn. Each has its answer, and its place holds what it gave; what is left
+/// over at the end is given back unspent, each in its place.
+///
+/// # Errors
+///
+/// Where there is no memory for the answers and the places. Then no call is made.
+pub fn run<D: Disk>(
+    alloc: Global,
+    store: &mut Store<D>,
+    calls: &[Call<'_>],
+) -> Result<(Vec<Answer>, Vec<Held>), AllocError>
+    // For each state of the machine that the store stands for the answers are those of a run of the machine and of what the places hold, and the store stands for the state after it.
+    ensures run { IfOk result (λ (answers, places). (m : Machine Value) → Stands D.tells store.old m → (w : World) × Run (started m) calls.now answers.items w × IsWorld D.tells store.new places.items w) }
+    ensures err { OnErr result (store.new ≡ store.old) }
+{
+    let mut answers = Vec::with_capacity(alloc, calls.len())?;
+    let mut places = Vec::with_capacity(alloc, calls.len())?;
+    for call in calls {
+        let (answer, held) = step(alloc, store, &mut places, *call);
+        answers.push_reserved(answer);
+        places.push_reserved(held);
+    }
+    Ok((answers, places))
+}
+
+// One call: its answer, and what its place holds from then on.
+fn step<D: Disk>(
+    alloc: Global,
+    store: &mut Store<D>,
+    places: &mut [Held],
+    call: Call<'_>,
+) -> (Answer, Held)
+    ensures { Goes D.tells store.old places.old call.entry result.0 store.new (places.new ++ result.1 ∷ []) }
+{
+    match call {
+        Call::Begin => begin(store, places),
+        Call::Put {
+            transaction,
+            key,
+            fields,
+        } => (
+            put(alloc, store, places, transaction, key, fields),
+            Held::Nothing,
+        ),
+        Call::Delete { transaction, key } => {
+            (delete(store, places, transaction, key), Held::Nothing)
+        }
+        Call::Get { transaction, key } => (get(store, places, transaction, key), Held::Nothing),
+        Call::Scan {
+            transaction,
+            relation,
+        } => (
+            scan(alloc, store, places, transaction, relation),
+            Held::Nothing,
+        ),
+        Call::Submit {
+            transaction,
+            label,
+            now,
+        } => submit(store, places, transaction, label, now),
+        Call::Abort { transaction } => (abort(store, places, transaction), Held::Nothing),
+        Call::Pump => (pump(store, places), Held::Nothing),
+        Call::Redeem { ticket } => (redeem(store, places, ticket), Held::Nothing),
+        Call::GiveUp { ticket } => (give_up(store, places, ticket), Held::Nothing),
+        Call::View => view(store, places),
+        Call::At {
+            view: place,
+            key,
+            time,
+        } => (at(store, places, place, key, time), Held::Nothing),
+        Call::End { view: place } => (end(store, places, place), Held::Nothing),
+        Call::TimesOf { label } => (times_of(store, places, label), Held::Nothing),
+    }
+}
+
+fn pump<D: Disk>(store: &mut Store<D>, places: &[Held]) -> Answer
+    ensures { Goes D.tells store.old places.now Call.Pump result store.new (places.now ++ Held.Nothing ∷ []) }
+{
+    let _ = places;
+    Answer::Pump(store.pump())
+}

@@ -1,0 +1,61 @@
+//! The calls of views, and those that ask of what is published.
+ghost use Rattle.std.specs.Prelude.{◌≡◌, ◌++◌, ◌∷◌, []};
+ghost use Rattle.run.specs.declared.calls.Call.{Call};
+ghost use Rattle.run.specs.Places.{view_answer};
+ghost use Rattle.run.specs.Runs.{Goes};
+
+use crate::calls::Answer;
+use crate::held::{Held, take_view, view_at};
+use disk::Disk;
+use history::Key;
+use std::alloc::AllocError;
+use store::Store;
+use timequery::View;
+
+pub(crate) fn view<D: Disk>(store: &Store<D>, places: &[Held]) -> (Answer, Held)
+    ensures { Goes D.tells store.now places.now Call.View result.0 store.now (places.now ++ result.1 ∷ []) }
+{
+    let _ = places;
+    viewed(store.view())
+}
+
+fn viewed(outcome: Result<View, AllocError>) -> (Answer, Held)
+    ensures { result ≡ view_answer outcome }
+{
+    match outcome {
+        Ok(view) => (Answer::View(Ok(())), Held::View(view)),
+        Err(fault) => (Answer::View(Err(fault)), Held::Nothing),
+    }
+}
+
+pub(crate) fn at<D: Disk>(
+    store: &mut Store<D>,
+    places: &[Held],
+    view: usize,
+    key: Key,
+    time: u64,
+) -> Answer
+    ensures { Goes D.tells store.old places.now (Call.At view key time) result store.new (places.now ++ Held.Nothing ∷ []) }
+{
+    let Some(asked) = view_at(places, view) else {
+        return Answer::Unknown;
+    };
+    Answer::At(store.at(asked, key, time))
+}
+
+pub(crate) fn end<D: Disk>(store: &mut Store<D>, places: &mut [Held], view: usize) -> Answer
+    ensures { Goes D.tells store.old places.old (Call.End view) result store.new (places.new ++ Held.Nothing ∷ []) }
+{
+    let Some(ended) = take_view(places, view) else {
+        return Answer::Unknown;
+    };
+    store.end(ended);
+    Answer::End
+}
+
+pub(crate) fn times_of<D: Disk>(store: &Store<D>, places: &[Held], label: u64) -> Answer
+    ensures { Goes D.tells store.now places.now (Call.TimesOf label) result store.now (places.now ++ Held.Nothing ∷ []) }
+{
+    let _ = places;
+    Answer::TimesOf(store.times_of(label))
+}
