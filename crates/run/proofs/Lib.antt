@@ -7,3 +7,4 @@ pub mod Pumping
 pub mod Tickets
 pub mod Views
 pub mod Runs
+pub mod Survival

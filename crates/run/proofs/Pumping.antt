@@ -26,7 +26,7 @@ use Rattle.store.specs.Values.{StoreValue}
 use Rattle.store.specs.Pumps.{Pumps, TakesStep, WritesExtent, TurnsSlot, IsTurned, Steps, started, begun}
 use Rattle.standing.specs.Laws.{begins_in, ends_in}
 use Rattle.standing.specs.Stands.{Stands}
-use Rattle.standing.proofs.Calls.{pump-stands}
+use Rattle.standing.proofs.Pumping.{pump-stands}
 use Rattle.run.specs.declared.calls.Call.TheVariants as call
 use Rattle.run.specs.declared.calls.Answer.TheVariants as answer
 use Rattle.run.specs.declared.held.Held.{Held}

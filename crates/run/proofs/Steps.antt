@@ -32,7 +32,7 @@ use Rattle.store.specs.Values.{StoreValue}
 use Rattle.store.specs.Calls as stores
 use Rattle.standing.specs.Laws.{ViewStands}
 use Rattle.standing.specs.Stands.{Stands}
-use Rattle.standing.proofs.Calls.{begin-stands, abort-stands}
+use Rattle.standing.proofs.Calling.{begin-stands, abort-stands}
 use Rattle.standing.proofs.Answering.{view-stands, at-answered, times-of_label}
 use Rattle.run.specs.declared.calls.Call.{Call}
 use Rattle.run.specs.declared.calls.Call.TheVariants as call

@@ -28,7 +28,7 @@ use Rattle.standing.specs.Standing.{StandsInMemory}
 use Rattle.standing.specs.Laws.{submission_of, event_of}
 use Rattle.standing.specs.Stands.{Stands}
 use Rattle.standing.proofs.Submitting.{order-last}
-use Rattle.standing.proofs.Calls.{submit-stands}
+use Rattle.standing.proofs.Calling.{submit-stands}
 use Rattle.run.specs.declared.calls.Call.TheVariants as call
 use Rattle.run.specs.declared.calls.Answer.TheVariants as answer
 use Rattle.run.specs.declared.calls.SubmitOutcome.{SubmitOutcome}

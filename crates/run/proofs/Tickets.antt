@@ -18,7 +18,7 @@ use Rattle.store.specs.Values.{StoreValue}
 use Rattle.store.specs.Calls as stores
 use Rattle.standing.specs.Laws.{RedeemsAs}
 use Rattle.standing.specs.Stands.{Stands}
-use Rattle.standing.proofs.Calls.{redeem-stands}
+use Rattle.standing.proofs.Calling.{redeem-stands}
 use Rattle.run.specs.declared.calls.Call.TheVariants as call
 use Rattle.run.specs.declared.calls.Answer.TheVariants as answer
 use Rattle.run.specs.declared.calls.RedeemOutcome.TheVariants as told
