@@ -1,8 +1,8 @@
 -- A step of a group.
-use Rattle.std.proofs.Common.{◌≡◌, ℕ, ◌==◌, ◌&&◌, nat_lt, min, length, Bool, true, false, cond, List, [], ◌∷◌, ◌++◌, Some, None, Option, Result, Ok, Err, MatchBool, MatchOption, MatchResult, refl, sym, ◌∙◌, ap, subst}
-use Rattle.std.specs.Prelude.{IsTrue}
+use Rattle.std.proofs.Common.{◌≡◌, ℕ, ◌+◌, ◌≤◌, ◌==◌, ◌&&◌, nat_lt, min, length, Bool, true, false, cond, List, [], ◌∷◌, ◌++◌, Some, None, Option, Result, Ok, Err, MatchBool, MatchOption, MatchResult, refl, sym, ◌∙◌, ap, subst, arith}
+use Rattle.std.specs.Prelude.{IsTrue, IfErr}
 use Rattle.disk.specs.Areas.{AreSound}
-use Rattle.disk.specs.Calls.{DiskState}
+use Rattle.disk.specs.Calls.{counted}
 use Rattle.history.specs.Machine.{Machine}
 use Rattle.history.specs.Steps as steps
 use Rattle.history.specs.Histories.{History}
@@ -13,6 +13,7 @@ use Rattle.status.specs.TurnState.{TurnState}
 use Rattle.group.specs.CommitOrder.{is_awaited}
 use Rattle.group.specs.declared.commit_order.CommitHead.{CommitHead}
 use Rattle.group.specs.declared.answers.Did.{Did}
+use Rattle.group.specs.declared.answers.Did.TheVariants as did
 use Rattle.group.specs.declared.answers.PumpFault.{PumpFault}
 use Rattle.group.specs.declared.answers.PumpFault.TheVariants as pump
 use Rattle.group.specs.declared.queued.StoredExtent.{StoredExtent}
@@ -97,6 +98,58 @@ pump-leaves tells old new r pumps = by-failure old.transactions.failed pumps
     by-failure true is = leaves-so old.transactions old.transactions new.transactions (record { mark = refl; opened = refl; heads = refl }) (ap (λ (v : StoreValue). v.transactions) is.1)
     by-failure false takes = leaves-then old.transactions (groups.grouped old.transactions) new.transactions (grouped-leaves old.transactions) (step-leaves tells (groups.next_step old.transactions) (started old) new r takes)
 
+-- ---- refusals
+
+wrote-refused : (tells : Bool) (o : Option StoredExtent) (old new : StoreValue) (why : PumpFault) → MatchOption o ⊥ (λ stored. WritesExtent tells stored old (Err why) new) → why ≡ pump.Failed
+wrote-refused tells None old new why takes = absurd takes
+wrote-refused tells (Some stored) old new why takes = takes.steps.answer.0
+
+advance-refused : (tells : Bool) (o : Option TurnState) (old new : StoreValue) (why : PumpFault) → MatchOption o ⊥ (λ turn. TurnsSlot tells turn old (Err why) new) → why ≡ pump.Failed
+advance-refused tells None old new why takes = absurd takes
+advance-refused tells (Some turn) old new why takes = takes.answer.fault
+
+step-refused : (tells : Bool) (s : NextStep) (old new : StoreValue) (why : PumpFault) → TakesStep tells s old (Err why) new → why ≡ pump.Failed
+step-refused tells next.Idle old new why takes = let is : Path (Result Did PumpFault) (Err why) (Ok did.Idle) = takes.0 in absurd cc
+step-refused tells next.WriteExtent old new why takes = wrote-refused tells (groups.next_extent old.transactions) old new why takes
+step-refused tells next.SyncHeap old new why takes = takes.steps.answer.0
+step-refused tells next.BeginSlot old new why takes = takes.turns.answer.fault
+step-refused tells next.AdvanceSlot old new why takes = advance-refused tells old.turn old new why takes
+
+pump-refused : (tells : Bool) (old new : StoreValue) (r : Result Did PumpFault) → Pumps tells old r new → IfErr r (λ why. why ≡ pump.Failed)
+pump-refused tells old new (Ok what) pumps = tt
+pump-refused tells old new (Err why) pumps = by-failure old.transactions.failed pumps
+  where
+    by-failure : (b : Bool) → MatchBool b (Path (Result Did PumpFault) (Err why) (Err pump.Failed) × (new ≡ old)) (TakesStep tells (groups.next_step old.transactions) (started old) (Err why) new) → why ≡ pump.Failed
+    by-failure true is = let same = is.0 in cc
+    by-failure false takes = step-refused tells (groups.next_step old.transactions) (started old) new why takes
+
+-- ---- device calls
+
+counted-few : (n : ℕ) → counted n ≤ n + 1
+counted-few n = omega arith
+
+wrote-few : (tells : Bool) (o : Option StoredExtent) (old new : StoreValue) (r : Result Did PumpFault) → MatchOption o ⊥ (λ stored. WritesExtent tells stored old r new) → new.disk.made ≤ old.disk.made + 1
+wrote-few tells None old new r takes = absurd takes
+wrote-few tells (Some stored) old new r takes = omega (arith, takes.call.counts.made, counted-few old.disk.made)
+
+advance-few : (tells : Bool) (o : Option TurnState) (old new : StoreValue) (r : Result Did PumpFault) → MatchOption o ⊥ (λ turn. TurnsSlot tells turn old r new) → new.disk.made ≤ old.disk.made + 1
+advance-few tells None old new r takes = absurd takes
+advance-few tells (Some turn) old new r takes = omega (arith, takes.call.counts.made, counted-few old.disk.made)
+
+step-few : (tells : Bool) (s : NextStep) (old new : StoreValue) (r : Result Did PumpFault) → TakesStep tells s old r new → new.disk.made ≤ old.disk.made + 1
+step-few tells next.Idle old new r takes = let is = ap (λ (v : StoreValue). v.disk.made) takes.1 in omega (arith, is)
+step-few tells next.WriteExtent old new r takes = wrote-few tells (groups.next_extent old.transactions) old new r takes
+step-few tells next.SyncHeap old new r takes = omega (arith, takes.call.counts.made, counted-few old.disk.made)
+step-few tells next.BeginSlot old new r takes = omega (arith, takes.turns.call.counts.made, counted-few old.disk.made)
+step-few tells next.AdvanceSlot old new r takes = advance-few tells old.turn old new r takes
+
+pub pump-few : (tells : Bool) (old new : StoreValue) (r : Result Did PumpFault) → Pumps tells old r new → new.disk.made ≤ old.disk.made + 1
+pump-few tells old new r pumps = by-failure old.transactions.failed pumps
+  where
+    by-failure : (b : Bool) → MatchBool b ((r ≡ Err pump.Failed) × (new ≡ old)) (TakesStep tells (groups.next_step old.transactions) (started old) r new) → new.disk.made ≤ old.disk.made + 1
+    by-failure true is = let same = ap (λ (v : StoreValue). v.disk.made) is.1 in omega (arith, same)
+    by-failure false takes = step-few tells (groups.next_step old.transactions) (started old) new r takes
+
 pump-keeps : (v v' : TransactionsValue) (x : Held) → Leaves v v' → Keeps v v' x
 pump-keeps v v' held.Nothing leaves = tt
 pump-keeps v v' (held.Transaction t) leaves = (leaves.mark, ap (λ (o : List (Option ℕ)). snapshot_of t.number o) leaves.opened)
@@ -105,21 +158,21 @@ pump-keeps v v' (held.View t) leaves = leaves.mark
 
 pub pump-goes : (tells : Bool) (v v' : StoreValue) (xs : List Held) (r : Result Did PumpFault) → (IsTrue tells → AreSound v'.disk.areas) → Pumps tells v r v' → Goes tells v xs call.Pump (answer.Pump r) v' (xs ++ held.Nothing ∷ [])
 pump-goes tells v v' xs r sound pumps w is =
-    by-failure w.machine.failed refl (pump-stands tells v v' r w.machine is.stands sound pumps)
+    by-failure w.machine.failed refl (pump-refused tells v v' r pumps) (pump-stands tells v v' r w.machine is.stands sound pumps)
   where
     places : (h' : History Value) → GoesOn w.machine.published h' → ArePlaces v'.transactions h' (xs ++ held.Nothing ∷ []) (w.places ++ Free ∷ [])
     places h' goes = push_nothing v'.transactions h' xs w.places
         (move v.transactions v'.transactions w.machine.published h' xs w.places is.places (λ i x p at shows. stays v.transactions v'.transactions w.machine.published h' x p (pump-keeps v.transactions v'.transactions x (pump-leaves tells v v' r pumps)) goes shows))
 
-    by-failure : (b : Bool) → w.machine.failed ≡ b → MatchBool b ((r ≡ Err pump.Failed) × Stands tells v' w.machine) ((after : Machine Value) × steps.Run IsValue w.machine (begins_in w.machine ++ ends_in r) after × Stands tells v' after)
+    by-failure : (b : Bool) → w.machine.failed ≡ b → IfErr r (λ why. why ≡ pump.Failed) → MatchBool b ((r ≡ Err pump.Failed) × Stands tells v' w.machine) ((after : Machine Value) × steps.Run IsValue w.machine (begins_in w.machine ++ ends_in r) after × Stands tells v' after)
         → (next : World) × Does w call.Pump (answer.Pump r) next × IsWorld tells v' (xs ++ held.Nothing ∷ []) next
-    by-failure true failed did = (
+    by-failure true failed refused did = (
       same w,
-      subst (λ (b : Bool). MatchBool b ((r ≡ Err pump.Failed) × (same w ≡ same w)) ((after : Machine Value) × steps.Run IsValue w.machine (begins_in w.machine ++ ends_in r) after × (same w ≡ same (moved w after)))) (sym failed) (did.0, refl),
+      subst (λ (b : Bool). MatchBool b ((r ≡ Err pump.Failed) × (same w ≡ same w)) ((after : Machine Value) × IfErr r (λ why. why ≡ pump.Failed) × steps.Run IsValue w.machine (begins_in w.machine ++ ends_in r) after × (same w ≡ same (moved w after)))) (sym failed) (did.0, refl),
       record { stands = did.1; places = places w.machine.published (goes_on-same w.machine.published) },
     )
-    by-failure false works did = (
+    by-failure false works refused did = (
       same (moved w did.0),
-      subst (λ (b : Bool). MatchBool b ((r ≡ Err pump.Failed) × (same (moved w did.0) ≡ same w)) ((after : Machine Value) × steps.Run IsValue w.machine (begins_in w.machine ++ ends_in r) after × (same (moved w did.0) ≡ same (moved w after)))) (sym works) (did.0, did.1, refl),
+      subst (λ (b : Bool). MatchBool b ((r ≡ Err pump.Failed) × (same (moved w did.0) ≡ same w)) ((after : Machine Value) × IfErr r (λ why. why ≡ pump.Failed) × steps.Run IsValue w.machine (begins_in w.machine ++ ends_in r) after × (same (moved w did.0) ≡ same (moved w after)))) (sym works) (did.0, refused, did.1, refl),
       record { stands = did.2; places = places did.0.published (run-goes_on w.machine did.0 (begins_in w.machine ++ ends_in r) did.2.machine did.1) },
     )

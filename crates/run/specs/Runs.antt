@@ -1,5 +1,5 @@
 -- What each call answers and does, and lists of calls.
-use Rattle.std.specs.Prelude.{ℕ, ◌≡◌, ◌≢◌, ◌↔◌, ◌++◌, Bool, List, [], ◌∷◌, map, is_some, IsSome, Option, None, Some, Result, Ok, Err, IfOk, OnOk, OnErr, MatchBool, Vec, if◌then◌else◌}
+use Rattle.std.specs.Prelude.{ℕ, ◌≡◌, ◌≢◌, ◌≤◌, ◌+◌, ◌↔◌, ◌++◌, Bool, List, [], ◌∷◌, map, is_some, IsSome, Option, None, Some, Result, Ok, Err, IfOk, IfErr, OnOk, OnErr, MatchBool, Vec, if◌then◌else◌}
 use Rattle.std.specs.declared.alloc.Global.{Global}
 use Rattle.std.specs.declared.alloc.AllocError.{AllocError}
 use Rattle.history.specs.declared.key.Key.{Key}
@@ -115,10 +115,10 @@ Aborts w i place next = ⊥
 
 -- ---- groups and tickets
 
--- a step of a group is a run of the machine, and nothing where the store has failed
+-- a step of a group is a run of the machine, and nothing where the store has failed; it is refused only where a device call is
 abbrev pub Pumps : World → Result Did PumpFault → World → Type 0
 Pumps w said next = MatchBool w.machine.failed ((said ≡ Err pump.Failed) × (next ≡ same w))
-    ((after : Machine Value) × steps.Run IsValue w.machine (begins_in w.machine ++ ends_in said) after × (next ≡ same (moved w after)))
+    ((after : Machine Value) × IfErr said (λ why. why ≡ pump.Failed) × steps.Run IsValue w.machine (begins_in w.machine ++ ends_in said) after × (next ≡ same (moved w after)))
 
 -- a ticket is spent but by Waiting
 abbrev pub Redeems : World → ℕ → Place → RedeemOutcome → World → Type 0
@@ -197,3 +197,7 @@ Run w cs said end = ⊥
 -- from each world of the store and the places the call leads by this answer to one of theirs after it
 abbrev pub Goes : Bool → StoreValue → List Held → Call → Answer → StoreValue → List Held → Type 0
 Goes tells old before c a new after = (w : World) → IsWorld tells old before w → (next : World) × Does w c a next × IsWorld tells new after next
+
+-- at most one device call is made
+abbrev pub MakesFew : StoreValue → StoreValue → Type 0
+MakesFew old new = new.disk.made ≤ old.disk.made + 1

@@ -2,7 +2,7 @@
 ghost use Rattle.std.specs.Prelude.{◌≡◌, ◌++◌, ◌∷◌, []};
 ghost use Rattle.run.specs.declared.calls.Call.{Call};
 ghost use Rattle.run.specs.Places.{redeem_answer};
-ghost use Rattle.run.specs.Runs.{Goes};
+ghost use Rattle.run.specs.Runs.{Goes, MakesFew};
 
 use crate::calls::{Answer, RedeemOutcome};
 use crate::held::{Held, put_back, take_ticket};
@@ -11,7 +11,8 @@ use group::Redeemed;
 use store::Store;
 
 pub(crate) fn redeem<D: Disk>(store: &mut Store<D>, places: &mut [Held], ticket: usize) -> Answer
-    ensures { Goes D.tells store.old places.old (Call.Redeem ticket) result store.new (places.new ++ Held.Nothing ∷ []) }
+    ensures goes { Goes D.tells store.old places.old (Call.Redeem ticket) result store.new (places.new ++ Held.Nothing ∷ []) }
+    ensures made { MakesFew store.old store.new }
 {
     let Some(shown) = take_ticket(places, ticket) else {
         return Answer::Unknown;

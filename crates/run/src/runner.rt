@@ -1,10 +1,10 @@
 //! Lists of calls.
-ghost use Rattle.std.specs.Prelude.{◌≡◌, ◌++◌, ◌∷◌, [], IfOk, OnErr};
+ghost use Rattle.std.specs.Prelude.{◌≡◌, ◌≤◌, ◌+◌, ◌++◌, ◌∷◌, [], length, IfOk, OnErr};
 ghost use Rattle.history.specs.Machine.{Machine};
 ghost use Rattle.image.specs.Values.{Value};
 ghost use Rattle.standing.specs.Stands.{Stands};
 ghost use Rattle.run.specs.Worlds.{World, IsWorld, started};
-ghost use Rattle.run.specs.Runs.{Run, Goes};
+ghost use Rattle.run.specs.Runs.{Run, Goes, MakesFew};
 
 use crate::calls::{Answer, Call};
 use crate::held::Held;
@@ -28,6 +28,8 @@ pub fn run<D: Disk>(
 ) -> Result<(Vec<Answer>, Vec<Held>), AllocError>
     // For each state of the machine that the store stands for the answers are those of a run of the machine and of what the places hold, and the store stands for the state after it.
     ensures run { IfOk result (λ (answers, places). (m : Machine Value) → Stands D.tells store.old m → (w : World) × Run (started m) calls.now answers.items w × IsWorld D.tells store.new places.items w) }
+    // Each call makes at most one write or sync of the disk.
+    ensures made { store.new.disk.made ≤ store.old.disk.made + length calls.now }
     ensures err { OnErr result (store.new ≡ store.old) }
 {
     let mut answers = Vec::with_capacity(alloc, calls.len())?;
@@ -47,7 +49,8 @@ fn step<D: Disk>(
     places: &mut [Held],
     call: Call<'_>,
 ) -> (Answer, Held)
-    ensures { Goes D.tells store.old places.old call.entry result.0 store.new (places.new ++ result.1 ∷ []) }
+    ensures goes { Goes D.tells store.old places.old call.entry result.0 store.new (places.new ++ result.1 ∷ []) }
+    ensures made { MakesFew store.old store.new }
 {
     match call {
         Call::Begin => begin(store, places),
@@ -91,7 +94,8 @@ fn step<D: Disk>(
 }
 
 fn pump<D: Disk>(store: &mut Store<D>, places: &[Held]) -> Answer
-    ensures { Goes D.tells store.old places.now Call.Pump result store.new (places.now ++ Held.Nothing ∷ []) }
+    ensures goes { Goes D.tells store.old places.now Call.Pump result store.new (places.now ++ Held.Nothing ∷ []) }
+    ensures made { MakesFew store.old store.new }
 {
     let _ = places;
     Answer::Pump(store.pump())

@@ -3,7 +3,7 @@ ghost use Rattle.std.specs.Prelude.{◌≡◌, ◌++◌, ◌∷◌, [], IfOk};
 ghost use Rattle.std.specs.Option.{option_copied};
 ghost use Rattle.run.specs.declared.calls.Call.{Call};
 ghost use Rattle.run.specs.Places.{begin_answer, submit_answer};
-ghost use Rattle.run.specs.Runs.{Goes};
+ghost use Rattle.run.specs.Runs.{Goes, MakesFew};
 
 use crate::calls::{Answer, SubmitOutcome};
 use crate::held::{Held, put_back, take_transaction, transaction_at};
@@ -16,7 +16,8 @@ use std::alloc::{AllocError, Global};
 use store::Store;
 
 pub(crate) fn begin<D: Disk>(store: &mut Store<D>, places: &[Held]) -> (Answer, Held)
-    ensures { Goes D.tells store.old places.now Call.Begin result.0 store.new (places.now ++ result.1 ∷ []) }
+    ensures goes { Goes D.tells store.old places.now Call.Begin result.0 store.new (places.now ++ result.1 ∷ []) }
+    ensures made { MakesFew store.old store.new }
 {
     let _ = places;
     begun(store.begin())
@@ -115,7 +116,8 @@ pub(crate) fn submit<D: Disk>(
     label: u64,
     now: u64,
 ) -> (Answer, Held)
-    ensures { Goes D.tells store.old places.old (Call.Submit transaction label now) result.0 store.new (places.new ++ result.1 ∷ []) }
+    ensures goes { Goes D.tells store.old places.old (Call.Submit transaction label now) result.0 store.new (places.new ++ result.1 ∷ []) }
+    ensures made { MakesFew store.old store.new }
 {
     let Some(txn) = take_transaction(places, transaction) else {
         return (Answer::Unknown, Held::Nothing);
@@ -146,7 +148,8 @@ pub(crate) fn abort<D: Disk>(
     places: &mut [Held],
     transaction: usize,
 ) -> Answer
-    ensures { Goes D.tells store.old places.old (Call.Abort transaction) result store.new (places.new ++ Held.Nothing ∷ []) }
+    ensures goes { Goes D.tells store.old places.old (Call.Abort transaction) result store.new (places.new ++ Held.Nothing ∷ []) }
+    ensures made { MakesFew store.old store.new }
 {
     let Some(txn) = take_transaction(places, transaction) else {
         return Answer::Unknown;

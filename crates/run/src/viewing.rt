@@ -2,7 +2,7 @@
 ghost use Rattle.std.specs.Prelude.{◌≡◌, ◌++◌, ◌∷◌, []};
 ghost use Rattle.run.specs.declared.calls.Call.{Call};
 ghost use Rattle.run.specs.Places.{view_answer};
-ghost use Rattle.run.specs.Runs.{Goes};
+ghost use Rattle.run.specs.Runs.{Goes, MakesFew};
 
 use crate::calls::Answer;
 use crate::held::{Held, take_view, view_at};
@@ -35,7 +35,8 @@ pub(crate) fn at<D: Disk>(
     key: Key,
     time: u64,
 ) -> Answer
-    ensures { Goes D.tells store.old places.now (Call.At view key time) result store.new (places.now ++ Held.Nothing ∷ []) }
+    ensures goes { Goes D.tells store.old places.now (Call.At view key time) result store.new (places.now ++ Held.Nothing ∷ []) }
+    ensures made { MakesFew store.old store.new }
 {
     let Some(asked) = view_at(places, view) else {
         return Answer::Unknown;
@@ -44,7 +45,8 @@ pub(crate) fn at<D: Disk>(
 }
 
 pub(crate) fn end<D: Disk>(store: &mut Store<D>, places: &mut [Held], view: usize) -> Answer
-    ensures { Goes D.tells store.old places.old (Call.End view) result store.new (places.new ++ Held.Nothing ∷ []) }
+    ensures goes { Goes D.tells store.old places.old (Call.End view) result store.new (places.new ++ Held.Nothing ∷ []) }
+    ensures made { MakesFew store.old store.new }
 {
     let Some(ended) = take_view(places, view) else {
         return Answer::Unknown;

@@ -15,8 +15,8 @@ use Rattle.run.proofs.Steps.{unknown-goes}
 use Rattle.run.proofs.Tickets.{lacks-ticket, redeem-goes}
 use Rattle.run.proofs.redeeming.redeem.Goals as goal
 
-pub returns-in_default : goal.returns-in_default
-returns-in_default g c =
+pub returns-in_default-clause-goes : goal.returns-in_default-clause-goes
+returns-in_default-clause-goes g c =
     let none = c.in_default.ensures.none in
     unknown-goes g.D.Disk.tells c.args.store.now c.args.places.now c.take_ticket.new.places (call.Redeem c.args.ticket) none.1 (λ w is. lacks-ticket g.D.Disk.tells c.args.store.now c.args.places.now c.args.ticket none.0 w is)
 
@@ -25,8 +25,8 @@ put_back-requires g c =
     let some = c.in-Some.ensures.some in
     ap (λ (l : List Held). slice_get l c.args.ticket) some.1 ∙ get-set_same c.args.places.now c.args.ticket (held.Ticket c.in-Some.shown) held.Nothing some.0
 
-pub returns : goal.returns
-returns g c =
+pub returns-clause-goes : goal.returns-clause-goes
+returns-clause-goes g c =
     let some = c.in-Some.ensures.some in
     let left : Held = c.redeemed-answer.result.1 in
     let now : c.put_back.new.places ≡ slice_set c.args.places.now c.args.ticket left = c.put_back.ensures ∙ ap (λ (l : List Held). slice_set l c.args.ticket left) some.1 ∙ set-set c.args.places.now c.args.ticket held.Nothing left in

@@ -24,6 +24,7 @@ loop-call-init g c = record {
   answers_made = c.in_ok-answers.ensures.len;
   places_room = omega (arith, c.in_ok-places.ensures.capacity);
   places_made = c.in_ok-places.ensures.len;
+  few = omega arith;
   so_far = λ m s. (
     started m,
     subst (λ (l : List Answer). Run (started m) [] l (started m)) (sym c.in_ok-answers.ensures.items) refl,
@@ -45,9 +46,10 @@ loop-call-preserved g c =
       answers_made = omega arith;
       places_room = omega arith;
       places_made = omega arith;
+      few = omega (arith, c.step-answer.ensures.made, c.loop-call.invariant.few);
       so_far = λ m s.
           let before = c.loop-call.invariant.so_far m s in
-          let did = c.step-answer.ensures before.0 (subst (λ (l : List Held). IsWorld g.D.Disk.tells c.loop-call.store l before.0) (sym c.deref_mut.ensures.value) before.2) in (
+          let did = c.step-answer.ensures.goes before.0 (subst (λ (l : List Held). IsWorld g.D.Disk.tells c.loop-call.store l before.0) (sym c.deref_mut.ensures.value) before.2) in (
             did.0,
             subst (λ (l : List Call). Run (started m) l c.push_reserved.new.self.items did.0) (sym more)
                 (subst (λ (l : List Answer). Run (started m) (calls ++ call ∷ []) l did.0) (sym c.push_reserved.ensures.items)

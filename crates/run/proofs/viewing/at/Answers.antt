@@ -14,9 +14,9 @@ use Rattle.run.proofs.Steps.{unknown-goes}
 use Rattle.run.proofs.Views.{held-view, held-no_view, lacks-view, at-goes}
 use Rattle.run.proofs.viewing.at.Goals as goal
 
-pub returns-in_default : goal.returns-in_default
-returns-in_default g c =
+pub returns-in_default-clause-goes : goal.returns-in_default-clause-goes
+returns-in_default-clause-goes g c =
     unknown-goes g.D.Disk.tells c.args.store.now c.args.places.now c.args.places.now (call.At c.args.view c.args.key c.args.time) refl (λ w is. lacks-view g.D.Disk.tells c.args.store.now c.args.places.now c.args.view (held-no_view (slice_get c.args.places.now c.args.view) c.in_default.ensures) w is)
 
-pub returns : goal.returns
-returns g c = at-goes g.D.Disk.tells c.args.store.now c.at.new.self c.args.places.now c.args.view c.args.key c.args.time c.in-Some.asked.now c.at.result (held-view (slice_get c.args.places.now c.args.view) c.in-Some.asked.now c.in-Some.ensures) c.at.ensures.is c.at.ensures.same
+pub returns-clause-goes : goal.returns-clause-goes
+returns-clause-goes g c = at-goes g.D.Disk.tells c.args.store.now c.at.new.self c.args.places.now c.args.view c.args.key c.args.time c.in-Some.asked.now c.at.result (held-view (slice_get c.args.places.now c.args.view) c.in-Some.asked.now c.in-Some.ensures) c.at.ensures.is c.at.ensures.same
