@@ -7,4 +7,5 @@ pub mod Pumping
 pub mod Tickets
 pub mod Views
 pub mod Runs
+pub mod Acknowledging
 pub mod Survival

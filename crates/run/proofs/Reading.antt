@@ -25,6 +25,7 @@ use Rattle.run.specs.declared.held.Held.TheVariants as held
 use Rattle.run.specs.Places.{Place, Free, Running, place_at, transaction_in, HasNoTransaction, IsOwnTransaction, Clash, ArePlaces}
 use Rattle.run.specs.Worlds.{World, IsWorld, put, same}
 use Rattle.run.specs.Runs.{Does, Goes, Puts, Deletes, Gets, Scans, PutSays, DeleteSays, deleted}
+use Rattle.run.proofs.Runs.{no-step}
 use Rattle.run.proofs.Places.{set, push_nothing, own_transaction, at_transaction}
 use Rattle.run.proofs.Steps.{same-world}
 
@@ -56,7 +57,7 @@ get-goes tells v xs i key t r here says w is =
     let h = w.machine.published in
     let shows = is.places.each i (held.Transaction t) here in
     let own = own_transaction v.transactions h t (place_at w.places i) shows in
-    (same w, at_transaction (λ (p : Place). Gets w key p r (same w)) v.transactions h t (place_at w.places i) shows (by-result r says (sees v.transactions h t key own), refl), same-world tells v xs w is)
+    (same w, at_transaction (λ (p : Place). Gets w key p r (same w)) v.transactions h t (place_at w.places i) shows (by-result r says (sees v.transactions h t key own), refl), no-step w.machine, same-world tells v xs w is)
   where
     by-result : (o : Result (Option Value) AllocError) → IfOk o (λ value. value ≡ seen_by t key) → {x : Option Value} → seen_by t key ≡ x → IfOk o (λ value. value ≡ x)
     by-result (Ok value) says is = says ∙ is
@@ -69,7 +70,7 @@ scan-goes tells v xs i relation t r here says w is =
     let shows = is.places.each i (held.Transaction t) here in
     let own = own_transaction v.transactions h t (place_at w.places i) shows in
     let reads : Path (Key → Option Value) (seen_by t) (seen h t.snapshot t.writes) = λ k key. sees v.transactions h t key own k in
-    (same w, at_transaction (λ (p : Place). Scans w relation p r (same w)) v.transactions h t (place_at w.places i) shows (subst (λ (f : Key → Option Value). IfOk r (λ found. IsScan f relation found.items)) reads says, refl), same-world tells v xs w is)
+    (same w, at_transaction (λ (p : Place). Scans w relation p r (same w)) v.transactions h t (place_at w.places i) shows (subst (λ (f : Key → Option Value). IfOk r (λ found. IsScan f relation found.items)) reads says, refl), no-step w.machine, same-world tells v xs w is)
 
 -- ---- put and delete
 
@@ -89,7 +90,7 @@ rewritten-places v h xs ps i t ws here are =
 rewrite-goes : (tells : Bool) (v : StoreValue) (xs : List Held) (i : ℕ) (t t' : TxnValue) (ws : List (KeyWrite Value)) (c : Call) (a : Answer) → slice_get xs i ≡ Some (held.Transaction t) → t' ≡ record t { writes = ws }
     → ((w : World) → IsWorld tells v xs w → Does w c a (same (put w i (Running t.snapshot ws)))) → Goes tells v xs c a v (slice_set xs i (held.Transaction t') ++ held.Nothing ∷ [])
 rewrite-goes tells v xs i t t' ws c a here is does w world =
-    (same (put w i (Running t.snapshot ws)), does w world, subst (λ (x : TxnValue). IsWorld tells v (slice_set xs i (held.Transaction x) ++ held.Nothing ∷ []) (same (put w i (Running t.snapshot ws)))) (sym is) (record {
+    (same (put w i (Running t.snapshot ws)), does w world, no-step w.machine, subst (λ (x : TxnValue). IsWorld tells v (slice_set xs i (held.Transaction x) ++ held.Nothing ∷ []) (same (put w i (Running t.snapshot ws)))) (sym is) (record {
       stands = world.stands;
       places = push_nothing v.transactions w.machine.published (slice_set xs i (held.Transaction (record t { writes = ws }))) (slice_set w.places i (Running t.snapshot ws))
           (rewritten-places v.transactions w.machine.published xs w.places i t ws here world.places);

@@ -7,13 +7,17 @@ use Rattle.store.specs.Values.{StoreValue}
 use Rattle.run.specs.declared.calls.Answer.{Answer}
 use Rattle.run.specs.declared.calls.Call.{Call}
 use Rattle.run.specs.Worlds.{World, IsWorld, started}
-use Rattle.run.specs.Runs.{Does, Run}
+use Rattle.run.specs.Runs.{Does, Follows, Run}
 
-pub run-push : (w : World) (calls : List Call) (answers : List Answer) (mid : World) (c : Call) (a : Answer) (end : World) → Run w calls answers mid → Does mid c a end → Run w (calls ++ c ∷ []) (answers ++ a ∷ []) end
-run-push w [] [] mid c a end run does = (end, subst (λ (x : World). Does x c a end) run does, refl)
-run-push w (x ∷ xs) (y ∷ ys) mid c a end run does = (run.0, run.1, run-push run.0 xs ys mid c a end run.2 does)
-run-push w [] (y ∷ ys) mid c a end run does = absurd run
-run-push w (x ∷ xs) [] mid c a end run does = absurd run
+pub run-push : (w : World) (calls : List Call) (answers : List Answer) (mid : World) (c : Call) (a : Answer) (end : World) → Run w calls answers mid → Does mid c a end → Follows mid.machine end.machine → Run w (calls ++ c ∷ []) (answers ++ a ∷ []) end
+run-push w [] [] mid c a end run does follows = (end, subst (λ (x : World). Does x c a end) run does, subst (λ (x : World). Follows x.machine end.machine) run follows, refl)
+run-push w (x ∷ xs) (y ∷ ys) mid c a end run does follows = (run.0, run.1, run.2, run-push run.0 xs ys mid c a end run.3 does follows)
+run-push w [] (y ∷ ys) mid c a end run does follows = absurd run
+run-push w (x ∷ xs) [] mid c a end run does follows = absurd run
+
+-- a call that leaves the machine as it is
+pub no-step : (m : Machine Value) → Follows m m
+no-step m = ([], refl)
 
 -- before the first call
 pub started-world : (tells : Bool) (v : StoreValue) (m : Machine Value) → Stands tells v m → IsWorld tells v [] (started m)

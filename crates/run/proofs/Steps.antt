@@ -43,6 +43,7 @@ use Rattle.run.specs.declared.held.Held.TheVariants as held
 use Rattle.run.specs.Places.{Place, Free, Running, Waits, Views, place_at, HasNoTransaction, HasNoTicket, HasNoView, IsNoTransaction, IsOwnTransaction, IsOwnTicket, ShowsAs, Clash, ArePlaces, begin_answer, view_answer}
 use Rattle.run.specs.Worlds.{World, IsWorld, leaves, put, moved, same, spent}
 use Rattle.run.specs.Runs.{Does, Goes, NamesNone, Aborts}
+use Rattle.run.proofs.Runs.{no-step}
 use Rattle.run.proofs.Lists.{set-set, get-set_same}
 use Rattle.run.proofs.Places.{push, push_nothing, set, free, move, freed_apart, no_clash, view-no_clash, own_transaction, at_transaction, no_transaction, no_ticket, no_view, GoesOn, goes_on-same, run-goes_on, Keeps, stays, closed_other, opened_other, opened_here}
 
@@ -54,7 +55,7 @@ same-world tells v xs w is = record { stands = is.stands; places = push_nothing 
 -- a call that names nothing
 pub unknown-goes : (tells : Bool) (v : StoreValue) (xs new : List Held) (c : Call) → new ≡ xs → ((w : World) → IsWorld tells v xs w → NamesNone w c) → Goes tells v xs c answer.Unknown v (new ++ held.Nothing ∷ [])
 unknown-goes tells v xs new c is none w world =
-    (same w, (none w world, refl), subst (λ (l : List Held). IsWorld tells v (l ++ held.Nothing ∷ []) (same w)) (sym is) (same-world tells v xs w world))
+    (same w, (none w world, refl), no-step w.machine, subst (λ (l : List Held). IsWorld tells v (l ++ held.Nothing ∷ []) (same w)) (sym is) (same-world tells v xs w world))
 
 pub lacks-transaction : (tells : Bool) (v : StoreValue) (xs : List Held) (i : ℕ) → HasNoTransaction (slice_get xs i) → (w : World) → IsWorld tells v xs w → IsNoTransaction (place_at w.places i)
 lacks-transaction tells v xs i none w is = no_transaction v.transactions w.machine.published xs w.places i is.places none
@@ -99,14 +100,15 @@ begin-goes tells v v' xs (Ok txn) begins w is =
     push after h xs w.places (held.Transaction txn) (Running (last h) []) kept (own, snapshot, b.writes) (λ j x at clash. fresh-apart v.transactions h txn x (place_at w.places j) b.fresh (is.places.each j x at) clash) in (
       leaves (moved w (begun m)) (Running (last h) []),
       ((did.0.0, refl, refl), refl),
+      (Began (last h) ∷ [], (begun m, (did.0.0, refl, refl), refl)),
       record { stands = did.1; places = subst (λ (t : TransactionsValue). ArePlaces t h (xs ++ held.Transaction txn ∷ []) (w.places ++ Running (last h) [] ∷ [])) (sym b.new_is) places },
     )
 begin-goes tells v v' xs (Err begin.NoMemory) begins w is =
     let did = begin-stands tells v v' (Err begin.NoMemory) w.machine is.stands begins in
-    (same w, (did.0, refl), record { stands = did.1; places = subst (λ (t : TransactionsValue). ArePlaces t w.machine.published (xs ++ held.Nothing ∷ []) (w.places ++ Free ∷ [])) (sym begins.transactions.1) (push_nothing v.transactions w.machine.published xs w.places is.places) })
+    (same w, (did.0, refl), no-step w.machine, record { stands = did.1; places = subst (λ (t : TransactionsValue). ArePlaces t w.machine.published (xs ++ held.Nothing ∷ []) (w.places ++ Free ∷ [])) (sym begins.transactions.1) (push_nothing v.transactions w.machine.published xs w.places is.places) })
 begin-goes tells v v' xs (Err begin.Failed) begins w is =
     let did = begin-stands tells v v' (Err begin.Failed) w.machine is.stands begins in
-    (same w, (did.0, refl), record { stands = did.1; places = subst (λ (t : TransactionsValue). ArePlaces t w.machine.published (xs ++ held.Nothing ∷ []) (w.places ++ Free ∷ [])) (sym begins.transactions.1) (push_nothing v.transactions w.machine.published xs w.places is.places) })
+    (same w, (did.0, refl), no-step w.machine, record { stands = did.1; places = subst (λ (t : TransactionsValue). ArePlaces t w.machine.published (xs ++ held.Nothing ∷ []) (w.places ++ Free ∷ [])) (sym begins.transactions.1) (push_nothing v.transactions w.machine.published xs w.places is.places) })
 
 -- ---- the store's own transaction
 
@@ -167,6 +169,7 @@ abort-goes tells v v' xs i t here are aborts w is =
     let places = over-places v.transactions m.published after.published xs w.places i t here goes is.places in (
       spent (moved w after) i,
       at_transaction (λ (p : Place). Aborts w i p (spent (moved w after) i)) v.transactions m.published t (place_at w.places i) shows (after, did.1, refl),
+      (Aborted t.snapshot ∷ [], (after, did.1, refl)),
       record {
         stands = did.2;
         places = push_nothing v'.transactions after.published (slice_set xs i held.Nothing) (slice_set w.places i Free) (subst (λ (u : TransactionsValue). ArePlaces u after.published (slice_set xs i held.Nothing) (slice_set w.places i Free)) (sym over_is) places);

@@ -37,7 +37,7 @@ use Rattle.run.specs.declared.held.Held.{Held}
 use Rattle.run.specs.declared.held.Held.TheVariants as held
 use Rattle.run.specs.Places.{Place, Free, Running, Waits, place_at, IsOwnTicket, ShowsAs, Clash, ArePlaces, submit_answer}
 use Rattle.run.specs.Worlds.{World, IsWorld, leaves, put, moved}
-use Rattle.run.specs.Runs.{Does, Goes, Submits}
+use Rattle.run.specs.Runs.{Does, Goes, Submits, Follows}
 use Rattle.run.specs.Runs as told
 use Rattle.run.proofs.Places.{push, push_nothing, move, own_transaction, own_ticket, at_transaction, GoesOn, goes_on-same, run-goes_on, Keeps, stays, awaited-push, awaited-early, awaited-new}
 use Rattle.run.proofs.Steps.{own-is, over-places}
@@ -122,10 +122,11 @@ submit-goes tells v v' xs i t label now r here are range submits w is =
     -- it is over, and leaves nothing
     nothing : (said : Result SubmitOutcome SubmitFault) (event : Event Value) (after : Machine Value) → Step IsValue w.machine event after → Stands tells v' after → ShowsAs v.transactions w.machine.published (held.Transaction t) (place_at w.places i)
         → ArePlaces (over v.transactions t.number) after.published (slice_set xs i held.Nothing) (slice_set w.places i Free) → v'.transactions ≡ over v.transactions t.number → told.Submitted w.machine (submission_of t label now) said event Free
-        → (next : World) × Submits w i label now (place_at w.places i) said next × IsWorld tells v' (slice_set xs i held.Nothing ++ held.Nothing ∷ []) next
+        → (next : World) × Submits w i label now (place_at w.places i) said next × Follows w.machine next.machine × IsWorld tells v' (slice_set xs i held.Nothing ++ held.Nothing ∷ []) next
     nothing said event after step stands shows places same says = (
       leaves (put (moved w after) i Free) Free,
       at_transaction (λ (p : Place). Submits w i label now p said (leaves (put (moved w after) i Free) Free)) v.transactions w.machine.published t (place_at w.places i) shows (event, after, Free, says, step, refl),
+      (event ∷ [], (after, step, refl)),
       record {
         stands = stands;
         places = push_nothing v'.transactions after.published (slice_set xs i held.Nothing) (slice_set w.places i Free) (subst (λ (u : TransactionsValue). ArePlaces u after.published (slice_set xs i held.Nothing) (slice_set w.places i Free)) (sym same) places);
@@ -134,7 +135,7 @@ submit-goes tells v v' xs i t label now r here are range submits w is =
 
     by-result : (o : Result Submitted SubmitFault) → Left (over v.transactions t.number) t label o v'.transactions → (after : Machine Value) → Step IsValue w.machine (event_of w.machine (submission_of t label now) o) after → Stands tells v' after
         → ShowsAs v.transactions w.machine.published (held.Transaction t) (place_at w.places i) → ArePlaces (over v.transactions t.number) after.published (slice_set xs i held.Nothing) (slice_set w.places i Free)
-        → (next : World) × Does w (call.Submit i label now) (submit_answer o).0 next × IsWorld tells v' (slice_set xs i held.Nothing ++ (submit_answer o).1 ∷ []) next
+        → (next : World) × Does w (call.Submit i label now) (submit_answer o).0 next × Follows w.machine next.machine × IsWorld tells v' (slice_set xs i held.Nothing ++ (submit_answer o).1 ∷ []) next
     by-result (Ok (submitted.ReadOnly snapshot)) left after step stands shows places =
         nothing (Ok (outcome.ReadOnly snapshot)) (Decided (submission_of t label now) submissions.Reads) after step stands shows places left.1 (left.0, refl, refl)
     by-result (Ok (submitted.Queued ticket)) left after step stands shows places =
@@ -154,6 +155,7 @@ submit-goes tells v v' xs i t label now r here are range submits w is =
           leaves (put (moved w after) i Free) (Waits (commit_made m s).time),
           at_transaction (λ (p : Place). Submits w i label now p (Ok outcome.Queued) (leaves (put (moved w after) i Free) (Waits (commit_made m s).time))) v.transactions w.machine.published t (place_at w.places i) shows
               (Decided s (submissions.Queues (commit_made m s)), after, Waits (commit_made m s).time, (refl, refl), step, refl),
+          (Decided s (submissions.Queues (commit_made m s)) ∷ [], (after, step, refl)),
           record {
             stands = stands;
             places = subst (λ (u : TransactionsValue). ArePlaces u after.published (slice_set xs i held.Nothing ++ held.Ticket ticket ∷ []) (slice_set w.places i Free ++ Waits (commit_made m s).time ∷ [])) (sym joins.new_is) pushed;

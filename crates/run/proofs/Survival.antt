@@ -23,7 +23,13 @@ use Rattle.standing.specs.Stands.{Stands}
 use Rattle.opened.proofs.Opened.{open-stands}
 use Rattle.opened.proofs.Reopened.{open-refuses}
 use Rattle.opened.proofs.Answering.{stands-answers}
-use Rattle.run.specs.Promise.{HasCommitAt, IsPrefixOf, IsKeptAs, Survives}
+use Rattle.run.specs.declared.calls.Call.{Call}
+use Rattle.run.specs.declared.calls.Answer.{Answer}
+use Rattle.run.specs.declared.held.Held.{Held}
+use Rattle.run.specs.Worlds.{World, IsWorld, started}
+use Rattle.run.specs.Runs.{Run}
+use Rattle.run.specs.Promise.{acknowledged, HasCommitAt, IsPrefixOf, IsKeptAs, Survives, Promises, Promise}
+use Rattle.run.proofs.Acknowledging.{run-done}
 
 -- an image that stands for a history is kept as it
 kept-as : (tells : Bool) (header : Header) (image : Image) (h : History Value) (floors : ℕ → ℕ) → IsTrue tells → IsImageOf header image h floors → IsKeptAs tells image h floors
@@ -66,3 +72,16 @@ survives tells v m times stands told all image left =
       kept = kept-as tells d.header image (m.published ++ take m.group m.queue) m.floors told is;
     }
     by-front d (inr (inr raised)) = absurd (no-raise m.raising stands.memory.raising (IsImageOf d.header image) raised)
+
+-- ---- lists of calls
+
+-- after every list of calls whatever a stop may leave survives
+pub list-promises : (tells : Bool) (old : StoreValue) (m : Machine Value) (calls : List Call) (said : List Answer) (new : StoreValue) (held : List Held)
+    → (w : World) × Run (started m) calls said w × IsWorld tells new held w → Promises tells old m calls said new held
+list-promises tells old m calls said new held ran =
+    (ran.0, ran.1, ran.2, λ told image left. survives tells new ran.0.machine (acknowledged said) ran.2.stands told (run-done (started m) calls said ran.0 ran.1) image left)
+
+pub promise : Promise
+promise tells disk mark v new header h floors calls said held told sound is opens promised =
+    let ran = promised (opened h floors) (open-stands tells disk mark v header h floors opens told sound is) in
+    (ran.0, ran.1, λ image left. ran.3 told image left)

@@ -26,7 +26,8 @@ use Rattle.run.specs.declared.held.Held.{Held}
 use Rattle.run.specs.declared.held.Held.TheVariants as held
 use Rattle.run.specs.Places.{Place, Free, Waits, place_at, HasNoTicket, IsNoTicket, IsOwnTicket, ShowsAs, Clash, ArePlaces, redeem_answer}
 use Rattle.run.specs.Worlds.{World, IsWorld, same, spent}
-use Rattle.run.specs.Runs.{Does, Goes, Redeems, GivesUp}
+use Rattle.run.specs.Runs.{Does, Goes, Redeems, GivesUp, Follows}
+use Rattle.run.proofs.Runs.{no-step}
 use Rattle.run.proofs.Lists.{set-get}
 use Rattle.run.proofs.Places.{push_nothing, free, move, freed_apart, own_ticket, at_ticket, no_ticket, goes_on-same, Keeps, stays, awaited-redeemed}
 
@@ -81,10 +82,11 @@ redeem-goes tells v v' xs i k r here redeems w is =
     by-result : (o : Redeemed) → Left v.transactions k o v'.transactions → RedeemsAs (answers.redeemed_by w.machine k.time) o → ShowsAs v.transactions w.machine.published (held.Ticket k) (place_at w.places i) → Stands tells v' w.machine
         → ArePlaces v.transactions w.machine.published (slice_set xs i held.Nothing) (slice_set w.places i Free)
         → ArePlaces (record v.transactions { heads = orders.redeemed k.time v.transactions.heads }) w.machine.published (slice_set xs i held.Nothing) (slice_set w.places i Free)
-        → (next : World) × Does w (call.Redeem i) (redeem_answer o).0 next × IsWorld tells v' (slice_set xs i (redeem_answer o).1 ++ held.Nothing ∷ []) next
+        → (next : World) × Does w (call.Redeem i) (redeem_answer o).0 next × Follows w.machine next.machine × IsWorld tells v' (slice_set xs i (redeem_answer o).1 ++ held.Nothing ∷ []) next
     by-result (redeemed.Done time) left says shows stands freed moved = (
       spent w i,
       at_ticket (λ (p : Place). Redeems w i p (told.Done time) (spent w i)) v.transactions w.machine.published k (place_at w.places i) shows (says, refl),
+      no-step w.machine,
       record {
         stands = stands;
         places = push_nothing v'.transactions w.machine.published (slice_set xs i held.Nothing) (slice_set w.places i Free) (subst (λ (t : TransactionsValue). ArePlaces t w.machine.published (slice_set xs i held.Nothing) (slice_set w.places i Free)) (sym left) moved);
@@ -94,6 +96,7 @@ redeem-goes tells v v' xs i k r here redeems w is =
         let still : slice_set xs i (held.Ticket back) ≡ xs = ap (λ (t : TicketValue). slice_set xs i (held.Ticket t)) left.0 ∙ set-get xs i (held.Ticket k) here in (
           same w,
           at_ticket (λ (p : Place). Redeems w i p told.Waiting (same w)) v.transactions w.machine.published k (place_at w.places i) shows (says, refl),
+          no-step w.machine,
           record {
             stands = stands;
             places = subst (λ (l : List Held). ArePlaces v'.transactions w.machine.published (l ++ held.Nothing ∷ []) (w.places ++ Free ∷ [])) (sym still)
@@ -103,6 +106,7 @@ redeem-goes tells v v' xs i k r here redeems w is =
     by-result redeemed.InDoubt left says shows stands freed moved = (
       spent w i,
       at_ticket (λ (p : Place). Redeems w i p told.InDoubt (spent w i)) v.transactions w.machine.published k (place_at w.places i) shows (says, refl),
+      no-step w.machine,
       record {
         stands = stands;
         places = push_nothing v'.transactions w.machine.published (slice_set xs i held.Nothing) (slice_set w.places i Free) (subst (λ (t : TransactionsValue). ArePlaces t w.machine.published (slice_set xs i held.Nothing) (slice_set w.places i Free)) (sym left) freed);
@@ -114,5 +118,6 @@ pub give_up-goes : (tells : Bool) (v : StoreValue) (xs : List Held) (i : ℕ) (k
 give_up-goes tells v xs i k here w is =
     (spent w i,
       at_ticket (λ (p : Place). GivesUp w i p (spent w i)) v.transactions w.machine.published k (place_at w.places i) (is.places.each i (held.Ticket k) here) refl,
+      no-step w.machine,
       record { stands = is.stands; places = push_nothing v.transactions w.machine.published (slice_set xs i held.Nothing) (slice_set w.places i Free) (free v.transactions w.machine.published xs w.places i (held.Ticket k) is.places here) },
     )

@@ -22,6 +22,7 @@ use Rattle.run.specs.declared.held.Held.TheVariants as held
 use Rattle.run.specs.Places.{Place, Free, Views, place_at, view_in, HasNoView, IsNoView, ShowsAs, view_answer}
 use Rattle.run.specs.Worlds.{World, IsWorld, leaves, same, spent}
 use Rattle.run.specs.Runs.{Goes, Asks, Closes}
+use Rattle.run.proofs.Runs.{no-step}
 use Rattle.run.proofs.Places.{push, push_nothing, free, view-no_clash, at_view, no_view}
 use Rattle.run.proofs.Steps.{same-world}
 
@@ -48,9 +49,10 @@ view-goes tells v xs (Ok view) of w is =
     let shows : ShowsAs v.transactions h (held.View view) (Views h w.machine.floors) = (ap (λ (x : ViewValue). x.mark) of, view-stands v view w.machine is.stands.memory of) in (
       leaves w (Views h w.machine.floors),
       refl,
+      no-step w.machine,
       record { stands = is.stands; places = push v.transactions h xs w.places (held.View view) (Views h w.machine.floors) is.places shows (λ j b at clash. view-no_clash view b clash) },
     )
-view-goes tells v xs (Err why) of w is = (same w, refl, same-world tells v xs w is)
+view-goes tells v xs (Err why) of w is = (same w, refl, no-step w.machine, same-world tells v xs w is)
 
 -- the store's own view is answered
 own-answered : (tells b : Bool) (said : Result (Option Value) answers.QueryRefusal) (r : Result (Option Value) QueryFault) → b ≡ true → MatchBool b (SaysAt said r) (r ≡ Err query.Stranger) → SaysAt said r
@@ -64,6 +66,7 @@ at-goes tells v v' xs i key time view r here says unchanged w is =
       at_view (λ (p : Place). Asks w key time p r (same w)) v.transactions w.machine.published view (place_at w.places i) (is.places.each i (held.View view) here) (λ history floors mark stands.
           let mine : (view.mark == v.transactions.mark) ≡ true = grind (arith, nat_tests) in
           (own-answered tells (view.mark == v.transactions.mark) (answers.at_answer history floors key time) r mine (at-answered v view history floors key time r stands says), refl)),
+      no-step w.machine,
       subst (λ (x : StoreValue). IsWorld tells x (xs ++ held.Nothing ∷ []) (same w)) (sym unchanged) (same-world tells v xs w is),
     )
 
@@ -71,10 +74,11 @@ pub end-goes : (tells : Bool) (v v' : StoreValue) (xs : List Held) (i : ℕ) (vi
 end-goes tells v v' xs i view here unchanged w is =
     (spent w i,
       at_view (λ (p : Place). Closes w i p (spent w i)) v.transactions w.machine.published view (place_at w.places i) (is.places.each i (held.View view) here) (λ history floors mark stands. refl),
+      no-step w.machine,
       subst (λ (x : StoreValue). IsWorld tells x (slice_set xs i held.Nothing ++ held.Nothing ∷ []) (spent w i)) (sym unchanged)
           (record { stands = is.stands; places = push_nothing v.transactions w.machine.published (slice_set xs i held.Nothing) (slice_set w.places i Free) (free v.transactions w.machine.published xs w.places i (held.View view) is.places here) }),
     )
 
 pub times-goes : (tells : Bool) (v : StoreValue) (xs : List Held) (label : ℕ) (r : Result (Vec ℕ Global) AllocError) → IfOk r (λ times. stores.IsTimesOf v label times.items) → Goes tells v xs (call.TimesOf label) (answer.TimesOf r) v (xs ++ held.Nothing ∷ [])
-times-goes tells v xs label (Ok times) of w is = (same w, (of ∙ times-of_label v.transactions w.machine label is.stands.memory, refl), same-world tells v xs w is)
-times-goes tells v xs label (Err why) of w is = (same w, (tt, refl), same-world tells v xs w is)
+times-goes tells v xs label (Ok times) of w is = (same w, (of ∙ times-of_label v.transactions w.machine label is.stands.memory, refl), no-step w.machine, same-world tells v xs w is)
+times-goes tells v xs label (Err why) of w is = (same w, (tt, refl), no-step w.machine, same-world tells v xs w is)

@@ -1,5 +1,5 @@
 -- What a store promises of each moment at which its machine may stop, in the words of its users.
-use Rattle.std.specs.Prelude.{ℕ, ◌≡◌, ◌≤◌, ◌+◌, ◌++◌, Bool, IsTrue, List, [], ◌∷◌, length, Contains}
+use Rattle.std.specs.Prelude.{ℕ, ◌≡◌, ◌++◌, Bool, IsTrue, List, [], ◌∷◌, Contains}
 use Rattle.std.specs.List.{AllByRecursion}
 use Rattle.disk.specs.Areas.{Image, AreSound, LeavesImage, image_of}
 use Rattle.disk.specs.Calls.{DiskState}
@@ -81,10 +81,6 @@ Leaves tells v answers w = IsTrue tells → (image : Image) → LeavesImage v.di
 -- What a list of calls does to a store that stands for this state of the machine: the answers are those of a run of the machine, with what the places hold, and whatever a stop may leave after it survives.
 abbrev pub Promises : Bool → StoreValue → Machine Value → List Call → List Answer → StoreValue → List Held → Type 0
 Promises tells old m calls answers new held = (w : World) × Run (started m) calls answers w × IsWorld tells new held w × Leaves tells new answers w
-
--- each call makes at most one write or sync, so the ends of its fronts are all its moments
-abbrev pub MakesFew : StoreValue → List Call → StoreValue → Type 0
-MakesFew old calls new = new.disk.made ≤ old.disk.made + length calls
 
 -- The whole promise: for every list of calls, by any number of callers in turn, on a store opened on an image that stands for some history.
 abbrev pub Promise : Type 0

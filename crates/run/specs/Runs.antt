@@ -188,15 +188,19 @@ Does w (call.End i) answer.End next = Closes w i (place_at w.places i) next
 Does w (call.TimesOf label) (answer.TimesOf said) next = ListsTimes w label said next
 Does w c a next = ⊥
 
--- one call after another
+-- a run of the machine leads from one state to the other
+abbrev pub Follows : Machine Value → Machine Value → Type 0
+Follows m after = (events : List (Event Value)) × steps.Run IsValue m events after
+
+-- one call after another: what a call does to the machine is a run of it
 abbrev pub Run : World → List Call → List Answer → World → Type 0
 Run w [] [] end = end ≡ w
-Run w (c ∷ cs) (a ∷ said) end = (next : World) × Does w c a next × Run next cs said end
+Run w (c ∷ cs) (a ∷ said) end = (next : World) × Does w c a next × Follows w.machine next.machine × Run next cs said end
 Run w cs said end = ⊥
 
 -- from each world of the store and the places the call leads by this answer to one of theirs after it
 abbrev pub Goes : Bool → StoreValue → List Held → Call → Answer → StoreValue → List Held → Type 0
-Goes tells old before c a new after = (w : World) → IsWorld tells old before w → (next : World) × Does w c a next × IsWorld tells new after next
+Goes tells old before c a new after = (w : World) → IsWorld tells old before w → (next : World) × Does w c a next × Follows w.machine next.machine × IsWorld tells new after next
 
 -- at most one device call is made
 abbrev pub MakesFew : StoreValue → StoreValue → Type 0

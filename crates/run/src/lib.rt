@@ -3,6 +3,7 @@
 
 mod calls;
 mod held;
+mod opening;
 mod redeeming;
 mod runner;
 mod transacting;
@@ -10,4 +11,5 @@ mod viewing;
 
 pub use calls::{Answer, Call, RedeemOutcome, SubmitOutcome};
 pub use held::Held;
+pub use opening::{close, format, open, whatever_a_stop_leaves};
 pub use runner::run;

@@ -3,8 +3,8 @@ ghost use Rattle.std.specs.Prelude.{◌≡◌, ◌≤◌, ◌+◌, ◌++◌, ◌
 ghost use Rattle.history.specs.Machine.{Machine};
 ghost use Rattle.image.specs.Values.{Value};
 ghost use Rattle.standing.specs.Stands.{Stands};
-ghost use Rattle.run.specs.Worlds.{World, IsWorld, started};
-ghost use Rattle.run.specs.Runs.{Run, Goes, MakesFew};
+ghost use Rattle.run.specs.Runs.{Goes, MakesFew};
+ghost use Rattle.run.specs.Promise.{Promises};
 
 use crate::calls::{Answer, Call};
 use crate::held::Held;
@@ -26,8 +26,8 @@ pub fn run<D: Disk>(
     store: &mut Store<D>,
     calls: &[Call<'_>],
 ) -> Result<(Vec<Answer>, Vec<Held>), AllocError>
-    // For each state of the machine that the store stands for the answers are those of a run of the machine and of what the places hold, and the store stands for the state after it.
-    ensures run { IfOk result (λ (answers, places). (m : Machine Value) → Stands D.tells store.old m → (w : World) × Run (started m) calls.now answers.items w × IsWorld D.tells store.new places.items w) }
+    // For each state of the machine that the store stands for: the answers are those of a run of the machine with what the places hold, the store stands for the state after it, and whatever a stop may now leave is kept as a prefix of the commit order that has every commit of which Done was answered.
+    ensures run { IfOk result (λ (answers, places). (m : Machine Value) → Stands D.tells store.old m → Promises D.tells store.old m calls.now answers.items store.new places.items) }
     // Each call makes at most one write or sync of the disk.
     ensures made { store.new.disk.made ≤ store.old.disk.made + length calls.now }
     ensures err { OnErr result (store.new ≡ store.old) }

@@ -9,6 +9,7 @@ use Rattle.run.specs.declared.held.Held.{Held}
 use Rattle.run.specs.Worlds.{World, IsWorld, started}
 use Rattle.run.specs.Runs.{Run}
 use Rattle.run.proofs.Runs.{run-push, started-world}
+use Rattle.run.proofs.Survival.{list-promises}
 use Rattle.run.proofs.runner.run.Goals as goal
 
 -- a vector lent as a slice, which keeps its length, holds the slice's new elements
@@ -53,7 +54,15 @@ loop-call-preserved g c =
             did.0,
             subst (λ (l : List Call). Run (started m) l c.push_reserved.new.self.items did.0) (sym more)
                 (subst (λ (l : List Answer). Run (started m) (calls ++ call ∷ []) l did.0) (sym c.push_reserved.ensures.items)
-                (run-push (started m) calls c.loop-call.answers.items before.0 call c.step-answer.result.0 did.0 before.1 did.1)),
-            subst (λ (l : List Held). IsWorld g.D.Disk.tells c.step-answer.new.store l did.0) (sym places) did.2,
+                (run-push (started m) calls c.loop-call.answers.items before.0 call c.step-answer.result.0 did.0 before.1 did.1 did.2)),
+            subst (λ (l : List Held). IsWorld g.D.Disk.tells c.step-answer.new.store l did.0) (sym places) did.3,
           );
     }
+
+pub returns-clause-run : goal.returns-clause-run
+returns-clause-run g c =
+    λ m stands. list-promises g.D.Disk.tells c.args.store.now m c.args.calls.now c.loop-call.answers.items c.loop-call.store c.loop-call.places.items (
+      let so_far = c.loop-call.invariant.so_far m stands in
+      let all : take c.loop-call.call-index c.args.calls.now ≡ c.args.calls.now = take_all c.loop-call.call-index c.args.calls.now (omega (arith, c.loop-call-test.false)) in
+      (so_far.0, subst (λ (l : List Call). Run (started m) l c.loop-call.answers.items so_far.0) all so_far.1, so_far.2)
+    )

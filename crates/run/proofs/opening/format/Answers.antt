@@ -1,0 +1,18 @@
+use Rattle.std.proofs.Common.{◌≡◌, List, [], Result, Ok, Err}
+use Rattle.std.specs.Prelude.{OnOk, IsTrue}
+use Rattle.disk.specs.Areas.{Areas, Image, LeavesImage}
+use Rattle.status.specs.Header.{new_header}
+use Rattle.recovery.specs.Format.{IsFormatted}
+use Rattle.recovery.specs.declared.fault.FormatFault.{FormatFault}
+use Rattle.standing.specs.OnDisk.{IsImageOf}
+use Rattle.opened.proofs.Formatted.{formatted-leaves}
+use Rattle.run.proofs.opening.format.Goals as goal
+
+by-result : (slots : _) (old new : Areas) (r : Result (Unit {0}) FormatFault) → OnOk r (IsFormatted slots old new) → OnOk r ((image : Image) → LeavesImage new image → IsImageOf (new_header 1 slots) image [] (λ relation. 0))
+by-result slots old new (Ok u) is = λ image left. formatted-leaves slots old new image is left
+by-result slots old new (Err why) is = tt
+
+pub returns : goal.returns
+returns g c = record {
+  stands = λ told. by-result c.args.slots (g.D.Disk.state c.args.disk.now).areas (g.D.Disk.state c.format.new.disk).areas c.format.result (c.format.ensures.formatted told);
+}

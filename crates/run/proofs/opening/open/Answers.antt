@@ -1,0 +1,28 @@
+use Rattle.std.proofs.Common.{◌≡◌, ℕ, Bool, Result, Ok, Err, MatchResult}
+use Rattle.std.specs.Prelude.{IfOk, IfErr, IsTrue}
+use Rattle.disk.specs.Areas.{AreSound, image_of}
+use Rattle.disk.specs.Calls.{DiskState}
+use Rattle.history.specs.Histories.{History}
+use Rattle.history.specs.Machine.{opened}
+use Rattle.image.specs.Values.{Value}
+use Rattle.status.specs.declared.header.Header.{Header}
+use Rattle.recovery.specs.Faults.{IsReadFault}
+use Rattle.recovery.specs.declared.fault.OpenFault.{OpenFault}
+use Rattle.store.specs.Values.{StoreValue}
+use Rattle.store.specs.Opens.{Opens, OpenRefuses}
+use Rattle.standing.specs.OnDisk.{IsImageOf}
+use Rattle.standing.specs.Stands.{Stands}
+use Rattle.opened.proofs.Opened.{open-stands}
+use Rattle.opened.proofs.Reopened.{open-refuses}
+use Rattle.run.proofs.opening.open.Goals as goal
+
+by-result : {S : Type 0} (tells : Bool) (disk_of : S → DiskState) (old : DiskState) (mark : ℕ) (r : Result StoreValue (OpenFault × S)) → IfOk r (λ s. Opens tells old mark s) → IfErr r (λ e. OpenRefuses tells old e.0 (disk_of e.1))
+    → (header : Header) (h : History Value) (floors : ℕ → ℕ) → IsTrue tells → AreSound old.areas → IsImageOf header (image_of old.areas) h floors
+    → MatchResult r (λ s. Stands tells s (opened h floors)) (λ e. IsReadFault e.0 × (image_of (disk_of e.1).areas ≡ image_of old.areas))
+by-result tells disk_of old mark (Ok s) ok err header h floors told sound is = open-stands tells old mark s header h floors ok told sound is
+by-result tells disk_of old mark (Err e) ok err header h floors told sound is = open-refuses tells old (disk_of e.1) e.0 header h floors err told is
+
+pub returns : goal.returns
+returns g c = record {
+  stands = λ header h floors told is. by-result g.D.Disk.tells g.D.Disk.state (g.D.Disk.state c.args.disk) c.args.mark c.open.result c.open.ensures.ok c.open.ensures.err header h floors told (g.D.Disk.sound c.args.disk told) is;
+}

@@ -1,0 +1,58 @@
+//! Formatting, opening and closing, with what they stand for.
+ghost use Rattle.std.specs.Prelude.{ℕ, ◌≡◌, [], IsTrue, OnOk, MatchResult};
+ghost use Rattle.disk.specs.Areas.{Image, LeavesImage, image_of};
+ghost use Rattle.history.specs.Fronts.{OnFront};
+ghost use Rattle.history.specs.Histories.{History};
+ghost use Rattle.history.specs.Machine.{Machine, opened};
+ghost use Rattle.image.specs.Values.{Value};
+ghost use Rattle.status.specs.declared.header.Header.{Header};
+ghost use Rattle.status.specs.Header.{new_header};
+ghost use Rattle.recovery.specs.Faults.{IsReadFault};
+ghost use Rattle.standing.specs.OnDisk.{IsImageOf};
+ghost use Rattle.standing.specs.Stands.{Stands};
+ghost use Rattle.run.specs.Promise.{Promise};
+
+use disk::Disk;
+use recovery::FormatFault;
+use std::alloc::Global;
+use store::{OpenFault, Store};
+
+/// Makes the status area that of a new store with this many slots, 16 to 65,536.
+///
+/// # Errors
+///
+/// Those of `recovery::format`.
+pub fn format<D: Disk>(alloc: Global, disk: &mut D, slots: u32) -> Result<(), FormatFault>
+    // Whatever a stop may leave of a formatted disk is an image of the empty history.
+    ensures stands { IsTrue D.tells → OnOk result ((image : Image) → LeavesImage (D.state disk.new).areas image → IsImageOf (new_header 1 slots) image [] (λ relation. 0)) }
+{
+    recovery::format(alloc, disk, slots)
+}
+
+/// Opens the store that the disk holds, with a mark of the caller's.
+///
+/// # Errors
+///
+/// Those of `Store::open`, with the disk.
+pub fn open<D: Disk>(alloc: Global, disk: D, mark: u64) -> Result<Store<D>, (OpenFault, D)>
+    // On an image that stands for a history the store stands for it. Nothing but the device or memory refuses it, and then the disk still holds the image.
+    ensures stands { (header : Header) (h : History Value) (floors : ℕ → ℕ) → IsTrue D.tells → IsImageOf header (image_of (D.state disk).areas) h floors → MatchResult result (λ s. Stands D.tells s (opened h floors)) (λ e. IsReadFault e.0 × (image_of (D.state e.1).areas ≡ image_of (D.state disk).areas)) }
+{
+    Store::open(alloc, disk, mark)
+}
+
+/// Ends the store and hands its disk back. What waits is not published.
+pub fn close<D: Disk>(store: Store<D>) -> D
+    // Whatever a stop may leave of the disk is an image of a front of the commit order.
+    ensures stands { (m : Machine Value) → Stands D.tells store m → IsTrue D.tells → (header : Header) × ((image : Image) → LeavesImage (D.state result).areas image → OnFront (IsImageOf header image) m) }
+{
+    store.close()
+}
+
+/// The promise of the whole store: for every list of calls, by any number of callers in turn, on a
+/// store opened on an image that stands for some history, whatever a stop may leave then stands for
+/// a prefix of the commit order that has every acknowledged commit; it opens, and every query over
+/// kept times that is answered there is answered as the prefix's write sets alone say.
+pub fn whatever_a_stop_leaves()
+    ensures { Promise }
+{}
