@@ -11,3 +11,6 @@ mod viewing;
 pub use calls::{Answer, Call, RedeemOutcome, SubmitOutcome};
 pub use held::Held;
 pub use runner::run;
+
+#[cfg(test)]
+mod tests;
