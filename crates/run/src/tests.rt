@@ -159,7 +159,7 @@ fn what_is_left_over_is_given_back(rt: HostRuntime) -> Result<(), Fail> {
         },
     ];
     let (answers, left) = answers_to(rt.alloc(), &calls)?;
-    assert_eq!(rt; left, 3);
+    assert_eq!(rt; (answers.len(), left), (7, 3));
     assert!(rt; matches!(answers[6], Answer::Submit(Ok(SubmitOutcome::ReadOnly(0)))));
     Ok(())
 }

@@ -2,4 +2,4 @@ use Rattle.std.proofs.Common.{vec_len}
 use Rattle.run.proofs.tests.answers_to.Given as goal
 
 abbrev pub decreases-loop-held : goal.decreases-loop-held
-decreases-loop-held g l = vec_len l.places
+decreases-loop-held l = vec_len l.places
