@@ -1,5 +1,5 @@
 -- What is held stays the store's own and goes on standing for what it did.
-use Rattle.std.proofs.Common.{◌≡◌, ◌≢◌, ◌⊎◌, inl, inr, ℕ, zero, suc, ◌<◌, ◌≤◌, ◌==◌, nat_lt, Bool, true, false, cond, List, [], ◌∷◌, ◌++◌, length, Option, Some, None, refl, sym, ◌∙◌, ap, subst, arith}
+use Rattle.std.proofs.Common.{◌≡◌, ◌≢◌, inl, inr, ℕ, zero, suc, ◌<◌, ◌≤◌, ◌==◌, nat_lt, Bool, true, false, cond, List, [], ◌∷◌, ◌++◌, length, Option, Some, None, refl, sym, ◌∙◌, ap, subst, arith}
 use Rattle.std.specs.Prelude.{slice_get, slice_set}
 use Rattle.std.proofs.lemmas.Bool.{cases_lt, cases_eq}
 use Rattle.std.proofs.lemmas.Bool.Decides.{nat_tests}
@@ -11,7 +11,7 @@ use Rattle.history.proofs.Histories.{last_after-append, rising-from_following, t
 use Rattle.history.proofs.Runs.{last-later, run-shows}
 use Rattle.image.specs.Values.{Value, IsValue}
 use Rattle.snapshot.specs.OpenTable.{joined, snapshot_of, with_opened, with_closed}
-use Rattle.snapshot.specs.Txn.{TxnValue, at_snapshot}
+use Rattle.snapshot.specs.Txn.{TxnValue}
 use Rattle.group.specs.CommitOrder.{is_awaited, redeemed, IsRisingAfter, last_time_after}
 use Rattle.group.specs.Tickets.{TicketValue}
 use Rattle.group.specs.declared.commit_order.CommitHead.{CommitHead}

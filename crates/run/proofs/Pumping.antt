@@ -1,5 +1,5 @@
 -- A step of a group.
-use Rattle.std.proofs.Common.{◌≡◌, ℕ, ◌+◌, ◌≤◌, ◌==◌, ◌&&◌, nat_lt, min, length, Bool, true, false, cond, List, [], ◌∷◌, ◌++◌, Some, None, Option, Result, Ok, Err, MatchBool, MatchOption, MatchResult, refl, sym, ◌∙◌, ap, subst, arith}
+use Rattle.std.proofs.Common.{◌≡◌, ℕ, ◌+◌, ◌≤◌, ◌==◌, ◌&&◌, nat_lt, min, length, Bool, true, false, cond, List, [], ◌∷◌, ◌++◌, Some, None, Option, Result, Ok, Err, MatchBool, MatchOption, refl, sym, ◌∙◌, ap, subst, arith}
 use Rattle.std.specs.Prelude.{IsTrue, IfErr}
 use Rattle.disk.specs.Areas.{AreSound}
 use Rattle.disk.specs.Calls.{counted}
@@ -32,7 +32,7 @@ use Rattle.run.specs.declared.calls.Call.TheVariants as call
 use Rattle.run.specs.declared.calls.Answer.TheVariants as answer
 use Rattle.run.specs.declared.held.Held.{Held}
 use Rattle.run.specs.declared.held.Held.TheVariants as held
-use Rattle.run.specs.Places.{Place, Free, ArePlaces}
+use Rattle.run.specs.Places.{Free, ArePlaces}
 use Rattle.run.specs.Worlds.{World, IsWorld, moved, same}
 use Rattle.run.specs.Runs.{Does, Goes, Follows}
 use Rattle.run.proofs.Runs.{no-step}

@@ -1,7 +1,7 @@
 -- A submit.
-use Rattle.std.proofs.Common.{◌≡◌, ℕ, ◌<◌, ◌≤◌, ◌^◌, Bool, true, false, List, [], ◌∷◌, ◌++◌, Some, None, Option, Result, Ok, Err, MatchBool, refl, sym, ◌∙◌, ap, subst, arith}
+use Rattle.std.proofs.Common.{◌≡◌, ℕ, ◌<◌, ◌^◌, Bool, true, false, List, [], ◌∷◌, ◌++◌, Some, Result, Ok, Err, MatchBool, refl, sym, ◌∙◌, ap, subst, arith}
 use Rattle.std.specs.Prelude.{slice_get, slice_set}
-use Rattle.history.specs.Histories.{Commit, History, last}
+use Rattle.history.specs.Histories.{History, last}
 use Rattle.history.specs.Machine.{Machine, commit_order}
 use Rattle.history.specs.Steps.{Event, Step, Decided}
 use Rattle.history.specs.Steps as steps
@@ -11,7 +11,7 @@ use Rattle.history.proofs.Histories.{last_after-append}
 use Rattle.history.proofs.Runs.{step-added}
 use Rattle.image.specs.Values.{Value, IsValue}
 use Rattle.snapshot.specs.Txn.{TxnValue, AreTxnWrites}
-use Rattle.group.specs.CommitOrder.{is_awaited, last_time, last_time_after, IsRisingAfter}
+use Rattle.group.specs.CommitOrder.{last_time, last_time_after, IsRisingAfter}
 use Rattle.group.specs.Tickets.{TicketValue}
 use Rattle.group.specs.declared.commit_order.CommitHead.{CommitHead}
 use Rattle.group.specs.declared.answers.Submitted.{Submitted}
@@ -19,7 +19,6 @@ use Rattle.group.specs.declared.answers.Submitted.TheVariants as submitted
 use Rattle.group.specs.declared.answers.SubmitFault.{SubmitFault}
 use Rattle.group.specs.declared.answers.SubmitFault.TheVariants as refused
 use Rattle.transactions.specs.Values.{TransactionsValue, is_own, over}
-use Rattle.transactions.specs.Submits as submits
 use Rattle.transactions.specs.Submits.{JoinsQueue, with_queued, SubmitsOwn, AnswersSubmit}
 use Rattle.transactions.proofs.Orders.{last_time-push}
 use Rattle.store.specs.Values.{StoreValue}
@@ -30,16 +29,15 @@ use Rattle.standing.specs.Stands.{Stands}
 use Rattle.standing.proofs.Submitting.{order-last}
 use Rattle.standing.proofs.Calling.{submit-stands}
 use Rattle.run.specs.declared.calls.Call.TheVariants as call
-use Rattle.run.specs.declared.calls.Answer.TheVariants as answer
 use Rattle.run.specs.declared.calls.SubmitOutcome.{SubmitOutcome}
 use Rattle.run.specs.declared.calls.SubmitOutcome.TheVariants as outcome
 use Rattle.run.specs.declared.held.Held.{Held}
 use Rattle.run.specs.declared.held.Held.TheVariants as held
-use Rattle.run.specs.Places.{Place, Free, Running, Waits, place_at, IsOwnTicket, ShowsAs, Clash, ArePlaces, submit_answer}
+use Rattle.run.specs.Places.{Place, Free, Waits, place_at, IsOwnTicket, ShowsAs, Clash, ArePlaces, submit_answer}
 use Rattle.run.specs.Worlds.{World, IsWorld, leaves, put, moved}
 use Rattle.run.specs.Runs.{Does, Goes, Submits, Follows}
 use Rattle.run.specs.Runs as told
-use Rattle.run.proofs.Places.{push, push_nothing, move, own_transaction, own_ticket, at_transaction, GoesOn, goes_on-same, run-goes_on, Keeps, stays, awaited-push, awaited-early, awaited-new}
+use Rattle.run.proofs.Places.{push, push_nothing, move, own_transaction, own_ticket, at_transaction, goes_on-same, run-goes_on, Keeps, stays, awaited-push, awaited-early, awaited-new}
 use Rattle.run.proofs.Steps.{own-is, over-places}
 
 -- the transactions after a submit of the store's own transaction, by the answer

@@ -100,7 +100,7 @@ pub(crate) fn put_back(places: &mut [Held], at: usize, held: Held)
 }
 
 // Spends a value without asking anything of its store.
-fn discard(held: Held) {
+pub(crate) fn discard(held: Held) {
     match held {
         Held::Nothing => {}
         Held::Transaction(txn) => {

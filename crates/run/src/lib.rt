@@ -13,3 +13,6 @@ pub use calls::{Answer, Call, RedeemOutcome, SubmitOutcome};
 pub use held::Held;
 pub use opening::{close, format, open, whatever_a_stop_leaves};
 pub use runner::run;
+
+#[cfg(test)]
+mod tests;

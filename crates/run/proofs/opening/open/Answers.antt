@@ -24,5 +24,5 @@ by-result tells disk_of old mark (Err e) ok err header h floors told sound is = 
 
 pub returns : goal.returns
 returns g c = record {
-  stands = λ header h floors told is. by-result g.D.Disk.tells g.D.Disk.state (g.D.Disk.state c.args.disk) c.args.mark c.open.result c.open.ensures.ok c.open.ensures.err header h floors told (g.D.Disk.sound c.args.disk told) is;
+  stands = λ header h floors told is. by-result g.D.Disk.tells g.D.Disk.state (g.D.Disk.state c.args.disk) c.args.mark c.open.result c.open.ensures.ok c.open.ensures.err header h floors told (g.met.D.Disk.sound c.args.disk told) is;
 }

@@ -1,12 +1,10 @@
 use Rattle.std.proofs.Common.{◌≡◌, ◌+◌, ℕ, List, [], ◌∷◌, ◌++◌, length, take, drop, get_or, refl, arith, ap, subst, sym, ◌∙◌}
 use Rattle.std.proofs.lemmas.List.{take_more, take_all, drop_all, append-nil}
-use Rattle.history.specs.Machine.{Machine}
-use Rattle.image.specs.Values.{Value}
 use Rattle.run.specs.declared.calls.Call.{Call}
 use Rattle.run.specs.declared.calls.Call.TheVariants.{Begin}
 use Rattle.run.specs.declared.calls.Answer.{Answer}
 use Rattle.run.specs.declared.held.Held.{Held}
-use Rattle.run.specs.Worlds.{World, IsWorld, started}
+use Rattle.run.specs.Worlds.{IsWorld, started}
 use Rattle.run.specs.Runs.{Run}
 use Rattle.run.proofs.Runs.{run-push, started-world}
 use Rattle.run.proofs.Survival.{list-promises}

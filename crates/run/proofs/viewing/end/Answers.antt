@@ -1,15 +1,9 @@
-use Rattle.std.proofs.Common.{◌≡◌, ◌<◌, ◌^◌, Option, Some, None, Result, Ok, Err, List, [], ◌∷◌, ◌++◌, refl, subst, sym, ap, ◌∙◌, arith}
-use Rattle.std.specs.Prelude.{slice_get, slice_set, IfOk}
-use Rattle.image.specs.Values.{Value}
-use Rattle.snapshot.specs.Txn.{TxnValue, seen_by}
-use Rattle.run.specs.declared.calls.Call.{Call}
+use Rattle.std.proofs.Common.{List, [], ◌∷◌, ◌++◌, subst, sym}
 use Rattle.run.specs.declared.calls.Call.TheVariants as call
-use Rattle.run.specs.declared.calls.Answer.{Answer}
 use Rattle.run.specs.declared.calls.Answer.TheVariants as answer
 use Rattle.run.specs.declared.held.Held.{Held}
 use Rattle.run.specs.declared.held.Held.TheVariants as held
 use Rattle.run.specs.Runs.{Goes}
-use Rattle.run.proofs.Lists.{set-set, get-set_same}
 use Rattle.run.proofs.Steps.{unknown-goes}
 use Rattle.run.proofs.Views.{lacks-view, end-goes}
 use Rattle.run.proofs.viewing.end.Goals as goal
