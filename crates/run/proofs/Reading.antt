@@ -7,7 +7,7 @@ use Rattle.history.specs.declared.key.Key.{Key}
 use Rattle.history.specs.declared.key.KeyWrite.{KeyWrite}
 use Rattle.history.specs.Key.{write_in}
 use Rattle.history.specs.Histories.{History, state}
-use Rattle.history.specs.Queries.{seen, IsScan, IsScanSeen}
+use Rattle.history.specs.Queries.{seen, IsScan}
 use Rattle.image.specs.Values.{Value}
 use Rattle.wire.specs.Values.{HasSizes}
 use Rattle.snapshot.specs.Txn.{TxnValue, at_snapshot, seen_by, IsFullFor, with_put, with_delete, writes_after_delete}
@@ -22,9 +22,9 @@ use Rattle.run.specs.declared.calls.Answer.{Answer}
 use Rattle.run.specs.declared.calls.Answer.TheVariants as answer
 use Rattle.run.specs.declared.held.Held.{Held}
 use Rattle.run.specs.declared.held.Held.TheVariants as held
-use Rattle.run.specs.Places.{Place, Free, Running, place_at, transaction_in, HasNoTransaction, IsOwnTransaction, Clash, ArePlaces}
+use Rattle.run.specs.Places.{Place, Running, place_at, transaction_in, HasNoTransaction, IsOwnTransaction, Clash, ArePlaces}
 use Rattle.run.specs.Worlds.{World, IsWorld, put, same}
-use Rattle.run.specs.Runs.{Does, Goes, Puts, Deletes, Gets, Scans, PutSays, DeleteSays, deleted}
+use Rattle.run.specs.Runs.{Does, Goes, Puts, Deletes, Gets, Scans, PutSays, DeleteSays}
 use Rattle.run.proofs.Runs.{no-step}
 use Rattle.run.proofs.Places.{set, push_nothing, own_transaction, at_transaction}
 use Rattle.run.proofs.Steps.{same-world}
@@ -89,12 +89,16 @@ rewritten-places v h xs ps i t ws here are =
 
 rewrite-goes : (tells : Bool) (v : StoreValue) (xs : List Held) (i : ℕ) (t t' : TxnValue) (ws : List (KeyWrite Value)) (c : Call) (a : Answer) → slice_get xs i ≡ Some (held.Transaction t) → t' ≡ record t { writes = ws }
     → ((w : World) → IsWorld tells v xs w → Does w c a (same (put w i (Running t.snapshot ws)))) → Goes tells v xs c a v (slice_set xs i (held.Transaction t') ++ held.Nothing ∷ [])
-rewrite-goes tells v xs i t t' ws c a here is does w world =
-    (same (put w i (Running t.snapshot ws)), does w world, no-step w.machine, subst (λ (x : TxnValue). IsWorld tells v (slice_set xs i (held.Transaction x) ++ held.Nothing ∷ []) (same (put w i (Running t.snapshot ws)))) (sym is) (record {
-      stands = world.stands;
-      places = push_nothing v.transactions w.machine.published (slice_set xs i (held.Transaction (record t { writes = ws }))) (slice_set w.places i (Running t.snapshot ws))
-          (rewritten-places v.transactions w.machine.published xs w.places i t ws here world.places);
-    }))
+rewrite-goes tells v xs i t t' ws c a here is does w world = (
+  same (put w i (Running t.snapshot ws)),
+  does w world,
+  no-step w.machine,
+  subst (λ (x : TxnValue). IsWorld tells v (slice_set xs i (held.Transaction x) ++ held.Nothing ∷ []) (same (put w i (Running t.snapshot ws)))) (sym is) (record {
+    stands = world.stands;
+    places = push_nothing v.transactions w.machine.published (slice_set xs i (held.Transaction (record t { writes = ws }))) (slice_set w.places i (Running t.snapshot ws))
+        (rewritten-places v.transactions w.machine.published xs w.places i t ws here world.places);
+  }),
+)
 
 pub put-goes : (tells : Bool) (v : StoreValue) (xs : List Held) (i : ℕ) (key : Key) (fields : Bor (List (Bor (List ℕ)))) (t t' : TxnValue) (r : Result (Unit {0}) TxnFault) → slice_get xs i ≡ Some (held.Transaction t)
     → OnOk r (t' ≡ with_put t key (map (λ (field : Bor (List ℕ)). field.now) fields.now)) → r ≢ Err fault.Missing → (r ≡ Err fault.TooManyKeys) ↔ IsFullFor t.writes key

@@ -1,51 +1,36 @@
 -- Each call leads from a world to the next.
-use Rattle.std.proofs.Common.{◌≡◌, ◌≢◌, ℕ, ◌+◌, ◌<◌, ◌≤◌, ◌^◌, ◌==◌, ◌&&◌, ◌||◌, nat_lt, nat_le, Bool, true, false, cond, List, [], ◌∷◌, ◌++◌, length, map, Some, None, Option, Result, Ok, Err, MatchBool, MatchOption, MatchResult, refl, sym, ◌∙◌, ap, subst, arith}
-use Rattle.std.specs.Prelude.{slice_get, slice_set, IfOk, OnOk, OnErr, is_some, IsSome, IsTrue}
+use Rattle.std.proofs.Common.{◌≡◌, ℕ, ◌≤◌, ◌==◌, ◌||◌, Bool, true, false, cond, List, [], ◌∷◌, ◌++◌, length, Some, None, Option, Result, Ok, Err, MatchBool, refl, sym, ◌∙◌, ap, subst, arith}
+use Rattle.std.specs.Prelude.{slice_get, slice_set, is_some}
 use Rattle.std.specs.List.{AllByRecursion, list_all}
-use Rattle.std.specs.declared.alloc.AllocError.{AllocError}
 use Rattle.std.proofs.lemmas.Bool.Decides.{nat_tests}
-use Rattle.disk.specs.Areas.{AreSound}
 use Rattle.history.specs.declared.key.Key.{Key}
 use Rattle.history.specs.declared.key.KeyWrite.{KeyWrite}
 use Rattle.history.specs.declared.time.TimedWrite.{TimedWrite}
 use Rattle.history.specs.Time.{value_at}
-use Rattle.history.specs.Histories.{Commit, History, last, state}
-use Rattle.history.specs.Machine.{Machine, commit_order}
-use Rattle.history.specs.Answers as answers
-use Rattle.history.specs.Queries.{seen, IsScan}
-use Rattle.history.specs.Steps.{Event, Step, Began, BeginRefused, Aborted, Decided, begun}
-use Rattle.history.specs.Steps as steps
-use Rattle.history.specs.Submissions as submissions
-use Rattle.history.specs.Submissions.{commit_made}
+use Rattle.history.specs.Histories.{History, last}
+use Rattle.history.specs.Machine.{Machine}
+use Rattle.history.specs.Steps.{Step, Began, Aborted, begun}
 use Rattle.image.specs.Values.{Value, IsValue}
-use Rattle.chains.specs.KeyWrites.{KeyWrites, writes_of}
-use Rattle.snapshot.specs.OpenTable.{snapshot_of, with_opened, with_closed}
-use Rattle.snapshot.specs.Txn.{TxnValue, at_snapshot, seen_by, AreTxnWrites, EndsASeenValue}
-use Rattle.group.specs.CommitOrder.{is_awaited, last_time}
-use Rattle.group.specs.Tickets.{TicketValue}
-use Rattle.group.specs.declared.commit_order.CommitHead.{CommitHead}
+use Rattle.chains.specs.KeyWrites.{KeyWrites}
+use Rattle.snapshot.specs.OpenTable.{snapshot_of, with_opened}
+use Rattle.snapshot.specs.Txn.{TxnValue, at_snapshot, AreTxnWrites, EndsASeenValue}
 use Rattle.group.specs.declared.answers.BeginFault.{BeginFault}
 use Rattle.group.specs.declared.answers.BeginFault.TheVariants as begin
-use Rattle.timequery.specs.View.{ViewValue}
-use Rattle.transactions.specs.Values.{TransactionsValue, is_own, is_own_of, is_snapshot, is_of_value, over}
+use Rattle.transactions.specs.Values.{TransactionsValue, is_own, is_snapshot, is_of_value, over}
 use Rattle.store.specs.Values.{StoreValue}
 use Rattle.store.specs.Calls as stores
-use Rattle.standing.specs.Laws.{ViewStands}
 use Rattle.standing.specs.Stands.{Stands}
 use Rattle.standing.proofs.Calling.{begin-stands, abort-stands}
-use Rattle.standing.proofs.Answering.{view-stands, at-answered, times-of_label}
 use Rattle.run.specs.declared.calls.Call.{Call}
 use Rattle.run.specs.declared.calls.Call.TheVariants as call
-use Rattle.run.specs.declared.calls.Answer.{Answer}
 use Rattle.run.specs.declared.calls.Answer.TheVariants as answer
 use Rattle.run.specs.declared.held.Held.{Held}
 use Rattle.run.specs.declared.held.Held.TheVariants as held
-use Rattle.run.specs.Places.{Place, Free, Running, Waits, Views, place_at, HasNoTransaction, HasNoTicket, HasNoView, IsNoTransaction, IsOwnTransaction, IsOwnTicket, ShowsAs, Clash, ArePlaces, begin_answer, view_answer}
-use Rattle.run.specs.Worlds.{World, IsWorld, leaves, put, moved, same, spent}
-use Rattle.run.specs.Runs.{Does, Goes, NamesNone, Aborts}
+use Rattle.run.specs.Places.{Place, Free, Running, place_at, HasNoTransaction, IsNoTransaction, IsOwnTransaction, ShowsAs, Clash, ArePlaces, begin_answer}
+use Rattle.run.specs.Worlds.{World, IsWorld, leaves, moved, same, spent}
+use Rattle.run.specs.Runs.{Goes, NamesNone, Aborts}
 use Rattle.run.proofs.Runs.{no-step}
-use Rattle.run.proofs.Lists.{set-set, get-set_same}
-use Rattle.run.proofs.Places.{push, push_nothing, set, free, move, freed_apart, no_clash, view-no_clash, own_transaction, at_transaction, no_transaction, no_ticket, no_view, GoesOn, goes_on-same, run-goes_on, Keeps, stays, closed_other, opened_other, opened_here}
+use Rattle.run.proofs.Places.{push, push_nothing, free, move, freed_apart, own_transaction, at_transaction, no_transaction, GoesOn, goes_on-same, run-goes_on, Keeps, stays, closed_other, opened_other, opened_here}
 
 -- ---- calls that change nothing
 

@@ -1,23 +1,19 @@
 -- Whatever a stop may leave of a store survives, with all that was acknowledged.
-use Rattle.std.proofs.Common.{◌≡◌, ℕ, ◌≤◌, ◌+◌, Bool, List, [], ◌∷◌, ◌++◌, take, drop, length, Option, None, refl, ap, sym, subst, ◌∙◌, inl, inr, arith, append_assoc}
+use Rattle.std.proofs.Common.{◌≡◌, ℕ, Bool, List, [], ◌∷◌, ◌++◌, take, drop, Option, None, refl, ap, sym, subst, ◌∙◌, inl, inr, append_assoc}
 use Rattle.std.specs.Prelude.{IsTrue, Contains}
 use Rattle.std.specs.List.{AllByRecursion}
 use Rattle.std.proofs.lemmas.List.{take-append-drop}
 use Rattle.std.proofs.lemmas.List.Elements.{Contains-append_left}
-use Rattle.disk.specs.Areas.{Image, AreSound, LeavesImage, image_of}
-use Rattle.disk.specs.Calls.{DiskState}
+use Rattle.disk.specs.Areas.{Image, LeavesImage}
 use Rattle.history.specs.Answers as answers
 use Rattle.history.specs.Floors.{Raising}
 use Rattle.history.specs.Fronts.{OnFront, OnRaised}
 use Rattle.history.specs.Histories.{Commit, History}
 use Rattle.history.specs.Machine.{Machine, commit_order, opened}
 use Rattle.history.proofs.Tickets.{done-published}
-use Rattle.image.specs.Values.{Value, IsValue}
+use Rattle.image.specs.Values.{Value}
 use Rattle.status.specs.declared.header.Header.{Header}
-use Rattle.recovery.specs.declared.fault.OpenFault.{OpenFault}
-use Rattle.recovery.specs.Faults.{IsReadFault}
 use Rattle.store.specs.Values.{StoreValue}
-use Rattle.store.specs.Opens.{Opens, OpenRefuses}
 use Rattle.standing.specs.OnDisk.{IsImageOf, StandsOnDisk}
 use Rattle.standing.specs.Stands.{Stands}
 use Rattle.opened.proofs.Opened.{open-stands}
@@ -28,7 +24,7 @@ use Rattle.run.specs.declared.calls.Answer.{Answer}
 use Rattle.run.specs.declared.held.Held.{Held}
 use Rattle.run.specs.Worlds.{World, IsWorld, started}
 use Rattle.run.specs.Runs.{Run}
-use Rattle.run.specs.Promise.{acknowledged, HasCommitAt, IsPrefixOf, IsKeptAs, Survives, Promises, Promise}
+use Rattle.run.specs.Promise.{acknowledged, HasCommitAt, IsKeptAs, Survives, Promises, Promise}
 use Rattle.run.proofs.Acknowledging.{run-done}
 
 -- an image that stands for a history is kept as it

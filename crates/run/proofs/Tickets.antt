@@ -1,14 +1,11 @@
 -- The calls of tickets.
-use Rattle.std.proofs.Common.{◌≡◌, ℕ, ◌==◌, nat_le, Bool, true, false, cond, List, [], ◌∷◌, ◌++◌, Some, None, Option, MatchBool, refl, sym, ◌∙◌, ap, subst, arith}
+use Rattle.std.proofs.Common.{◌≡◌, ℕ, ◌==◌, nat_le, Bool, true, false, cond, List, [], ◌∷◌, ◌++◌, Some, MatchBool, refl, sym, ◌∙◌, ap, subst, arith}
 use Rattle.std.specs.Prelude.{slice_get, slice_set}
 use Rattle.std.proofs.lemmas.Bool.Decides.{nat_tests}
-use Rattle.history.specs.Histories.{History}
 use Rattle.history.specs.Answers as answers
-use Rattle.image.specs.Values.{Value}
 use Rattle.group.specs.CommitOrder as orders
 use Rattle.group.specs.CommitOrder.{is_awaited, last_published}
 use Rattle.group.specs.Tickets.{TicketValue}
-use Rattle.group.specs.declared.commit_order.Standing.{Standing}
 use Rattle.group.specs.declared.commit_order.Standing.TheVariants as standing
 use Rattle.group.specs.declared.answers.Redeemed.{Redeemed}
 use Rattle.group.specs.declared.answers.Redeemed.TheVariants as redeemed
@@ -24,7 +21,7 @@ use Rattle.run.specs.declared.calls.Answer.TheVariants as answer
 use Rattle.run.specs.declared.calls.RedeemOutcome.TheVariants as told
 use Rattle.run.specs.declared.held.Held.{Held}
 use Rattle.run.specs.declared.held.Held.TheVariants as held
-use Rattle.run.specs.Places.{Place, Free, Waits, place_at, HasNoTicket, IsNoTicket, IsOwnTicket, ShowsAs, Clash, ArePlaces, redeem_answer}
+use Rattle.run.specs.Places.{Place, Free, place_at, HasNoTicket, IsNoTicket, IsOwnTicket, ShowsAs, Clash, ArePlaces, redeem_answer}
 use Rattle.run.specs.Worlds.{World, IsWorld, same, spent}
 use Rattle.run.specs.Runs.{Does, Goes, Redeems, GivesUp, Follows}
 use Rattle.run.proofs.Runs.{no-step}
@@ -115,9 +112,9 @@ redeem-goes tells v v' xs i k r here redeems w is =
     by-result redeemed.Stranger left says shows stands freed moved = absurd left
 
 pub give_up-goes : (tells : Bool) (v : StoreValue) (xs : List Held) (i : ℕ) (k : TicketValue) → slice_get xs i ≡ Some (held.Ticket k) → Goes tells v xs (call.GiveUp i) answer.GiveUp v (slice_set xs i held.Nothing ++ held.Nothing ∷ [])
-give_up-goes tells v xs i k here w is =
-    (spent w i,
-      at_ticket (λ (p : Place). GivesUp w i p (spent w i)) v.transactions w.machine.published k (place_at w.places i) (is.places.each i (held.Ticket k) here) refl,
-      no-step w.machine,
-      record { stands = is.stands; places = push_nothing v.transactions w.machine.published (slice_set xs i held.Nothing) (slice_set w.places i Free) (free v.transactions w.machine.published xs w.places i (held.Ticket k) is.places here) },
-    )
+give_up-goes tells v xs i k here w is = (
+  spent w i,
+  at_ticket (λ (p : Place). GivesUp w i p (spent w i)) v.transactions w.machine.published k (place_at w.places i) (is.places.each i (held.Ticket k) here) refl,
+  no-step w.machine,
+  record { stands = is.stands; places = push_nothing v.transactions w.machine.published (slice_set xs i held.Nothing) (slice_set w.places i Free) (free v.transactions w.machine.published xs w.places i (held.Ticket k) is.places here) },
+)

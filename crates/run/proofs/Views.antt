@@ -5,7 +5,6 @@ use Rattle.std.specs.declared.alloc.Global.{Global}
 use Rattle.std.specs.declared.alloc.AllocError.{AllocError}
 use Rattle.std.proofs.lemmas.Bool.Decides.{nat_tests}
 use Rattle.history.specs.declared.key.Key.{Key}
-use Rattle.history.specs.Histories.{History}
 use Rattle.history.specs.Answers as answers
 use Rattle.image.specs.Values.{Value}
 use Rattle.timequery.specs.View.{ViewValue}
@@ -13,7 +12,7 @@ use Rattle.timequery.specs.declared.fault.QueryFault.{QueryFault}
 use Rattle.timequery.specs.declared.fault.QueryFault.TheVariants as query
 use Rattle.store.specs.Values.{StoreValue}
 use Rattle.store.specs.Calls as stores
-use Rattle.standing.specs.Laws.{ViewStands, SaysAt}
+use Rattle.standing.specs.Laws.{SaysAt}
 use Rattle.standing.proofs.Answering.{view-stands, at-answered, times-of_label}
 use Rattle.run.specs.declared.calls.Call.TheVariants as call
 use Rattle.run.specs.declared.calls.Answer.TheVariants as answer
@@ -61,23 +60,23 @@ own-answered tells false said r mine says = absurd cc
 
 pub at-goes : (tells : Bool) (v v' : StoreValue) (xs : List Held) (i : ℕ) (key : Key) (time : ℕ) (view : ViewValue) (r : Result (Option Value) QueryFault) → slice_get xs i ≡ Some (held.View view) → stores.AnswersAtView v view key time r → v' ≡ v
     → Goes tells v xs (call.At i key time) (answer.At r) v' (xs ++ held.Nothing ∷ [])
-at-goes tells v v' xs i key time view r here says unchanged w is =
-    (same w,
-      at_view (λ (p : Place). Asks w key time p r (same w)) v.transactions w.machine.published view (place_at w.places i) (is.places.each i (held.View view) here) (λ history floors mark stands.
-          let mine : (view.mark == v.transactions.mark) ≡ true = grind (arith, nat_tests) in
-          (own-answered tells (view.mark == v.transactions.mark) (answers.at_answer history floors key time) r mine (at-answered v view history floors key time r stands says), refl)),
-      no-step w.machine,
-      subst (λ (x : StoreValue). IsWorld tells x (xs ++ held.Nothing ∷ []) (same w)) (sym unchanged) (same-world tells v xs w is),
-    )
+at-goes tells v v' xs i key time view r here says unchanged w is = (
+  same w,
+  at_view (λ (p : Place). Asks w key time p r (same w)) v.transactions w.machine.published view (place_at w.places i) (is.places.each i (held.View view) here) (λ history floors mark stands.
+      let mine : (view.mark == v.transactions.mark) ≡ true = grind (arith, nat_tests) in
+      (own-answered tells (view.mark == v.transactions.mark) (answers.at_answer history floors key time) r mine (at-answered v view history floors key time r stands says), refl)),
+  no-step w.machine,
+  subst (λ (x : StoreValue). IsWorld tells x (xs ++ held.Nothing ∷ []) (same w)) (sym unchanged) (same-world tells v xs w is),
+)
 
 pub end-goes : (tells : Bool) (v v' : StoreValue) (xs : List Held) (i : ℕ) (view : ViewValue) → slice_get xs i ≡ Some (held.View view) → v' ≡ v → Goes tells v xs (call.End i) answer.End v' (slice_set xs i held.Nothing ++ held.Nothing ∷ [])
-end-goes tells v v' xs i view here unchanged w is =
-    (spent w i,
-      at_view (λ (p : Place). Closes w i p (spent w i)) v.transactions w.machine.published view (place_at w.places i) (is.places.each i (held.View view) here) (λ history floors mark stands. refl),
-      no-step w.machine,
-      subst (λ (x : StoreValue). IsWorld tells x (slice_set xs i held.Nothing ++ held.Nothing ∷ []) (spent w i)) (sym unchanged)
-          (record { stands = is.stands; places = push_nothing v.transactions w.machine.published (slice_set xs i held.Nothing) (slice_set w.places i Free) (free v.transactions w.machine.published xs w.places i (held.View view) is.places here) }),
-    )
+end-goes tells v v' xs i view here unchanged w is = (
+  spent w i,
+  at_view (λ (p : Place). Closes w i p (spent w i)) v.transactions w.machine.published view (place_at w.places i) (is.places.each i (held.View view) here) (λ history floors mark stands. refl),
+  no-step w.machine,
+  subst (λ (x : StoreValue). IsWorld tells x (slice_set xs i held.Nothing ++ held.Nothing ∷ []) (spent w i)) (sym unchanged)
+      (record { stands = is.stands; places = push_nothing v.transactions w.machine.published (slice_set xs i held.Nothing) (slice_set w.places i Free) (free v.transactions w.machine.published xs w.places i (held.View view) is.places here) }),
+)
 
 pub times-goes : (tells : Bool) (v : StoreValue) (xs : List Held) (label : ℕ) (r : Result (Vec ℕ Global) AllocError) → IfOk r (λ times. stores.IsTimesOf v label times.items) → Goes tells v xs (call.TimesOf label) (answer.TimesOf r) v (xs ++ held.Nothing ∷ [])
 times-goes tells v xs label (Ok times) of w is = (same w, (of ∙ times-of_label v.transactions w.machine label is.stands.memory, refl), no-step w.machine, same-world tells v xs w is)

@@ -1,5 +1,5 @@
-use Rattle.std.proofs.Common.{◌≡◌, List, [], Result, Ok, Err}
-use Rattle.std.specs.Prelude.{OnOk, IsTrue}
+use Rattle.std.proofs.Common.{[], Result, Ok, Err}
+use Rattle.std.specs.Prelude.{OnOk}
 use Rattle.disk.specs.Areas.{Areas, Image, LeavesImage}
 use Rattle.status.specs.Header.{new_header}
 use Rattle.recovery.specs.Format.{IsFormatted}

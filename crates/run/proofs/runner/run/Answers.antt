@@ -60,7 +60,7 @@ loop-call-preserved g c =
 pub returns-clause-run : goal.returns-clause-run
 returns-clause-run g c =
     λ m stands. list-promises g.D.Disk.tells c.args.store.now m c.args.calls.now c.loop-call.answers.items c.loop-call.store c.loop-call.places.items (
-      let so_far = c.loop-call.invariant.so_far m stands in
-      let all : take c.loop-call.call-index c.args.calls.now ≡ c.args.calls.now = take_all c.loop-call.call-index c.args.calls.now (omega (arith, c.loop-call-test.false)) in
-      (so_far.0, subst (λ (l : List Call). Run (started m) l c.loop-call.answers.items so_far.0) all so_far.1, so_far.2)
+    let so_far = c.loop-call.invariant.so_far m stands in
+    let all : take c.loop-call.call-index c.args.calls.now ≡ c.args.calls.now = take_all c.loop-call.call-index c.args.calls.now (omega (arith, c.loop-call-test.false)) in
+    (so_far.0, subst (λ (l : List Call). Run (started m) l c.loop-call.answers.items so_far.0) all so_far.1, so_far.2)
     )
