@@ -31,9 +31,8 @@ pub fn take_extents(
 pub fn give_back_all(extents: &mut Extents, taken: Vec<Extent>)
     ensures { AreOut extents.old taken.items → extents.new ≡ with_usages extents.old taken.items Free }
 {
-    let mut taken = taken;
-    while !taken.is_empty() {
-        let extent = taken.remove(0);
+    let mut taken = taken.into_iter();
+    while let Some(extent) = taken.next() {
         extents.give_back(extent);
     }
     taken.destroy_empty();
@@ -43,9 +42,8 @@ pub fn give_back_all(extents: &mut Extents, taken: Vec<Extent>)
 pub fn keep_all(extents: &mut Extents, stored: Vec<StoredExtent>)
     ensures { AreOut extents.old (map (λ s. s.extent) stored.items) → extents.new ≡ with_usages extents.old (map (λ s. s.extent) stored.items) Kept }
 {
-    let mut stored = stored;
-    while !stored.is_empty() {
-        let StoredExtent { extent, image: _ } = stored.remove(0);
+    let mut stored = stored.into_iter();
+    while let Some(StoredExtent { extent, image: _ }) = stored.next() {
         extents.keep(extent);
     }
     stored.destroy_empty();

@@ -1,4 +1,4 @@
-use Rattle.std.proofs.Common.{◌≡◌, ◌≤◌, List, length, map, arith, ap, ◌∙◌}
+use Rattle.std.proofs.Common.{◌≡◌, length, map, arith, ap, ◌∙◌}
 use Rattle.deltas.specs.Extents.{extent_bytes}
 use Rattle.group.specs.Sealing.{chain_of}
 use Rattle.group.proofs.Sealed.{length-sealed}

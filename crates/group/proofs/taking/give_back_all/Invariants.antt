@@ -1,11 +1,11 @@
-use Rattle.std.proofs.Common.{◌≡◌, vec_len}
+use Rattle.std.specs.Vec.Iter.{into_iter_items, into_iter_len}
 use Rattle.extents.specs.Usages.{with_usages, AreOut}
 use Rattle.group.specs.Taking.{LeftOut}
 use Rattle.extents.specs.declared.usage.Usage.TheVariants.{Free}
 use Rattle.group.proofs.taking.give_back_all.Given as goal
 
-abbrev pub invariant-loop-taken : goal.invariant-loop-taken
-invariant-loop-taken l = AreOut l.fn.extents l.initial.taken.items → LeftOut l.extents l.taken.items (with_usages l.fn.extents l.initial.taken.items Free) Free
+abbrev pub invariant-loop-extent : goal.invariant-loop-extent
+invariant-loop-extent l = AreOut l.fn.extents l.fn.taken.items → LeftOut l.extents (into_iter_items l.taken) (with_usages l.fn.extents l.fn.taken.items Free) Free
 
-abbrev pub decreases-loop-taken : goal.decreases-loop-taken
-decreases-loop-taken l = vec_len l.taken
+abbrev pub decreases-loop-extent : goal.decreases-loop-extent
+decreases-loop-extent l = into_iter_len l.taken
