@@ -15,8 +15,10 @@ use disk::Disk;
 use std::alloc::{AllocError, Global};
 use store::Store;
 
-/// Makes the calls in turn. Each has its answer, and its place holds what it gave; what is left
-/// over at the end is given back unspent, each in its place.
+/// Makes the calls in turn, and gives the answer to each and what its place holds at the end. A call
+/// names a transaction, a ticket or a view by the place in the list of the call that gave it. Where
+/// that call gave none, or its value is spent, the answer is `Unknown` and nothing changes. What is
+/// left over at the end is given back unspent.
 ///
 /// # Errors
 ///
@@ -26,7 +28,7 @@ pub fn run<D: Disk>(
     store: &mut Store<D>,
     calls: &[Call<'_>],
 ) -> Result<(Vec<Answer>, Vec<Held>), AllocError>
-    // For each state of the machine that the store stands for the answers are those of a run of the machine and of what the places hold, and the store stands for the state after it.
+    // Whatever state of the machine the store stands for, the answers are those of a run of the machine from it and of what the places hold, and then the store stands for the state after it.
     ensures run { IfOk result (λ (answers, places). (m : Machine Value) → Stands D.tells store.old m → (w : World) × Run (started m) calls.now answers.items w × IsWorld D.tells store.new places.items w) }
     // Each call makes at most one write or sync of the disk.
     ensures made { store.new.disk.made ≤ store.old.disk.made + length calls.now }
