@@ -15,8 +15,10 @@ use disk::Disk;
 use std::alloc::{AllocError, Global};
 use store::Store;
 
-/// Makes the calls in turn. Each has its answer, and its place holds what it gave; what is left
-/// over at the end is given back unspent, each in its place.
+/// Makes the calls in turn, and gives the answer to each and what its place holds at the end. A call
+/// names a transaction, a ticket or a view by the place in the list of the call that gave it. Where
+/// that call gave none, or its value is spent, the answer is `Unknown` and nothing changes. What is
+/// left over at the end is given back unspent.
 ///
 /// # Errors
 ///

@@ -1,4 +1,5 @@
-//! The calls of transactions.
+//! The calls of transactions. One that asks nothing of the store takes it all the same, since its
+//! contract speaks of it.
 ghost use Rattle.std.specs.Prelude.{◌≡◌, ◌++◌, ◌∷◌, [], IfOk};
 ghost use Rattle.std.specs.Option.{option_copied};
 ghost use Rattle.run.specs.declared.calls.Call.{Call};
