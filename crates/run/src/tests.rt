@@ -4,7 +4,6 @@ use crate::held::discard;
 use disk::MemDisk;
 use group::Did;
 use history::Key;
-use recovery::format;
 use std::alloc::Global;
 use std::test::Fail;
 use store::Store;
@@ -20,7 +19,7 @@ fn opened(alloc: Global) -> Result<Store<MemDisk>, Fail> {
     if format(alloc, &mut disk, 16).is_err() {
         return Err(Fail::from("not formatted"));
     }
-    match Store::open(alloc, disk, 5) {
+    match open(alloc, disk, 5) {
         Ok(store) => Ok(store),
         Err(_) => Err(Fail::from("not opened")),
     }
@@ -30,7 +29,7 @@ fn opened(alloc: Global) -> Result<Store<MemDisk>, Fail> {
 fn answers_to(alloc: Global, calls: &[Call<'_>]) -> Result<(Vec<Answer>, u32), Fail> {
     let mut store = opened(alloc)?;
     let outcome = run(alloc, &mut store, calls);
-    let _disk = store.close();
+    let _disk = close(store);
     let (answers, mut places) = outcome?;
     let mut left: u32 = 0;
     while let Some(held) = places.pop() {
