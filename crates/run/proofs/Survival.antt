@@ -1,5 +1,5 @@
 -- Whatever a stop may leave of a store survives, with all that was acknowledged.
-use Rattle.std.proofs.Common.{◌≡◌, ℕ, Bool, List, [], ◌∷◌, ◌++◌, take, drop, Option, None, refl, ap, sym, subst, ◌∙◌, inl, inr, append_assoc}
+use Rattle.std.proofs.Common.{◌≡◌, ℕ, Bool, List, [], ◌∷◌, ◌++◌, take, drop, Option, None, refl, ap, sym, subst, ◌∙◌, inl, inr, append_assoc, append-nil}
 use Rattle.std.specs.Prelude.{IsTrue, Contains}
 use Rattle.std.specs.List.{AllByRecursion}
 use Rattle.std.proofs.lemmas.List.{take-append-drop}
@@ -46,7 +46,7 @@ all-published m front (t ∷ ts) within all =
     ((found.0, within found.0 found.1, found.2), all-published m front ts within all.1)
 
 pub survives : (tells : Bool) (v : StoreValue) (m : Machine Value) (times : List ℕ) → Stands tells v m → IsTrue tells → AllByRecursion (λ (t : ℕ). answers.redeemed_by m t ≡ answers.Done t) times → (image : Image) → LeavesImage v.disk.areas image
-    → Survives tells (commit_order m) times m.floors image
+    → Survives tells m times image
 survives tells v m times stands told all image left =
     let d = stands.disk told in
     by-front d (d.leaves image left)
@@ -54,16 +54,18 @@ survives tells v m times stands told all image left =
     no-raise : (o : Option Raising) → o ≡ None → (P : History Value → (ℕ → ℕ) → Type 0) → OnRaised P m o → ⊥
     no-raise o none P raised = subst (λ (r : Option Raising). OnRaised P m r) none raised
 
-    by-front : (d : StandsOnDisk v m) → OnFront (IsImageOf d.header image) m → Survives tells (commit_order m) times m.floors image
+    by-front : (d : StandsOnDisk v m) → OnFront (IsImageOf d.header image) m → Survives tells m times image
     by-front d (inl is) = record {
       front = m.published;
       prefix = (m.queue, refl);
+      published = ([], sym (append-nil m.published));
       acknowledged = all-published m m.published times (λ c has. has) all;
       kept = kept-as tells d.header image m.published m.floors told is;
     }
     by-front d (inr (inl is)) = record {
       front = m.published ++ take m.group m.queue;
       prefix = (drop m.group m.queue, sym (append_assoc m.published (take m.group m.queue) (drop m.group m.queue) ∙ ap (λ (l : History Value). m.published ++ l) (take-append-drop m.group m.queue)));
+      published = (take m.group m.queue, refl);
       acknowledged = all-published m (m.published ++ take m.group m.queue) times (λ c has. Contains-append_left m.published (take m.group m.queue) c has) all;
       kept = kept-as tells d.header image (m.published ++ take m.group m.queue) m.floors told is;
     }

@@ -67,16 +67,17 @@ pub record IsKeptAs (tells : Bool) (image : Image) (h : History Value) (floors :
   pub opens : (disk new : DiskState) (why : OpenFault) → image_of disk.areas ≡ image → OpenRefuses tells disk why new → IsReadFault why
   pub answers : (disk : DiskState) (mark : ℕ) (again : StoreValue) → image_of disk.areas ≡ image → AreSound disk.areas → Opens tells disk mark again → Stands tells again (opened h floors) × AnswersBy again h floors
 
--- An image that a stop leaves is kept as a prefix of the commit order that has every acknowledged commit.
-pub record Survives (tells : Bool) (order : History Value) (done : List ℕ) (floors : ℕ → ℕ) (image : Image) : Type 0 where
+-- An image that a stop leaves is kept as a prefix of the commit order that has all that is published, and so every acknowledged commit.
+pub record Survives (tells : Bool) (m : Machine Value) (done : List ℕ) (image : Image) : Type 0 where
   pub front : History Value
-  pub prefix : IsPrefixOf front order
+  pub prefix : IsPrefixOf front (commit_order m)
+  pub published : IsPrefixOf m.published front
   pub acknowledged : AllByRecursion (HasCommitAt front) done
-  pub kept : IsKeptAs tells image front floors
+  pub kept : IsKeptAs tells image front m.floors
 
 -- whatever a stop may now leave survives
 abbrev pub Leaves : Bool → StoreValue → List Answer → World → Type 0
-Leaves tells v answers w = IsTrue tells → (image : Image) → LeavesImage v.disk.areas image → Survives tells (commit_order w.machine) (acknowledged answers) w.machine.floors image
+Leaves tells v answers w = IsTrue tells → (image : Image) → LeavesImage v.disk.areas image → Survives tells w.machine (acknowledged answers) image
 
 -- What a list of calls does to a store that stands for this state of the machine: the answers are those of a run of the machine, with what the places hold, and whatever a stop may leave after it survives.
 abbrev pub Promises : Bool → StoreValue → Machine Value → List Call → List Answer → StoreValue → List Held → Type 0
@@ -86,4 +87,4 @@ Promises tells old m calls answers new held = (w : World) × Run (started m) cal
 abbrev pub Promise : Type 0
 Promise = (tells : Bool) (disk : DiskState) (mark : ℕ) (v new : StoreValue) (header : Header) (h : History Value) (floors : ℕ → ℕ) (calls : List Call) (answers : List Answer) (held : List Held)
     → IsTrue tells → AreSound disk.areas → IsImageOf header (image_of disk.areas) h floors → Opens tells disk mark v → ((m : Machine Value) → Stands tells v m → Promises tells v m calls answers new held)
-    → (w : World) × Run (started (opened h floors)) calls answers w × ((image : Image) → LeavesImage new.disk.areas image → Survives tells (commit_order w.machine) (acknowledged answers) w.machine.floors image)
+    → (w : World) × Run (started (opened h floors)) calls answers w × ((image : Image) → LeavesImage new.disk.areas image → Survives tells w.machine (acknowledged answers) image)
