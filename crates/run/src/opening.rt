@@ -1,5 +1,5 @@
 //! Formatting, opening and closing, with what they stand for.
-ghost use Rattle.std.specs.Prelude.{ℕ, ◌≡◌, [], IsTrue, OnOk, MatchResult};
+ghost use Rattle.std.specs.Prelude.{ℕ, ◌≡◌, [], IsTrue, IfOk, IfErr, OnOk, MatchResult};
 ghost use Rattle.disk.specs.Areas.{Image, LeavesImage, image_of};
 ghost use Rattle.history.specs.Fronts.{OnFront};
 ghost use Rattle.history.specs.Histories.{History};
@@ -8,6 +8,7 @@ ghost use Rattle.image.specs.Values.{Value};
 ghost use Rattle.status.specs.declared.header.Header.{Header};
 ghost use Rattle.status.specs.Header.{new_header};
 ghost use Rattle.recovery.specs.Faults.{IsReadFault};
+ghost use Rattle.store.specs.Opens.{Opens, OpenRefuses};
 ghost use Rattle.standing.specs.OnDisk.{IsImageOf};
 ghost use Rattle.standing.specs.Stands.{Stands};
 ghost use Rattle.run.specs.Promise.{Promise};
@@ -35,6 +36,8 @@ pub fn format<D: Disk>(alloc: Global, disk: &mut D, slots: u32) -> Result<(), Fo
 ///
 /// Those of `Store::open`, with the disk.
 pub fn open<D: Disk>(alloc: Global, disk: D, mark: u64) -> Result<Store<D>, (OpenFault, D)>
+    ensures ok { IfOk result (λ s. Opens D.tells (D.state disk) mark s) }
+    ensures err { IfErr result (λ e. OpenRefuses D.tells (D.state disk) e.0 (D.state e.1)) }
     // On an image that stands for a history the store stands for it. Nothing but the device or memory refuses it, and then the disk still holds the image.
     ensures stands { (header : Header) (h : History Value) (floors : ℕ → ℕ) → IsTrue D.tells → IsImageOf header (image_of (D.state disk).areas) h floors → MatchResult result (λ s. Stands D.tells s (opened h floors)) (λ e. IsReadFault e.0 × (image_of (D.state e.1).areas ≡ image_of (D.state disk).areas)) }
 {
@@ -43,6 +46,7 @@ pub fn open<D: Disk>(alloc: Global, disk: D, mark: u64) -> Result<Store<D>, (Ope
 
 /// Ends the store and hands its disk back. What waits is not published.
 pub fn close<D: Disk>(store: Store<D>) -> D
+    ensures state { D.state result ≡ store.disk }
     // Whatever a stop may leave of the disk is an image of a front of the commit order.
     ensures stands { (m : Machine Value) → Stands D.tells store m → IsTrue D.tells → (header : Header) × ((image : Image) → LeavesImage (D.state result).areas image → OnFront (IsImageOf header image) m) }
 {

@@ -22,7 +22,5 @@ by-result : {S : Type 0} (tells : Bool) (disk_of : S → DiskState) (old : DiskS
 by-result tells disk_of old mark (Ok s) ok err header h floors told sound is = open-stands tells old mark s header h floors ok told sound is
 by-result tells disk_of old mark (Err e) ok err header h floors told sound is = open-refuses tells old (disk_of e.1) e.0 header h floors err told is
 
-pub returns : goal.returns
-returns g c = record {
-  stands = λ header h floors told is. by-result g.D.Disk.tells g.D.Disk.state (g.D.Disk.state c.args.disk) c.args.mark c.open.result c.open.ensures.ok c.open.ensures.err header h floors told (g.met.D.Disk.sound c.args.disk told) is;
-}
+pub returns-clause-stands : goal.returns-clause-stands
+returns-clause-stands g c = λ header h floors told is. by-result g.D.Disk.tells g.D.Disk.state (g.D.Disk.state c.args.disk) c.args.mark c.open.result c.open.ensures.ok c.open.ensures.err header h floors told (g.met.D.Disk.sound c.args.disk told) is
