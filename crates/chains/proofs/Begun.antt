@@ -1,5 +1,5 @@
 -- A key's writes, parted at a time: those that were made by then, and the later ones.
-use Rattle.std.proofs.Common.{◌≡◌, ℕ, zero, suc, ◌+◌, ◌-◌, ◌<◌, ◌≤◌, ◌^◌, nat_le, Bool, ◌&&◌, true, false, cond, List, [], ◌∷◌, length, get_or, drop, Option, None, refl, ap, sym, ◌∙◌, arith}
+use Rattle.std.proofs.Common.{◌≡◌, ℕ, zero, suc, ◌<◌, nat_le, Bool, ◌&&◌, true, false, cond, List, [], ◌∷◌, length, get_or, drop, Option, None, refl, ap, sym, ◌∙◌, arith}
 use Rattle.std.specs.List.Sorted.{IsNonDecreasingBy}
 use Rattle.std.specs.Prelude.{is_none}
 use Rattle.std.proofs.Math.Seq.{drop-cons}
@@ -7,7 +7,7 @@ use Rattle.history.specs.Time.{IsRisingAfter, value_after}
 use Rattle.chains.specs.Writes.{Value, Write, IsBegun, kept_after, kept_behind, from_standing}
 use Rattle.chains.proofs.Kept.{is_le, not_le}
 
-behind : (time : ℕ) (w : Write) (ws : List Write) (n : ℕ) → IsBegun time (w ∷ ws) (suc n) → IsBegun time ws n
+pub behind : (time : ℕ) (w : Write) (ws : List Write) (n : ℕ) → IsBegun time (w ∷ ws) (suc n) → IsBegun time ws n
 behind time w ws n begun = record {
   within = omega (arith, begun.within);
   before = λ k d h. begun.before (suc k) d (omega arith);
@@ -15,7 +15,7 @@ behind time w ws n begun = record {
 }
 
 -- later writes alone change nothing
-value-later : (before : Option Value) (time : ℕ) (ws : List Write) → IsBegun time ws 0 → value_after before ws time ≡ before
+pub value-later : (before : Option Value) (time : ℕ) (ws : List Write) → IsBegun time ws 0 → value_after before ws time ≡ before
 value-later before time [] begun = refl
 value-later before time (w ∷ ws) begun =
     let late : nat_le w.time time ≡ false = not_le (begun.after 0 w (omega arith) (omega arith)) in
@@ -34,7 +34,7 @@ pub value-none : (time : ℕ) (ws : List Write) → IsBegun time ws 0 → value_
 value-none time ws begun = value-later None time ws begun
 
 -- what is kept: of later writes all, and else from the last one made by the mark on
-from-late : (mark : ℕ) (w : Write) (ws : List Write) → mark < w.time → from_standing mark w ws ≡ w ∷ ws
+pub from-late : (mark : ℕ) (w : Write) (ws : List Write) → mark < w.time → from_standing mark w ws ≡ w ∷ ws
 from-late mark w ws late = let test : nat_le w.time mark ≡ false = not_le late in rw test refl
 
 behind-late : (mark : ℕ) (w : Write) (ws : List Write) → IsBegun mark ws 0 → kept_behind mark w ws ≡ from_standing mark w ws

@@ -3,7 +3,7 @@ use Rattle.std.proofs.Common.{◌≡◌, ℕ, zero, suc, ◌+◌, ◌/◌, ◌^�
 use Rattle.std.proofs.lemmas.Bool.{cases_lt}
 use Rattle.std.specs.declared.alloc.Global.{Global}
 use Rattle.std.specs.declared.sync.Arc.{Arc}
-use Rattle.chains.specs.Shapes.{Shape, IsLevel, Covers, IsJoined, GrowsByOne, fewest}
+use Rattle.chains.specs.Shapes.{Shape, IsLevel, Covers, IsJoined, fewest}
 use Rattle.chains.specs.Nodes.{shape_in, IsTop, IsBalancedIn}
 use Rattle.chains.specs.declared.tree.Node.{Node}
 

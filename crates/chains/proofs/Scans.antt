@@ -28,7 +28,7 @@ shown-other relation time c other =
     let differs : (c.key.relation == relation) ≡ false = grind (arith, nat_tests) in
     rw differs refl
 
-before-start : (relation : ℕ) (key : Key) → key_lt key (start_of relation) ≡ true → key.relation < relation
+pub before-start : (relation : ℕ) (key : Key) → key_lt key (start_of relation) ≡ true → key.relation < relation
 before-start relation key h = grind (arith, nat_tests)
 
 from-start : (relation : ℕ) (key : Key) → key_lt key (start_of relation) ≡ false → relation ≤ key.relation
@@ -56,7 +56,7 @@ walk-is_from relation (c ∷ cs) =
     let all : (b : Bool) → Goal b = λ b. elim b as Goal [ true ↦ λ h. rest | false ↦ λ h. (from-start relation c.key h, rest) ] in
     all (key_lt c.key (start_of relation)) refl
 
-above-relation : (a b : Key) → key_lt a b ≡ true → a.relation ≤ b.relation
+pub above-relation : (a b : Key) → key_lt a b ≡ true → a.relation ≤ b.relation
 above-relation a b h = grind (arith, nat_tests)
 
 scanned-above : (relation time : ℕ) (k : Key) (m : List KeyWrites) → relation < k.relation → AllAbove k m → scanned relation time m ≡ []

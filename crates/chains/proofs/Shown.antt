@@ -1,15 +1,15 @@
 -- A scan shows exactly the records of its relation that have a value at its time, rising.
-use Rattle.std.proofs.Common.{◌≡◌, ◌≢◌, ◌⊎◌, inl, inr, ℕ, zero, suc, ◌+◌, ◌<◌, ◌==◌, Bool, true, false, cond, List, [], ◌∷◌, ◌++◌, map, length, get_or, Option, Some, None, refl, ap, sym, ◌∙◌, subst, arith, ⊎_elim}
+use Rattle.std.proofs.Common.{◌≡◌, ℕ, zero, suc, ◌+◌, ◌<◌, ◌==◌, Bool, true, false, cond, List, [], ◌∷◌, ◌++◌, map, Option, Some, None, refl, ap, sym, subst, arith, ⊎_elim}
 use Rattle.std.specs.Prelude.{Contains, find, option_map, option_to_list}
 use Rattle.std.specs.List.{AllByRecursion, slice_index}
 use Rattle.std.specs.List.Sorted.{IsStrictlyIncreasing}
 use Rattle.std.proofs.lemmas.Bool.Decides.{nat_tests}
 use Rattle.std.proofs.lemmas.List.Elements.{Contains-append_left, Contains-append_right, Contains-append_cases}
 use Rattle.history.specs.declared.key.Key.{Key}
-use Rattle.history.specs.Key.{key_lt, same_key, key_of}
+use Rattle.history.specs.Key.{same_key, key_of}
 use Rattle.history.specs.Time.{value_at}
 use Rattle.history.proofs.Members.{Contains-nil, Contains-head, Contains-cons_cases}
-use Rattle.chains.specs.Writes.{Value, Write}
+use Rattle.chains.specs.Writes.{Value}
 use Rattle.chains.specs.KeyWrites.{KeyWrites, is_of, AllAbove, IsOrdered, writes_in, writes_of}
 use Rattle.chains.specs.Scans.{shown, scanned, IsScanOf}
 use Rattle.chains.proofs.Order.{find-below}

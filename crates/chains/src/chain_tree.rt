@@ -106,11 +106,9 @@ impl Tree<Chain> {
         }
         let left = node.left.forget(alloc, mark)?;
         let right = node.right.forget(alloc, mark)?;
-        let ended = node.piece.ended_by(mark);
-        if ended < node.piece.writes().len() {
-            Tree::join(alloc, left, node.piece.without(alloc, ended)?, right)
-        } else {
-            Tree::concat(alloc, &left, right)
+        match node.piece.kept(alloc, mark)? {
+            Some(chain) => Tree::join(alloc, left, chain, right),
+            None => Tree::concat(alloc, &left, right),
         }
     }
 }

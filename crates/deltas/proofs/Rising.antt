@@ -1,5 +1,5 @@
 -- Keys that rise from each to the next rise strictly.
-use Rattle.std.proofs.Common.{◌≡◌, ◌↔◌, ◌<◌, true, false, List, [], ◌∷◌, length, map, sym, subst, refl, arith}
+use Rattle.std.proofs.Common.{◌≡◌, ◌↔◌, ◌<◌, true, List, [], ◌∷◌, length, map, sym, subst, arith}
 use Rattle.std.specs.List.{AllByRecursion}
 use Rattle.std.specs.List.Sorted.{IsStrictlySortedBy}
 use Rattle.std.specs.declared.cmp.Ordering.TheVariants.{Less}

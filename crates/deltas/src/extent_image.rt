@@ -7,9 +7,10 @@ ghost use Rattle.deltas.specs.Reading.{body_of, number_of, next_of};
 use byteorder::{ByteOrder, LittleEndian};
 use std::marker::Model;
 
-/// How many bytes an extent has, and how many of them records can fill.
+/// How many bytes an extent has.
 pub const EXTENT_LEN: usize = 8192;
 
+/// How many of them records can fill.
 pub const BODY_LEN: usize = 8176;
 
 /// All 8,192 bytes of an extent.

@@ -346,3 +346,122 @@ fn a_changed_record_is_no_chain(rt: HostRuntime) -> Result<(), Fail> {
     assert!(rt; !extent(alloc)?.is_same(&changed(alloc, 30, 1)?));
     Ok(())
 }
+
+// Whether the one record of this content fills an extent with these bytes alone.
+fn fills(content: Content, bytes: &[u8]) -> bool {
+    let records = [Record { key: KEY, content }];
+    let mut source = ListCursor::new(&records);
+    let mut image = [0xff; EXTENT_LEN];
+    let filled = fill_extent(&mut source, 1, 0, &mut image);
+    filled.records == 1
+        && filled.used as usize == bytes.len()
+        && image[16..].starts_with(bytes)
+        && image[16..].iter().skip(bytes.len()).all(|byte| *byte == 0)
+}
+
+#[test]
+fn each_kind_fills_an_extent(rt: HostRuntime) -> Result<(), Fail> {
+    let alloc = rt.alloc();
+    let old = two(alloc, b"a", b"b")?;
+    let delta = stored_over(alloc, &old, &two(alloc, b"a", b"c")?)?;
+    let from = 130;
+    let value = one(alloc, b"c")?;
+    assert!(rt; fills(Content::Anchor(one(alloc, b"a")?), &ANCHOR));
+    assert!(rt; fills(delta, &DELTA));
+    assert!(rt; fills(Content::Gone, &GONE));
+    assert!(rt; fills(Content::Old { from, value }, &OLD));
+    Ok(())
+}
+
+#[test]
+fn a_filled_extent(rt: HostRuntime) -> Result<(), Fail> {
+    let records = [record_seven(rt.alloc())?];
+    let mut source = ListCursor::new(&records);
+    let mut image = [0xff; EXTENT_LEN];
+    let filled = fill_extent(&mut source, 1, 0, &mut image);
+    assert_eq!(rt; (filled.records, filled.used), (1, 14));
+    assert_eq!(rt; &image[..16], EXTENT_FRONT.as_slice());
+    assert_eq!(rt; &image[16..30], ANCHOR.as_slice());
+    assert!(rt; image[30..].iter().all(|byte| *byte == 0));
+    assert!(rt; source.peek().is_none());
+    Ok(())
+}
+
+const NO_RECORD: [u8; 16] = [5, 0, 0, 0, 0, 0, 0, 0, 0, 0, 0, 0, 0, 0, 0, 0];
+
+#[test]
+fn an_extent_of_no_record(rt: HostRuntime) {
+    let mut source = ListCursor::new(&[]);
+    let mut image = [0xff; EXTENT_LEN];
+    let filled = fill_extent(&mut source, 5, 0, &mut image);
+    assert_eq!(rt; (filled.records, filled.used), (0, 0));
+    assert_eq!(rt; &image[..16], NO_RECORD.as_slice());
+    assert!(rt; image[16..].iter().all(|byte| *byte == 0));
+}
+
+#[test]
+fn extents_filled_one_by_one(rt: HostRuntime) -> Result<(), Fail> {
+    laws::filled_is_packed();
+    let alloc = rt.alloc();
+    let records = many(alloc, 1024)?;
+    let sealed = chain_of_two(alloc)?;
+    let mut source = ListCursor::new(&records);
+    let mut image = [0xff; EXTENT_LEN];
+    let first = fill_extent(&mut source, 3, 4, &mut image);
+    assert_eq!(rt; (first.records, first.used), (584, 8176));
+    assert!(rt; matches!(sealed.get(0), Some(other) if other.bytes() == image.as_slice()));
+    let second = fill_extent(&mut source, 4, 0, &mut image);
+    assert_eq!(rt; (second.records, second.used), (440, 6160));
+    assert!(rt; matches!(sealed.get(1), Some(other) if other.bytes() == image.as_slice()));
+    assert!(rt; source.peek().is_none());
+    Ok(())
+}
+
+// The chain of these records in the extents of these numbers; none where it needs another number
+// of extents.
+fn filled_chain(
+    alloc: Global,
+    records: &[Record],
+    numbers: &[u32],
+) -> Result<Option<Vec<Image>>, Fail> {
+    match count_extents(&mut ListCursor::new(records)) {
+        Some(count) if count.extents as usize == numbers.len() => {
+            let mut source = ListCursor::new(records);
+            Ok(Some(fill_chain(alloc, &mut source, numbers)?))
+        }
+        _ => Ok(None),
+    }
+}
+
+#[test]
+fn a_filled_chain(rt: HostRuntime) -> Result<(), Fail> {
+    let alloc = rt.alloc();
+    let records = many(alloc, 1024)?;
+    assert!(rt; filled_chain(alloc, &records, &[3])?.is_none());
+    let Some(images) = filled_chain(alloc, &records, &[3, 4])? else {
+        return Err("two extents".into());
+    };
+    let found = held(alloc, TWO_EXTENTS, Kinds::OfCommit, &images)?;
+    assert_eq!(rt; found, Some(1024));
+    Ok(())
+}
+
+// How many extents a chain of these records needs, and how many these are.
+fn counted(records: &[Record]) -> Option<(u32, u32)> {
+    let count = count_extents(&mut ListCursor::new(records))?;
+    Some((count.extents, count.records))
+}
+
+#[test]
+fn extents_are_counted_first(rt: HostRuntime) -> Result<(), Fail> {
+    let alloc = rt.alloc();
+    assert_eq!(rt; counted(&[]), Some((0, 0)));
+    assert_eq!(rt; counted(&[record_seven(alloc)?]), Some((1, 1)));
+    assert_eq!(rt; counted(&many(alloc, 584)?), Some((1, 584)));
+    assert_eq!(rt; counted(&many(alloc, 585)?), Some((2, 585)));
+    assert_eq!(rt;
+        counted(&[filled(alloc, 1)?, filled(alloc, 2)?]),
+        Some((2, 2))
+    );
+    Ok(())
+}

@@ -1,14 +1,13 @@
 -- A change of one extent leaves the others as they are. For crates above.
-use Rattle.std.proofs.Common.{◌≡◌, ◌≢◌, ℕ, suc, refl, ◌-◌, ◌+◌, ◌<◌, ◌≤◌, List, [], ◌∷◌, ◌++◌, length, get_or, slice_set, sym, ◌∙◌, ap, arith, inl, inr}
+use Rattle.std.proofs.Common.{◌≡◌, ◌≢◌, ℕ, suc, refl, ◌-◌, ◌+◌, ◌<◌, ◌≤◌, List, [], ◌∷◌, ◌++◌, length, get_or, sym, ◌∙◌, ap, arith, inl, inr}
 use Rattle.std.specs.List.{AllByRecursion}
 use Rattle.std.proofs.lemmas.Bool.{cases_lt}
-use Rattle.std.proofs.lemmas.List.{get_or_past, get_or-set_other, length-set}
+use Rattle.std.proofs.lemmas.List.{get_or_past, get_or-set_other}
 use Rattle.std.proofs.lemmas.Grind.{get_or-set_at}
 use Rattle.std.proofs.lemmas.List.Sums.{sum_by-set, sum_by-cons}
 use Rattle.extents.specs.declared.usage.Usage.{Usage}
 use Rattle.extents.specs.declared.usage.Usage.TheVariants.{Free, Out, Kept}
-use Rattle.extents.specs.Usages.{HasUsage, IsFree, IsOut, IsKept, with_usage, with_usages, IsNoneOf, AreDistinct, AreOut, one_if_used, used_count, AreFull, AreExtents}
-use Rattle.extents.proofs.Blocks.{still_full}
+use Rattle.extents.specs.Usages.{HasUsage, IsFree, IsOut, IsKept, with_usage, with_usages, IsNoneOf, AreDistinct, AreOut, one_if_used, used_count}
 
 -- another extent's usage
 pub other_stays : (usages : List Usage) (number other : ℕ) (usage old : Usage) → 1 ≤ number → other ≢ number → HasUsage old usages other → HasUsage old (with_usage usages number usage) other
@@ -47,7 +46,7 @@ each_stays : (usages : List Usage) (numbers : List ℕ) (number : ℕ) (usage : 
 each_stays usages [] number usage low apart out = tt
 each_stays usages (n ∷ ns) number usage low apart out = (other_stays usages number n usage Out low apart.0 out.0, each_stays usages ns number usage low apart.1 out.1)
 
-distinct-push : (numbers : List ℕ) (number : ℕ) → IsNoneOf number numbers → AreDistinct numbers → AreDistinct (numbers ++ number ∷ [])
+pub distinct-push : (numbers : List ℕ) (number : ℕ) → IsNoneOf number numbers → AreDistinct numbers → AreDistinct (numbers ++ number ∷ [])
 distinct-push [] number apart distinct = (tt, tt)
 distinct-push (n ∷ ns) number apart distinct = (none-push ns number n (λ e. apart.0 (sym e)) distinct.0, distinct-push ns number apart.1 distinct.1)
   where
@@ -55,7 +54,7 @@ distinct-push (n ∷ ns) number apart distinct = (none-push ns number n (λ e. a
     none-push [] m k apart none = (apart, tt)
     none-push (x ∷ xs) m k apart none = (none.0, none-push xs m k apart none.1)
 
-all-push : (P : ℕ → Type 0) (numbers : List ℕ) (number : ℕ) → AllByRecursion P numbers → P number → AllByRecursion P (numbers ++ number ∷ [])
+pub all-push : (P : ℕ → Type 0) (numbers : List ℕ) (number : ℕ) → AllByRecursion P numbers → P number → AllByRecursion P (numbers ++ number ∷ [])
 all-push P [] number all last = (last, tt)
 all-push P (n ∷ ns) number all last = (all.0, all-push P ns number all.1 last)
 

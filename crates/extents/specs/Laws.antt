@@ -1,9 +1,9 @@
 -- What holds of extents that are handed out together.
-use Rattle.std.specs.Prelude.{◌≡◌, ◌≢◌, ℕ, List, [], ◌∷◌, ◌++◌}
+use Rattle.std.specs.Prelude.{ℕ, List, [], ◌∷◌, ◌++◌}
 use Rattle.std.specs.List.{AllByRecursion}
 use Rattle.extents.specs.declared.usage.Usage.{Usage}
-use Rattle.extents.specs.declared.usage.Usage.TheVariants.{Free, Out, Kept}
-use Rattle.extents.specs.Usages.{HasUsage, IsFree, IsOut, IsKept, with_usage, with_usages, IsNoneOf, AreOut}
+use Rattle.extents.specs.declared.usage.Usage.TheVariants.{Out, Kept}
+use Rattle.extents.specs.Usages.{HasUsage, IsFree, IsKept, with_usage, with_usages, IsNoneOf, AreOut}
 
 -- one more is taken
 abbrev pub ListTaken : Type 0

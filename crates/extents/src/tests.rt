@@ -1,5 +1,6 @@
 //! Extents that are taken, given back, kept, retired and claimed.
-use crate::{Extents, HeapFull, NotFree, Usage, laws};
+use crate::{Extents, HeapFull, LiveFault, NotFree, Usage, laws};
+use std::alloc::Global;
 use std::test::Fail;
 
 // The number of the extent that is taken and then kept, or 0.
@@ -66,6 +67,46 @@ fn a_full_heap_gives_none(rt: HostRuntime) -> Result<(), Fail> {
     extents.retire(40_000);
     assert_eq!(rt; kept(&mut extents), 40_000);
     Ok(())
+}
+
+// Extents of which these are live.
+fn live(alloc: Global, numbers: &[u32]) -> Result<Extents, Fail> {
+    match Extents::of_live(alloc, numbers) {
+        Ok(extents) => Ok(extents),
+        Err(_) => Err("live extents".into()),
+    }
+}
+
+#[test]
+fn live_ones_are_kept(rt: HostRuntime) -> Result<(), Fail> {
+    let mut extents = live(rt.alloc(), &[65_536, 1, 3])?;
+    assert_eq!(rt; extents.free_count(), 65_533);
+    assert!(rt; extents.has(1, Usage::Kept));
+    assert!(rt; extents.has(2, Usage::Free));
+    assert!(rt; extents.has(3, Usage::Kept));
+    assert!(rt; extents.has(65_535, Usage::Free));
+    assert!(rt; extents.has(65_536, Usage::Kept));
+    assert_eq!(rt; kept(&mut extents), 2);
+    assert_eq!(rt; kept(&mut extents), 4);
+    assert_eq!(rt; live(rt.alloc(), &[])?.used(), 0);
+    Ok(())
+}
+
+// Why these can't be the live extents.
+fn fault_of(alloc: Global, numbers: &[u32]) -> Option<LiveFault> {
+    Extents::of_live(alloc, numbers).err()
+}
+
+#[test]
+fn the_first_that_is_not_free_is_told(rt: HostRuntime) {
+    let alloc = rt.alloc();
+    assert_eq!(rt; fault_of(alloc, &[2, 1]), None);
+    assert_eq!(rt; fault_of(alloc, &[2, 1, 2, 0]), Some(LiveFault::NotFree(2)));
+    assert_eq!(rt; fault_of(alloc, &[2, 0, 2]), Some(LiveFault::NotFree(0)));
+    assert_eq!(rt;
+        fault_of(alloc, &[65_537]),
+        Some(LiveFault::NotFree(65_537))
+    );
 }
 
 #[test]

@@ -20,9 +20,10 @@ use Rattle.timequery.specs.declared.fault.QueryFault.TheVariants as query
 use Rattle.transactions.specs.Calls.{order_of}
 use Rattle.store.specs.Values.{StoreValue}
 use Rattle.store.specs.Calls.{IsViewOf, AnswersAtView}
-use Rattle.standing.specs.Laws.{SaysAt}
+use Rattle.standing.specs.Laws.{SaysAt, ViewStands}
 use Rattle.standing.specs.Stands.{Stands}
 use Rattle.standing.proofs.Answering.{view-stands, at-answered, times-of_label}
+use Rattle.standing.proofs.Queries.{scan_at-answered, between-answered, scan_between-answered}
 use Rattle.opened.specs.Laws.{OpensAgain, AnswersBy}
 use Rattle.opened.proofs.Fronts.{front-says}
 use Rattle.opened.proofs.Reopened.{reopen-stands}
@@ -37,10 +38,24 @@ mark-same : (a b : ℕ) → a ≡ b → (a == b) ≡ true
 mark-same a b same = grind (arith, nat_tests)
 
 pub stands-answers : (tells : Bool) (v : StoreValue) (m : Machine Value) → Stands tells v m → AnswersBy v m.published m.floors
-stands-answers tells v m stands view asked key time answer is mark answers =
-    let marked : view.mark ≡ v.transactions.mark = ap (λ (w : ViewValue). w.mark) is in
-    own-mark (view.mark == asked.transactions.mark) (SaysAt (at_answer m.published m.floors key time) answer) (answer ≡ Err query.Stranger) (mark-same view.mark asked.transactions.mark (marked ∙ sym mark))
-    (at-answered asked view m.published m.floors key time answer (view-stands v view m stands.memory is) answers)
+stands-answers tells v m stands = record {
+  at = λ view asked key time answer is mark says.
+      mine view asked is mark _ _ (at-answered asked view m.published m.floors key time answer (of_view view is) says);
+  scan_at = λ view asked relation time answer is mark says.
+      mine view asked is mark _ _ (scan_at-answered asked view m.published m.floors relation time answer (of_view view is) says);
+  between = λ view asked key a b answer is mark says.
+      mine view asked is mark _ _ (between-answered asked view m.published m.floors key a b answer (of_view view is) says);
+  scan_between = λ view asked relation a b answer is mark says.
+      mine view asked is mark _ _ (scan_between-answered asked view m.published m.floors relation a b answer (of_view view is) says);
+}
+  where
+    of_view : (view : ViewValue) → IsViewOf v view → ViewStands view m.published m.floors
+    of_view view is = view-stands v view m stands.memory is
+
+    mine : (view : ViewValue) (asked : StoreValue) → IsViewOf v view → asked.transactions.mark ≡ v.transactions.mark → (said other : Type 0) → MatchBool (view.mark == asked.transactions.mark) said other → said
+    mine view asked is mark said other says =
+        let marked : view.mark ≡ v.transactions.mark = ap (λ (w : ViewValue). w.mark) is in
+        own-mark (view.mark == asked.transactions.mark) said other (mark-same view.mark asked.transactions.mark (marked ∙ sym mark)) says
 
 pub kept-answers : (tells : Bool) (v : StoreValue) (m : Machine Value) (disk : DiskState) (mark : ℕ) (again : StoreValue)
     → Stands tells v m → IsTrue tells → OpensAgain tells v disk mark again → OnFront (AnswersBy again) m
@@ -76,11 +91,11 @@ pub answers-stay : (tells : Bool) (v : StoreValue) (m : Machine Value) (disk : D
 answers-stay tells v m disk mark again asked view key time answer stands told opens is own answers early = by-front (kept-answers tells v m disk mark again stands told opens)
   where
     by-front : OnFront (AnswersBy again) m → SaysAt (at_answer m.published m.floors key time) answer
-    by-front (inl by) = by view asked key time answer is own answers
+    by-front (inl by) = by.at view asked key time answer is own answers
     by-front (inr (inl by)) =
         let up : HasRisingTimes (last m.published) (take m.group m.queue) =
         rising-take (last m.published) m.group m.queue (rising-from_following IsValue m.published m.queue (may_follow-behind IsValue [] m.published m.queue stands.machine.history)) in
-        subst (λ said. SaysAt said answer) (answer-append m.published (take m.group m.queue) m.floors key time up early) (by view asked key time answer is own answers)
+        subst (λ said. SaysAt said answer) (answer-append m.published (take m.group m.queue) m.floors key time up early) (by.at view asked key time answer is own answers)
     by-front (inr (inr by)) = absurd (no_raise (AnswersBy again) m m.raising stands.memory.raising by)
 
 -- ---- labels

@@ -1,6 +1,6 @@
 -- A store that is opened again.
 use Rattle.std.proofs.Common.{◌≡◌, ℕ, Bool, IsTrue, subst}
-use Rattle.disk.specs.Areas.{Image, AreSound, LeavesImage, image_of}
+use Rattle.disk.specs.Areas.{Areas, Image, AreSound, LeavesImage, LeavesNoMore, image_of}
 use Rattle.disk.specs.Calls.{DiskState}
 use Rattle.disk.proofs.Stops.{LeavesImage-read}
 use Rattle.history.specs.Histories.{History}
@@ -14,25 +14,24 @@ use Rattle.recovery.specs.declared.fault.OpenFault.{OpenFault}
 use Rattle.recovery.proofs.OneAnswer.{opening_only}
 use Rattle.recovery.proofs.HistoryRead.{stands_opening}
 use Rattle.store.specs.Values.{StoreValue}
-use Rattle.store.specs.Opens.{OpenRefuses}
+use Rattle.store.specs.Opens.{Opens, OpenRefuses}
 use Rattle.standing.specs.OnDisk.{IsImageOf}
 use Rattle.standing.specs.Stands.{Stands}
-use Rattle.opened.specs.Laws.{OpensAgain}
+use Rattle.opened.specs.Laws.{OpensAgain, LeavesFronts}
 use Rattle.opened.proofs.Fronts.{front-says, front-is}
 use Rattle.opened.proofs.Opened.{open-stands}
 
 -- ---- a refusal
 
 pub open-refuses : (tells : Bool) (old new : DiskState) (why : OpenFault) (header : Header) (h : History Value) (floors : ℕ → ℕ)
-    → OpenRefuses tells old why new → IsTrue tells → IsImageOf header (image_of old.areas) h floors → IsReadFault why × (image_of new.areas ≡ image_of old.areas)
+    → OpenRefuses tells old why new → IsTrue tells → IsImageOf header (image_of old.areas) h floors → IsReadFault why × (image_of new.areas ≡ image_of old.areas) × LeavesNoMore old.areas new.areas
 open-refuses tells old new why header h floors refuses told image =
     let opening = stands_opening header (image_of old.areas) image.layout image.reading h floors image.laid image.held image.stands image.profile_built image.built in
-    (opening_only header (image_of old.areas) (unread_layout image.layout) (unread image.reading) why opening (refuses.fault told), refuses.image told)
+    (opening_only header (image_of old.areas) (unread_layout image.layout) (unread image.reading) why opening (refuses.fault told), refuses.image told, refuses.left told)
 
 -- ---- closing
 
-pub close-leaves : (tells : Bool) (v : StoreValue) (m : Machine Value) (disk : DiskState) → Stands tells v m → IsTrue tells → disk ≡ v.disk
-    → (header : Header) × ((image : Image) → LeavesImage disk.areas image → OnFront (IsImageOf header image) m)
+pub close-leaves : (tells : Bool) (v : StoreValue) (m : Machine Value) (disk : DiskState) → Stands tells v m → IsTrue tells → disk ≡ v.disk → LeavesFronts disk.areas m
 close-leaves tells v m disk stands told same =
     let on = stands.disk told in
     (on.header, λ image left. on.leaves image (subst (λ (d : DiskState). LeavesImage d.areas image) same left))
@@ -55,5 +54,21 @@ pub reopen-refuses : (tells : Bool) (v : StoreValue) (m : Machine Value) (disk n
 reopen-refuses tells v m disk new why stands told left refuses =
     let on = stands.disk told in
     front-is (IsImageOf on.header (image_of disk.areas)) m
-    (λ h floors image. open-refuses tells disk new why on.header h floors refuses told image)
+    (λ h floors image. let said = open-refuses tells disk new why on.header h floors refuses told image in (said.0, said.1))
     (on.leaves (image_of disk.areas) left)
+
+-- ---- a stop while it is opened, and a second stop
+
+leaves-fronts : (tells : Bool) (v : StoreValue) (m : Machine Value) (middle new : Areas) → Stands tells v m → IsTrue tells
+    → LeavesNoMore v.disk.areas middle → LeavesNoMore middle new → LeavesNoMore v.disk.areas new × LeavesFronts new m
+leaves-fronts tells v m middle new stands told first next =
+    let on = stands.disk told in
+    (record { each = λ image left. first.each image (next.each image left) }, (on.header, λ image left. on.leaves image (first.each image (next.each image left))))
+
+pub opening-stops : (tells : Bool) (v : StoreValue) (m : Machine Value) (disk new : DiskState) (why : OpenFault)
+    → Stands tells v m → IsTrue tells → LeavesNoMore v.disk.areas disk.areas → OpenRefuses tells disk why new → LeavesNoMore v.disk.areas new.areas × LeavesFronts new.areas m
+opening-stops tells v m disk new why stands told first refuses = leaves-fronts tells v m disk.areas new.areas stands told first (refuses.left told)
+
+pub second-stops : (tells : Bool) (v : StoreValue) (m : Machine Value) (disk : DiskState) (mark : ℕ) (again : StoreValue)
+    → Stands tells v m → IsTrue tells → LeavesNoMore v.disk.areas disk.areas → Opens tells disk mark again → LeavesNoMore v.disk.areas again.disk.areas × LeavesFronts again.disk.areas m
+second-stops tells v m disk mark again stands told first opens = leaves-fronts tells v m disk.areas again.disk.areas stands told first (opens.left told)

@@ -1,8 +1,11 @@
 -- What opening a store, formatting a disk and closing a store stand for.
 use Rattle.std.specs.Prelude.{ℕ, ◌≡◌, ◌≤◌, ◌++◌, Bool, IsTrue, List, [], Option, Result}
-use Rattle.disk.specs.Areas.{Areas, Image, AreSound, LeavesImage, image_of}
+use Rattle.disk.specs.Areas.{Areas, Image, AreSound, LeavesImage, LeavesNoMore, image_of}
 use Rattle.disk.specs.Calls.{DiskState}
+use Rattle.std.specs.declared.alloc.Global.{Global}
+use Rattle.std.specs.declared.vec.Vec.{Vec}
 use Rattle.history.specs.declared.key.Key.{Key}
+use Rattle.history.specs.declared.time.Version.{Version}
 use Rattle.history.specs.Histories.{History, last}
 use Rattle.history.specs.Fronts.{OnFront}
 use Rattle.history.specs.Machine.{Machine, opened}
@@ -19,9 +22,9 @@ use Rattle.timequery.specs.View.{ViewValue}
 use Rattle.timequery.specs.declared.fault.QueryFault.{QueryFault}
 use Rattle.transactions.specs.Calls.{order_of}
 use Rattle.store.specs.Values.{StoreValue}
-use Rattle.store.specs.Calls.{IsViewOf, AnswersAtView}
+use Rattle.store.specs.Calls.{IsViewOf, AnswersAtView, AnswersScanAt, AnswersRows, AnswersScanRows}
 use Rattle.store.specs.Opens.{Opens, OpenRefuses}
-use Rattle.standing.specs.Laws.{SaysAt}
+use Rattle.standing.specs.Laws.{SaysAt, SaysScanAt, SaysBetween, SaysScanBetween}
 use Rattle.standing.specs.OnDisk.{IsImageOf}
 use Rattle.standing.specs.Stands.{Stands}
 
@@ -32,10 +35,10 @@ abbrev pub OpenStands : Type 0
 OpenStands = (tells : Bool) (old : DiskState) (mark : ℕ) (v : StoreValue) (header : Header) (h : History Value) (floors : ℕ → ℕ)
     → Opens tells old mark v → IsTrue tells → AreSound old.areas → IsImageOf header (image_of old.areas) h floors → Stands tells v (opened h floors)
 
--- where opening such an image is refused, the device or memory gave out, and the disk still holds the image
+-- Where opening such an image is refused, the device or memory gave out, and the disk still holds the image. A stop then leaves nothing that it might not have left before.
 abbrev pub OpenRefusesFor : Type 0
 OpenRefusesFor = (tells : Bool) (old new : DiskState) (why : OpenFault) (header : Header) (h : History Value) (floors : ℕ → ℕ)
-    → OpenRefuses tells old why new → IsTrue tells → IsImageOf header (image_of old.areas) h floors → IsReadFault why × (image_of new.areas ≡ image_of old.areas)
+    → OpenRefuses tells old why new → IsTrue tells → IsImageOf header (image_of old.areas) h floors → IsReadFault why × (image_of new.areas ≡ image_of old.areas) × LeavesNoMore old.areas new.areas
 
 -- ---- formatting
 
@@ -56,10 +59,13 @@ FormatOpens = (tells : Bool) (slots : ℕ) (old new : Areas) (disk : DiskState) 
 
 -- ---- closing, and opening again
 
--- Closing hands the store's disk back: whatever a stop may leave of it stands for a front of the commit order.
+-- whatever a stop may leave of these areas stands for a front of the commit order
+abbrev pub LeavesFronts : Areas → Machine Value → Type 0
+LeavesFronts areas m = (header : Header) × ((image : Image) → LeavesImage areas image → OnFront (IsImageOf header image) m)
+
+-- so it is of the disk that closing hands back
 abbrev pub CloseLeaves : Type 0
-CloseLeaves = (tells : Bool) (v : StoreValue) (m : Machine Value) (disk : DiskState) → Stands tells v m → IsTrue tells → disk ≡ v.disk
-    → (header : Header) × ((image : Image) → LeavesImage disk.areas image → OnFront (IsImageOf header image) m)
+CloseLeaves = (tells : Bool) (v : StoreValue) (m : Machine Value) (disk : DiskState) → Stands tells v m → IsTrue tells → disk ≡ v.disk → LeavesFronts disk.areas m
 
 -- A store is opened again: the disk holds what a stop may have left of it.
 pub record OpensAgain (tells : Bool) (v : StoreValue) (disk : DiskState) (mark : ℕ) (again : StoreValue) : Type 0 where
@@ -77,6 +83,16 @@ abbrev pub ReopenRefuses : Type 0
 ReopenRefuses = (tells : Bool) (v : StoreValue) (m : Machine Value) (disk new : DiskState) (why : OpenFault)
     → Stands tells v m → IsTrue tells → LeavesImage v.disk.areas (image_of disk.areas) → OpenRefuses tells disk why new → IsReadFault why × (image_of new.areas ≡ image_of disk.areas)
 
+-- A stop while the store is opened again: where opening was refused, at whichever of its calls, it leaves nothing that it might not have left before, so a front of the commit order as that did.
+abbrev pub OpeningStops : Type 0
+OpeningStops = (tells : Bool) (v : StoreValue) (m : Machine Value) (disk new : DiskState) (why : OpenFault)
+    → Stands tells v m → IsTrue tells → LeavesNoMore v.disk.areas disk.areas → OpenRefuses tells disk why new → LeavesNoMore v.disk.areas new.areas × LeavesFronts new.areas m
+
+-- A second stop, once it was opened again: so it is of the opened store.
+abbrev pub SecondStops : Type 0
+SecondStops = (tells : Bool) (v : StoreValue) (m : Machine Value) (disk : DiskState) (mark : ℕ) (again : StoreValue)
+    → Stands tells v m → IsTrue tells → LeavesNoMore v.disk.areas disk.areas → Opens tells disk mark again → LeavesNoMore v.disk.areas again.disk.areas × LeavesFronts again.disk.areas m
+
 -- the disk that a closed store hands back holds what a stop may have left, so it may be opened again
 abbrev pub ClosedIsLeft : Type 0
 ClosedIsLeft = (v : StoreValue) (disk : DiskState) → disk ≡ v.disk → AreSound disk.areas → LeavesImage v.disk.areas (image_of disk.areas)
@@ -84,9 +100,15 @@ ClosedIsLeft = (v : StoreValue) (disk : DiskState) → disk ≡ v.disk → AreSo
 -- ---- queries
 
 -- Every view that is taken of the store now is answered by this history, also when it is asked later: a store knows its own views by its mark.
-abbrev pub AnswersBy : StoreValue → History Value → (ℕ → ℕ) → Type 0
-AnswersBy v h floors = (view : ViewValue) (asked : StoreValue) (key : Key) (time : ℕ) (answer : Result (Option Value) QueryFault)
-    → IsViewOf v view → asked.transactions.mark ≡ v.transactions.mark → AnswersAtView asked view key time answer → SaysAt (at_answer h floors key time) answer
+pub record AnswersBy (v : StoreValue) (h : History Value) (floors : ℕ → ℕ) : Type 0 where
+  pub at : (view : ViewValue) (asked : StoreValue) (key : Key) (time : ℕ) (answer : Result (Option Value) QueryFault)
+      → IsViewOf v view → asked.transactions.mark ≡ v.transactions.mark → AnswersAtView asked view key time answer → SaysAt (at_answer h floors key time) answer
+  pub scan_at : (view : ViewValue) (asked : StoreValue) (relation time : ℕ) (answer : Result (Vec (ℕ × Value) Global) QueryFault)
+      → IsViewOf v view → asked.transactions.mark ≡ v.transactions.mark → AnswersScanAt asked view relation time answer → SaysScanAt h floors relation time answer
+  pub between : (view : ViewValue) (asked : StoreValue) (key : Key) (a b : ℕ) (answer : Result (Vec (Version Value) Global) QueryFault)
+      → IsViewOf v view → asked.transactions.mark ≡ v.transactions.mark → AnswersRows asked view key a b answer → SaysBetween h floors key a b answer
+  pub scan_between : (view : ViewValue) (asked : StoreValue) (relation a b : ℕ) (answer : Result (Vec (ℕ × Version Value) Global) QueryFault)
+      → IsViewOf v view → asked.transactions.mark ≡ v.transactions.mark → AnswersScanRows asked view relation a b answer → SaysScanBetween h floors relation a b answer
 
 abbrev pub StandsAnswers : Type 0
 StandsAnswers = (tells : Bool) (v : StoreValue) (m : Machine Value) → Stands tells v m → AnswersBy v m.published m.floors

@@ -1,7 +1,7 @@
 //! Reading the image of a store.
 
 ghost use Rattle.std.specs.Prelude.{◌≡◌, ◌≤◌, ◌<◌, ◌^◌, IsTrue, IfOk, IfErr, OnOk, OnErr, map, length, Err, flat_map};
-ghost use Rattle.disk.specs.Areas.{image_of, settled_on};
+ghost use Rattle.disk.specs.Areas.{image_of, settled_on, LeavesNoMore};
 ghost use Rattle.disk.specs.Calls.{refusals};
 ghost use Rattle.image.specs.Log.{AreRisingAfter, last_time_after};
 ghost use Rattle.status.specs.Header.{total};
@@ -65,6 +65,7 @@ fn commit_names(alloc: Global, entries: &[Member]) -> Result<Vec<CommitName>, Al
 fn settle<D: Disk>(disk: &mut D) -> Result<(), DeviceFault>
     ensures settled { IsTrue D.tells → OnOk result ((D.state disk.new).areas ≡ settled_on (image_of (D.state disk.old).areas)) }
     ensures read { IsTrue D.tells → image_of (D.state disk.new).areas ≡ image_of (D.state disk.old).areas }
+    ensures left { IsTrue D.tells → LeavesNoMore (D.state disk.old).areas (D.state disk.new).areas }
     ensures refused { (D.state disk.new).refused ≡ refusals result (D.state disk.old).refused }
 {
     disk.sync(Area::Status)?;
@@ -120,7 +121,8 @@ fn read_settled<D: Disk>(alloc: Global, disk: &mut D) -> Result<Recovered, OpenF
     })
 }
 
-/// Reads the image of a store. It first syncs all three areas, and then only reads.
+/// Reads the image of a store. It first syncs all three areas, and then only reads: a stop meanwhile
+/// leaves nothing that it might not have left before.
 ///
 /// # Errors
 ///
@@ -137,6 +139,7 @@ pub fn read_image<D: Disk>(alloc: Global, disk: &mut D) -> Result<Recovered, Ope
 
     ensures settled { IsTrue D.tells → OnOk result ((D.state disk.new).areas ≡ settled_on (image_of (D.state disk.old).areas)) }
     ensures read { IsTrue D.tells → image_of (D.state disk.new).areas ≡ image_of (D.state disk.old).areas }
+    ensures left { IsTrue D.tells → LeavesNoMore (D.state disk.old).areas (D.state disk.new).areas }
     ensures refused { (D.state disk.new).refused ≡ refusals_at_opening result (D.state disk.old).refused }
 {
     settle(disk)?;

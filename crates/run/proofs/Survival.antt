@@ -32,7 +32,9 @@ kept-as : (tells : Bool) (header : Header) (image : Image) (h : History Value) (
 kept-as tells header image h floors told is = record {
   header = header;
   stands = is;
-  opens = λ disk new why same refuses. (open-refuses tells disk new why header h floors refuses told (subst (λ (i : Image). IsImageOf header i h floors) (sym same) is)).0;
+  opens = λ disk new why same refuses.
+      let said = open-refuses tells disk new why header h floors refuses told (subst (λ (i : Image). IsImageOf header i h floors) (sym same) is) in
+      (said.0, said.2);
   answers = λ disk mark again same sound opens.
       let stands = open-stands tells disk mark again header h floors opens told sound (subst (λ (i : Image). IsImageOf header i h floors) (sym same) is) in
       (stands, stands-answers tells again (opened h floors) stands);

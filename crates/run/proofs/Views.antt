@@ -5,6 +5,7 @@ use Rattle.std.specs.declared.alloc.Global.{Global}
 use Rattle.std.specs.declared.alloc.AllocError.{AllocError}
 use Rattle.std.proofs.lemmas.Bool.Decides.{nat_tests}
 use Rattle.history.specs.declared.key.Key.{Key}
+use Rattle.history.specs.declared.time.Version.{Version}
 use Rattle.history.specs.Answers as answers
 use Rattle.image.specs.Values.{Value}
 use Rattle.timequery.specs.View.{ViewValue}
@@ -14,13 +15,14 @@ use Rattle.store.specs.Values.{StoreValue}
 use Rattle.store.specs.Calls as stores
 use Rattle.standing.specs.Laws.{SaysAt}
 use Rattle.standing.proofs.Answering.{view-stands, at-answered, times-of_label}
+use Rattle.standing.proofs.Queries.{scan_at-answered, between-answered, scan_between-answered}
 use Rattle.run.specs.declared.calls.Call.TheVariants as call
 use Rattle.run.specs.declared.calls.Answer.TheVariants as answer
 use Rattle.run.specs.declared.held.Held.{Held}
 use Rattle.run.specs.declared.held.Held.TheVariants as held
 use Rattle.run.specs.Places.{Place, Free, Views, place_at, view_in, HasNoView, IsNoView, ShowsAs, view_answer}
 use Rattle.run.specs.Worlds.{World, IsWorld, leaves, same, spent}
-use Rattle.run.specs.Runs.{Goes, Asks, Closes}
+use Rattle.run.specs.Runs.{Goes, Asks, AsksScan, AsksBetween, AsksScanBetween, Closes}
 use Rattle.run.proofs.Runs.{no-step}
 use Rattle.run.proofs.Places.{push, push_nothing, free, view-no_clash, at_view, no_view}
 use Rattle.run.proofs.Steps.{same-world}
@@ -54,9 +56,9 @@ view-goes tells v xs (Ok view) of w is =
 view-goes tells v xs (Err why) of w is = (same w, refl, no-step w.machine, same-world tells v xs w is)
 
 -- the store's own view is answered
-own-answered : (tells b : Bool) (said : Result (Option Value) answers.QueryRefusal) (r : Result (Option Value) QueryFault) → b ≡ true → MatchBool b (SaysAt said r) (r ≡ Err query.Stranger) → SaysAt said r
-own-answered tells true said r mine says = says
-own-answered tells false said r mine says = absurd cc
+own-answered : (P R : Type 0) (b : Bool) → b ≡ true → MatchBool b P R → P
+own-answered P R true mine says = says
+own-answered P R false mine says = absurd cc
 
 pub at-goes : (tells : Bool) (v v' : StoreValue) (xs : List Held) (i : ℕ) (key : Key) (time : ℕ) (view : ViewValue) (r : Result (Option Value) QueryFault) → slice_get xs i ≡ Some (held.View view) → stores.AnswersAtView v view key time r → v' ≡ v
     → Goes tells v xs (call.At i key time) (answer.At r) v' (xs ++ held.Nothing ∷ [])
@@ -64,7 +66,40 @@ at-goes tells v v' xs i key time view r here says unchanged w is = (
   same w,
   at_view (λ (p : Place). Asks w key time p r (same w)) v.transactions w.machine.published view (place_at w.places i) (is.places.each i (held.View view) here) (λ history floors mark stands.
       let mine : (view.mark == v.transactions.mark) ≡ true = grind (arith, nat_tests) in
-      (own-answered tells (view.mark == v.transactions.mark) (answers.at_answer history floors key time) r mine (at-answered v view history floors key time r stands says), refl)),
+      (own-answered _ _ (view.mark == v.transactions.mark) mine (at-answered v view history floors key time r stands says), refl)),
+  no-step w.machine,
+  subst (λ (x : StoreValue). IsWorld tells x (xs ++ held.Nothing ∷ []) (same w)) (sym unchanged) (same-world tells v xs w is),
+)
+
+pub scan_at-goes : (tells : Bool) (v v' : StoreValue) (xs : List Held) (i : ℕ) (relation time : ℕ) (view : ViewValue) (r : Result (Vec (ℕ × Value) Global) QueryFault) → slice_get xs i ≡ Some (held.View view) → stores.AnswersScanAt v view relation time r → v' ≡ v
+    → Goes tells v xs (call.ScanAt i relation time) (answer.ScanAt r) v' (xs ++ held.Nothing ∷ [])
+scan_at-goes tells v v' xs i relation time view r here says unchanged w is = (
+  same w,
+  at_view (λ (p : Place). AsksScan w relation time p r (same w)) v.transactions w.machine.published view (place_at w.places i) (is.places.each i (held.View view) here) (λ history floors mark stands.
+      let mine : (view.mark == v.transactions.mark) ≡ true = grind (arith, nat_tests) in
+      (own-answered _ _ (view.mark == v.transactions.mark) mine (scan_at-answered v view history floors relation time r stands says), refl)),
+  no-step w.machine,
+  subst (λ (x : StoreValue). IsWorld tells x (xs ++ held.Nothing ∷ []) (same w)) (sym unchanged) (same-world tells v xs w is),
+)
+
+pub between-goes : (tells : Bool) (v v' : StoreValue) (xs : List Held) (i : ℕ) (key : Key) (a b : ℕ) (view : ViewValue) (r : Result (Vec (Version Value) Global) QueryFault) → slice_get xs i ≡ Some (held.View view) → stores.AnswersRows v view key a b r → v' ≡ v
+    → Goes tells v xs (call.Between i key a b) (answer.Between r) v' (xs ++ held.Nothing ∷ [])
+between-goes tells v v' xs i key a b view r here says unchanged w is = (
+  same w,
+  at_view (λ (p : Place). AsksBetween w key a b p r (same w)) v.transactions w.machine.published view (place_at w.places i) (is.places.each i (held.View view) here) (λ history floors mark stands.
+      let mine : (view.mark == v.transactions.mark) ≡ true = grind (arith, nat_tests) in
+      (own-answered _ _ (view.mark == v.transactions.mark) mine (between-answered v view history floors key a b r stands says), refl)),
+  no-step w.machine,
+  subst (λ (x : StoreValue). IsWorld tells x (xs ++ held.Nothing ∷ []) (same w)) (sym unchanged) (same-world tells v xs w is),
+)
+
+pub scan_between-goes : (tells : Bool) (v v' : StoreValue) (xs : List Held) (i : ℕ) (relation a b : ℕ) (view : ViewValue) (r : Result (Vec (ℕ × Version Value) Global) QueryFault) → slice_get xs i ≡ Some (held.View view) → stores.AnswersScanRows v view relation a b r → v' ≡ v
+    → Goes tells v xs (call.ScanBetween i relation a b) (answer.ScanBetween r) v' (xs ++ held.Nothing ∷ [])
+scan_between-goes tells v v' xs i relation a b view r here says unchanged w is = (
+  same w,
+  at_view (λ (p : Place). AsksScanBetween w relation a b p r (same w)) v.transactions w.machine.published view (place_at w.places i) (is.places.each i (held.View view) here) (λ history floors mark stands.
+      let mine : (view.mark == v.transactions.mark) ≡ true = grind (arith, nat_tests) in
+      (own-answered _ _ (view.mark == v.transactions.mark) mine (scan_between-answered v view history floors relation a b r stands says), refl)),
   no-step w.machine,
   subst (λ (x : StoreValue). IsWorld tells x (xs ++ held.Nothing ∷ []) (same w)) (sym unchanged) (same-world tells v xs w is),
 )

@@ -1,7 +1,7 @@
 -- What a store promises of each moment at which its machine may stop, in the words of its users.
 use Rattle.std.specs.Prelude.{ℕ, ◌≡◌, ◌++◌, Bool, IsTrue, List, [], ◌∷◌, Contains}
 use Rattle.std.specs.List.{AllByRecursion}
-use Rattle.disk.specs.Areas.{Image, AreSound, LeavesImage, image_of}
+use Rattle.disk.specs.Areas.{Image, AreSound, LeavesImage, LeavesNoMore, image_of}
 use Rattle.disk.specs.Calls.{DiskState}
 use Rattle.history.specs.Histories.{Commit, History}
 use Rattle.history.specs.Machine.{Machine, commit_order, opened}
@@ -48,6 +48,9 @@ acknowledged (answer.Pump said ∷ answers) = acknowledged answers
 acknowledged (answer.GiveUp ∷ answers) = acknowledged answers
 acknowledged (answer.View said ∷ answers) = acknowledged answers
 acknowledged (answer.At said ∷ answers) = acknowledged answers
+acknowledged (answer.ScanAt said ∷ answers) = acknowledged answers
+acknowledged (answer.Between said ∷ answers) = acknowledged answers
+acknowledged (answer.ScanBetween said ∷ answers) = acknowledged answers
 acknowledged (answer.End ∷ answers) = acknowledged answers
 acknowledged (answer.TimesOf said ∷ answers) = acknowledged answers
 
@@ -60,11 +63,11 @@ HasCommitAt h time = (c : Commit Value) × Contains h c × (c.time ≡ time)
 abbrev pub IsPrefixOf : History Value → History Value → Type 0
 IsPrefixOf front whole = (rest : History Value) × (whole ≡ front ++ rest)
 
--- An image is kept as this history: it stands for it, it opens unless the device or memory gives out, and all that the store which opens it answers is what the history's write sets say.
+-- An image is kept as this history: it stands for it, it opens unless the device or memory gives out, and all that the store which opens it answers is what the history's write sets say. A stop while it is opened leaves nothing that the disk might not have left before.
 pub record IsKeptAs (tells : Bool) (image : Image) (h : History Value) (floors : ℕ → ℕ) : Type 0 where
   pub header : Header
   pub stands : IsImageOf header image h floors
-  pub opens : (disk new : DiskState) (why : OpenFault) → image_of disk.areas ≡ image → OpenRefuses tells disk why new → IsReadFault why
+  pub opens : (disk new : DiskState) (why : OpenFault) → image_of disk.areas ≡ image → OpenRefuses tells disk why new → IsReadFault why × LeavesNoMore disk.areas new.areas
   pub answers : (disk : DiskState) (mark : ℕ) (again : StoreValue) → image_of disk.areas ≡ image → AreSound disk.areas → Opens tells disk mark again → Stands tells again (opened h floors) × AnswersBy again h floors
 
 -- An image that a stop leaves is kept as a prefix of the commit order that has all that is published, and so every acknowledged commit.

@@ -4,6 +4,7 @@ use Rattle.std.specs.declared.alloc.Global.{Global}
 use Rattle.std.specs.declared.alloc.AllocError.{AllocError}
 use Rattle.history.specs.declared.key.Key.{Key}
 use Rattle.history.specs.declared.key.KeyWrite.{KeyWrite}
+use Rattle.history.specs.declared.time.Version.{Version}
 use Rattle.history.specs.Answers as answers
 use Rattle.history.specs.Histories.{last, state}
 use Rattle.history.specs.Machine.{Machine}
@@ -27,7 +28,7 @@ use Rattle.group.specs.declared.answers.SubmitFault.{SubmitFault}
 use Rattle.group.specs.declared.answers.SubmitFault.TheVariants as refused
 use Rattle.timequery.specs.declared.fault.QueryFault.{QueryFault}
 use Rattle.store.specs.Values.{StoreValue}
-use Rattle.standing.specs.Laws.{begins_in, ends_in, SaysAt}
+use Rattle.standing.specs.Laws.{begins_in, ends_in, SaysAt, SaysScanAt, SaysBetween, SaysScanBetween}
 use Rattle.run.specs.declared.calls.Call.{Call}
 use Rattle.run.specs.declared.calls.Call.TheVariants as call
 use Rattle.run.specs.declared.calls.Answer.{Answer}
@@ -143,6 +144,19 @@ abbrev pub Asks : World → Key → ℕ → Place → Result (Option Value) Quer
 Asks w key time (Views history floors) said next = SaysAt (answers.at_answer history floors key time) said × (next ≡ same w)
 Asks w key time place said next = ⊥
 
+-- so does a scan, an interval of a key and one of a relation
+abbrev pub AsksScan : World → ℕ → ℕ → Place → Result (Vec (ℕ × Value) Global) QueryFault → World → Type 0
+AsksScan w relation time (Views history floors) said next = SaysScanAt history floors relation time said × (next ≡ same w)
+AsksScan w relation time place said next = ⊥
+
+abbrev pub AsksBetween : World → Key → ℕ → ℕ → Place → Result (Vec (Version Value) Global) QueryFault → World → Type 0
+AsksBetween w key a b (Views history floors) said next = SaysBetween history floors key a b said × (next ≡ same w)
+AsksBetween w key a b place said next = ⊥
+
+abbrev pub AsksScanBetween : World → ℕ → ℕ → ℕ → Place → Result (Vec (ℕ × Version Value) Global) QueryFault → World → Type 0
+AsksScanBetween w relation a b (Views history floors) said next = SaysScanBetween history floors relation a b said × (next ≡ same w)
+AsksScanBetween w relation a b place said next = ⊥
+
 abbrev pub Closes : World → ℕ → Place → World → Type 0
 Closes w i (Views history floors) next = next ≡ spent w i
 Closes w i place next = ⊥
@@ -166,6 +180,9 @@ NamesNone w (call.Redeem i) = IsNoTicket (place_at w.places i)
 NamesNone w (call.GiveUp i) = IsNoTicket (place_at w.places i)
 NamesNone w call.View = ⊥
 NamesNone w (call.At i key time) = IsNoView (place_at w.places i)
+NamesNone w (call.ScanAt i relation time) = IsNoView (place_at w.places i)
+NamesNone w (call.Between i key a b) = IsNoView (place_at w.places i)
+NamesNone w (call.ScanBetween i relation a b) = IsNoView (place_at w.places i)
 NamesNone w (call.End i) = IsNoView (place_at w.places i)
 NamesNone w (call.TimesOf label) = ⊥
 
@@ -184,6 +201,9 @@ Does w (call.Redeem i) (answer.Redeem said) next = Redeems w i (place_at w.place
 Does w (call.GiveUp i) answer.GiveUp next = GivesUp w i (place_at w.places i) next
 Does w call.View (answer.View said) next = Shows w said next
 Does w (call.At i key time) (answer.At said) next = Asks w key time (place_at w.places i) said next
+Does w (call.ScanAt i relation time) (answer.ScanAt said) next = AsksScan w relation time (place_at w.places i) said next
+Does w (call.Between i key a b) (answer.Between said) next = AsksBetween w key a b (place_at w.places i) said next
+Does w (call.ScanBetween i relation a b) (answer.ScanBetween said) next = AsksScanBetween w relation a b (place_at w.places i) said next
 Does w (call.End i) answer.End next = Closes w i (place_at w.places i) next
 Does w (call.TimesOf label) (answer.TimesOf said) next = ListsTimes w label said next
 Does w c a next = ⊥

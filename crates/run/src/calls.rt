@@ -1,7 +1,7 @@
 //! Calls, and what they answer.
 use chains::SharedValue;
 use group::{BeginFault, Did, PumpFault, SubmitFault};
-use history::Key;
+use history::{Key, Version};
 use snapshot::TxnFault;
 use std::alloc::AllocError;
 use timequery::QueryFault;
@@ -52,6 +52,24 @@ pub enum Call<'a> {
         key: Key,
         time: u64,
     },
+    ScanAt {
+        view: usize,
+        relation: u16,
+        time: u64,
+    },
+    /// From `a` up to `b`, itself no longer in the interval.
+    Between {
+        view: usize,
+        key: Key,
+        a: u64,
+        b: u64,
+    },
+    ScanBetween {
+        view: usize,
+        relation: u16,
+        a: u64,
+        b: u64,
+    },
     End {
         view: usize,
     },
@@ -99,6 +117,9 @@ pub enum Answer {
     GiveUp,
     View(Result<(), AllocError>),
     At(Result<Option<SharedValue>, QueryFault>),
+    ScanAt(Result<Vec<(u64, SharedValue)>, QueryFault>),
+    Between(Result<Vec<Version<SharedValue>>, QueryFault>),
+    ScanBetween(Result<Vec<(u64, Version<SharedValue>)>, QueryFault>),
     End,
     TimesOf(Result<Vec<u64>, AllocError>),
 }

@@ -1,6 +1,6 @@
 //! Formatting, opening and closing, with what they stand for.
 ghost use Rattle.std.specs.Prelude.{ℕ, ◌≡◌, [], IsTrue, IfOk, IfErr, OnOk, MatchResult};
-ghost use Rattle.disk.specs.Areas.{Image, LeavesImage, image_of};
+ghost use Rattle.disk.specs.Areas.{Image, LeavesImage, LeavesNoMore, image_of};
 ghost use Rattle.history.specs.Fronts.{OnFront};
 ghost use Rattle.history.specs.Histories.{History};
 ghost use Rattle.history.specs.Machine.{Machine, opened};
@@ -40,6 +40,8 @@ pub fn open<D: Disk>(alloc: Global, disk: D, mark: u64) -> Result<Store<D>, (Ope
     ensures err { IfErr result (λ e. OpenRefuses D.tells (D.state disk) e.0 (D.state e.1)) }
     // On an image that stands for a history the store stands for it. Nothing but the device or memory refuses it, and then the disk still holds the image.
     ensures stands { (header : Header) (h : History Value) (floors : ℕ → ℕ) → IsTrue D.tells → IsImageOf header (image_of (D.state disk).areas) h floors → MatchResult result (λ s. Stands D.tells s (opened h floors)) (λ e. IsReadFault e.0 × (image_of (D.state e.1).areas ≡ image_of (D.state disk).areas)) }
+    // A stop while it opens, refused or not, leaves nothing that it might not have left before.
+    ensures stops { IsTrue D.tells → MatchResult result (λ s. LeavesNoMore (D.state disk).areas s.disk.areas) (λ e. LeavesNoMore (D.state disk).areas (D.state e.1).areas) }
 {
     Store::open(alloc, disk, mark)
 }

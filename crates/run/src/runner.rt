@@ -10,7 +10,7 @@ use crate::calls::{Answer, Call};
 use crate::held::Held;
 use crate::redeeming::{give_up, redeem};
 use crate::transacting::{abort, begin, delete, get, put, scan, submit};
-use crate::viewing::{at, end, times_of, view};
+use crate::viewing::{at, between, end, scan_at, scan_between, times_of, view};
 use disk::Disk;
 use std::alloc::{AllocError, Global};
 use store::Store;
@@ -90,6 +90,26 @@ fn step<D: Disk>(
             key,
             time,
         } => (at(store, places, place, key, time), Held::Nothing),
+        Call::ScanAt {
+            view: place,
+            relation,
+            time,
+        } => (scan_at(store, places, place, relation, time), Held::Nothing),
+        Call::Between {
+            view: place,
+            key,
+            a,
+            b,
+        } => (between(store, places, place, key, a, b), Held::Nothing),
+        Call::ScanBetween {
+            view: place,
+            relation,
+            a,
+            b,
+        } => (
+            scan_between(store, places, place, relation, a, b),
+            Held::Nothing,
+        ),
         Call::End { view: place } => (end(store, places, place), Held::Nothing),
         Call::TimesOf { label } => (times_of(store, places, label), Held::Nothing),
     }

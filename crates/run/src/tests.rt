@@ -162,3 +162,111 @@ fn what_is_left_over_is_given_back(rt: HostRuntime) -> Result<(), Fail> {
     assert!(rt; matches!(answers[6], Answer::Submit(Ok(SubmitOutcome::ReadOnly(0)))));
     Ok(())
 }
+
+#[test]
+fn a_put_is_deleted_and_a_ticket_given_up(rt: HostRuntime) -> Result<(), Fail> {
+    let fields = [b"a".as_slice()];
+    let calls = [
+        Call::Begin,
+        Call::Put {
+            transaction: 0,
+            key: SEVEN,
+            fields: &fields,
+        },
+        Call::Delete {
+            transaction: 0,
+            key: SEVEN,
+        },
+        Call::Put {
+            transaction: 0,
+            key: SEVEN,
+            fields: &fields,
+        },
+        Call::Submit {
+            transaction: 0,
+            label: 9,
+            now: 100,
+        },
+        Call::GiveUp { ticket: 4 },
+        Call::Redeem { ticket: 4 },
+    ];
+    let (answers, left) = answers_to(rt.alloc(), &calls)?;
+    assert_eq!(rt; (answers.len(), left), (7, 0));
+    assert!(rt; matches!(answers[2], Answer::Delete(Ok(()))));
+    assert!(rt; matches!(answers[4], Answer::Submit(Ok(SubmitOutcome::Queued))));
+    assert!(rt; matches!(answers[5], Answer::GiveUp));
+    assert!(rt; matches!(answers[6], Answer::Unknown));
+    Ok(())
+}
+
+#[test]
+fn a_view_is_asked_of_intervals(rt: HostRuntime) -> Result<(), Fail> {
+    let fields = [b"a".as_slice()];
+    let calls = [
+        Call::Begin,
+        Call::Put {
+            transaction: 0,
+            key: SEVEN,
+            fields: &fields,
+        },
+        Call::Submit {
+            transaction: 0,
+            label: 9,
+            now: 100,
+        },
+        Call::Pump,
+        Call::Pump,
+        Call::Pump,
+        Call::Pump,
+        Call::Pump,
+        Call::Pump,
+        Call::View,
+        Call::ScanAt {
+            view: 9,
+            relation: 1,
+            time: 100,
+        },
+        Call::Between {
+            view: 9,
+            key: SEVEN,
+            a: 0,
+            b: 101,
+        },
+        Call::ScanBetween {
+            view: 9,
+            relation: 1,
+            a: 0,
+            b: 100,
+        },
+        Call::Between {
+            view: 9,
+            key: SEVEN,
+            a: 0,
+            b: 102,
+        },
+        Call::ScanAt {
+            view: 2,
+            relation: 1,
+            time: 100,
+        },
+        Call::End { view: 9 },
+        Call::GiveUp { ticket: 2 },
+    ];
+    let (answers, left) = answers_to(rt.alloc(), &calls)?;
+    assert_eq!(rt; (answers.len(), left), (17, 0));
+    assert!(rt;
+        matches!(&answers[10], Answer::ScanAt(Ok(found)) if found.len() == 1 && found[0].0 == 7)
+    );
+    assert!(rt;
+        matches!(&answers[11], Answer::Between(Ok(rows)) if rows.len() == 1 && rows[0].from == 100 && rows[0].to == 101)
+    );
+    assert!(rt; matches!(&answers[12], Answer::ScanBetween(Ok(rows)) if rows.is_empty()));
+    assert!(rt;
+        matches!(
+            answers[13],
+            Answer::Between(Err(timequery::QueryFault::NotYet(100)))
+        )
+    );
+    assert!(rt; matches!(answers[14], Answer::Unknown));
+    Ok(())
+}

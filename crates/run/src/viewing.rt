@@ -44,6 +44,56 @@ pub(crate) fn at<D: Disk>(
     Answer::At(store.at(asked, key, time))
 }
 
+pub(crate) fn scan_at<D: Disk>(
+    store: &mut Store<D>,
+    places: &[Held],
+    view: usize,
+    relation: u16,
+    time: u64,
+) -> Answer
+    ensures goes { Goes D.tells store.old places.now (Call.ScanAt view relation time) result store.new (places.now ++ Held.Nothing ∷ []) }
+    ensures made { MakesFew store.old store.new }
+{
+    let Some(asked) = view_at(places, view) else {
+        return Answer::Unknown;
+    };
+    Answer::ScanAt(store.scan_at(asked, relation, time))
+}
+
+pub(crate) fn between<D: Disk>(
+    store: &mut Store<D>,
+    places: &[Held],
+    view: usize,
+    key: Key,
+    a: u64,
+    b: u64,
+) -> Answer
+    ensures goes { Goes D.tells store.old places.now (Call.Between view key a b) result store.new (places.now ++ Held.Nothing ∷ []) }
+    ensures made { MakesFew store.old store.new }
+{
+    let Some(asked) = view_at(places, view) else {
+        return Answer::Unknown;
+    };
+    Answer::Between(store.between(asked, key, a, b))
+}
+
+pub(crate) fn scan_between<D: Disk>(
+    store: &mut Store<D>,
+    places: &[Held],
+    view: usize,
+    relation: u16,
+    a: u64,
+    b: u64,
+) -> Answer
+    ensures goes { Goes D.tells store.old places.now (Call.ScanBetween view relation a b) result store.new (places.now ++ Held.Nothing ∷ []) }
+    ensures made { MakesFew store.old store.new }
+{
+    let Some(asked) = view_at(places, view) else {
+        return Answer::Unknown;
+    };
+    Answer::ScanBetween(store.scan_between(asked, relation, a, b))
+}
+
 pub(crate) fn end<D: Disk>(store: &mut Store<D>, places: &mut [Held], view: usize) -> Answer
     ensures goes { Goes D.tells store.old places.old (Call.End view) result store.new (places.new ++ Held.Nothing ∷ []) }
     ensures made { MakesFew store.old store.new }

@@ -49,6 +49,17 @@ at_of (relation ∷ number ∷ time ∷ []) =
     option_and_then (λ k. option_map (λ t. line.At k t) (time_in time)) (key_in relation number)
 at_of _ = None
 
+-- a key and two times
+abbrev pub between_of : List Text → Option Line
+between_of (relation ∷ number ∷ from ∷ to ∷ []) =
+    option_and_then (λ k. option_and_then (λ a. option_map (λ b. line.Between k a b) (time_in to)) (time_in from)) (key_in relation number)
+between_of _ = None
+
+-- a relation and a time
+abbrev pub scan_of : List Text → Option Line
+scan_of (relation ∷ time ∷ []) = option_and_then (λ r. option_map (λ t. line.Scan r t) (time_in time)) (number_in 65_535 relation)
+scan_of _ = None
+
 -- a label
 abbrev pub times_of : List Text → Option Line
 times_of (label ∷ []) = option_map (λ l. line.Times l) (number_in most label)
@@ -72,9 +83,11 @@ line_of (command ∷ rest) =
     else (if bytes_eq command (codes "pump") then alone line.Pump rest
     else (if bytes_eq command (codes "flush") then alone line.Flush rest
     else (if bytes_eq command (codes "at") then at_of rest
+    else (if bytes_eq command (codes "between") then between_of rest
+    else (if bytes_eq command (codes "scan") then scan_of rest
     else (if bytes_eq command (codes "times") then times_of rest
     else (if bytes_eq command (codes "reopen") then alone line.Reopen rest
-    else None)))))))))))
+    else None)))))))))))))
 
 -- what a line of the script asks for, if it has such a form
 abbrev pub said : Text → Option Line

@@ -33,6 +33,10 @@ pub enum Line<'a> {
     Flush,
     /// Asks for a key's value at a time.
     At(Key, u64),
+    /// Asks for the rows of a key from one time up to another.
+    Between(Key, u64, u64),
+    /// Asks for the records of a relation that have a value at a time.
+    Scan(u16, u64),
     /// Asks for the times of the commits with a label.
     Times(u64),
     /// Closes the store and opens it again.
@@ -116,6 +120,30 @@ fn at<'a>(mut words: Words<'a>) -> Option<Line<'a>>
     Some(Line::At(key(relation, record)?, read_time(at)?))
 }
 
+fn between<'a>(mut words: Words<'a>) -> Option<Line<'a>>
+    ensures { result ≡ told.between_of words.entry }
+{
+    let relation = words.next()?;
+    let record = words.next()?;
+    let from = words.next()?;
+    let to = words.next()?;
+    if !words.is_empty() {
+        return None;
+    }
+    Some(Line::Between(key(relation, record)?, read_time(from)?, read_time(to)?))
+}
+
+fn scan<'a>(mut words: Words<'a>) -> Option<Line<'a>>
+    ensures { result ≡ told.scan_of words.entry }
+{
+    let relation = words.next()?;
+    let at = words.next()?;
+    if !words.is_empty() {
+        return None;
+    }
+    Some(Line::Scan(relation_number(relation)?, read_time(at)?))
+}
+
 fn times<'a>(mut words: Words<'a>) -> Option<Line<'a>>
     ensures { result ≡ told.times_of words.entry }
 {
@@ -159,6 +187,10 @@ fn read<'a>(command: &[u8], words: Words<'a>) -> Option<Line<'a>>
         alone(Line::Flush, words)
     } else if is(command, "at") {
         at(words)
+    } else if is(command, "between") {
+        between(words)
+    } else if is(command, "scan") {
+        scan(words)
     } else if is(command, "times") {
         times(words)
     } else if is(command, "reopen") {

@@ -87,6 +87,17 @@ fn a_time_may_be_an_instant(rt: HostRuntime) {
     assert!(rt; parse(b"times 1970-01-01T00:00:01Z".as_slice()).is_none());
 }
 
+#[test]
+fn intervals_and_scans_name_times(rt: HostRuntime) {
+    assert!(rt;
+        matches!(
+            parse(b"between 1 7 0 1970-01-01T00:00:01Z".as_slice()),
+            Some(Line::Between(KEY, 0, 1_000_000))
+        )
+    );
+    assert!(rt; matches!(parse(b"scan 1 115".as_slice()), Some(Line::Scan(1, 115))));
+}
+
 fn is_bad(rt: &impl Abort, line: &str) {
     assert!(rt; parse(line.as_bytes()).is_none(), "{line}");
 }
@@ -128,7 +139,12 @@ fn a_line_of_no_form_is_none(rt: HostRuntime) {
         "flush t",
         "times",
         "reopen now",
-        "between 1 7 0 101",
+        "between 1 7 0",
+        "between 1 7 0 101 102",
+        "between 1 7 0 x",
+        "scan 1",
+        "scan 65536 100",
+        "scan 1 100 7",
         "archive 100",
         "job",
     ];

@@ -2,8 +2,11 @@
 use Rattle.std.specs.Prelude.{◌≡◌, ◌≢◌, ℕ, ◌+◌, ◌↔◌, Bool, true, false, not, ◌||◌, nat_lt, List, [], ◌∷◌, ◌++◌, length, Option, Some, None, Result, Ok, Err, IfOk, OnOk, OnErr, IsSome, is_some, position, MatchOption, slice_get, remove}
 use Rattle.std.specs.Str.{bytes_eq}
 use Rattle.std.specs.declared.alloc.AllocError.{AllocError}
+use Rattle.std.specs.declared.alloc.Global.{Global}
+use Rattle.std.specs.declared.vec.Vec.{Vec}
 use Rattle.disk.specs.Calls.{DiskState}
 use Rattle.history.specs.declared.key.Key.{Key}
+use Rattle.history.specs.declared.time.Version.{Version}
 use Rattle.group.specs.declared.answers.BeginFault.{BeginFault}
 use Rattle.group.specs.declared.answers.Submitted.{Submitted}
 use Rattle.group.specs.declared.answers.Submitted.TheVariants as submitted_as
@@ -204,6 +207,30 @@ found (Err f) = reply.Refused (fault.Query f)
 abbrev pub AtStep : StoreValue → Key → ℕ → Reply → StoreValue → Type 0
 AtStep old key time r new = (answer : Result (Option (List Text)) QueryFault) × Asks old key time answer new × (r ≡ found answer)
 
+-- so for a scan at a time
+abbrev pub AsksScan : StoreValue → ℕ → ℕ → Result (Vec (ℕ × List Text) Global) QueryFault → StoreValue → Type 0
+AsksScan old relation time answer new = (taken : Option ViewValue) × MatchOption taken ((answer ≡ Err query.NoMemory) × (new ≡ old))
+    (λ view. store.IsViewOf old view × store.AnswersScanAt old view relation time answer × (new ≡ old))
+
+abbrev pub records_found : Result (Vec (ℕ × List Text) Global) QueryFault → Reply
+records_found (Ok found) = reply.Records found
+records_found (Err f) = reply.Refused (fault.Query f)
+
+abbrev pub ScanStep : StoreValue → ℕ → ℕ → Reply → StoreValue → Type 0
+ScanStep old relation time r new = (answer : Result (Vec (ℕ × List Text) Global) QueryFault) × AsksScan old relation time answer new × (r ≡ records_found answer)
+
+-- and for the rows of an interval
+abbrev pub AsksRows : StoreValue → Key → ℕ → ℕ → Result (Vec (Version (List Text)) Global) QueryFault → StoreValue → Type 0
+AsksRows old key a b answer new = (taken : Option ViewValue) × MatchOption taken ((answer ≡ Err query.NoMemory) × (new ≡ old))
+    (λ view. store.IsViewOf old view × store.AnswersRows old view key a b answer × (new ≡ old))
+
+abbrev pub rows_found : Result (Vec (Version (List Text)) Global) QueryFault → Reply
+rows_found (Ok rows) = reply.Rows rows
+rows_found (Err f) = reply.Refused (fault.Query f)
+
+abbrev pub BetweenStep : StoreValue → Key → ℕ → ℕ → Reply → StoreValue → Type 0
+BetweenStep old key a b r new = (answer : Result (Vec (Version (List Text)) Global) QueryFault) × AsksRows old key a b answer new × (r ≡ rows_found answer)
+
 -- the times of a label, or no memory for them
 abbrev pub TimesStep : StoreValue → ℕ → Reply → Type 0
 TimesStep s label (reply.Times times) = store.IsTimesOf s label times.items
@@ -254,5 +281,7 @@ Step tells old (line.Redeem name) r new = MatchOption (ticket_place name old) (R
 Step tells old line.Pump r new = PumpStep tells old.store r new.store × KeepsNames old new
 Step tells old line.Flush r new = Flushes tells old.store r new.store × KeepsNames old new
 Step tells old (line.At key time) r new = AtStep old.store key time r new.store × KeepsNames old new
+Step tells old (line.Between key a b) r new = BetweenStep old.store key a b r new.store × KeepsNames old new
+Step tells old (line.Scan relation time) r new = ScanStep old.store relation time r new.store × KeepsNames old new
 Step tells old (line.Times label) r new = TimesStep old.store label r × (new ≡ old)
 Step tells old line.Reopen r new = Reopens tells old r new

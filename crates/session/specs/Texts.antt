@@ -1,7 +1,8 @@
 -- The texts of answers.
-use Rattle.std.specs.Prelude.{ℕ, ◌+◌, ◌/◌, ◌%◌, List, [], ◌∷◌, ◌++◌, Some, None, codes, nat_lt, if◌then◌else◌}
+use Rattle.std.specs.Prelude.{ℕ, ◌+◌, ◌/◌, ◌%◌, List, [], ◌∷◌, ◌++◌, length, Some, None, codes, nat_lt, if◌then◌else◌}
 use Rattle.std.specs.List.{flat_map}
 use Rattle.std.specs.Fmt.{decimal}
+use Rattle.history.specs.declared.time.Version.{Version}
 use Rattle.disk.specs.declared.area.Area.{Area}
 use Rattle.disk.specs.declared.area.Area.TheVariants as area
 use Rattle.group.specs.declared.answers.BeginFault.{BeginFault}
@@ -55,6 +56,24 @@ numbers_text numbers = flat_map (λ n. codes " " ++ decimal n) numbers
 
 abbrev pub times_text : List ℕ → Text
 times_text times = codes "times" ++ numbers_text times ++ codes "\n"
+
+-- how many lines came before
+abbrev pub rows_line : ℕ → Text
+rows_line count = codes "rows " ++ decimal count ++ codes "\n"
+
+-- from when on and up to when a value stood, and its fields
+abbrev pub row_text : Version (List Text) → Text
+row_text row = decimal row.from ++ (codes " " ++ (decimal row.to ++ (fields_text row.value ++ codes "\n")))
+
+abbrev pub rows_text : List (Version (List Text)) → Text
+rows_text rows = flat_map row_text rows ++ rows_line (length rows)
+
+-- a record and its value's fields
+abbrev pub record_text : ℕ × List Text → Text
+record_text pair = decimal pair.0 ++ (fields_text pair.1 ++ codes "\n")
+
+abbrev pub records_text : List (ℕ × List Text) → Text
+records_text found = flat_map record_text found ++ rows_line (length found)
 
 abbrev pub step_text : Did → Text
 step_text did.Idle = codes "idle\n"
@@ -145,5 +164,7 @@ text_of reply.Waiting = codes "waiting\n"
 text_of reply.InDoubt = codes "in doubt\n"
 text_of (reply.Did step) = step_text step
 text_of (reply.Times times) = times_text times.items
+text_of (reply.Rows rows) = rows_text rows.items
+text_of (reply.Records found) = records_text found.items
 text_of (reply.Opened last floor) = codes "last " ++ (decimal last ++ (codes " floor " ++ (decimal floor ++ codes "\n")))
 text_of (reply.Refused f) = refusal_line f

@@ -4,9 +4,10 @@ ghost use Rattle.std.specs.Io.KnownBytes.{Appends};
 ghost use Rattle.session.specs.Texts as told;
 
 use crate::fault::Fault;
-use crate::text::{write_refusal, write_step, write_times, write_value};
+use crate::text::{write_records, write_refusal, write_rows, write_step, write_times, write_value};
 use chains::SharedValue;
 use group::Did;
+use history::Version;
 use std::io;
 use std::io::Write;
 
@@ -29,6 +30,10 @@ pub enum Reply {
     Did(Did),
     /// The times of the commits with a label.
     Times(Vec<u64>),
+    /// The rows of a key: each value with the times from which and up to which it stood.
+    Rows(Vec<Version<SharedValue>>),
+    /// Records with their values.
+    Records(Vec<(u64, SharedValue)>),
     /// The store was closed and opened: the time of its last commit, and its floor.
     Opened(u64, u64),
     Refused(Fault),
@@ -54,6 +59,8 @@ pub fn write_reply<W: Write>(output: &mut W, reply: &Reply) -> io::Result<()>
         Reply::InDoubt => writeln!(output, "in doubt"),
         Reply::Did(step) => write_step(output, *step),
         Reply::Times(times) => write_times(output, times),
+        Reply::Rows(rows) => write_rows(output, rows),
+        Reply::Records(found) => write_records(output, found),
         Reply::Opened(last, floor) => writeln!(output, "last {last} floor {floor}"),
         Reply::Refused(fault) => write_refusal(output, *fault),
     }

@@ -11,7 +11,7 @@ use crate::reply::Reply;
 use chains::SharedValue;
 use disk::Disk;
 use group::{Did, Redeemed, Submitted};
-use history::Key;
+use history::{Key, Version};
 use recovery::OpenFault;
 use script::{Fields, Line, Name};
 use snapshot::{Txn, TxnFault};
@@ -124,6 +124,39 @@ fn value_at<D: Disk>(
         return Err(QueryFault::NoMemory);
     };
     let found = store.at(&view, key, time);
+    store.end(view);
+    found
+}
+
+/// Asks for the records of a relation that have a value at a time, by a view of now.
+fn scan_at<D: Disk>(
+    store: &mut Store<D>,
+    relation: u16,
+    time: u64,
+) -> Result<Vec<(u64, SharedValue)>, QueryFault>
+    ensures { told.AsksScan store.old relation time result store.new }
+{
+    let Ok(view) = store.view() else {
+        return Err(QueryFault::NoMemory);
+    };
+    let found = store.scan_at(&view, relation, time);
+    store.end(view);
+    found
+}
+
+/// Asks for the rows of a key from one time up to another by a view of now.
+fn rows_between<D: Disk>(
+    store: &mut Store<D>,
+    key: Key,
+    a: u64,
+    b: u64,
+) -> Result<Vec<Version<SharedValue>>, QueryFault>
+    ensures { told.AsksRows store.old key a b result store.new }
+{
+    let Ok(view) = store.view() else {
+        return Err(QueryFault::NoMemory);
+    };
+    let found = store.between(&view, key, a, b);
     store.end(view);
     found
 }
@@ -428,6 +461,26 @@ impl<D: Disk> Session<D> {
         }
     }
 
+    fn scan(&mut self, relation: u16, time: u64) -> Reply
+        ensures steps { told.ScanStep self.old.store relation time result self.new.store }
+        ensures names { told.KeepsNames self.old self.new }
+    {
+        match scan_at(&mut self.store, relation, time) {
+            Ok(found) => Reply::Records(found),
+            Err(fault) => Reply::Refused(Fault::Query(fault)),
+        }
+    }
+
+    fn between(&mut self, key: Key, a: u64, b: u64) -> Reply
+        ensures steps { told.BetweenStep self.old.store key a b result self.new.store }
+        ensures names { told.KeepsNames self.old self.new }
+    {
+        match rows_between(&mut self.store, key, a, b) {
+            Ok(rows) => Reply::Rows(rows),
+            Err(fault) => Reply::Refused(Fault::Query(fault)),
+        }
+    }
+
     fn times(&self, label: u64) -> Reply
         ensures { told.TimesStep self.now.store label result }
     {
@@ -495,6 +548,14 @@ impl<D: Disk> Session<D> {
             }
             Line::At(key, time) => {
                 let reply = self.at(key, time);
+                Ok((self, reply))
+            }
+            Line::Between(key, a, b) => {
+                let reply = self.between(key, a, b);
+                Ok((self, reply))
+            }
+            Line::Scan(relation, time) => {
+                let reply = self.scan(relation, time);
                 Ok((self, reply))
             }
             Line::Times(label) => {

@@ -1,12 +1,14 @@
 //! The texts of answers.
 ghost use Rattle.std.specs.Prelude.{◌≡◌, ◌<◌, OnOk};
 ghost use Rattle.std.specs.Io.KnownBytes.{Appends};
+ghost use Rattle.std.specs.List.{flat_map};
 ghost use Rattle.session.specs.Texts as told;
 
 use crate::fault::Fault;
 use chains::SharedValue;
 use disk::Area;
 use group::{BeginFault, Did, PumpFault, SubmitFault};
+use history::Version;
 use recovery::{FormatFault, OpenFault};
 use snapshot::TxnFault;
 use std::io;
@@ -83,6 +85,58 @@ pub fn write_times<W: Write>(output: &mut W, times: &[u64]) -> io::Result<()>
     write!(output, "times")?;
     write_numbers(output, times)?;
     writeln!(output)
+}
+
+/// Writes a row's line: from when on and up to when the value stood, and its fields.
+fn write_row<W: Write>(output: &mut W, row: &Version<SharedValue>) -> io::Result<()>
+    ensures { OnOk result (Appends (W.contents output.old) (W.contents output.new) (told.row_text row.now)) }
+{
+    write!(output, "{} {}", row.from, row.to)?;
+    write_fields(output, &row.value)?;
+    writeln!(output)
+}
+
+fn write_row_lines<W: Write>(output: &mut W, rows: &[Version<SharedValue>]) -> io::Result<()>
+    ensures { OnOk result (Appends (W.contents output.old) (W.contents output.new) (flat_map told.row_text rows.now)) }
+{
+    for row in rows {
+        write_row(output, row)?;
+    }
+    Ok(())
+}
+
+/// Writes the lines of rows, and how many there are.
+pub fn write_rows<W: Write>(output: &mut W, rows: &[Version<SharedValue>]) -> io::Result<()>
+    ensures { OnOk result (Appends (W.contents output.old) (W.contents output.new) (told.rows_text rows.now)) }
+{
+    write_row_lines(output, rows)?;
+    writeln!(output, "rows {}", rows.len())
+}
+
+/// Writes the line of a record and its value.
+fn write_record<W: Write>(output: &mut W, found: &(u64, SharedValue)) -> io::Result<()>
+    ensures { OnOk result (Appends (W.contents output.old) (W.contents output.new) (told.record_text found.now)) }
+{
+    write!(output, "{}", found.0)?;
+    write_fields(output, &found.1)?;
+    writeln!(output)
+}
+
+fn write_record_lines<W: Write>(output: &mut W, found: &[(u64, SharedValue)]) -> io::Result<()>
+    ensures { OnOk result (Appends (W.contents output.old) (W.contents output.new) (flat_map told.record_text found.now)) }
+{
+    for pair in found {
+        write_record(output, pair)?;
+    }
+    Ok(())
+}
+
+/// Writes the lines of records, and how many there are.
+pub fn write_records<W: Write>(output: &mut W, found: &[(u64, SharedValue)]) -> io::Result<()>
+    ensures { OnOk result (Appends (W.contents output.old) (W.contents output.new) (told.records_text found.now)) }
+{
+    write_record_lines(output, found)?;
+    writeln!(output, "rows {}", found.len())
 }
 
 /// Writes the line of a step.

@@ -3,11 +3,11 @@ use Rattle.std.specs.Prelude.{ℕ, ◌++◌, Bool, IsTrue, IfSome, Option, codes
 use Rattle.std.specs.Fmt.{decimal}
 use Rattle.std.specs.Io.KnownBytes.{Appends}
 use Rattle.disk.specs.Calls.{DiskState}
-use Rattle.history.specs.declared.key.Key.{Key}
 use Rattle.recovery.specs.Format.{IsSlotCount, IsFormatted}
 use Rattle.store.specs.Values.{StoreValue}
 use Rattle.store.specs.Opens.{Opens}
 use Rattle.script.specs.Lines.{time_in}
+use Rattle.script.specs.declared.line.Line.{Line}
 use Rattle.script.specs.declared.line.Line.TheVariants as line
 use Rattle.session.specs.Session.{State, fresh, Step, Closes}
 use Rattle.session.specs.Texts.{Text, text_of}
@@ -48,13 +48,13 @@ abbrev pub IsAnswered : Reply → Type 0
 IsAnswered (reply.Refused fault) = ⊥
 IsAnswered _ = Unit {0}
 
--- the store opens, and answers what stood in a record at a time
-pub record Asks (tells : Bool) (old : DiskState) (key : Key) (time : ℕ) (output : Output) (new : DiskState) : Type 0 where
+-- the store opens, and answers one line of a script
+pub record Asks (tells : Bool) (old : DiskState) (asks : Line) (output : Output) (new : DiskState) : Type 0 where
   pub opened : StoreValue
   pub opens : Opens tells old 1 opened
   pub answer : Reply
   pub asked : State
-  pub step : Step tells (fresh opened) (line.At key time) answer asked
+  pub step : Step tells (fresh opened) asks answer asked
   pub answered : IsAnswered answer
   pub said : Says output (text_of answer)
   pub closes : Closes asked new
@@ -63,4 +63,5 @@ abbrev pub Acts : Bool → Action → DiskState → Option Text → Output → D
 Acts tells action.Example old input output new = RunsOnNew tells old input output new
 Acts tells (action.Format dir slots) old input output new = Makes tells old slots output new
 Acts tells (action.Run dir) old input output new = Runs tells old input output new
-Acts tells (action.At dir key time) old input output new = MatchOption (time_in time.now) ⊥ (λ t. Asks tells old key t output new)
+Acts tells (action.At dir key time) old input output new = MatchOption (time_in time.now) ⊥ (λ t. Asks tells old (line.At key t) output new)
+Acts tells (action.Between dir key from to) old input output new = MatchOption (time_in from.now) ⊥ (λ a. MatchOption (time_in to.now) ⊥ (λ b. Asks tells old (line.Between key a b) output new))

@@ -3,7 +3,6 @@ ghost use Rattle.std.specs.Prelude.{◌≡◌, ◌≤◌, OnOk, IsOk};
 ghost use Rattle.shell.specs.Acts.{Acts, Makes, Runs, RunsOnNew, Asks, IsAnswered};
 
 use disk::Disk;
-use history::Key;
 use recovery::format;
 use script::{Line, read_time};
 use session::{Ending, Fault, MARK, Reply, Session, run, write_reply};
@@ -106,9 +105,9 @@ fn status_of_reply(reply: &Reply) -> u8
     }
 }
 
-/// Asks for a key's value at a time, on a store opened for it.
-fn ask<D: Disk, W: Write>(alloc: Global, disk: D, key: Key, time: u64, output: &mut W) -> (u8, D)
-    ensures done { result.0 ≡ 0 → Asks D.tells (D.state disk) key time (record { before = W.contents output.old; after = W.contents output.new }) (D.state result.1) }
+/// Asks what a line of a script asks for, on a store opened for it.
+fn ask<D: Disk, W: Write>(alloc: Global, disk: D, line: Line<'_>, output: &mut W) -> (u8, D)
+    ensures done { result.0 ≡ 0 → Asks D.tells (D.state disk) line.entry (record { before = W.contents output.old; after = W.contents output.new }) (D.state result.1) }
     ensures status { result.0 ≤ 1 }
 {
     let store = match Store::open(alloc, disk, MARK) {
@@ -119,7 +118,7 @@ fn ask<D: Disk, W: Write>(alloc: Global, disk: D, key: Key, time: u64, output: &
         Ok(session) => session,
         Err(store) => return (refuse(output, Fault::NoMemory), store.close()),
     };
-    match session.answer(alloc, Line::At(key, time)) {
+    match session.answer(alloc, line) {
         Ok((session, reply)) => {
             let status = status_of(write_reply(output, &reply), status_of_reply(&reply));
             (status, session.close())
@@ -145,8 +144,17 @@ pub fn act<D: Disk, R: BufRead, W: Write>(
         Action::Format { dir: _, slots } => make(alloc, disk, slots, output),
         Action::Run { dir: _ } => run_script(alloc, disk, input, output),
         Action::At { dir: _, key, time } => match read_time(time.as_bytes()) {
-            Some(time) => ask(alloc, disk, key, time, output),
+            Some(time) => ask(alloc, disk, Line::At(key, time), output),
             None => (refuse(output, Fault::Time), disk),
+        },
+        Action::Between {
+            dir: _,
+            key,
+            from,
+            to,
+        } => match (read_time(from.as_bytes()), read_time(to.as_bytes())) {
+            (Some(a), Some(b)) => ask(alloc, disk, Line::Between(key, a, b), output),
+            _ => (refuse(output, Fault::Time), disk),
         },
     }
 }

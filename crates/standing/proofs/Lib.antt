@@ -6,6 +6,7 @@ pub mod Deciding
 pub mod Submitting
 pub mod Publishing
 pub mod Answering
+pub mod Queries
 pub mod Contents
 pub mod Packed
 pub mod Naming

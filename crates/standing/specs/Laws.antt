@@ -1,6 +1,9 @@
 -- The calls of a store are steps of the machine.
 use Rattle.std.specs.Prelude.{ℕ, ◌≡◌, ◌==◌, ◌&&◌, nat_lt, List, [], ◌∷◌, length, Option, Result, Ok, Err, MatchBool, if◌then◌else◌}
+use Rattle.std.specs.declared.alloc.Global.{Global}
+use Rattle.std.specs.declared.vec.Vec.{Vec}
 use Rattle.history.specs.declared.key.Key.{Key}
+use Rattle.history.specs.declared.time.Version.{Version}
 use Rattle.history.specs.Histories.{History, last}
 use Rattle.history.specs.Machine.{Machine}
 use Rattle.history.specs.Answers as answers
@@ -104,6 +107,28 @@ SaysAt said (Err (query.Damaged start)) = ⊥
 SaysAt said (Err query.NeedsDisk) = ⊥
 SaysAt said (Err query.Stranger) = ⊥
 
+-- an answer that holds something is one that the history may give, or memory was refused where it may give one
+abbrev pub Says : {T X : Type 0} → (T → X) → (Result X answers.QueryRefusal → Type 0) → Result T QueryFault → Type 0
+Says held Is (Ok found) = Is (Ok (held found))
+Says held Is (Err (query.BeforeKept floor)) = Is (Err (answers.BeforeKept floor))
+Says held Is (Err (query.NotYet time)) = Is (Err (answers.NotYet time))
+Says held Is (Err query.EmptyInterval) = Is (Err answers.EmptyInterval)
+Says {T} {X} held Is (Err query.NoMemory) = (found : X) × Is (Ok found)
+Says held Is (Err query.Device) = ⊥
+Says held Is (Err (query.Damaged start)) = ⊥
+Says held Is (Err query.NeedsDisk) = ⊥
+Says held Is (Err query.Stranger) = ⊥
+
+-- so the values of a relation at a time, the rows of a key and those of a relation
+abbrev pub SaysScanAt : History Value → (ℕ → ℕ) → ℕ → ℕ → Result (Vec (ℕ × Value) Global) QueryFault → Type 0
+SaysScanAt h floors relation time answer = Says (λ (found : Vec (ℕ × Value) Global). found.items) (answers.IsScanAtAnswer h floors relation time) answer
+
+abbrev pub SaysBetween : History Value → (ℕ → ℕ) → Key → ℕ → ℕ → Result (Vec (Version Value) Global) QueryFault → Type 0
+SaysBetween h floors key a b answer = Says (λ (rows : Vec (Version Value) Global). rows.items) (λ said. answers.between_answer h floors key a b ≡ said) answer
+
+abbrev pub SaysScanBetween : History Value → (ℕ → ℕ) → ℕ → ℕ → ℕ → Result (Vec (ℕ × Version Value) Global) QueryFault → Type 0
+SaysScanBetween h floors relation a b answer = Says (λ (rows : Vec (ℕ × Version Value) Global). rows.items) (answers.IsScanBetweenAnswer h floors relation a b) answer
+
 -- a view is one of what is published, and goes on answering by it
 abbrev pub ViewIsOfHistory : Type 0
 ViewIsOfHistory = (v : StoreValue) (view : ViewValue) (m : Machine Value) → StandsInMemory v.transactions m → stores.IsViewOf v view → ViewStands view m.published m.floors
@@ -111,3 +136,15 @@ ViewIsOfHistory = (v : StoreValue) (view : ViewValue) (m : Machine Value) → St
 abbrev pub AtIsAnswered : Type 0
 AtIsAnswered = (v : StoreValue) (view : ViewValue) (h : History Value) (floors : ℕ → ℕ) (key : Key) (time : ℕ) (answer : Result (Option Value) QueryFault) → ViewStands view h floors → stores.AnswersAtView v view key time answer
     → MatchBool (view.mark == v.transactions.mark) (SaysAt (answers.at_answer h floors key time) answer) (answer ≡ Err query.Stranger)
+
+abbrev pub ScanAtIsAnswered : Type 0
+ScanAtIsAnswered = (v : StoreValue) (view : ViewValue) (h : History Value) (floors : ℕ → ℕ) (relation time : ℕ) (answer : Result (Vec (ℕ × Value) Global) QueryFault) → ViewStands view h floors → stores.AnswersScanAt v view relation time answer
+    → MatchBool (view.mark == v.transactions.mark) (SaysScanAt h floors relation time answer) (answer ≡ Err query.Stranger)
+
+abbrev pub BetweenIsAnswered : Type 0
+BetweenIsAnswered = (v : StoreValue) (view : ViewValue) (h : History Value) (floors : ℕ → ℕ) (key : Key) (a b : ℕ) (answer : Result (Vec (Version Value) Global) QueryFault) → ViewStands view h floors → stores.AnswersRows v view key a b answer
+    → MatchBool (view.mark == v.transactions.mark) (SaysBetween h floors key a b answer) (answer ≡ Err query.Stranger)
+
+abbrev pub ScanBetweenIsAnswered : Type 0
+ScanBetweenIsAnswered = (v : StoreValue) (view : ViewValue) (h : History Value) (floors : ℕ → ℕ) (relation a b : ℕ) (answer : Result (Vec (ℕ × Version Value) Global) QueryFault) → ViewStands view h floors → stores.AnswersScanRows v view relation a b answer
+    → MatchBool (view.mark == v.transactions.mark) (SaysScanBetween h floors relation a b answer) (answer ≡ Err query.Stranger)

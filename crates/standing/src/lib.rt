@@ -2,7 +2,7 @@
 //! with nothing to do.
 #![tactic(auto)]
 
-ghost use Rattle.standing.specs.Laws.{TimesAreOfLabel, ViewIsOfHistory, AtIsAnswered};
+ghost use Rattle.standing.specs.Laws.{TimesAreOfLabel, ViewIsOfHistory, AtIsAnswered, ScanAtIsAnswered, BetweenIsAnswered, ScanBetweenIsAnswered};
 ghost use Rattle.standing.specs.Calls.{BeginStands, AbortStands, SubmitStands, PumpStands, RedeemStands};
 
 /// A begin takes the last published time as its snapshot.
@@ -42,4 +42,7 @@ pub fn times_are_of_label()
 pub fn view_is_answered()
     ensures view { ViewIsOfHistory }
     ensures at { AtIsAnswered }
+    ensures scan_at { ScanAtIsAnswered }
+    ensures between { BetweenIsAnswered }
+    ensures scan_between { ScanBetweenIsAnswered }
 {}

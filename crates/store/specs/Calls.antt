@@ -1,14 +1,19 @@
 -- What the store's calls do, each in one word.
 use Rattle.std.specs.Prelude.{◌≡◌, ◌≤◌, ◌==◌, ℕ, List, Option, Result, Err, MatchBool, MatchResult}
+use Rattle.std.specs.declared.alloc.Global.{Global}
+use Rattle.std.specs.declared.vec.Vec.{Vec}
 use Rattle.history.specs.declared.key.Key.{Key}
+use Rattle.history.specs.declared.time.Version.{Version}
 use Rattle.history.specs.Time.{value_at}
 use Rattle.chains.specs.KeyWrites.{writes_of}
+use Rattle.chains.specs.Rows.{rows_in, scanned_rows}
+use Rattle.chains.specs.Scans.{scanned}
 use Rattle.chains.specs.Writes.{Value}
 use Rattle.group.specs.Tickets.{TicketValue}
 use Rattle.group.specs.declared.answers.BeginFault.{BeginFault}
 use Rattle.group.specs.declared.answers.Redeemed.{Redeemed}
 use Rattle.snapshot.specs.Txn.{TxnValue}
-use Rattle.timequery.specs.View.{ViewValue, RefusesTime, AnswersAt}
+use Rattle.timequery.specs.View.{ViewValue, RefusesTime, RefusesScan, RefusesInterval, AnswersAt, AnswersBetween}
 use Rattle.timequery.specs.declared.fault.QueryFault.{QueryFault}
 use Rattle.timequery.specs.declared.fault.QueryFault.TheVariants as query
 use Rattle.group.specs.declared.answers.Submitted.{Submitted}
@@ -58,3 +63,18 @@ RefusesAt view time fault = RefusesTime view time fault
 abbrev pub AnswersAtView : StoreValue → ViewValue → Key → ℕ → Result (Option Value) QueryFault → Type 0
 AnswersAtView v view key time answer =
     MatchBool (view.mark == v.transactions.mark) (MatchResult answer (λ o. AnswersAt view time o (value_at (writes_of view.state key) time)) (RefusesAt view time)) (answer ≡ Err query.Stranger)
+
+-- and the values of a relation
+abbrev pub AnswersScanAt : StoreValue → ViewValue → ℕ → ℕ → Result (Vec (ℕ × Value) Global) QueryFault → Type 0
+AnswersScanAt v view relation time answer =
+    MatchBool (view.mark == v.transactions.mark) (MatchResult answer (λ found. AnswersAt view time found.items (scanned relation time view.state)) (RefusesScan view time)) (answer ≡ Err query.Stranger)
+
+-- the rows of a key from a up to b
+abbrev pub AnswersRows : StoreValue → ViewValue → Key → ℕ → ℕ → Result (Vec (Version Value) Global) QueryFault → Type 0
+AnswersRows v view key a b answer =
+    MatchBool (view.mark == v.transactions.mark) (MatchResult answer (λ rows. AnswersBetween view a b rows.items (rows_in view.state a b key)) (RefusesInterval view a b)) (answer ≡ Err query.Stranger)
+
+-- and those of a relation
+abbrev pub AnswersScanRows : StoreValue → ViewValue → ℕ → ℕ → ℕ → Result (Vec (ℕ × Version Value) Global) QueryFault → Type 0
+AnswersScanRows v view relation a b answer =
+    MatchBool (view.mark == v.transactions.mark) (MatchResult answer (λ rows. AnswersBetween view a b rows.items (scanned_rows relation a b view.state)) (RefusesInterval view a b)) (answer ≡ Err query.Stranger)

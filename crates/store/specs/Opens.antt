@@ -1,6 +1,6 @@
 -- What an opened store holds, and why none is opened.
 use Rattle.std.specs.Prelude.{ℕ, ◌≡◌, Bool, false, IsTrue, [], length, map, None, Err}
-use Rattle.disk.specs.Areas.{image_of, settled_on}
+use Rattle.disk.specs.Areas.{image_of, settled_on, LeavesNoMore}
 use Rattle.disk.specs.Calls.{DiskState}
 use Rattle.chains.specs.KeyWrites.{IsOrdered}
 use Rattle.status.specs.Header.{total}
@@ -29,10 +29,12 @@ pub record Opens (tells : Bool) (old : DiskState) (mark : ℕ) (v : StoreValue) 
   pub new_is : v ≡ opened_on mark recovered v.disk
   pub ordered : IsOrdered v.transactions.versions
   pub settled : IsTrue tells → v.disk.areas ≡ settled_on (image_of old.areas)
+  pub left : IsTrue tells → LeavesNoMore old.areas v.disk.areas
   pub refused : v.disk.refused ≡ old.refused
 
--- the disk holds what it held
+-- the disk holds what it held, and a stop leaves nothing that it might not have left before
 pub record OpenRefuses (tells : Bool) (old : DiskState) (why : OpenFault) (new : DiskState) : Type 0 where
   pub fault : IsTrue tells → IsImageFault (image_of old.areas) why
   pub image : IsTrue tells → image_of new.areas ≡ image_of old.areas
+  pub left : IsTrue tells → LeavesNoMore old.areas new.areas
   pub refused : new.refused ≡ refusals_at_opening {T = Unit {0}} (Err why) old.refused

@@ -1,13 +1,16 @@
 //! Views.
-ghost use Rattle.std.specs.Prelude.{◌≡◌, MatchResult};
+ghost use Rattle.std.specs.Prelude.{◌≡◌, ◌≤◌, MatchResult};
 ghost use Rattle.std.specs.Option.{option_copied};
 ghost use Rattle.history.specs.Time.{value_at};
 ghost use Rattle.chains.specs.KeyWrites.{writes_of};
-ghost use Rattle.timequery.specs.View.{RefusesTime, AnswersAt};
+ghost use Rattle.chains.specs.Rows.{rows_in, scanned_rows};
+ghost use Rattle.chains.specs.Scans.{scanned};
+ghost use Rattle.timequery.specs.View.{RefusesTime, RefusesScan, RefusesInterval, IsInView, AnswersAt, AnswersBetween};
 
 use crate::fault::QueryFault;
 use chains::{Frozen, SharedValue};
-use history::Key;
+use history::{Key, Version};
+use std::alloc::Global;
 use std::marker::Model;
 
 /// What is published at one moment, which later commits do not change. It is to be given back to
@@ -57,9 +60,9 @@ impl View {
         } = self;
     }
 
-    /// The value of a key at a time in microseconds since 1970, from the floor up to the last commit.
-    pub fn at(&self, key: Key, time: u64) -> Result<Option<&SharedValue>, QueryFault>
-        ensures { MatchResult result (λ o. AnswersAt self.now time (option_copied o) (value_at (writes_of self.now.state key) time)) (RefusesTime self.now time) }
+    /// Whether a time in microseconds since 1970 is kept: from the floor up to the last commit.
+    fn check_time(&self, time: u64) -> Result<(), QueryFault>
+        ensures { MatchResult result (λ _. (self.now.floor ≤ time) × (time ≤ self.now.last)) (RefusesTime self.now time) }
     {
         if time < self.floor {
             return Err(QueryFault::BeforeKept(self.floor));
@@ -67,6 +70,82 @@ impl View {
         if self.last < time {
             return Err(QueryFault::NotYet(self.last));
         }
+        Ok(())
+    }
+
+    /// Whether all times from `a` up to `b`, itself no longer among them, are kept, and there are some.
+    fn check_interval(&self, a: u64, b: u64) -> Result<(), QueryFault>
+        ensures { MatchResult result (λ _. IsInView self.now a b) (RefusesInterval self.now a b) }
+    {
+        if a.min(b) < self.floor {
+            return Err(QueryFault::BeforeKept(self.floor));
+        }
+        if self.last < b && b - self.last > 1 {
+            return Err(QueryFault::NotYet(self.last));
+        }
+        if b <= a {
+            return Err(QueryFault::EmptyInterval);
+        }
+        Ok(())
+    }
+
+    /// The value of a key at a time in microseconds since 1970, from the floor up to the last commit.
+    pub fn at(&self, key: Key, time: u64) -> Result<Option<&SharedValue>, QueryFault>
+        ensures { MatchResult result (λ o. AnswersAt self.now time (option_copied o) (value_at (writes_of self.now.state key) time)) (RefusesTime self.now time) }
+    {
+        self.check_time(time)?;
         Ok(self.state.at(key, time))
+    }
+
+    /// The records of a relation that have a value at a time, in rising order, with their values.
+    pub fn scan_at(
+        &self,
+        alloc: Global,
+        relation: u16,
+        time: u64,
+    ) -> Result<Vec<(u64, SharedValue)>, QueryFault>
+        ensures { MatchResult result (λ found. AnswersAt self.now time found.items (scanned relation time self.now.state)) (RefusesScan self.now time) }
+    {
+        self.check_time(time)?;
+        match self.state.scan(alloc, relation, time) {
+            Ok(found) => Ok(found),
+            Err(_) => Err(QueryFault::NoMemory),
+        }
+    }
+
+    /// The rows of a key from `a` up to `b` in microseconds since 1970, by rising time: the part of
+    /// each version that lies in the interval, with its value.
+    pub fn between(
+        &self,
+        alloc: Global,
+        key: Key,
+        a: u64,
+        b: u64,
+    ) -> Result<Vec<Version<SharedValue>>, QueryFault>
+        ensures { MatchResult result (λ rows. AnswersBetween self.now a b rows.items (rows_in self.now.state a b key)) (RefusesInterval self.now a b) }
+    {
+        self.check_interval(a, b)?;
+        match self.state.rows(alloc, key, a, b) {
+            Ok(rows) => Ok(rows),
+            Err(_) => Err(QueryFault::NoMemory),
+        }
+    }
+
+    /// The rows of a relation's records from `a` up to `b`, by record and then by time, each with its
+    /// record.
+    pub fn scan_between(
+        &self,
+        alloc: Global,
+        relation: u16,
+        a: u64,
+        b: u64,
+    ) -> Result<Vec<(u64, Version<SharedValue>)>, QueryFault>
+        ensures { MatchResult result (λ rows. AnswersBetween self.now a b rows.items (scanned_rows relation a b self.now.state)) (RefusesInterval self.now a b) }
+    {
+        self.check_interval(a, b)?;
+        match self.state.scan_rows(alloc, relation, a, b) {
+            Ok(rows) => Ok(rows),
+            Err(_) => Err(QueryFault::NoMemory),
+        }
     }
 }

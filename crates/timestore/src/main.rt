@@ -30,6 +30,16 @@ fn folder<'a>(action: &Action<'a>) -> Option<&'a str> {
             read_time(time.as_bytes())?;
             Some(dir)
         }
+        Action::Between {
+            dir,
+            key: _,
+            from,
+            to,
+        } => {
+            read_time(from.as_bytes())?;
+            read_time(to.as_bytes())?;
+            Some(dir)
+        }
     }
 }
 

@@ -24,11 +24,18 @@ AsksAt rows (action.At dir key time) = (first_of (codes "DIR") rows ≡ Some dir
     × (first_of (codes "TIME") rows ≡ Some time.now)
 AsksAt rows _ = ⊥
 
+abbrev pub AsksBetween : List Row → Action → Type 0
+AsksBetween rows (action.Between dir key from to) = (first_of (codes "DIR") rows ≡ Some dir.now)
+    × HasNumber 16 (codes "REL") rows key.relation × HasNumber 64 (codes "REC") rows key.«record»
+    × (first_of (codes "FROM") rows ≡ Some from.now) × (first_of (codes "TO") rows ≡ Some to.now)
+AsksBetween rows _ = ⊥
+
 -- a subcommand's name, and the rows of its arguments
 abbrev pub AsksCommand : Text → List Row → Action → Type 0
 AsksCommand name rows a = MatchBool (bytes_eq name (codes "format")) (AsksFormat rows a)
     (MatchBool (bytes_eq name (codes "run")) (AsksRun rows a)
-    (MatchBool (bytes_eq name (codes "at")) (AsksAt rows a) ⊥))
+    (MatchBool (bytes_eq name (codes "at")) (AsksAt rows a)
+    (MatchBool (bytes_eq name (codes "between")) (AsksBetween rows a) ⊥)))
 
 -- without a subcommand the example is asked for
 abbrev pub Asks : Option (Text × List Row) → Action → Type 0

@@ -24,6 +24,12 @@ dir = text (codes "DIR")
 abbrev pub time : Rule
 time = text (codes "TIME")
 
+abbrev pub from : Rule
+from = text (codes "FROM")
+
+abbrev pub to : Rule
+to = text (codes "TO")
+
 abbrev pub relation : Rule
 relation = record (text (codes "REL")) { parser = Some (parser.Signed (pos 0) (pos 65_535)) }
 
@@ -44,8 +50,19 @@ format = with_rule (with_rule (new_app (codes "format")) dir) slots
 abbrev pub run : App
 run = with_rule (new_app (codes "run")) dir
 
+-- a command about one record of a store
+abbrev pub of_record : Text → App
+of_record name = with_rule (with_rule (with_rule (new_app name) dir) relation) record_number
+
 abbrev pub at : App
-at = with_rule (with_rule (with_rule (with_rule (new_app (codes "at")) dir) relation) record_number) time
+at = with_rule (of_record (codes "at")) time
+
+abbrev pub between : App
+between = with_rule (with_rule (of_record (codes "between")) from) to
+
+-- the commands that make a store and run scripts
+abbrev pub making : App
+making = with_subcommand (with_subcommand (new_app (codes "timestore")) format.top) run.top
 
 abbrev pub timestore : App
-timestore = with_subcommand (with_subcommand (with_subcommand (new_app (codes "timestore")) format.top) run.top) at.top
+timestore = with_subcommand (with_subcommand making at.top) between.top

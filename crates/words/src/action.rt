@@ -21,4 +21,11 @@ pub enum Action<'a> {
         key: Key,
         time: &'a str,
     },
+    /// Asks the store in a folder for a key's rows from one time up to another, which are as the words spell them.
+    Between {
+        dir: &'a str,
+        key: Key,
+        from: &'a str,
+        to: &'a str,
+    },
 }

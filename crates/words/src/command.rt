@@ -25,6 +25,24 @@ fn time<'a>(alloc: Global) -> Arg<'a>
     )
 }
 
+/// Where an interval begins.
+fn from<'a>(alloc: Global) -> Arg<'a>
+    ensures { told.IsArg result told.from }
+{
+    Arg::new(alloc, "FROM")
+        .required(true)
+        .help("Where the interval begins, a time as of `at`")
+}
+
+/// Where an interval ends.
+fn to<'a>(alloc: Global) -> Arg<'a>
+    ensures { told.IsArg result told.to }
+{
+    Arg::new(alloc, "TO")
+        .required(true)
+        .help("Where it ends: this time is no longer in it")
+}
+
 /// A relation's number.
 fn relation<'a>(alloc: Global) -> Arg<'a>
     ensures { told.IsArg result told.relation }
@@ -89,14 +107,30 @@ fn run<'a>(alloc: Global) -> Result<Command<'a>, AllocError>
     with_arg(command, dir(alloc))
 }
 
+/// A command about one record of a store.
+fn of_record<'a>(alloc: Global, name: &'a str, about: &'a str) -> Result<Command<'a>, AllocError>
+    ensures { IfOk result (λ c. told.IsCommand c (told.of_record name.entry.now)) }
+{
+    let command = command(alloc, name, about);
+    let command = with_arg(command, dir(alloc))?;
+    let command = with_arg(command, relation(alloc))?;
+    with_arg(command, record_number(alloc))
+}
+
 fn at<'a>(alloc: Global) -> Result<Command<'a>, AllocError>
     ensures { IfOk result (λ c. told.IsCommand c told.at) }
 {
-    let command = command(alloc, "at", "Show the value of a record at a time");
-    let command = with_arg(command, dir(alloc))?;
-    let command = with_arg(command, relation(alloc))?;
-    let command = with_arg(command, record_number(alloc))?;
+    let command = of_record(alloc, "at", "Show the value of a record at a time")?;
     with_arg(command, time(alloc))
+}
+
+fn between<'a>(alloc: Global) -> Result<Command<'a>, AllocError>
+    ensures { IfOk result (λ c. told.IsCommand c told.between) }
+{
+    let about = "Show what stood in a record from one time up to another";
+    let command = of_record(alloc, "between", about)?;
+    let command = with_arg(command, from(alloc))?;
+    with_arg(command, to(alloc))
 }
 
 /// The command with one more subcommand.
@@ -121,13 +155,20 @@ fn top<'a>(alloc: Global) -> Result<Command<'a>, AllocError>
     .bin_name("timestore")
 }
 
+/// The commands that make a store and run scripts.
+fn making<'a>(alloc: Global) -> Result<Command<'a>, AllocError>
+    ensures { IfOk result (λ c. told.IsCommand c told.making) }
+{
+    let command = with_command(top(alloc)?, format(alloc)?)?;
+    with_command(command, run(alloc)?)
+}
+
 /// The whole command line.
 fn timestore<'a>(alloc: Global) -> Result<Command<'a>, AllocError>
     ensures { IfOk result (λ c. told.IsCommand c told.timestore) }
 {
-    let command = with_command(top(alloc)?, format(alloc)?)?;
-    let command = with_command(command, run(alloc)?)?;
-    with_command(command, at(alloc)?)
+    let command = with_command(making(alloc)?, at(alloc)?)?;
+    with_command(command, between(alloc)?)
 }
 
 /// What the words say, as `clap` reads them.

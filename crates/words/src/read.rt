@@ -3,7 +3,7 @@ ghost use Rattle.std.specs.Prelude.{◌≡◌, ℕ, IfOk, IfErr, IfSome, IfNone,
 ghost use Rattle.clap.specs.Words.{first_of, found_of, rows_of, subcommand_of, subcommand_rows_of};
 ghost use Rattle.words.specs.declared.action.Action.{Action as Asked};
 ghost use Rattle.words.specs.Commands as told;
-ghost use Rattle.words.specs.Asked.{HasNumber, Asks, AsksFormat, AsksNothing, AsksRun, AsksAt};
+ghost use Rattle.words.specs.Asked.{HasNumber, Asks, AsksFormat, AsksNothing, AsksRun, AsksAt, AsksBetween};
 ghost use Rattle.words.specs.Refused.{IsRefusal};
 
 use crate::action::Action;
@@ -83,6 +83,21 @@ fn at<'a>(matches: &ArgMatches<'a>) -> Option<Action<'a>>
     })
 }
 
+fn between<'a>(matches: &ArgMatches<'a>) -> Option<Action<'a>>
+    ensures some { IfSome result (AsksBetween (rows_of (found_of matches.now))) }
+    ensures none { IfNone result ((a : Asked) → AsksBetween (rows_of (found_of matches.now)) a → ⊥) }
+{
+    Some(Action::Between {
+        dir: text(matches, "DIR")?,
+        key: Key {
+            relation: u16_of(matches, "REL")?,
+            record: u64_of(matches, "REC")?,
+        },
+        from: text(matches, "FROM")?,
+        to: text(matches, "TO")?,
+    })
+}
+
 /// What the matches ask for.
 fn action<'a>(matches: &ArgMatches<'a>) -> Option<Action<'a>>
     ensures some { IfSome result (Asks (subcommand_rows_of matches.now)) }
@@ -97,6 +112,8 @@ fn action<'a>(matches: &ArgMatches<'a>) -> Option<Action<'a>>
         run(inner)
     } else if name == "at" {
         at(inner)
+    } else if name == "between" {
+        between(inner)
     } else {
         None
     }

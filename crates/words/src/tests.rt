@@ -97,6 +97,26 @@ fn at_has_a_key_and_a_time_as_text(rt: HostRuntime) -> Result<(), Fail> {
     Ok(())
 }
 
+#[test]
+fn between_has_a_key_and_two_times_as_text(rt: HostRuntime) -> Result<(), Fail> {
+    let words = ["timestore", "between", "d", "1", "7", "0", "later"];
+    assert!(rt;
+        matches!(
+            asked(rt.alloc(), &words)?,
+            Action::Between {
+                dir: "d",
+                key: Key {
+                    relation: 1,
+                    record: 7
+                },
+                from: "0",
+                to: "later"
+            }
+        )
+    );
+    Ok(())
+}
+
 fn is_usage_fault<'a>(rt: &impl Abort, alloc: Global, words: &'a [&'a str]) -> Result<(), Fail> {
     let error = usage(alloc, words)?;
     assert_eq!(rt; error.exit_code(), 2);
@@ -124,6 +144,7 @@ fn what_is_no_command_is_a_usage_fault(rt: HostRuntime) -> Result<(), Fail> {
         &["timestore", "at", "d", "1", "18446744073709551616", "1"],
     )?;
     is_usage_fault(&rt, alloc, &["timestore", "at", "d", "1", "-7", "1"])?;
+    is_usage_fault(&rt, alloc, &["timestore", "between", "d", "1", "7", "0"])?;
     is_usage_fault(&rt, alloc, &["timestore", "forget", "d"])?;
     is_usage_fault(&rt, alloc, &["timestore", "--slots", "16"])?;
     Ok(())
@@ -160,10 +181,11 @@ fn help_names_the_commands(rt: HostRuntime) -> Result<(), Fail> {
 Usage: timestore [COMMAND]
 
 Commands:
-  format  Make an empty store
-  run     Run the script of standard input on a store
-  at      Show the value of a record at a time
-  help    Print this message or the help of the given subcommand(s)
+  format   Make an empty store
+  run      Run the script of standard input on a store
+  at       Show the value of a record at a time
+  between  Show what stood in a record from one time up to another
+  help     Print this message or the help of the given subcommand(s)
 
 Options:
   -h, --help  Print help

@@ -15,6 +15,8 @@ mod dialogue;
 #[cfg(test)]
 mod groups;
 #[cfg(test)]
+mod intervals;
+#[cfg(test)]
 mod limits;
 #[cfg(test)]
 mod names;

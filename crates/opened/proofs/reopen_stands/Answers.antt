@@ -1,4 +1,4 @@
-use Rattle.opened.proofs.Reopened.{reopen-stands, reopen-refuses, closed-left}
+use Rattle.opened.proofs.Reopened.{reopen-stands, reopen-refuses, opening-stops, second-stops, closed-left}
 use Rattle.opened.proofs.reopen_stands.Goals as goal
 
 pub returns-clause-opens : goal.returns-clause-opens
@@ -9,3 +9,9 @@ returns-clause-refuses c = reopen-refuses
 
 pub returns-clause-closed : goal.returns-clause-closed
 returns-clause-closed c = closed-left
+
+pub returns-clause-stops : goal.returns-clause-stops
+returns-clause-stops c = opening-stops
+
+pub returns-clause-second : goal.returns-clause-second
+returns-clause-second c = second-stops

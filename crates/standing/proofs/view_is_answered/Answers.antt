@@ -1,4 +1,5 @@
 use Rattle.standing.proofs.Answering.{view-stands, at-answered}
+use Rattle.standing.proofs.Queries.{scan_at-answered, between-answered, scan_between-answered}
 use Rattle.standing.proofs.view_is_answered.Goals as goal
 
 pub returns-clause-view : goal.returns-clause-view
@@ -6,3 +7,12 @@ returns-clause-view c = view-stands
 
 pub returns-clause-at : goal.returns-clause-at
 returns-clause-at c = at-answered
+
+pub returns-clause-scan_at : goal.returns-clause-scan_at
+returns-clause-scan_at c = scan_at-answered
+
+pub returns-clause-between : goal.returns-clause-between
+returns-clause-between c = between-answered
+
+pub returns-clause-scan_between : goal.returns-clause-scan_between
+returns-clause-scan_between c = scan_between-answered

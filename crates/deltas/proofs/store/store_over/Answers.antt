@@ -1,4 +1,4 @@
-use Rattle.std.proofs.Common.{rules, ◌≡◌, ◌≤◌, ◌<◌, ◌+◌, length, List, ℕ, ap, sym, ◌∙◌, arith}
+use Rattle.std.proofs.Common.{◌≡◌, ◌≤◌, ◌<◌, ◌+◌, length, List, ℕ, ap, sym, ◌∙◌, arith}
 use Rattle.image.specs.Facts.{mask_of, changed_of}
 use Rattle.wire.specs.Fields.{fields_bytes}
 use Rattle.deltas.specs.declared.«record».Content.TheVariants.{Anchor, Delta}

@@ -1,6 +1,6 @@
 use Rattle.std.proofs.Common.{◌≡◌, ℕ, Bool, Result, Ok, Err, MatchResult}
 use Rattle.std.specs.Prelude.{IfOk, IfErr, IsTrue}
-use Rattle.disk.specs.Areas.{AreSound, image_of}
+use Rattle.disk.specs.Areas.{AreSound, LeavesNoMore, image_of}
 use Rattle.disk.specs.Calls.{DiskState}
 use Rattle.history.specs.Histories.{History}
 use Rattle.history.specs.Machine.{opened}
@@ -20,7 +20,16 @@ by-result : {S : Type 0} (tells : Bool) (disk_of : S → DiskState) (old : DiskS
     → (header : Header) (h : History Value) (floors : ℕ → ℕ) → IsTrue tells → AreSound old.areas → IsImageOf header (image_of old.areas) h floors
     → MatchResult r (λ s. Stands tells s (opened h floors)) (λ e. IsReadFault e.0 × (image_of (disk_of e.1).areas ≡ image_of old.areas))
 by-result tells disk_of old mark (Ok s) ok err header h floors told sound is = open-stands tells old mark s header h floors ok told sound is
-by-result tells disk_of old mark (Err e) ok err header h floors told sound is = open-refuses tells old (disk_of e.1) e.0 header h floors err told is
+by-result tells disk_of old mark (Err e) ok err header h floors told sound is =
+    let said = open-refuses tells old (disk_of e.1) e.0 header h floors err told is in (said.0, said.1)
 
 pub returns-clause-stands : goal.returns-clause-stands
 returns-clause-stands g c = λ header h floors told is. by-result g.D.Disk.tells g.D.Disk.state (g.D.Disk.state c.args.disk) c.args.mark c.open.result c.open.ensures.ok c.open.ensures.err header h floors told (g.met.D.Disk.sound c.args.disk told) is
+
+leaves-no-more : {S : Type 0} (tells : Bool) (disk_of : S → DiskState) (old : DiskState) (mark : ℕ) (r : Result StoreValue (OpenFault × S)) → IfOk r (λ s. Opens tells old mark s) → IfErr r (λ e. OpenRefuses tells old e.0 (disk_of e.1)) → IsTrue tells
+    → MatchResult r (λ s. LeavesNoMore old.areas s.disk.areas) (λ e. LeavesNoMore old.areas (disk_of e.1).areas)
+leaves-no-more tells disk_of old mark (Ok s) ok err told = ok.left told
+leaves-no-more tells disk_of old mark (Err e) ok err told = err.left told
+
+pub returns-clause-stops : goal.returns-clause-stops
+returns-clause-stops g c = leaves-no-more g.D.Disk.tells g.D.Disk.state (g.D.Disk.state c.args.disk) c.args.mark c.open.result c.open.ensures.ok c.open.ensures.err

@@ -1,5 +1,4 @@
 use Rattle.std.proofs.Common.{subst}
-use Rattle.script.specs.declared.line.Line.TheVariants as line
 use Rattle.session.specs.Session.{State, Step}
 use Rattle.shell.proofs.Done.{on_ok}
 use Rattle.shell.proofs.actions.ask.Goals as goal
@@ -12,7 +11,7 @@ returns-in-Ok-answer-clause-done g c = λ zero.
       opens = c.in-Ok.ensures.ok;
       answer = c.in-Ok-answer.reply;
       asked = c.in-Ok-answer.session;
-      step = subst (λ (s : State). Step g.D.Disk.tells s (line.At c.args.key c.args.time) c.in-Ok-answer.reply c.in-Ok-answer.session) c.in-Ok-new.ensures.ok c.in-Ok-answer.ensures;
+      step = subst (λ (s : State). Step g.D.Disk.tells s c.args.line c.in-Ok-answer.reply c.in-Ok-answer.session) c.in-Ok-new.ensures.ok c.in-Ok-answer.ensures;
       answered = c.status_of_reply.ensures.done said.1;
       said = on_ok c.write_reply.result c.write_reply.ensures said.0;
       closes = c.close-in-Ok-answer.ensures;

@@ -1,9 +1,13 @@
-use Rattle.std.proofs.Common.{length, take, ◌++◌, ◌∙◌, ap, sym, refl}
+use Rattle.std.proofs.Common.{arith, ℕ, List, subst, length, take, ◌++◌, ◌∙◌, ap, sym, refl}
 use Rattle.std.specs.List.{flat_map}
 use Rattle.std.proofs.lemmas.List.{append-nil}
 use Rattle.std.proofs.lemmas.Option.{slice_get_read}
 use Rattle.std.proofs.lemmas.Result.{err_from_is_err_and}
 use Rattle.archive.specs.Answers.{run_rows}
+use Rattle.archive.specs.Searches.{archive_of}
+use Rattle.archive.specs.Traces.{AreScanRowsOf, AreScanRowsBroken}
+use Rattle.archive.proofs.Damage.{right_among}
+use Rattle.archive.proofs.Trace.{map_damaged, through_past, through_more, through_done, through_broken}
 use Rattle.archive.proofs.Caching.{keeps_later}
 use Rattle.archive.proofs.Searching.{reads_again, first_reads, keeps_on_state}
 use Rattle.archive.proofs.Several.{held_ends, list_at, all_taken, fault_in}
@@ -14,6 +18,7 @@ pub loop-run-preserved-then-run-a : goal.loop-run-preserved-then-run-a
 loop-run-preserved-then-run-a g c =
     let at = slice_get_read c.args.runs.now (length c.args.runs.now) c.loop-run.run-index c.run-item.result refl c.loop-run-test.true c.run-item.is in
     record {
+      rises = c.loop-run.invariant.rises;
       disk = c.loop-run.invariant.disk;
       kept = c.loop-run.invariant.kept;
       shown = λ lists told right hold.
@@ -23,6 +28,9 @@ loop-run-preserved-then-run-a g c =
           ∙ sym (append-nil (flat_map (run_rows c.args.relation c.args.a c.args.b) (take c.loop-run.run-index lists)))
           ∙ ap (λ vs. flat_map (run_rows c.args.relation c.args.a c.args.b) (take c.loop-run.run-index lists) ++ vs) (sym none)
           ∙ sym (more (run_rows c.args.relation c.args.a c.args.b) lists c.loop-run.run-index here.0 here.2);
+      through = λ told right.
+          let area = archive_of (g.D.Disk.state c.args.disk.now) in
+          through_past (AreScanRowsOf area c.args.relation c.args.a c.args.b) c.args.a c.args.runs.now c.loop-run.run-index c.loop-run.rows.items (c.loop-run.invariant.through told right) c.run-item.result at c.if-run-a.true;
     }
 
 pub returns-in_err-add_scan_rows-clause-kept : goal.returns-in_err-add_scan_rows-clause-kept
@@ -49,6 +57,7 @@ pub loop-run-preserved : goal.loop-run-preserved
 loop-run-preserved g c =
     let at = slice_get_read c.args.runs.now (length c.args.runs.now) c.loop-run.run-index c.run-item.result refl c.loop-run-test.true c.run-item.is in
     record {
+      rises = omega (arith, c.loop-run.invariant.rises, c.in_ok-add_scan_rows.ensures.rises);
       disk = c.in_ok-add_scan_rows.ensures.disk ∙ c.loop-run.invariant.disk;
       kept = λ limit by. keeps_on_state c.loop-run.invariant.disk (c.loop-run.invariant.kept limit by) (keeps_later (by c.loop-run.run-index c.run-item.result at) c.in_ok-add_scan_rows.ensures.kept);
       shown = λ lists told right hold.
@@ -57,9 +66,27 @@ loop-run-preserved g c =
           c.in_ok-add_scan_rows.ensures.only here.0 reads
           ∙ ap (λ vs. vs ++ (run_rows c.args.relation c.args.a c.args.b) here.0) (c.loop-run.invariant.shown lists told right hold)
           ∙ sym (more (run_rows c.args.relation c.args.a c.args.b) lists c.loop-run.run-index here.0 here.2);
+      through = λ told right.
+          let area = archive_of (g.D.Disk.state c.args.disk.now) in
+          let now = right_among c.args.runs.now told right c.loop-run.invariant.disk c.loop-run.invariant.kept in
+          let added = c.in_ok-add_scan_rows.ensures.exact told now in
+          through_more (AreScanRowsOf area c.args.relation c.args.a c.args.b) c.args.a c.args.runs.now c.loop-run.run-index c.loop-run.rows.items (c.loop-run.invariant.through told right) c.run-item.result at added.0 c.add_scan_rows.new.rows.items c.if-run-a.false
+          (subst (λ (xs : List ℕ). AreScanRowsOf xs c.args.relation c.args.a c.args.b c.run-item.result added.0) (ap archive_of c.loop-run.invariant.disk) added.1) added.2;
     }
 
 pub returns-clause-only : goal.returns-clause-only
 returns-clause-only g c = λ lists told right hold.
     c.loop-run.invariant.shown lists told right hold
     ∙ ap (λ ls. flat_map (run_rows c.args.relation c.args.a c.args.b) ls) (all_taken _ c.args.runs.now lists c.loop-run.run-index hold c.loop-run-test.false)
+
+pub returns-in_err-add_scan_rows-clause-exact : goal.returns-in_err-add_scan_rows-clause-exact
+returns-in_err-add_scan_rows-clause-exact g c = λ told right.
+    let area = archive_of (g.D.Disk.state c.args.disk.now) in
+    let at = slice_get_read c.args.runs.now (length c.args.runs.now) c.loop-run.run-index c.run-item.result refl c.loop-run-test.true c.run-item.is in
+    let now = right_among c.args.runs.now told right c.loop-run.invariant.disk c.loop-run.invariant.kept in
+    let p = err_from_is_err_and c.from_residual.result c.from_residual.ensures.1 in
+    rw (p.1, p.2) (through_broken (AreScanRowsOf area c.args.relation c.args.a c.args.b) c.args.a c.args.runs.now c.loop-run.run-index c.loop-run.rows.items (c.loop-run.invariant.through told right) c.run-item.result at (AreScanRowsBroken area c.args.relation c.args.a c.args.b) _ c.if-run-a.false c.in_err-add_scan_rows.ensures.damaged
+    (map_damaged _ (λ start is. subst (λ (xs : List ℕ). AreScanRowsBroken xs c.args.relation c.args.a c.args.b c.run-item.result) (ap archive_of c.loop-run.invariant.disk) is) (c.in_err-add_scan_rows.ensures.exact told now)))
+
+pub returns-clause-exact : goal.returns-clause-exact
+returns-clause-exact g c = λ told right. through_done _ c.args.a c.args.runs.now c.loop-run.run-index c.loop-run.rows.items (c.loop-run.invariant.through told right) c.loop-run-test.false

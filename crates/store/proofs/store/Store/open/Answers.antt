@@ -36,6 +36,7 @@ returns-clause-ok g c =
       new_is = rw (log_is, c.of_recovered.ensures, slots_are, heads_are, many) refl;
       ordered = rw c.of_recovered.ensures c.least-least.ensures.ordered;
       settled = c.in-Ok.ensures.settled;
+      left = c.in-Ok.ensures.left;
       refused = c.in-Ok.ensures.refused;
     }
   where

@@ -1,0 +1,221 @@
+-- What queries read, one look after another.
+use Rattle.std.proofs.Common.{◌≡◌, inl, inr, ℕ, ◌+◌, ◌≤◌, ◌<◌, Bool, true, false, cond, List, [], ◌∷◌, ◌++◌, length, Option, Some, None, refl, sym, ◌∙◌, ap, subst, arith, append_assoc}
+use Rattle.std.specs.List.{slice_get}
+use Rattle.std.proofs.lemmas.List.{append-nil}
+use Rattle.std.proofs.lemmas.Option.{slice_get_within}
+use Rattle.std.proofs.lemmas.Bool.{cases_lt}
+use Rattle.std.proofs.lemmas.Bool.Decides.{nat_tests}
+use Rattle.history.specs.declared.key.Key.{Key}
+use Rattle.archive.specs.declared.run.RunEntry.{RunEntry}
+use Rattle.archive.specs.declared.head.Head.{Head}
+use Rattle.archive.specs.declared.head.Placed.{Placed}
+use Rattle.archive.specs.declared.fault.ArchiveFault.{ArchiveFault}
+use Rattle.archive.specs.declared.fault.ArchiveFault.TheVariants.{Device, NoMemory, Damaged}
+use Rattle.archive.specs.Answers.{precedes}
+use Rattle.archive.specs.Searches.{IsFaultOf}
+use Rattle.archive.specs.Damages.{placed_at, IsHeadSound, IsHeadBroken, IsValueBroken, IfDamaged}
+use Rattle.archive.specs.Traces.{nth_head, last_of, high_of, IsSearched, IsFoundIn, IsFindBroken, NoneBefore, IsFindDamaged, last_walked, IsWalk, joined, IsWalked, IsWalkBroken, AtNext, AtItsValue, AreWalked, IsOfRuns, IsDamagedRun}
+
+-- what a fault tells of a run that is damaged
+pub map_damaged : {P Q : ℕ → Type 0} (fault : ArchiveFault) → ((start : ℕ) → P start → Q start) → IfDamaged P fault → IfDamaged Q fault
+map_damaged Device goes is = tt
+map_damaged NoMemory goes is = tt
+map_damaged (Damaged start) goes is = goes start is
+
+-- what was read later was there before
+pub sound_there : (area later : List ℕ) (run : RunEntry) (last other : Option Placed) (n : ℕ) (placed : Placed) → later ≡ area → last ≡ other
+    → (placed ≡ placed_at later run n) × IsHeadSound later run last n → (placed ≡ placed_at area run n) × IsHeadSound area run other n
+sound_there area later run last other n placed same same_last is =
+    subst (λ (xs : List ℕ). (placed ≡ placed_at xs run n) × IsHeadSound xs run other n) same
+    (subst (λ (o : Option Placed). (placed ≡ placed_at later run n) × IsHeadSound later run o n) same_last is)
+
+pub broken_there : (area later : List ℕ) (run : RunEntry) (last other : Option Placed) (n : ℕ) → later ≡ area → last ≡ other
+    → IsHeadBroken later run last n → IsHeadBroken area run other n
+broken_there area later run last other n same same_last is =
+    subst (λ (xs : List ℕ). IsHeadBroken xs run other n) same (subst (λ (o : Option Placed). IsHeadBroken later run o n) same_last is)
+
+pub placed_there : (area later : List ℕ) (run : RunEntry) (n : ℕ) (placed : Placed) → later ≡ area → placed ≡ placed_at later run n → placed ≡ placed_at area run n
+placed_there area later run n placed same is = subst (λ (xs : List ℕ). placed ≡ placed_at xs run n) same is
+
+pub placed_again : (area later : List ℕ) (run : RunEntry) (n : ℕ) (placed : Placed) → later ≡ area → placed ≡ placed_at area run n → placed ≡ placed_at later run placed.number
+placed_again area later run n placed same is =
+    let number : placed.number ≡ n = ap (λ (p : Placed). p.number) is in
+    subst (λ (k : ℕ). placed ≡ placed_at later run k) (sym number) (subst (λ (xs : List ℕ). placed ≡ placed_at xs run n) (sym same) is)
+
+-- ---- one version
+
+-- the first that doesn't precede was read, and it said so
+first_fails : (area : List ℕ) (run : RunEntry) (key : Key) (time : ℕ) (read : List ℕ) (n : ℕ) → n ≡ high_of area run key time read → n < run.slot.records
+    → precedes key time (nth_head area run n) ≡ false
+first_fails area run key time [] n is less = absurd (omega arith)
+first_fails area run key time (m ∷ read) n is less = by_test (λ before. first_fails area run key time read n before less) (precedes key time (nth_head area run m)) refl where
+  by_test : (n ≡ high_of area run key time read → precedes key time (nth_head area run n) ≡ false) → (b : Bool) → precedes key time (nth_head area run m) ≡ b → precedes key time (nth_head area run n) ≡ false
+  by_test rest true test = rest (is ∙ ap (λ (b : Bool). cond b (high_of area run key time read) m) test)
+  by_test rest false test = let same : n ≡ m = is ∙ ap (λ (b : Bool). cond b (high_of area run key time read) m) test in ap (λ (k : ℕ). precedes key time (nth_head area run k)) same ∙ test
+
+not_over : (key : Key) (time : ℕ) (head : Head) → precedes key time head ≡ false → head.key ≡ key → time < head.to
+not_over key time head fails same =
+    let relation : head.key.relation ≡ key.relation = ap (λ (k : Key). k.relation) same in
+    let number : head.key.record ≡ key.record = ap (λ (k : Key). k.record) same in
+    grind (arith, nat_tests)
+
+pub not_ended : {area : List ℕ} {run : RunEntry} {key : Key} {time : ℕ} {read : List ℕ} {n : ℕ} → IsSearched area run key time read n → n < run.slot.records
+    → (nth_head area run n).key ≡ key → time < (nth_head area run n).to
+not_ended {area} {run} {key} {time} {read} {n} searched less same = not_over key time (nth_head area run n) (first_fails area run key time read n searched.high less) same
+
+module _ (area : List ℕ) (runs : List RunEntry) (key : Key) (time i : ℕ) (run : RunEntry) (at : slice_get runs i ≡ Some run) (before : NoneBefore area runs key time i) where
+  pub none_more : (time < run.slot.upto → IsFoundIn area run key time None) → NoneBefore area runs key time (i + 1)
+  none_more here n other less at_n beyond = elim (cases_lt n i) [
+    | inl lower ↦ before n other lower at_n beyond
+    | inr upper ↦
+        let same : n ≡ i = omega arith in
+        let found : slice_get runs i ≡ Some other = subst (λ (k : ℕ). slice_get runs k ≡ Some other) same at_n in
+        let one : run ≡ other = cc in
+        subst (λ (r : RunEntry). IsFoundIn area r key time None) one (here (subst (λ (r : RunEntry). time < r.slot.upto) (sym one) beyond))
+  ]
+
+  pub find_damaged : (fault : ArchiveFault) → time < run.slot.upto → IsFaultOf run fault → IfDamaged (λ _. IsFindBroken area run key time) fault → IfDamaged (IsFindDamaged area runs key time) fault
+  find_damaged Device beyond of is = tt
+  find_damaged NoMemory beyond of is = tt
+  find_damaged (Damaged start) beyond of is = record { number = i; run = run; before = before; at = at; beyond = beyond; here = of; broken = is }
+
+-- ---- the walk over the records of a run
+
+module _ {R : Type 0} where
+  -- rows that a walk has given so far, behind those of before it
+  pub record IsWalking (area : List ℕ) (run : RunEntry) (key : Key) (time : ℕ) (Gives : ℕ → List R → Type 0) (old : List R) (last : Option Placed) (number : ℕ) (rows : List R) : Type 0 where
+    pub read : List ℕ
+    pub first : ℕ
+    pub searched : IsSearched area run key time read first
+    pub parts : List (List R)
+    pub walk : IsWalk area run Gives read first parts
+    pub last_is : last ≡ last_walked area run read first parts
+    pub number_is : number ≡ first + length parts
+    pub are : rows ≡ old ++ joined parts
+
+  module _ (area : List ℕ) (run : RunEntry) (key : Key) (time : ℕ) (Gives : ℕ → List R → Type 0) (old : List R) where
+    pub walking_first : (last : Option Placed) (number : ℕ) → (read : List ℕ) × IsSearched area run key time read number × (last ≡ last_of area run read)
+        → IsWalking area run key time Gives old last number old
+    walking_first last number bound = record {
+      read = bound.0;
+      first = number;
+      searched = bound.1;
+      parts = [];
+      walk = tt;
+      last_is = bound.2;
+      number_is = omega arith;
+      are = sym (append-nil old);
+    }
+
+    module _ (last : Option Placed) (n : ℕ) (rows : List R) (way : IsWalking area run key time Gives old last n rows) where
+      pub walking_more : (later : List ℕ) (placed : Placed) (row new : List R) → later ≡ area → (placed ≡ placed_at later run n) × IsHeadSound later run last n → Gives n row → new ≡ rows ++ row
+          → IsWalking area run key time Gives old (Some placed) (n + 1) new
+      walking_more later placed row new same is gives grown =
+          let there = sound_there area later run last (last_walked area run way.read way.first way.parts) n placed same way.last_is is in
+          record {
+            read = way.read;
+            first = way.first;
+            searched = way.searched;
+            parts = row ∷ way.parts;
+            walk = (
+              subst (λ (k : ℕ). IsHeadSound area run (last_walked area run way.read way.first way.parts) k) way.number_is there.1,
+              subst (λ (k : ℕ). Gives k row) way.number_is gives,
+              way.walk,
+            );
+            last_is = ap Some (there.0 ∙ ap (λ (k : ℕ). placed_at area run k) way.number_is);
+            number_is = omega (arith, way.number_is);
+            are = grown ∙ ap (λ (xs : List R). xs ++ row) way.are ∙ append_assoc old (joined way.parts) row;
+          }
+
+      pub walking_past : (Ends : Head → Type 0) → run.slot.records ≡ n → (found : List R) × IsWalked area run key time Gives Ends found × (rows ≡ old ++ found)
+      walking_past Ends past = (
+        joined way.parts,
+        record { read = way.read; first = way.first; searched = way.searched; parts = way.parts; walk = way.walk; end = inl (past ∙ way.number_is); are = refl },
+        way.are,
+      )
+
+      pub walking_ends : (Ends : Head → Type 0) (later : List ℕ) (placed : Placed) → later ≡ area → (placed ≡ placed_at later run n) × IsHeadSound later run last n → Ends placed.head
+          → (found : List R) × IsWalked area run key time Gives Ends found × (rows ≡ old ++ found)
+      walking_ends Ends later placed same is ends =
+          let there = sound_there area later run last (last_walked area run way.read way.first way.parts) n placed same way.last_is is in
+          let head : placed.head ≡ nth_head area run (way.first + length way.parts) = ap (λ (p : Placed). p.head) (there.0 ∙ ap (λ (k : ℕ). placed_at area run k) way.number_is) in (
+            joined way.parts,
+            record {
+              read = way.read;
+              first = way.first;
+              searched = way.searched;
+              parts = way.parts;
+              walk = way.walk;
+              end = inr (subst (λ (k : ℕ). IsHeadSound area run (last_walked area run way.read way.first way.parts) k) way.number_is there.1, subst Ends head ends);
+              are = refl;
+            },
+            way.are,
+          )
+
+      pub walking_head : (Wanted : Head → Type 0) (later : List ℕ) (fault : ArchiveFault) → later ≡ area → n < run.slot.records → IfDamaged (λ _. IsHeadBroken later run last n) fault
+          → IfDamaged (λ _. IsWalkBroken area run key time Gives Wanted) fault
+      walking_head Wanted later fault same less = map_damaged fault (λ start is.
+          let there = broken_there area later run last (last_walked area run way.read way.first way.parts) n same way.last_is is in
+          AtNext way.read way.first way.parts way.searched way.walk (subst (λ (k : ℕ). k < run.slot.records) way.number_is less)
+          (subst (λ (k : ℕ). IsHeadBroken area run (last_walked area run way.read way.first way.parts) k) way.number_is there))
+
+      pub walking_value : (Wanted : Head → Type 0) (later : List ℕ) (placed : Placed) (fault : ArchiveFault) → later ≡ area → (placed ≡ placed_at later run n) × IsHeadSound later run last n
+          → IfDamaged (λ _. Wanted placed.head × IsValueBroken area run n) fault → IfDamaged (λ _. IsWalkBroken area run key time Gives Wanted) fault
+      walking_value Wanted later placed fault same is = map_damaged fault (λ start broken.
+          let there = sound_there area later run last (last_walked area run way.read way.first way.parts) n placed same way.last_is is in
+          let head : placed.head ≡ nth_head area run (way.first + length way.parts) = ap (λ (p : Placed). p.head) (there.0 ∙ ap (λ (k : ℕ). placed_at area run k) way.number_is) in
+          AtItsValue way.read way.first way.parts way.searched way.walk
+          (subst (λ (k : ℕ). IsHeadSound area run (last_walked area run way.read way.first way.parts) k) way.number_is there.1)
+          (subst Wanted head broken.0)
+          (subst (λ (k : ℕ). IsValueBroken area run k) way.number_is broken.1))
+
+  -- ---- the runs of a log
+
+  -- the rows of the first runs
+  pub record IsThrough (Gives : RunEntry → List R → Type 0) (time : ℕ) (runs : List RunEntry) (i : ℕ) (rows : List R) : Type 0 where
+    pub parts : List (List R)
+    pub each : AreWalked Gives time runs parts
+    pub count : length parts ≡ i
+    pub are : rows ≡ joined parts
+
+  few_parts : (Gives : RunEntry → List R → Type 0) (time : ℕ) (runs : List RunEntry) (parts : List (List R)) → AreWalked Gives time runs parts → length parts ≤ length runs
+  few_parts Gives time runs [] each = omega arith
+  few_parts Gives time runs (part ∷ parts) each = omega (arith, slice_get_within runs (length parts) each.0.0 each.0.1)
+
+  pub through_first : (Gives : RunEntry → List R → Type 0) (time : ℕ) (runs : List RunEntry) (rows : List R) → rows ≡ [] → IsThrough Gives time runs 0 rows
+  through_first Gives time runs rows none = record { parts = []; each = tt; count = refl; are = none }
+
+  module _ (Gives : RunEntry → List R → Type 0) (time : ℕ) (runs : List RunEntry) (i : ℕ) (rows : List R) (way : IsThrough Gives time runs i rows) where
+    pub through_done : length runs ≤ i → IsOfRuns Gives time runs rows
+    through_done past = record {
+      parts = way.parts;
+      each = way.each;
+      all = omega (arith, past, way.count, few_parts Gives time runs way.parts way.each);
+      are = way.are;
+    }
+
+    module _ (run : RunEntry) (at : slice_get runs i ≡ Some run) where
+      there : slice_get runs (length way.parts) ≡ Some run
+      there = subst (λ (k : ℕ). slice_get runs k ≡ Some run) (sym way.count) at
+
+      pub through_past : run.slot.upto ≤ time → IsThrough Gives time runs (i + 1) rows
+      through_past past = record {
+        parts = [] ∷ way.parts;
+        each = ((run, there, inl (past, refl)), way.each);
+        count = omega (arith, way.count);
+        are = way.are ∙ sym (append-nil (joined way.parts));
+      }
+
+      pub through_more : (found new : List R) → time < run.slot.upto → Gives run found → new ≡ rows ++ found → IsThrough Gives time runs (i + 1) new
+      through_more found new beyond gives grown = record {
+        parts = found ∷ way.parts;
+        each = ((run, there, inr (beyond, gives)), way.each);
+        count = omega (arith, way.count);
+        are = grown ∙ ap (λ (xs : List R). xs ++ found) way.are;
+      }
+
+      pub through_broken : (Breaks : RunEntry → Type 0) (fault : ArchiveFault) → time < run.slot.upto → IsFaultOf run fault → IfDamaged (λ _. Breaks run) fault
+          → IfDamaged (IsDamagedRun Gives Breaks time runs) fault
+      through_broken Breaks Device beyond of is = tt
+      through_broken Breaks NoMemory beyond of is = tt
+      through_broken Breaks (Damaged start) beyond of is = record { parts = way.parts; each = way.each; run = run; at = there; beyond = beyond; here = of; broken = is }

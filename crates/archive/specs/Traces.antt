@@ -1,0 +1,217 @@
+-- What a query has read of a run, whatever its bytes are.
+-- Lists of what was read have what was read last at their front.
+use Rattle.std.specs.Prelude.{◌≡◌, ◌≢◌, ◌⊎◌, ℕ, ◌+◌, ◌<◌, ◌≤◌, if◌then◌else◌, List, [], ◌∷◌, ◌++◌, length, slice_get, Option, Some, None, max, min}
+use Rattle.history.specs.declared.key.Key.{Key}
+use Rattle.history.specs.declared.time.Version.{Version}
+use Rattle.history.specs.Versions.{cut}
+use Rattle.history.specs.Key.{key_of}
+use Rattle.image.specs.Values.{Value}
+use Rattle.archive.specs.declared.run.RunEntry.{RunEntry}
+use Rattle.archive.specs.declared.head.Head.{Head}
+use Rattle.archive.specs.declared.head.Placed.{Placed}
+use Rattle.archive.specs.Answers.{precedes}
+use Rattle.archive.specs.Damages.{entry_at, head_standing, placed_at, IsHeadSound, IsHeadBroken, IsValueAt, IsValueBroken}
+
+-- the head of the n-th record as it stands
+abbrev pub nth_head : List ℕ → RunEntry → ℕ → Head
+nth_head area run n = head_standing area run (entry_at area run n)
+
+-- what was read last, if anything was
+abbrev pub last_of : List ℕ → RunEntry → List ℕ → Option Placed
+last_of area run [] = None
+last_of area run (n ∷ read) = Some (placed_at area run n)
+
+-- ---- the search by halves
+
+-- the heads that were read say that the records before this one precede
+abbrev pub low_of : List ℕ → RunEntry → Key → ℕ → List ℕ → ℕ
+low_of area run key time [] = 0
+low_of area run key time (n ∷ read) = if precedes key time (nth_head area run n) then n + 1 else low_of area run key time read
+
+-- they say that from this one on none does
+abbrev pub high_of : List ℕ → RunEntry → Key → ℕ → List ℕ → ℕ
+high_of area run key time [] = run.slot.records
+high_of area run key time (n ∷ read) = if precedes key time (nth_head area run n) then high_of area run key time read else n
+
+-- each head was sound beside the one before, and that of a record of which it was not yet known whether it precedes
+abbrev pub IsSearch : List ℕ → RunEntry → Key → ℕ → List ℕ → Type 0
+IsSearch area run key time [] = Unit {0}
+IsSearch area run key time (n ∷ read) =
+    IsHeadSound area run (last_of area run read) n
+    × (low_of area run key time read ≤ n)
+    × (n < high_of area run key time read)
+    × IsSearch area run key time read
+
+-- a search that has ended: how many of the first records precede
+pub record IsSearched (area : List ℕ) (run : RunEntry) (key : Key) (time : ℕ) (read : List ℕ) (number : ℕ) : Type 0 where
+  pub search : IsSearch area run key time read
+  pub low : number ≡ low_of area run key time read
+  pub high : number ≡ high_of area run key time read
+
+-- a search that met a head which breaks a rule
+pub record IsSearchBroken (area : List ℕ) (run : RunEntry) (key : Key) (time : ℕ) : Type 0 where
+  pub read : List ℕ
+  pub search : IsSearch area run key time read
+  pub number : ℕ
+  pub low : low_of area run key time read ≤ number
+  pub high : number < high_of area run key time read
+  pub broken : IsHeadBroken area run (last_of area run read) number
+
+-- ---- one version
+
+-- what a look for the version that stands at a time found in one run
+pub data IsFoundIn (area : List ℕ) (run : RunEntry) (key : Key) (time : ℕ) (answer : Option Value) : Type 0 where
+  -- every record precedes
+  Past : (read : List ℕ) → IsSearched area run key time read run.slot.records → answer ≡ None → IsFoundIn area run key time answer
+  -- the first that doesn't is of another key, or begins later
+  Other : (read : List ℕ) (n : ℕ) → IsSearched area run key time read n → IsHeadSound area run (last_of area run read) n
+      → ((nth_head area run n).key ≢ key) ⊎ (time < (nth_head area run n).from) → answer ≡ None → IsFoundIn area run key time answer
+  -- it stands at the time, with this value
+  Stands : (read : List ℕ) (n : ℕ) (value : Value) → IsSearched area run key time read n → IsHeadSound area run (last_of area run read) n
+      → (nth_head area run n).key ≡ key → (nth_head area run n).from ≤ time → time < (nth_head area run n).to
+      → IsValueAt area run n value → answer ≡ Some value → IsFoundIn area run key time answer
+
+-- what it met that breaks a rule
+pub data IsFindBroken (area : List ℕ) (run : RunEntry) (key : Key) (time : ℕ) : Type 0 where
+  InSearch : IsSearchBroken area run key time → IsFindBroken area run key time
+  AtHead : (read : List ℕ) (n : ℕ) → IsSearched area run key time read n → n < run.slot.records
+      → IsHeadBroken area run (last_of area run read) n → IsFindBroken area run key time
+  AtValue : (read : List ℕ) (n : ℕ) → IsSearched area run key time read n → IsHeadSound area run (last_of area run read) n
+      → (nth_head area run n).key ≡ key → (nth_head area run n).from ≤ time
+      → IsValueBroken area run n → IsFindBroken area run key time
+
+-- the runs before this one that go beyond the time have no version that stands at it
+abbrev pub NoneBefore : List ℕ → List RunEntry → Key → ℕ → ℕ → Type 0
+NoneBefore area runs key time number = (n : ℕ) (run : RunEntry) → n < number → slice_get runs n ≡ Some run → time < run.slot.upto → IsFoundIn area run key time None
+
+pub data IsFound (area : List ℕ) (runs : List RunEntry) (key : Key) (time : ℕ) (answer : Option Value) : Type 0 where
+  Nowhere : NoneBefore area runs key time (length runs) → answer ≡ None → IsFound area runs key time answer
+  InRun : (number : ℕ) (run : RunEntry) (value : Value) → NoneBefore area runs key time number → slice_get runs number ≡ Some run → time < run.slot.upto
+      → IsFoundIn area run key time (Some value) → answer ≡ Some value → IsFound area runs key time answer
+
+-- the run that begins here was read, and what was read last of it breaks a rule
+pub record IsFindDamaged (area : List ℕ) (runs : List RunEntry) (key : Key) (time start : ℕ) : Type 0 where
+  pub number : ℕ
+  pub run : RunEntry
+  pub before : NoneBefore area runs key time number
+  pub at : slice_get runs number ≡ Some run
+  pub beyond : time < run.slot.upto
+  pub here : start ≡ run.slot.start
+  pub broken : IsFindBroken area run key time
+
+-- ---- rows
+
+-- what was read before the next of the records from the first on that have given these rows
+abbrev pub last_walked : {R : Type 0} → List ℕ → RunEntry → List ℕ → ℕ → List R → Option Placed
+last_walked area run read first [] = last_of area run read
+last_walked area run read first (row ∷ rows) = Some (placed_at area run (first + length rows))
+
+-- each head was sound beside the one before, and the record gives this row
+abbrev pub IsWalk : {R : Type 0} → List ℕ → RunEntry → (ℕ → R → Type 0) → List ℕ → ℕ → List R → Type 0
+IsWalk area run Gives read first [] = Unit {0}
+IsWalk area run Gives read first (row ∷ rows) =
+    IsHeadSound area run (last_walked area run read first rows) (first + length rows)
+    × Gives (first + length rows) row
+    × IsWalk area run Gives read first rows
+
+-- what each gave, in the order of reading
+abbrev pub joined : {R : Type 0} → List (List R) → List R
+joined [] = []
+joined (part ∷ parts) = joined parts ++ part
+
+-- The rows of one run: a search, and then a walk over the records from the first that doesn't precede to one that is none of those wanted.
+pub record IsWalked {R : Type 0} (area : List ℕ) (run : RunEntry) (key : Key) (time : ℕ) (Gives : ℕ → List R → Type 0) (Ends : Head → Type 0) (rows : List R) : Type 0 where
+  pub read : List ℕ
+  pub first : ℕ
+  pub searched : IsSearched area run key time read first
+  pub parts : List (List R)
+  pub walk : IsWalk area run Gives read first parts
+  pub end : (run.slot.records ≡ first + length parts)
+      ⊎ (IsHeadSound area run (last_walked area run read first parts) (first + length parts) × Ends (nth_head area run (first + length parts)))
+  pub are : rows ≡ joined parts
+
+-- what was met that breaks a rule
+pub data IsWalkBroken {R : Type 0} (area : List ℕ) (run : RunEntry) (key : Key) (time : ℕ) (Gives : ℕ → List R → Type 0) (Wanted : Head → Type 0) : Type 0 where
+  OnTheWay : IsSearchBroken area run key time → IsWalkBroken area run key time Gives Wanted
+  AtNext : (read : List ℕ) (first : ℕ) (parts : List (List R)) → IsSearched area run key time read first → IsWalk area run Gives read first parts
+      → first + length parts < run.slot.records → IsHeadBroken area run (last_walked area run read first parts) (first + length parts)
+      → IsWalkBroken area run key time Gives Wanted
+  AtItsValue : (read : List ℕ) (first : ℕ) (parts : List (List R)) → IsSearched area run key time read first → IsWalk area run Gives read first parts
+      → IsHeadSound area run (last_walked area run read first parts) (first + length parts) → Wanted (nth_head area run (first + length parts))
+      → IsValueBroken area run (first + length parts) → IsWalkBroken area run key time Gives Wanted
+
+-- the rows of each of the first runs: none of one that ends by the time
+abbrev pub AreWalked : {R : Type 0} → (RunEntry → List R → Type 0) → ℕ → List RunEntry → List (List R) → Type 0
+AreWalked Gives time runs [] = Unit {0}
+AreWalked Gives time runs (part ∷ parts) =
+    ((run : RunEntry) × (slice_get runs (length parts) ≡ Some run)
+    × (((run.slot.upto ≤ time) × (part ≡ [])) ⊎ ((time < run.slot.upto) × Gives run part)))
+    × AreWalked Gives time runs parts
+
+pub record IsOfRuns {R : Type 0} (Gives : RunEntry → List R → Type 0) (time : ℕ) (runs : List RunEntry) (rows : List R) : Type 0 where
+  pub parts : List (List R)
+  pub each : AreWalked Gives time runs parts
+  pub all : length parts ≡ length runs
+  pub are : rows ≡ joined parts
+
+-- the run that begins here was read, and what was read last of it breaks a rule
+pub record IsDamagedRun {R : Type 0} (Gives : RunEntry → List R → Type 0) (Breaks : RunEntry → Type 0) (time : ℕ) (runs : List RunEntry) (start : ℕ) : Type 0 where
+  pub parts : List (List R)
+  pub each : AreWalked Gives time runs parts
+  pub run : RunEntry
+  pub at : slice_get runs (length parts) ≡ Some run
+  pub beyond : time < run.slot.upto
+  pub here : start ≡ run.slot.start
+  pub broken : Breaks run
+
+-- ---- the rows of a key
+
+-- the version of the n-th record, of this value
+abbrev pub version_at : List ℕ → RunEntry → ℕ → Value → Version Value
+version_at area run n value = record { from = (nth_head area run n).from; to = (nth_head area run n).to; value = value }
+
+-- a head of the key that begins before the end
+abbrev pub IsRow : Key → ℕ → Head → Type 0
+IsRow key b head = (head.key ≡ key) × (head.from < b)
+
+-- it is of another key, or begins at the end or later
+abbrev pub IsNoRow : Key → ℕ → Head → Type 0
+IsNoRow key b head = (head.key ≢ key) ⊎ (b ≤ head.from)
+
+-- the n-th record's row, of the value that stands there
+abbrev pub GivesRow : List ℕ → RunEntry → ℕ → ℕ → ℕ → List (Version Value) → Type 0
+GivesRow area run a b n row = (value : Value) × IsValueAt area run n value × (row ≡ cut a b (version_at area run n value) ∷ [])
+
+abbrev pub GivesKeyRow : List ℕ → RunEntry → Key → ℕ → ℕ → ℕ → List (Version Value) → Type 0
+GivesKeyRow area run key a b n row = IsRow key b (nth_head area run n) × GivesRow area run a b n row
+
+abbrev pub AreRowsOf : List ℕ → Key → ℕ → ℕ → RunEntry → List (Version Value) → Type 0
+AreRowsOf area key a b run rows = IsWalked area run key a (GivesKeyRow area run key a b) (IsNoRow key b) rows
+
+abbrev pub AreRowsBroken : List ℕ → Key → ℕ → ℕ → RunEntry → Type 0
+AreRowsBroken area key a b run = IsWalkBroken area run key a (GivesKeyRow area run key a b) (IsRow key b)
+
+-- ---- the rows of a relation
+
+-- none where the version has no part in the interval, and then its value isn't read
+abbrev pub GivesScanRow : List ℕ → RunEntry → ℕ → ℕ → ℕ → List (ℕ × Version Value) → Type 0
+GivesScanRow area run a b n row =
+    ((min (nth_head area run n).to b ≤ max (nth_head area run n).from a) × (row ≡ []))
+    ⊎ ((max (nth_head area run n).from a < min (nth_head area run n).to b)
+    × ((value : Value) × IsValueAt area run n value × (row ≡ ((nth_head area run n).key.record, cut a b (version_at area run n value)) ∷ [])))
+
+abbrev pub GivesRelationRow : List ℕ → RunEntry → ℕ → ℕ → ℕ → ℕ → List (ℕ × Version Value) → Type 0
+GivesRelationRow area run relation a b n row = ((nth_head area run n).key.relation ≡ relation) × GivesScanRow area run a b n row
+
+-- a value is read only of a record of the relation that has a part in the interval
+abbrev pub IsScanRow : ℕ → ℕ → ℕ → Head → Type 0
+IsScanRow relation a b head = (head.key.relation ≡ relation) × (max head.from a < min head.to b)
+
+abbrev pub IsElsewhere : ℕ → Head → Type 0
+IsElsewhere relation head = head.key.relation ≢ relation
+
+abbrev pub AreScanRowsOf : List ℕ → ℕ → ℕ → ℕ → RunEntry → List (ℕ × Version Value) → Type 0
+AreScanRowsOf area relation a b run rows = IsWalked area run (key_of relation 0) 0 (GivesRelationRow area run relation a b) (IsElsewhere relation) rows
+
+abbrev pub AreScanRowsBroken : List ℕ → ℕ → ℕ → ℕ → RunEntry → Type 0
+AreScanRowsBroken area relation a b run = IsWalkBroken area run (key_of relation 0) 0 (GivesRelationRow area run relation a b) (IsScanRow relation a b)

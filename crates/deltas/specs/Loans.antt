@@ -1,0 +1,17 @@
+-- Records in loans.
+use Rattle.deltas.specs.declared.«record».Content.{Content}
+use Rattle.deltas.specs.declared.«record».Content.TheVariants.{Anchor, Delta, Gone, Old}
+use Rattle.deltas.specs.declared.«record».Record.{Record}
+use Rattle.deltas.specs.declared.record_ref.ContentRef.{ContentRef}
+use Rattle.deltas.specs.declared.record_ref.ContentRef.TheVariants as loan
+use Rattle.deltas.specs.declared.record_ref.RecordRef.{RecordRef}
+
+-- what the loan shows
+abbrev pub content_of_loan : ContentRef → Content
+content_of_loan (loan.Anchor value) = Anchor value.now
+content_of_loan (loan.Delta mask changed) = Delta mask changed.now
+content_of_loan loan.Gone = Gone
+content_of_loan (loan.Old from value) = Old from value.now
+
+abbrev pub record_of_loan : RecordRef → Record
+record_of_loan r = record { key = r.key; content = content_of_loan r.content }

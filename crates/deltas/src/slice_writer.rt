@@ -1,0 +1,137 @@
+//! Records written to their place among bytes.
+
+ghost use Rattle.std.specs.Prelude.{◌≡◌, ◌++◌, ◌+◌, ◌≤◌, [], ◌∷◌, length, take};
+ghost use Rattle.wire.specs.Numbers.{u16_bytes, u64_bytes};
+ghost use Rattle.wire.specs.Values.{value_bytes};
+ghost use Rattle.deltas.specs.Records.{kind_of, rest_of, spelling};
+ghost use Rattle.deltas.specs.Loans.{content_of_loan, record_of_loan};
+
+use crate::record_ref::{ContentRef, RecordRef};
+use byteorder::{ByteOrder, LittleEndian};
+use history::Key;
+use wire::Value;
+
+// Writes the bytes from this place on, and tells where they end.
+fn put(out: &mut [u8], at: usize, bytes: &[u8]) -> usize
+    requires { at + length bytes.now ≤ length out.old }
+    ensures end { result ≡ at + length bytes.now }
+    ensures front { take result out.new ≡ take at out.old ++ bytes.now }
+    ensures len { length out.new ≡ length out.old }
+{
+    let end = at + bytes.len();
+    out[at..end].copy_from_slice(bytes);
+    end
+}
+
+#[tactic(auto, unfolding(wire::specs::Numbers::u16_bytes))]
+fn put_u16(out: &mut [u8], at: usize, number: u16) -> usize
+    requires { at + 2 ≤ length out.old }
+    ensures end { result ≡ at + 2 }
+    ensures front { take result out.new ≡ take at out.old ++ u16_bytes number }
+    ensures len { length out.new ≡ length out.old }
+{
+    let mut bytes = [0; 2];
+    LittleEndian::write_u16(&mut bytes, number);
+    put(out, at, &bytes)
+}
+
+#[tactic(auto, unfolding(wire::specs::Numbers::u64_bytes))]
+fn put_u64(out: &mut [u8], at: usize, number: u64) -> usize
+    requires { at + 8 ≤ length out.old }
+    ensures end { result ≡ at + 8 }
+    ensures front { take result out.new ≡ take at out.old ++ u64_bytes number }
+    ensures len { length out.new ≡ length out.old }
+{
+    let mut bytes = [0; 8];
+    LittleEndian::write_u64(&mut bytes, number);
+    put(out, at, &bytes)
+}
+
+fn put_value(out: &mut [u8], at: usize, value: &Value) -> usize
+    requires { at + length (value_bytes value.now) ≤ length out.old }
+    ensures end { result ≡ at + length (value_bytes value.now) }
+    ensures front { take result out.new ≡ take at out.old ++ value_bytes value.now }
+    ensures len { length out.new ≡ length out.old }
+{
+    let fields = put(out, at, &[value.len()]);
+    put(out, fields, value.fields().spelled())
+}
+
+fn put_key(out: &mut [u8], at: usize, key: Key) -> usize
+    requires { at + 10 ≤ length out.old }
+    ensures end { result ≡ at + 10 }
+    ensures front { take result out.new ≡ take at out.old ++ u16_bytes key.relation ++ u64_bytes key.record }
+    ensures len { length out.new ≡ length out.old }
+{
+    let number = put_u16(out, at, key.relation);
+    put_u64(out, number, key.record)
+}
+
+/// The byte that a record of this content begins with.
+pub fn kind(content: ContentRef) -> u8
+    ensures { result ≡ kind_of (content_of_loan content.entry) }
+{
+    match content {
+        ContentRef::Anchor(_) => 1,
+        ContentRef::Delta { .. } => 2,
+        ContentRef::Gone => 3,
+        ContentRef::Old { .. } => 4,
+    }
+}
+
+#[tactic(auto, unfolding(wire::specs::Numbers::u16_bytes, wire::specs::Numbers::u64_bytes))]
+fn put_rest(out: &mut [u8], at: usize, content: ContentRef) -> usize
+    requires { at + length (rest_of (content_of_loan content)) ≤ length out.old }
+    ensures end { result ≡ at + length (rest_of (content_of_loan content.entry)) }
+    ensures front { take result out.new ≡ take at out.old ++ rest_of (content_of_loan content.entry) }
+    ensures len { length out.new ≡ length out.old }
+{
+    match content {
+        ContentRef::Anchor(value) => put_value(out, at, value),
+        ContentRef::Delta { mask, changed } => {
+            let fields = put_u16(out, at, mask);
+            put(out, fields, changed.spelled())
+        }
+        ContentRef::Gone => at,
+        ContentRef::Old { from, value } => {
+            let behind = put_u64(out, at, from);
+            put_value(out, behind, value)
+        }
+    }
+}
+
+/// Writes the one spelling of a record from this place on, and tells where it ends.
+#[tactic(auto, unfolding(crate::specs::Records::spelling, wire::specs::Numbers::u16_bytes, wire::specs::Numbers::u64_bytes))]
+pub fn put_record(out: &mut [u8], at: usize, one: RecordRef) -> usize
+    requires { at + length (spelling (record_of_loan one)) ≤ length out.old }
+    ensures end { result ≡ at + length (spelling (record_of_loan one.entry)) }
+    ensures front { take result out.new ≡ take at out.old ++ spelling (record_of_loan one.entry) }
+    ensures len { length out.new ≡ length out.old }
+{
+    let key = put(out, at, &[kind(one.content)]);
+    let rest = put_key(out, key, one.key);
+    put_rest(out, rest, one.content)
+}
+
+#[tactic(auto, unfolding(wire::specs::Numbers::u16_bytes, wire::specs::Numbers::u64_bytes))]
+fn rest_len(content: ContentRef) -> usize
+    ensures is { result ≡ length (rest_of (content_of_loan content.entry)) }
+    ensures short { result ≤ 4105 }
+{
+    match content {
+        ContentRef::Anchor(value) => 1 + value.fields().spelled().len(),
+        ContentRef::Delta { changed, .. } => 2 + changed.spelled().len(),
+        ContentRef::Gone => 0,
+        ContentRef::Old { value, .. } => 9 + value.fields().spelled().len(),
+    }
+}
+
+/// How many bytes the spelling of a record has.
+#[tactic(auto, unfolding(crate::specs::Records::spelling, wire::specs::Numbers::u16_bytes, wire::specs::Numbers::u64_bytes))]
+pub fn loan_len(one: RecordRef) -> usize
+    ensures is { result ≡ length (spelling (record_of_loan one.entry)) }
+    ensures low { 11 ≤ result }
+    ensures short { result ≤ 4116 }
+{
+    11 + rest_len(one.content)
+}
