@@ -3,12 +3,17 @@ use Rattle.std.specs.Prelude.{◌≡◌, ℕ, List, Option, Some, None, Ok, code
 use Rattle.std.specs.Str.{bytes_eq}
 use Rattle.std.specs.Str.Parse.{ParsesUnsigned}
 use Rattle.clap.specs.Words.{Row, Text, first_of, one_of}
+use Rattle.history.specs.declared.key.Key.{Key}
 use Rattle.words.specs.declared.action.Action.{Action}
 use Rattle.words.specs.declared.action.Action.TheVariants as action
 
 -- the argument has a text, which spells n in digits, n below 2 ^ bits
 abbrev pub HasNumber : ℕ → Text → List Row → ℕ → Type 0
 HasNumber bits id rows n = (t : Text) × (one_of id rows ≡ Some t) × ParsesUnsigned {E = ℕ} bits 10 t (Ok n)
+
+-- the arguments name this key, by relation and record
+abbrev pub HasKey : List Row → Key → Type 0
+HasKey rows key = HasNumber 16 (codes "REL") rows key.relation × HasNumber 64 (codes "REC") rows key.«record»
 
 abbrev pub AsksFormat : List Row → Action → Type 0
 AsksFormat rows (action.Format dir slots) = (first_of (codes "DIR") rows ≡ Some dir.now) × HasNumber 32 (codes "slots") rows slots
@@ -20,14 +25,12 @@ AsksRun rows _ = ⊥
 
 abbrev pub AsksAt : List Row → Action → Type 0
 AsksAt rows (action.At dir key time) = (first_of (codes "DIR") rows ≡ Some dir.now)
-    × HasNumber 16 (codes "REL") rows key.relation × HasNumber 64 (codes "REC") rows key.«record»
-    × (first_of (codes "TIME") rows ≡ Some time.now)
+    × HasKey rows key × (first_of (codes "TIME") rows ≡ Some time.now)
 AsksAt rows _ = ⊥
 
 abbrev pub AsksBetween : List Row → Action → Type 0
 AsksBetween rows (action.Between dir key from to) = (first_of (codes "DIR") rows ≡ Some dir.now)
-    × HasNumber 16 (codes "REL") rows key.relation × HasNumber 64 (codes "REC") rows key.«record»
-    × (first_of (codes "FROM") rows ≡ Some from.now) × (first_of (codes "TO") rows ≡ Some to.now)
+    × HasKey rows key × (first_of (codes "FROM") rows ≡ Some from.now) × (first_of (codes "TO") rows ≡ Some to.now)
 AsksBetween rows _ = ⊥
 
 -- a subcommand's name, and the rows of its arguments

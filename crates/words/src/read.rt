@@ -1,9 +1,10 @@
 //! From words to an action.
 ghost use Rattle.std.specs.Prelude.{◌≡◌, ℕ, IfOk, IfErr, IfSome, IfNone, Some, None, map};
 ghost use Rattle.clap.specs.Words.{first_of, found_of, rows_of, subcommand_of, subcommand_rows_of};
+ghost use Rattle.history.specs.declared.key.Key.{Key as AnyKey};
 ghost use Rattle.words.specs.declared.action.Action.{Action as Asked};
 ghost use Rattle.words.specs.Commands as told;
-ghost use Rattle.words.specs.Asked.{HasNumber, Asks, AsksFormat, AsksNothing, AsksRun, AsksAt, AsksBetween};
+ghost use Rattle.words.specs.Asked.{HasKey, HasNumber, Asks, AsksFormat, AsksNothing, AsksRun, AsksAt, AsksBetween};
 ghost use Rattle.words.specs.Refused.{IsRefusal};
 
 use crate::action::Action;
@@ -69,16 +70,24 @@ fn run<'a>(matches: &ArgMatches<'a>) -> Option<Action<'a>>
     })
 }
 
+/// The key of a record, from its relation and its number.
+fn key(matches: &ArgMatches<'_>) -> Option<Key>
+    ensures some { IfSome result (HasKey (rows_of (found_of matches.now))) }
+    ensures none { IfNone result ((k : AnyKey) → HasKey (rows_of (found_of matches.now)) k → ⊥) }
+{
+    Some(Key {
+        relation: u16_of(matches, "REL")?,
+        record: u64_of(matches, "REC")?,
+    })
+}
+
 fn at<'a>(matches: &ArgMatches<'a>) -> Option<Action<'a>>
     ensures some { IfSome result (AsksAt (rows_of (found_of matches.now))) }
     ensures none { IfNone result ((a : Asked) → AsksAt (rows_of (found_of matches.now)) a → ⊥) }
 {
     Some(Action::At {
         dir: text(matches, "DIR")?,
-        key: Key {
-            relation: u16_of(matches, "REL")?,
-            record: u64_of(matches, "REC")?,
-        },
+        key: key(matches)?,
         time: text(matches, "TIME")?,
     })
 }
@@ -89,10 +98,7 @@ fn between<'a>(matches: &ArgMatches<'a>) -> Option<Action<'a>>
 {
     Some(Action::Between {
         dir: text(matches, "DIR")?,
-        key: Key {
-            relation: u16_of(matches, "REL")?,
-            record: u64_of(matches, "REC")?,
-        },
+        key: key(matches)?,
         from: text(matches, "FROM")?,
         to: text(matches, "TO")?,
     })
