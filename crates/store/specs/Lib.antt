@@ -3,3 +3,5 @@ pub mod Heads
 pub mod Calls
 pub mod Pumps
 pub mod Opens
+pub mod Archives
+pub mod Jobs

@@ -4,6 +4,7 @@ use Rattle.disk.specs.Areas.{image_of, settled_on, LeavesNoMore}
 use Rattle.disk.specs.Calls.{DiskState}
 use Rattle.chains.specs.KeyWrites.{IsOrdered}
 use Rattle.status.specs.Header.{total}
+use Rattle.status.specs.Rules.{row_end}
 use Rattle.recovery.specs.Faults.{IsImageFault}
 use Rattle.recovery.specs.Names.{refusals_at_opening}
 use Rattle.recovery.specs.ReadsImage.{IsReadFrom}
@@ -19,6 +20,9 @@ opened_on mark r disk = record {
   transactions = record { mark = mark; opened = []; heads = map head_as r.commits.items; published = length r.commits.items; versions = r.chains; queue = []; usages = r.extents; slots = total r.header; used = r.used; group = 0; stage = NoGroup; floor = r.floor; failed = false };
   log = record { profile = r.header.profile; slots = total r.header; used = r.used; writing = false };
   turn = None;
+  job = None;
+  archived = r.archived;
+  runs_end = row_end 0 r.runs.items;
   disk = disk;
 }
 

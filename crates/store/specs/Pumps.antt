@@ -1,5 +1,5 @@
 -- The steps of a group to the disk.
-use Rattle.std.specs.Prelude.{◌≡◌, ◌+◌, Bool, true, false, IsTrue, Option, Some, None, Result, Ok, Err, MatchBool, MatchOption, MatchResult}
+use Rattle.std.specs.Prelude.{◌≡◌, ◌+◌, Bool, true, false, is_some, IsTrue, Option, Some, None, Result, Ok, Err, MatchBool, MatchOption, MatchResult}
 use Rattle.disk.specs.Areas.{Areas}
 use Rattle.disk.specs.Calls.{DiskState, Writes, Syncs, Counts, refused_answer}
 use Rattle.disk.specs.declared.area.Area.TheVariants.{Heap}
@@ -20,15 +20,15 @@ use Rattle.transactions.specs.Steps.{next_step, grouped, next_extent, wrote_exte
 use Rattle.transactions.specs.declared.stage.GroupStage.TheVariants as stages
 use Rattle.transactions.specs.declared.stage.NextStep.{NextStep}
 use Rattle.transactions.specs.declared.stage.NextStep.TheVariants as step
-use Rattle.store.specs.Values.{StoreValue}
+use Rattle.store.specs.Values.{StoreValue, KeepsJob, turn_of}
 
 -- what the disk answered in a step that was done, and in one that was not
-abbrev pub disk_answer : Result Did PumpFault → Result (Unit {0}) DeviceFault
+abbrev pub disk_answer : {T : Type 0} → Result T PumpFault → Result (Unit {0}) DeviceFault
 disk_answer (Ok what) = Ok tt
 disk_answer (Err why) = refused_answer
 
 -- the one device call of a step, which is counted
-pub record Calls (tells : Bool) (call : Result (Unit {0}) DeviceFault → Areas → Areas → Type 0) (result : Result Did PumpFault) (old new : DiskState) : Type 0 where
+pub record Calls {T : Type 0} (tells : Bool) (call : Result (Unit {0}) DeviceFault → Areas → Areas → Type 0) (result : Result T PumpFault) (old new : DiskState) : Type 0 where
   pub areas : IsTrue tells → call (disk_answer result) old.areas new.areas
   pub counts : Counts (disk_answer result) old new
 
@@ -37,6 +37,7 @@ pub record Steps (what : Did) (after : TransactionsValue) (old : StoreValue) (re
   pub answer : MatchResult result (λ said. (said ≡ what) × (new.transactions ≡ after)) (λ why. (why ≡ fault.Failed) × (new.transactions ≡ broken old.transactions))
   pub log : new.log ≡ old.log
   pub turn : new.turn ≡ old.turn
+  pub job : KeepsJob old new
 
 -- the group's next extent is written to its place
 pub record WritesExtent (tells : Bool) (stored : StoredExtent) (old : StoreValue) (result : Result Did PumpFault) (new : StoreValue) : Type 0 where
@@ -47,9 +48,9 @@ pub record SyncsHeap (tells : Bool) (old : StoreValue) (result : Result Did Pump
   pub call : Calls tells (Syncs Heap) result old.disk new.disk
   pub steps : Steps did.HeapSynced (at_stage stages.Stored old.transactions) old result new
 
--- a store of these parts
+-- a store of these parts, on which no job runs
 abbrev pub store_of : TransactionsValue → LogState → Option TurnState → DiskState → StoreValue
-store_of transactions log turn disk = record { transactions = transactions; log = log; turn = turn; disk = disk }
+store_of transactions log turn disk = record { transactions = transactions; log = log; turn = turn; job = None; archived = 0; runs_end = 0; disk = disk }
 
 -- what was done of a slot that is at this stage
 abbrev pub did_at : SlotStage → Did
@@ -79,6 +80,7 @@ pub record TurnFails (old : StoreValue) (why : PumpFault) (new : StoreValue) : T
 pub record TurnsSlot (tells : Bool) (turn : TurnState) (old : StoreValue) (result : Result Did PumpFault) (new : StoreValue) : Type 0 where
   pub call : Calls tells (IsSlotCall turn.number turn.body turn.stage) result old.disk new.disk
   pub answer : MatchResult result (λ what. IsTurned turn.stage turn old what new) (λ why. TurnFails old why new)
+  pub job : KeepsJob old new
 
 -- the group's slot is in the writing
 abbrev pub begun : StoreValue → StoreValue
@@ -98,9 +100,9 @@ abbrev pub TakesStep : Bool → NextStep → StoreValue → Result Did PumpFault
 TakesStep tells step.Idle old result new = (result ≡ Ok did.Idle) × (new ≡ old)
 TakesStep tells step.WriteExtent old result new = MatchOption (next_extent old.transactions) ⊥ (λ stored. WritesExtent tells stored old result new)
 TakesStep tells step.SyncHeap old result new = SyncsHeap tells old result new
-TakesStep tells step.BeginSlot old result new = BeginsSlot tells old result new
+TakesStep tells step.BeginSlot old result new = MatchBool (is_some (turn_of old.job)) ((result ≡ Err fault.Busy) × (new ≡ old)) (BeginsSlot tells old result new)
 TakesStep tells step.AdvanceSlot old result new = MatchOption old.turn ⊥ (λ turn. TurnsSlot tells turn old result new)
 
--- a failed store writes nothing; any other takes the next step
+-- a failed store writes nothing; any other takes the next step. While a job's slot is in the writing a group begins none.
 abbrev pub Pumps : Bool → StoreValue → Result Did PumpFault → StoreValue → Type 0
 Pumps tells old result new = MatchBool old.transactions.failed ((result ≡ Err fault.Failed) × (new ≡ old)) (TakesStep tells (next_step old.transactions) (started old) result new)

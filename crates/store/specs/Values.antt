@@ -1,22 +1,52 @@
 -- What a clause sees of a store.
-use Rattle.std.specs.Prelude.{◌≡◌, false, Option, is_some, MatchOption}
+use Rattle.std.specs.Prelude.{◌≡◌, ◌+◌, ◌||◌, ℕ, false, Option, None, Some, is_some, MatchOption}
 use Rattle.disk.specs.Calls.{DiskState}
 use Rattle.status.specs.SlotCalls.{SlotStage, Begun, BodyWritten, BodySynced, GateWritten, Opened}
 use Rattle.status.specs.TurnState.{TurnState, LogState}
 use Rattle.transactions.specs.Values.{TransactionsValue, is_turning}
+use Rattle.store.specs.declared.job.ArchiveJob.{ArchiveJob}
+use Rattle.store.specs.declared.job.JobStage.{JobStage}
+use Rattle.store.specs.declared.job.JobStage.TheVariants.{Writing, Stored, Turning}
 
 pub record StoreValue : Type 0 where
   pub transactions : TransactionsValue
   pub log : LogState
   -- the group's slot while it is in the writing
   pub turn : Option TurnState
+  -- the archive that is being made
+  pub job : Option ArchiveJob
+  -- the archive mark, and where the last run of the log ends
+  pub archived : ℕ
+  pub runs_end : ℕ
   pub disk : DiskState
+
+-- what a group's steps do not touch
+pub record KeepsJob (old new : StoreValue) : Type 0 where
+  pub job : new.job ≡ old.job
+  pub archived : new.archived ≡ old.archived
+  pub runs_end : new.runs_end ≡ old.runs_end
 
 -- but for its transactions, the store is what it was
 pub record HasRest (old new : StoreValue) : Type 0 where
   pub log : new.log ≡ old.log
   pub turn : new.turn ≡ old.turn
   pub disk : new.disk ≡ old.disk
+  pub job : KeepsJob old new
+
+-- the slot of a job while it is in the writing
+abbrev pub turn_in : JobStage → Option TurnState
+turn_in Writing = None
+turn_in Stored = None
+turn_in (Turning turn) = Some turn
+
+abbrev pub turn_of : Option ArchiveJob → Option TurnState
+turn_of None = None
+turn_of (Some job) = turn_in job.stage
+
+-- the slots that a job holds for its own
+abbrev pub lent_to : Option ArchiveJob → ℕ
+lent_to None = 0
+lent_to (Some job) = 1
 
 -- a device call of the slot is made, and another is to come
 abbrev pub IsOnItsWay : SlotStage → Type 0
@@ -26,14 +56,15 @@ IsOnItsWay BodySynced = Unit {0}
 IsOnItsWay GateWritten = Unit {0}
 IsOnItsWay Opened = ⊥
 
--- the slot in the writing is the group's, and the next one of the log
-pub record TurnsGroup (v : StoreValue) : Type 0 where
+-- The slot in the writing is the group's or the job's, and the next one of the log.
+pub record TurnsOne (v : StoreValue) : Type 0 where
   pub turning : is_turning v.transactions.stage ≡ is_some v.turn
-  pub writing : v.log.writing ≡ is_some v.turn
+  pub writing : v.log.writing ≡ (is_some v.turn || is_some (turn_of v.job))
   pub turn : MatchOption v.turn (Unit {0}) (λ t. (t.number ≡ v.log.used) × IsOnItsWay t.stage)
+  pub job : MatchOption (turn_of v.job) (Unit {0}) (λ t. (t.number ≡ v.log.used) × IsOnItsWay t.stage × (v.turn ≡ None))
 
--- what holds of a store by itself: the log's count is that of the transactions, and a slot is in the writing where the group's turn has come
+-- What holds of a store by itself: the log's counts are those of the transactions, but for a slot that is lent to a job.
 pub record IsInStep (v : StoreValue) : Type 0 where
-  pub slots : v.log.slots ≡ v.transactions.slots
+  pub slots : v.log.slots ≡ v.transactions.slots + lent_to v.job
   pub used : v.log.used ≡ v.transactions.used
-  pub turns : v.transactions.failed ≡ false → TurnsGroup v
+  pub turns : v.transactions.failed ≡ false → TurnsOne v

@@ -25,7 +25,7 @@ pub record TransactionsValue : Type 0 where
   -- the commits that wait
   pub queue : List QueuedValue
   pub usages : List Usage
-  -- the slots of the store, and how many of them the log has
+  -- the slots of the store that commits may take, and how many slots the log has
   pub slots : ℕ
   pub used : ℕ
   -- how many of the queue the group has, 0 where none stands, and what is done of it
@@ -81,6 +81,13 @@ claimed v = claimed_by v.stage v.group (length v.queue)
 -- the slots that are left
 abbrev pub spare : TransactionsValue → ℕ
 spare v = v.slots - v.used - claimed v
+
+-- a slot is lent to a job, and comes back as one that the log has
+abbrev pub with_slot_lent : TransactionsValue → TransactionsValue
+with_slot_lent v = record v { slots = v.slots - 1 }
+
+abbrev pub with_slot_used : TransactionsValue → TransactionsValue
+with_slot_used v = record v { slots = v.slots + 1; used = v.used + 1 }
 
 -- ---- what the log's own count is compared with
 

@@ -1,0 +1,52 @@
+-- The beginning of an archive.
+use Rattle.std.specs.Prelude.{ℕ, ◌≡◌, ◌+◌, ◌^◌, ◌<◌, ◌≤◌, ◌==◌, max, nat_le, nat_lt, is_some, List, length, Option, Some, None, Result, Ok, Err, MatchOption, if◌then◌else◌}
+use Rattle.image.specs.Reading.{ArchiveRecord}
+use Rattle.archive.specs.Runs.{run_bytes}
+use Rattle.vacuum.specs.Archives.{records_of, run_of, unwritten}
+use Rattle.transactions.specs.Values.{spare, with_slot_lent}
+use Rattle.store.specs.Calls.{last, floor}
+use Rattle.store.specs.Values.{StoreValue}
+use Rattle.store.specs.declared.job.JobStage.TheVariants.{Writing}
+use Rattle.store.specs.declared.job.StartFault.{StartFault}
+use Rattle.store.specs.declared.job.StartFault.TheVariants as fault
+
+-- why no archive up to a time begins, by what is known before its run is counted: the first reason in this order
+abbrev pub refusal_now : StoreValue → ℕ → Option StartFault
+refusal_now v upto =
+    if v.transactions.failed then Some fault.Failed
+    else (if is_some v.job then Some fault.JobBusy
+    else (if nat_le upto v.archived then Some fault.NothingToDo
+    else (if nat_lt (last v) upto then Some (fault.NotYet (last v))
+    else (if spare v.transactions == 0 then Some fault.StatusFull else None))))
+
+-- the records of the run: the versions that ended after the mark and the floor, and by the new mark
+abbrev pub archive_of : StoreValue → ℕ → List ArchiveRecord
+archive_of v upto = records_of (max v.archived (floor v)) upto v.transactions.versions
+
+-- the run would end past the greatest place
+abbrev pub IsPastEnd : StoreValue → ℕ → Type 0
+IsPastEnd v upto = 2 ^ 63 ≤ v.runs_end + length (run_bytes (archive_of v upto))
+
+-- the archive has begun: it has a slot lent, and nothing of its run is written
+abbrev pub with_archive : StoreValue → ℕ → StoreValue
+with_archive v upto = record v {
+  transactions = with_slot_lent v.transactions;
+  job = Some (record { run = run_of upto v.runs_end (archive_of v upto); writer = unwritten v.runs_end (archive_of v upto); stage = Writing });
+}
+
+abbrev pub IsRunRefusal : StoreValue → ℕ → StartFault → Type 0
+IsRunRefusal v upto fault.ArchiveFull = IsPastEnd v upto
+IsRunRefusal v upto fault.NoMemory = Unit {0}
+IsRunRefusal v upto fault.Failed = ⊥
+IsRunRefusal v upto fault.JobBusy = ⊥
+IsRunRefusal v upto fault.NothingToDo = ⊥
+IsRunRefusal v upto (fault.NotYet time) = ⊥
+IsRunRefusal v upto fault.StatusFull = ⊥
+
+abbrev pub BeginsRun : StoreValue → ℕ → Result (Unit {0}) StartFault → StoreValue → Type 0
+BeginsRun v upto (Ok done) new = (v.runs_end + length (run_bytes (archive_of v upto)) < 2 ^ 63) × (new ≡ with_archive v upto)
+BeginsRun v upto (Err why) new = IsRunRefusal v upto why × (new ≡ v)
+
+-- no device call is made
+abbrev pub StartsArchive : StoreValue → ℕ → Result (Unit {0}) StartFault → StoreValue → Type 0
+StartsArchive v upto result new = MatchOption (refusal_now v upto) (BeginsRun v upto result new) (λ why. (result ≡ Err why) × (new ≡ v))
