@@ -1,5 +1,5 @@
 -- An image opens as one reading, and where it opens no check fails; of checks that fail one is the first.
-use Rattle.std.proofs.Common.{◌≡◌, inl, inr, ℕ, ◌+◌, ◌<◌, ◌≤◌, List, [], ◌∷◌, ◌++◌, map, length, Option, refl, sym, ap, subst, ◌∙◌, arith}
+use Rattle.std.proofs.Common.{◌≡◌, inl, inr, ℕ, List, [], ◌∷◌, ◌++◌, map, length, Option, refl, sym, ap, subst, ◌∙◌, arith}
 use Rattle.std.specs.Prelude.{flat_map}
 use Rattle.std.specs.List.{AllByRecursion}
 use Rattle.disk.specs.Areas.{Image}
@@ -19,7 +19,7 @@ use Rattle.deltas.proofs.OneList.{one_list}
 use Rattle.reading.specs.Records.{record_bytes, old_bytes, IsRecord, IsOldRecord}
 use Rattle.reading.specs.Extents.{Extent}
 use Rattle.reading.specs.Layouts.{StoredMember, Layout, entries_of, later_than, anchors_after, no_anchors}
-use Rattle.reading.specs.Opening.{Opens, EndsWithin, HasMember, AreLive, FailsAt, AreLiveAnchors, HasAnchors, values_left, mark_of, FailsHeap, HoldsHeap, FailsRuns}
+use Rattle.reading.specs.Opening.{Opens, EndsWithin, AreLive, FailsAt, AreLiveAnchors, HasAnchors, values_left, mark_of, FailsHeap, HoldsHeap, FailsRuns}
 use Rattle.reading.proofs.Once.{one_header, one_held_log, one_member, one_live, none_fails, one_anchors, opens_heap}
 
 -- ---- records of one spelling
