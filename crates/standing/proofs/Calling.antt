@@ -109,7 +109,7 @@ abbrev with_transactions : StoreValue → TransactionsValue → StoreValue
 with_transactions v t = record v { transactions = t }
 
 same-rest : (old new : StoreValue) (t : TransactionsValue) → HasRest old new → new.transactions ≡ t → with_transactions old t ≡ new
-same-rest old new t rest is = let a = sym is in let b = sym rest.log in let c = sym rest.turn in let d = sym rest.disk in λ i. record { transactions = a i; log = b i; turn = c i; disk = d i }
+same-rest old new t rest is = let a = sym is in let b = sym rest.log in let c = sym rest.turn in let d = sym rest.disk in let j = sym rest.job.job in let k = sym rest.job.archived in let l = sym rest.job.runs_end in λ i. record { transactions = a i; log = b i; turn = c i; job = j i; archived = k i; runs_end = l i; disk = d i }
 
 -- the store once a transaction has begun or is over
 opened-stands : (tells : Bool) (v : StoreValue) (m : Machine Value) (opened : List (Option ℕ)) (snapshots : List ℕ) → Stands tells v m → StandsInMemory (record v.transactions { opened = opened }) (record m { snapshots = snapshots })
@@ -118,7 +118,7 @@ opened-stands tells v m opened snapshots stands memory machine = record {
   memory = memory;
   machine = machine;
   order = opened-order v.transactions opened stands.order;
-  in_step = record { slots = stands.in_step.slots; used = stands.in_step.used; turns = λ on. let was = stands.in_step.turns on in record { turning = was.turning; writing = was.writing; turn = was.turn } };
+  in_step = record { slots = stands.in_step.slots; used = stands.in_step.used; turns = λ on. let was = stands.in_step.turns on in record { turning = was.turning; writing = was.writing; turn = was.turn; job = was.job } };
   disk = λ told. same-disk v m opened v.transactions.heads snapshots (stands.disk told);
 }
 
@@ -196,7 +196,7 @@ redeemed-stands tells v m time stands memory = record {
   memory = memory;
   machine = stands.machine;
   order = redeemed-order v.transactions time stands.order;
-  in_step = record { slots = stands.in_step.slots; used = stands.in_step.used; turns = λ on. let was = stands.in_step.turns on in record { turning = was.turning; writing = was.writing; turn = was.turn } };
+  in_step = record { slots = stands.in_step.slots; used = stands.in_step.used; turns = λ on. let was = stands.in_step.turns on in record { turning = was.turning; writing = was.writing; turn = was.turn; job = was.job } };
   disk = λ told. same-disk v m v.transactions.opened (orders.redeemed time v.transactions.heads) m.snapshots (stands.disk told);
 }
 
@@ -337,7 +337,7 @@ queued-stands tells v m label time numbers snapshots opened c stands may least m
   machine = machine;
   order = opened-order (with_queued v.transactions label time c.writes numbers) opened (keeps-queued v.transactions label time c.writes numbers stands.order least many may.some
       (latest-with_commit time (ordered v.transactions) c.writes (omega (arith, stands.order.latest, may.later))) may.room);
-  in_step = record { slots = stands.in_step.slots; used = stands.in_step.used; turns = λ on. let was = stands.in_step.turns on in record { turning = was.turning; writing = was.writing; turn = was.turn } };
+  in_step = record { slots = stands.in_step.slots; used = stands.in_step.used; turns = λ on. let was = stands.in_step.turns on in record { turning = was.turning; writing = was.writing; turn = was.turn; job = was.job } };
   disk = λ told.
       same-disk (with_transactions v (with_queued v.transactions label time c.writes numbers)) (record m { queue = m.queue ++ c ∷ [] }) opened (with_queued v.transactions label time c.writes numbers).heads snapshots
       (queued-disk v m label time numbers m.snapshots c stands.order stands.memory least many (stands.disk told));

@@ -13,5 +13,6 @@ pub mod Naming
 pub mod Places
 pub mod Usages
 pub mod Joining
+pub mod Jobs
 pub mod Pumping
 pub mod Calling

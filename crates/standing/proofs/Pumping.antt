@@ -8,10 +8,18 @@ use Rattle.history.specs.Machine.{Machine, IsMachine}
 use Rattle.history.specs.Fronts.{OnFront}
 use Rattle.history.specs.Steps as steps
 use Rattle.history.specs.Steps.{Event, Run}
+use Rattle.history.specs.Histories.{History, last, last_after}
+use Rattle.history.proofs.Histories.{last_after-append, rising-from_following}
+use Rattle.history.proofs.Runs.{last-later}
 use Rattle.history.proofs.Machines.{run-machine}
 use Rattle.image.specs.Values.{Value, IsValue}
 use Rattle.image.specs.Plans.{with_group}
-use Rattle.disk.specs.Areas.{Areas, Image, AreSound, LeavesImage}
+use Rattle.image.specs.Reading.{Reading}
+use Rattle.image.specs.StandsFor.{archived_upto}
+use Rattle.image.proofs.GroupStep.{same_archived}
+use Rattle.image.proofs.PlansStay.{archive-plan-stays}
+use Rattle.disk.specs.Areas.{AreaState, Areas, Image, AreSound, LeavesImage, loosened, while_written}
+use Rattle.disk.proofs.Stops.{left_by_write, left_by_sync}
 use Rattle.disk.specs.Calls.{Writes, Syncs}
 use Rattle.disk.specs.declared.area.Area.TheVariants.{Heap}
 use Rattle.wire.specs.declared.slot.Body.{Body}
@@ -26,7 +34,7 @@ use Rattle.extents.specs.declared.usage.Usage.TheVariants.{Kept}
 use Rattle.deltas.specs.Extents.{Extent, extent_start, extent_bytes}
 use Rattle.status.specs.declared.header.Header.{Header}
 use Rattle.status.specs.Header.{total}
-use Rattle.status.specs.Rules.{is_built}
+use Rattle.status.specs.Rules.{is_built, runs_of, row_end}
 use Rattle.status.specs.SlotCalls.{SlotStage, IsSlotCall}
 use Rattle.status.specs.SlotCalls as slots
 use Rattle.status.specs.TurnState.{TurnState, LogState}
@@ -34,8 +42,10 @@ use Rattle.disk.specs.declared.area.DeviceFault.{DeviceFault}
 use Rattle.reading.specs.Layouts.{live, extents_of}
 use Rattle.reading.specs.Turn as turns
 use Rattle.reading.specs.Turn.{laid_out}
-use Rattle.reading.proofs.Layouts.{live_more}
+use Rattle.reading.specs.Runs.{StoredRun}
+use Rattle.reading.proofs.Layouts.{live_more, runs_more, has_room}
 use Rattle.reading.proofs.Standing.{rests_hold}
+use Rattle.reading.specs.Keeping.{KeepsExtents}
 use Rattle.group.specs.Queued.{QueuedValue, numbers_of}
 use Rattle.group.specs.declared.answers.Did.{Did}
 use Rattle.group.specs.declared.answers.Did.TheVariants as did
@@ -52,10 +62,13 @@ use Rattle.transactions.specs.declared.stage.NextStep.{NextStep}
 use Rattle.transactions.specs.declared.stage.NextStep.TheVariants as next
 use Rattle.transactions.proofs.Kept.{advance-is, keeps-grouped, keeps-wrote, keeps-synced, keeps-begun, keeps-published}
 use Rattle.transactions.proofs.Publishing.{out-rest}
-use Rattle.store.specs.Values.{StoreValue, IsInStep, IsOnItsWay}
+use Rattle.store.specs.Values.{StoreValue, KeepsJob, IsInStep, IsOnItsWay, turn_in, turn_of, lent_to}
+use Rattle.store.specs.declared.job.ArchiveJob.{ArchiveJob}
+use Rattle.store.specs.declared.job.JobStage.{JobStage}
+use Rattle.store.specs.declared.job.JobStage.TheVariants as job
 use Rattle.store.specs.Pumps.{Pumps, TakesStep, WritesExtent, TurnsSlot, IsTurned, started, begun, SyncsHeap}
 use Rattle.standing.specs.Standing.{StandsInMemory}
-use Rattle.standing.specs.OnDisk.{IsImageOf, AllPacked, written_before, group_of, IsAtStage, IsTurnOf, Works, StandsOnDisk}
+use Rattle.standing.specs.OnDisk.{IsImageOf, AllPacked, written_before, group_of, IsAtStage, IsTurnOf, IsNextRun, IsAtJob, HasJob, IsRested, Works, StandsOnDisk}
 use Rattle.standing.specs.Stands.{Stands}
 use Rattle.standing.specs.Laws.{begins_in, ends_in}
 use Rattle.standing.proofs.Packed.{packed-rest, length-mapped}
@@ -64,6 +77,7 @@ use Rattle.standing.proofs.Usages.{AllKept, all-published}
 use Rattle.standing.proofs.Joining as joining
 use Rattle.standing.proofs.Joining.{numbers-split}
 use Rattle.standing.proofs.Publishing.{restaged, breaks, publishes, begins}
+use Rattle.standing.proofs.Jobs.{resting, rested-now, rested-sound, sound-at, job-beside-heap, job-beside-status, job-moves, run-leaves, rested-write, rested-sync}
 
 -- ---- room in the log
 
@@ -81,17 +95,54 @@ room-left header v m order in_step slots_are w some =
 -- ---- what a stop may leave
 
 stage-leaves : (header : Header) (v : StoreValue) (m : Machine Value) → StandsInMemory v.transactions m → IsMachine IsValue m → IsInOrder v.transactions → IsTrue (is_built header.profile 1)
-    → (w : Works header v m) → ((0 < v.transactions.group) → length w.layout.slots < total header) → (s : GroupStage) (o : Option TurnState) → StageFits s v.transactions.group v.transactions.queue
-    → IsAtStage header w.layout (group_of w.layout v.transactions m) v.transactions.queue s o v.disk.areas → (image : Image) → LeavesImage v.disk.areas image → OnFront (IsImageOf header image) m
-stage-leaves header v m memory machine order built w room NoGroup o fits at image left =
-    inl record { layout = w.layout; reading = w.reading; laid = w.laid; held = rests_hold header w.layout v.disk.areas image at left; stands = w.stands; profile_built = built; built = w.built }
-stage-leaves header v m memory machine order built w room (Storing member extent) o fits at image left =
-    joining.leaves_at header v.transactions m w.layout w.reading memory machine order w.laid w.stands built w.built w.kept w.packed fits.0 (room fits.0) (turns.Storing _ _) v.disk.areas image at left
-stage-leaves header v m memory machine order built w room Stored o fits at image left =
-    joining.leaves_at header v.transactions m w.layout w.reading memory machine order w.laid w.stands built w.built w.kept w.packed fits (room fits) (turns.Turning slots.Begun) v.disk.areas image at left
-stage-leaves header v m memory machine order built w room Turning None fits at image left = absurd at
-stage-leaves header v m memory machine order built w room Turning (Some t) fits at image left =
-    joining.leaves_at header v.transactions m w.layout w.reading memory machine order w.laid w.stands built w.built w.kept w.packed fits (room fits) (turns.Turning t.stage) v.disk.areas image at.at left
+    → (w : Works header v m) → ((0 < v.transactions.group) → length w.layout.slots < total header) → (areas : Areas) (s : GroupStage) (o : Option TurnState) → StageFits s v.transactions.group v.transactions.queue
+    → IsAtStage header w.layout (group_of w.layout v.transactions m) v.transactions.queue s o areas → (image : Image) → LeavesImage areas image → OnFront (IsImageOf header image) m
+stage-leaves header v m memory machine order built w room areas NoGroup o fits at image left =
+    inl record { layout = w.layout; reading = w.reading; laid = w.laid; held = rests_hold header w.layout areas image at left; stands = w.stands; profile_built = built; built = w.built }
+stage-leaves header v m memory machine order built w room areas (Storing member extent) o fits at image left =
+    joining.leaves_at header v.transactions m w.layout w.reading memory machine order w.laid w.stands built w.built w.kept w.packed fits.0 (room fits.0) (turns.Storing _ _) areas image at left
+stage-leaves header v m memory machine order built w room areas Stored o fits at image left =
+    joining.leaves_at header v.transactions m w.layout w.reading memory machine order w.laid w.stands built w.built w.kept w.packed fits (room fits) (turns.Turning slots.Begun) areas image at left
+stage-leaves header v m memory machine order built w room areas Turning None fits at image left = absurd at
+stage-leaves header v m memory machine order built w room areas Turning (Some t) fits at image left =
+    joining.leaves_at header v.transactions m w.layout w.reading memory machine order w.laid w.stands built w.built w.kept w.packed fits (room fits) (turns.Turning t.stage) areas image at.at left
+
+-- the areas, with the status area as it would rest
+abbrev resting-areas : (header : Header) (v : StoreValue) (m : Machine Value) → Works header v m → Areas
+resting-areas header v m w = record v.disk.areas { status = w.rested }
+
+-- where no job's slot is in the writing, a group is where it is on the disk as it stands
+now-at : (header : Header) (v : StoreValue) (m : Machine Value) (w : Works header v m) → turn_of v.job ≡ None
+    → IsAtStage header w.layout (group_of w.layout v.transactions m) v.transactions.queue v.transactions.stage v.turn v.disk.areas
+now-at header v m w still =
+    subst (λ (a : AreaState). IsAtStage header w.layout (group_of w.layout v.transactions m) v.transactions.queue v.transactions.stage v.turn (record v.disk.areas { status = a }))
+    (sym (resting header w.layout (turn_of v.job) w.rested v.disk.areas.status still w.rests)) w.at
+
+resting-sound : (header : Header) (v : StoreValue) (m : Machine Value) (w : Works header v m) → AreSound (resting-areas header v m w)
+resting-sound header v m w = sound-at v.disk.areas w.rested w.sound (rested-sound header w.layout (turn_of v.job) w.rested v.disk.areas.status (w.sound Status) w.rests)
+
+-- a slot is there for a job
+job-room : (header : Header) (v : StoreValue) (m : Machine Value) → IsInOrder v.transactions → IsInStep v → (v.log.slots ≡ total header) → (w : Works header v m) → lent_to v.job ≡ 1 → length w.layout.slots < total header
+job-room header v m order in_step slots_are w lent = omega (arith, lent, order.room, in_step.slots, in_step.used, slots_are, w.used)
+
+-- what is left while a job's slot is in the writing, or by what else is so
+pub by-job : (header : Header) (v : StoreValue) (m : Machine Value) → IsInOrder v.transactions → IsInStep v → v.log.slots ≡ total header → IsTrue (is_built header.profile 1) → IsTrue (is_built header.profile 2)
+    → (w : Works header v m) (areas : Areas) (image : Image) → (o : Option ArchiveJob) → v.job ≡ o → HasJob header w.layout w.reading m.published o areas → LeavesImage areas image
+    → (turn_of v.job ≡ None → OnFront (IsImageOf header image) m) → OnFront (IsImageOf header image) m
+by-job header v m order in_step slots_are built archives w areas image None is has left other = other (ap turn_of is)
+by-job header v m order in_step slots_are built archives w areas image (Some j) is has left other = by-stage j.stage refl has.at
+  where
+    by-stage : (s : JobStage) → j.stage ≡ s → IsAtJob header w.layout has.run j.writer s areas → OnFront (IsImageOf header image) m
+    by-stage job.Writing at _ = other (ap turn_of is ∙ ap turn_in at)
+    by-stage job.Stored at _ = other (ap turn_of is ∙ ap turn_in at)
+    by-stage (job.Turning t) at turn =
+        run-leaves header m w.layout w.reading w.laid w.stands built archives w.built (job-room header v m order in_step slots_are w (ap lent_to is)) has.run has.next t.stage areas image turn.at left
+
+works-leave : (header : Header) (v : StoreValue) (m : Machine Value) → StandsInMemory v.transactions m → IsMachine IsValue m → IsInOrder v.transactions → IsInStep v → v.log.slots ≡ total header
+    → IsTrue (is_built header.profile 1) → IsTrue (is_built header.profile 2) → (w : Works header v m) → (image : Image) → LeavesImage v.disk.areas image → OnFront (IsImageOf header image) m
+works-leave header v m memory machine order in_step slots_are built archives w image left =
+    by-job header v m order in_step slots_are built archives w v.disk.areas image v.job refl w.job left
+    (λ still. stage-leaves header v m memory machine order built w (room-left header v m order in_step slots_are w) v.disk.areas v.transactions.stage v.turn order.stage_fits (now-at header v m w still) image left)
 
 on-disk : (header : Header) (v : StoreValue) (m : Machine Value) → StandsInMemory v.transactions m → IsMachine IsValue m → IsInOrder v.transactions → IsInStep v → v.log.profile ≡ header.profile → v.log.slots ≡ total header
     → IsTrue (is_built header.profile 1) → Works header v m → StandsOnDisk v m
@@ -100,7 +151,7 @@ on-disk header v m memory machine order in_step profile slots_are built w = reco
   profile = profile;
   slots = slots_are;
   profile_built = built;
-  leaves = stage-leaves header v m memory machine order built w (room-left header v m order in_step slots_are w) v.transactions.stage v.turn order.stage_fits w.at;
+  leaves = works-leave header v m memory machine order in_step slots_are built (archives-built header.profile built) w;
   works = λ _. w;
 }
 
@@ -123,7 +174,7 @@ started-works : (header : Header) (v : StoreValue) (m : Machine Value) (size : �
     → Works header (record v { transactions = record v.transactions { group = size; stage = Storing 0 0 } }) (record m { group = size })
 started-works header v m size order none w =
     let is : v.transactions.stage ≡ NoGroup = no-group v.transactions.stage v.transactions.group v.transactions.queue order.stage_fits none in
-    let at = subst (λ (s : GroupStage). IsAtStage header w.layout (group_of w.layout v.transactions m) v.transactions.queue s v.turn v.disk.areas) is w.at in
+    let at = subst (λ (s : GroupStage). IsAtStage header w.layout (group_of w.layout v.transactions m) v.transactions.queue s v.turn (resting-areas header v m w)) is w.at in
     record {
       layout = w.layout;
       reading = w.reading;
@@ -133,7 +184,12 @@ started-works header v m size order none w =
       used = w.used;
       kept = w.kept;
       packed = w.packed;
+      archived = w.archived;
+      runs_end = w.runs_end;
+      rested = w.rested;
+      rests = w.rests;
       at = record { rests = at; parts_are = refl; written = tt };
+      job = w.job;
       sound = w.sound;
     }
 
@@ -147,7 +203,12 @@ regrouped header v m size w = record {
   used = w.used;
   kept = w.kept;
   packed = w.packed;
+  archived = w.archived;
+  runs_end = w.runs_end;
+  rested = w.rested;
+  rests = w.rests;
   at = w.at;
+  job = w.job;
   sound = w.sound;
 }
 
@@ -163,7 +224,7 @@ started-in_step v order in_step =
           used = in_step.used;
           turns = λ works.
               let was = in_step.turns works in
-              record { turning = sym (ap is_turning is) ∙ was.turning; writing = was.writing; turn = was.turn };
+              record { turning = sym (ap is_turning is) ∙ was.turning; writing = was.writing; turn = was.turn; job = was.job };
         })
     by-tests true none false idle = rw (none, idle) in_step
     by-tests false some b any = rw some in_step
@@ -190,40 +251,45 @@ commit-is es (Reclaimed anchors) is = absurd is
 commit-is es (Floor relation floor) is = absurd is
 
 -- the call that the store makes is the group's next one, and it answers so
-pub record Goes (header : Header) (v : StoreValue) (m : Machine Value) (w : Works header v m) (answer : Result (Unit {0}) DeviceFault) (new : Areas) : Type 0 where
+pub record Goes (header : Header) (v : StoreValue) (m : Machine Value) (w : Works header v m) (answer : Result (Unit {0}) DeviceFault) (old new : Areas) : Type 0 where
   pub stage : turns.Stage
-  pub at : turns.IsAt header w.layout (group_of w.layout v.transactions m) stage v.disk.areas
+  pub at : turns.IsAt header w.layout (group_of w.layout v.transactions m) stage old
+  pub sound : AreSound old
   pub bytes : List ℕ
   pub long : length bytes ≡ 511
   pub spelled : IsSpelled header.profile (length w.layout.slots) bytes ((group_of w.layout v.transactions m).slot)
-  pub call : turns.IsCallOf w.layout bytes stage answer v.disk.areas new
+  pub call : turns.IsCallOf w.layout bytes stage answer old new
   pub some : 0 < v.transactions.group
 
 -- a store with these parts on the disk of another
-abbrev with_parts : StoreValue → TransactionsValue → LogState → Option TurnState → StoreValue
-with_parts new transactions log turn = record { transactions = transactions; log = log; turn = turn; disk = new.disk }
+abbrev with_parts : StoreValue → StoreValue → TransactionsValue → LogState → Option TurnState → StoreValue
+with_parts v new transactions log turn = record v { transactions = transactions; log = log; turn = turn; disk = new.disk }
 
 module _ (header : Header) (v new : StoreValue) (m : Machine Value) (memory : StandsInMemory v.transactions m) (machine : IsMachine IsValue m) (order : IsInOrder v.transactions) (in_step : IsInStep v)
     (profile : v.log.profile ≡ header.profile) (slots_are : v.log.slots ≡ total header) (built : IsTrue (is_built header.profile 1)) (w : Works header v m) where
-  -- a refused call leaves what a stop within it leaves, and the store has failed
-  breaks-disk : (fault : DeviceFault) (log : LogState) (turn : Option TurnState) → Goes header v m w (Err fault) new.disk.areas → log.profile ≡ v.log.profile → log.slots ≡ v.log.slots
-      → StandsOnDisk (with_parts new (groups.broken v.transactions) log turn) (steps.broken m)
-  breaks-disk fault log turn goes same many = record {
+  -- a refused call leaves what a stop within it leaves
+  goes-leaves : (fault : DeviceFault) (old new : Areas) → Goes header v m w (Err fault) old new → (image : Image) → LeavesImage new image → OnFront (IsImageOf header image) m
+  goes-leaves fault old new goes image left =
+      joining.leaves_within header v.transactions m w.layout w.reading memory machine order w.laid w.stands built w.built w.kept w.packed goes.some (room-left header v m order in_step slots_are w goes.some)
+      goes.bytes goes.long goes.spelled goes.stage (Err fault) old new image goes.at goes.sound goes.call left
+
+  -- and the store has failed
+  breaks-disk : (log : LogState) (turn : Option TurnState) → ((image : Image) → LeavesImage new.disk.areas image → OnFront (IsImageOf header image) m) → log.profile ≡ v.log.profile → log.slots ≡ v.log.slots
+      → StandsOnDisk (with_parts v new (groups.broken v.transactions) log turn) (steps.broken m)
+  breaks-disk log turn leaves same many = record {
     header = header;
     profile = same ∙ profile;
     slots = many ∙ slots_are;
     profile_built = built;
-    leaves = λ image left.
-        joining.leaves_within header v.transactions m w.layout w.reading memory machine order w.laid w.stands built w.built w.kept w.packed goes.some (room-left header v m order in_step slots_are w goes.some)
-        goes.bytes goes.long goes.spelled goes.stage (Err fault) v.disk.areas new.disk.areas image goes.at w.sound goes.call left;
+    leaves = leaves;
     works = λ no. absurd cc;
   }
 
   -- one that is made leads on
-  goes-on : (goes : Goes header v m w (Ok tt) new.disk.areas) → turns.IsAt header w.layout (group_of w.layout v.transactions m) (turns.stage_after goes.stage) new.disk.areas
-  goes-on goes =
+  goes-on : (old new : Areas) → (goes : Goes header v m w (Ok tt) old new) → turns.IsAt header w.layout (group_of w.layout v.transactions m) (turns.stage_after goes.stage) new
+  goes-on old new goes =
       joining.leads header v.transactions m w.layout w.reading memory machine order w.laid w.stands built w.built w.kept w.packed goes.some (room-left header v m order in_step slots_are w goes.some)
-      goes.bytes goes.long goes.spelled goes.stage v.disk.areas new.disk.areas goes.at w.sound goes.call
+      goes.bytes goes.long goes.spelled goes.stage old new goes.at goes.sound goes.call
 
   -- the bytes that spell the group's slot
   slot-bytes : 0 < v.transactions.group → (bytes : List ℕ) × (length bytes ≡ 511) × IsSpelled header.profile (length w.layout.slots) bytes ((group_of w.layout v.transactions m).slot)
@@ -235,9 +301,10 @@ module _ (header : Header) (v new : StoreValue) (m : Machine Value) (memory : St
       )
 
   -- the works of the store after a step that changes its stage alone
-  staged-works : (s : GroupStage) (log : LogState) (turn : Option TurnState) → log.used ≡ v.log.used → AreSound new.disk.areas
-      → IsAtStage header w.layout (group_of w.layout v.transactions m) v.transactions.queue s turn new.disk.areas → Works header (with_parts new (groups.at_stage s v.transactions) log turn) m
-  staged-works s log turn used sound at = record {
+  staged-works : (s : GroupStage) (log : LogState) (turn : Option TurnState) → log.used ≡ v.log.used → AreSound new.disk.areas → (rested : AreaState) → IsRested header w.layout (turn_of v.job) rested new.disk.areas.status
+      → IsAtStage header w.layout (group_of w.layout v.transactions m) v.transactions.queue s turn (record new.disk.areas { status = rested }) → HasJob header w.layout w.reading m.published v.job new.disk.areas
+      → Works header (with_parts v new (groups.at_stage s v.transactions) log turn) m
+  staged-works s log turn used sound rested rests at has = record {
     layout = w.layout;
     reading = w.reading;
     laid = w.laid;
@@ -246,14 +313,20 @@ module _ (header : Header) (v new : StoreValue) (m : Machine Value) (memory : St
     used = used ∙ w.used;
     kept = w.kept;
     packed = w.packed;
+    archived = w.archived;
+    runs_end = w.runs_end;
+    rested = rested;
+    rests = rests;
     at = at;
+    job = has;
     sound = sound;
   }
 
   -- ---- an extent is written
 
   module _ (answer : Result (Unit {0}) DeviceFault) (member extent : ℕ) (is : v.transactions.stage ≡ Storing member extent) (low : member < v.transactions.group) (stored : StoredExtent)
-      (there : groups.extent_at (slice_get v.transactions.queue member) extent ≡ Some stored) (call : Writes Heap (extent_start stored.extent) stored.image answer v.disk.areas new.disk.areas) where
+      (there : groups.extent_at (slice_get v.transactions.queue member) extent ≡ Some stored) (old next : Areas) (sound : AreSound old)
+      (at : IsAtStage header w.layout (group_of w.layout v.transactions m) v.transactions.queue v.transactions.stage v.turn old) (call : Writes Heap (extent_start stored.extent) stored.image answer old next) where
     abbrev all : List Extent
     all = extents_of ((group_of w.layout v.transactions m).members)
 
@@ -263,43 +336,44 @@ module _ (header : Header) (v new : StoreValue) (m : Machine Value) (memory : St
     found : IsNext (drop k all) stored
     found = next-is v.transactions.group m.published v.transactions.queue m.queue member extent stored w.packed low there
 
-    storing : turns.IsStoring header w.layout (group_of w.layout v.transactions m) (take k all) (found.extent ∷ found.rest) v.disk.areas
+    storing : turns.IsStoring header w.layout (group_of w.layout v.transactions m) (take k all) (found.extent ∷ found.rest) old
     storing =
-        let at = subst (λ (s : GroupStage). IsAtStage header w.layout (group_of w.layout v.transactions m) v.transactions.queue s v.turn v.disk.areas) is w.at in
-        subst (λ (es : List Extent). turns.IsStoring header w.layout (group_of w.layout v.transactions m) (take k all) es v.disk.areas) found.is at
+        let there' = subst (λ (s : GroupStage). IsAtStage header w.layout (group_of w.layout v.transactions m) v.transactions.queue s v.turn old) is at in
+        subst (λ (es : List Extent). turns.IsStoring header w.layout (group_of w.layout v.transactions m) (take k all) es old) found.is there'
 
     some : 0 < v.transactions.group
     some = omega (arith, low)
 
-    abbrev wrote-goes : Goes header v m w answer new.disk.areas
+    abbrev wrote-goes : Goes header v m w answer old next
     wrote-goes =
         let bytes = slot-bytes some in record {
           stage = turns.Storing (take k all) (found.extent ∷ found.rest);
           at = storing;
+          sound = sound;
           bytes = bytes.0;
           long = bytes.1;
           spelled = bytes.2;
-          call = subst (λ (n : ℕ). Writes Heap (extent_start n) (extent_bytes found.extent) answer v.disk.areas new.disk.areas) (sym found.number)
-              (subst (λ (image : List ℕ). Writes Heap (extent_start stored.extent) image answer v.disk.areas new.disk.areas) (sym found.bytes) call);
+          call = subst (λ (n : ℕ). Writes Heap (extent_start n) (extent_bytes found.extent) answer old next) (sym found.number)
+              (subst (λ (image : List ℕ). Writes Heap (extent_start stored.extent) image answer old next) (sym found.bytes) call);
           some = some;
         }
 
-    wrote-at : turns.IsStoring header w.layout (group_of w.layout v.transactions m) (take k all ++ found.extent ∷ []) found.rest new.disk.areas
-        → IsAtStage header w.layout (group_of w.layout v.transactions m) v.transactions.queue (groups.stage_behind v.transactions.queue v.transactions.stage) v.turn new.disk.areas
+    wrote-at : turns.IsStoring header w.layout (group_of w.layout v.transactions m) (take k all ++ found.extent ∷ []) found.rest next
+        → IsAtStage header w.layout (group_of w.layout v.transactions m) v.transactions.queue (groups.stage_behind v.transactions.queue v.transactions.stage) v.turn next
     wrote-at on =
         let behind = behind-is v.transactions.queue member extent stored (slice_get v.transactions.queue member) refl there in
-        let next : turns.IsStoring header w.layout (group_of w.layout v.transactions m) (take (suc k) all) (drop (suc k) all) new.disk.areas =
-        subst (λ (es : List Extent). turns.IsStoring header w.layout (group_of w.layout v.transactions m) (take (suc k) all) es new.disk.areas) (sym (drop-next k all found.extent found.rest found.is))
-        (subst (λ (es : List Extent). turns.IsStoring header w.layout (group_of w.layout v.transactions m) es found.rest new.disk.areas) (sym (take-next k all found.extent found.rest found.is)) on) in
-        let there' : IsAtStage header w.layout (group_of w.layout v.transactions m) v.transactions.queue (Storing behind.member behind.extent) v.turn new.disk.areas =
-        subst (λ (n : ℕ). turns.IsStoring header w.layout (group_of w.layout v.transactions m) (take n all) (drop n all) new.disk.areas) (sym behind.written_is) next in
+        let then : turns.IsStoring header w.layout (group_of w.layout v.transactions m) (take (suc k) all) (drop (suc k) all) next =
+        subst (λ (es : List Extent). turns.IsStoring header w.layout (group_of w.layout v.transactions m) (take (suc k) all) es next) (sym (drop-next k all found.extent found.rest found.is))
+        (subst (λ (es : List Extent). turns.IsStoring header w.layout (group_of w.layout v.transactions m) es found.rest next) (sym (take-next k all found.extent found.rest found.is)) on) in
+        let there' : IsAtStage header w.layout (group_of w.layout v.transactions m) v.transactions.queue (Storing behind.member behind.extent) v.turn next =
+        subst (λ (n : ℕ). turns.IsStoring header w.layout (group_of w.layout v.transactions m) (take n all) (drop n all) next) (sym behind.written_is) then in
         let stage : groups.stage_behind v.transactions.queue v.transactions.stage ≡ Storing behind.member behind.extent = ap (groups.stage_behind v.transactions.queue) is ∙ behind.is in
-        subst (λ (s : GroupStage). IsAtStage header w.layout (group_of w.layout v.transactions m) v.transactions.queue s v.turn new.disk.areas) (sym stage) there'
+        subst (λ (s : GroupStage). IsAtStage header w.layout (group_of w.layout v.transactions m) v.transactions.queue s v.turn next) (sym stage) there'
 
   -- ---- the heap is synced
 
   module _ (answer : Result (Unit {0}) DeviceFault) (member extent : ℕ) (is : v.transactions.stage ≡ Storing member extent) (past : member ≡ v.transactions.group) (some : 0 < v.transactions.group)
-      (call : Syncs Heap answer v.disk.areas new.disk.areas) where
+      (old next : Areas) (sound : AreSound old) (at : IsAtStage header w.layout (group_of w.layout v.transactions m) v.transactions.queue v.transactions.stage v.turn old) (call : Syncs Heap answer old next) where
     abbrev whole : List Extent
     whole = extents_of (group_of w.layout v.transactions m).members
 
@@ -313,12 +387,13 @@ module _ (header : Header) (v new : StoreValue) (m : Machine Value) (memory : St
         let same : length (flat_map numbers_of (take member v.transactions.queue)) ≡ length (flat_map numbers_of (take v.transactions.group v.transactions.queue)) = ap (λ (n : ℕ). length (flat_map numbers_of (take n v.transactions.queue))) past in
         none-left at_end whole (omega (arith, many, same))
 
-    abbrev synced-goes : Goes header v m w answer new.disk.areas
+    abbrev synced-goes : Goes header v m w answer old next
     synced-goes =
         let bytes = slot-bytes some in
-        let at = subst (λ (s : GroupStage). IsAtStage header w.layout (group_of w.layout v.transactions m) v.transactions.queue s v.turn v.disk.areas) is w.at in record {
+        let there = subst (λ (s : GroupStage). IsAtStage header w.layout (group_of w.layout v.transactions m) v.transactions.queue s v.turn old) is at in record {
           stage = turns.Storing (take at_end whole) [];
-          at = subst (λ (es : List Extent). turns.IsStoring header w.layout (group_of w.layout v.transactions m) (take at_end whole) es v.disk.areas) none at;
+          at = subst (λ (es : List Extent). turns.IsStoring header w.layout (group_of w.layout v.transactions m) (take at_end whole) es old) none there;
+          sound = sound;
           bytes = bytes.0;
           long = bytes.1;
           spelled = bytes.2;
@@ -332,10 +407,11 @@ module _ (header : Header) (v new : StoreValue) (m : Machine Value) (memory : St
   named = (group_of w.layout v.transactions m).slot
 
   abbrev slot-goes : (answer : Result (Unit {0}) DeviceFault) (t : TurnState) → IsTurnOf header w.layout (group_of w.layout v.transactions m) t v.disk.areas → 0 < v.transactions.group
-      → IsSlotCall t.number t.body t.stage answer v.disk.areas new.disk.areas → Goes header v m w answer new.disk.areas
+      → IsSlotCall t.number t.body t.stage answer v.disk.areas new.disk.areas → Goes header v m w answer v.disk.areas new.disk.areas
   slot-goes answer t is some call = record {
     stage = turns.Turning t.stage;
     at = is.at;
+    sound = w.sound;
     bytes = t.body;
     long = is.long;
     spelled = is.spelled;
@@ -363,7 +439,7 @@ module _ (header : Header) (v new : StoreValue) (m : Machine Value) (memory : St
   -- ---- the group is published
 
   published-works : 0 < v.transactions.group → (number : ℕ) → number ≡ length w.layout.slots → AreSound new.disk.areas → IsTurnAt header w.layout named (laid_out w.layout (group_of w.layout v.transactions m)) slots.Opened new.disk.areas
-      → Works header (with_parts new (groups.published v.transactions) (record v.log { used = number + 1; writing = false }) None) (steps.group_published m)
+      → Works header (with_parts v new (groups.published v.transactions) (record v.log { used = number + 1; writing = false }) None) (steps.group_published m)
   published-works some number last sound at =
       let room = room-left header v m order in_step slots_are w some in
       let group : turns.Group = group_of w.layout v.transactions m in
@@ -391,7 +467,7 @@ module _ (header : Header) (v new : StoreValue) (m : Machine Value) (memory : St
 abbrev Ends : Bool → Machine Value → Result Did PumpFault → StoreValue → Type 0
 Ends tells m answer v = (after : Machine Value) × Run IsValue m (ends_in answer) after × Parts tells v after
 
-same-store : (new : StoreValue) (transactions : TransactionsValue) (log : LogState) (turn : Option TurnState) → new.transactions ≡ transactions → new.log ≡ log → new.turn ≡ turn → with_parts new transactions log turn ≡ new
+same-store : (new : StoreValue) (transactions : TransactionsValue) (log : LogState) (turn : Option TurnState) → new.transactions ≡ transactions → new.log ≡ log → new.turn ≡ turn → with_parts v new transactions log turn ≡ new
 same-store new transactions log turn a b c = let x = sym a in let y = sym b in let z = sym c in λ i. record { transactions = x i; log = y i; turn = z i; disk = new.disk }
 
 broken-order : (v : TransactionsValue) → IsInOrder v → IsInOrder (groups.broken v)
@@ -409,7 +485,7 @@ broken-order v order = record {
 
 -- a refused call
 fails-parts : (tells : Bool) (v new : StoreValue) (m : Machine Value) → (parts : Parts tells v m) → IsMachine IsValue m → (works : m.failed ≡ false) → (log : LogState) (turn : Option TurnState) → log.profile ≡ v.log.profile → log.slots ≡ v.log.slots → log.used ≡ v.log.used
-    → ((told : IsTrue tells) → Goes (parts.disk told).header v m ((parts.disk told).works works) (Err (record {})) new.disk.areas) → Parts tells (with_parts new (groups.broken v.transactions) log turn) (steps.broken m)
+    → ((told : IsTrue tells) → Goes (parts.disk told).header v m ((parts.disk told).works works) (Err (record {})) new.disk.areas) → Parts tells (with_parts v new (groups.broken v.transactions) log turn) (steps.broken m)
 fails-parts tells v new m parts machine works log turn same many used goes = record {
   memory = breaks v.transactions m parts.memory;
   order = broken-order v.transactions parts.order;
@@ -427,7 +503,7 @@ fails-step tells v new m why parts machine works log turn same many used a b c g
 
 -- a call that is made, and tells nothing of the machine
 stays-step : (tells : Bool) (v new : StoreValue) (m : Machine Value) (said what : Did) → ends_in (Ok what) ≡ [] → said ≡ what → (transactions : TransactionsValue) (log : LogState) (turn : Option TurnState) → new.transactions ≡ transactions → new.log ≡ log → new.turn ≡ turn
-    → Parts tells (with_parts new transactions log turn) m → Ends tells m (Ok said) new
+    → Parts tells (with_parts v new transactions log turn) m → Ends tells m (Ok said) new
 stays-step tells v new m said what none is transactions log turn a b c parts =
     subst (λ (d : Did). Ends tells m (Ok d) new) (sym is)
     (m, subst (λ (es : List (Event Value)). Run IsValue m es m) (sym none) refl, subst (λ (x : StoreValue). Parts tells x m) (same-store new transactions log turn a b c) parts)
@@ -471,10 +547,10 @@ wrote-step tells v new answer m parts machine works asks sound (Some stored) fou
         let order = keeps-wrote v.transactions parts.order asks in
         let turning : is_turning stage ≡ is_turning v.transactions.stage =
         ap (λ (s : GroupStage). is_turning (groups.stage_behind v.transactions.queue s)) at.is ∙ behind-turning v.transactions.queue at.member at.extent (slice_get v.transactions.queue at.member) ∙ sym (ap is_turning at.is) in
-        let in_step : IsInStep (with_parts new (groups.wrote_extent v.transactions) v.log v.turn) = record {
+        let in_step : IsInStep (with_parts v new (groups.wrote_extent v.transactions) v.log v.turn) = record {
           slots = parts.in_step.slots;
           used = parts.in_step.used;
-          turns = λ on. let was = parts.in_step.turns on in record { turning = turning ∙ was.turning; writing = was.writing; turn = was.turn };
+          turns = λ on. let was = parts.in_step.turns on in record { turning = turning ∙ was.turning; writing = was.writing; turn = was.turn; job = was.job };
         } in
         stays-step tells v new m said did.WroteExtent refl takes.steps.answer.0 (groups.wrote_extent v.transactions) v.log v.turn takes.steps.answer.1 takes.steps.log takes.steps.turn (record {
           memory = memory;
@@ -484,7 +560,7 @@ wrote-step tells v new answer m parts machine works asks sound (Some stored) fou
               let d = parts.disk told in
               let w = d.works works in
               let goes = wrote-goes d.header v new m parts.memory machine parts.order parts.in_step d.profile d.slots d.profile_built w (Ok tt) at.member at.extent at.is at.low stored there (takes.call.areas told) in
-              on-disk d.header (with_parts new (groups.wrote_extent v.transactions) v.log v.turn) m memory machine order in_step d.profile d.slots d.profile_built
+              on-disk d.header (with_parts v new (groups.wrote_extent v.transactions) v.log v.turn) m memory machine order in_step d.profile d.slots d.profile_built
               (staged-works d.header v new m parts.memory machine parts.order parts.in_step d.profile d.slots d.profile_built w stage v.log v.turn refl (sound told)
               (wrote-at d.header v new m parts.memory machine parts.order parts.in_step d.profile d.slots d.profile_built w (Ok tt) at.member at.extent at.is at.low stored there (takes.call.areas told)
               (goes-on d.header v new m parts.memory machine parts.order parts.in_step d.profile d.slots d.profile_built w goes)));
@@ -520,10 +596,10 @@ synced-step tells v new answer m parts machine works asks sound takes =
     by-answer (Ok said) at takes =
         let memory = restaged v.transactions m Stored parts.memory (λ _. at.some) in
         let order = keeps-synced v.transactions parts.order asks in
-        let in_step : IsInStep (with_parts new (groups.at_stage Stored v.transactions) v.log v.turn) = record {
+        let in_step : IsInStep (with_parts v new (groups.at_stage Stored v.transactions) v.log v.turn) = record {
           slots = parts.in_step.slots;
           used = parts.in_step.used;
-          turns = λ on. let was = parts.in_step.turns on in record { turning = sym (ap is_turning at.is) ∙ was.turning; writing = was.writing; turn = was.turn };
+          turns = λ on. let was = parts.in_step.turns on in record { turning = sym (ap is_turning at.is) ∙ was.turning; writing = was.writing; turn = was.turn; job = was.job };
         } in
         stays-step tells v new m said did.HeapSynced refl takes.steps.answer.0 (groups.at_stage Stored v.transactions) v.log v.turn takes.steps.answer.1 takes.steps.log takes.steps.turn (record {
           memory = memory;
@@ -533,7 +609,7 @@ synced-step tells v new answer m parts machine works asks sound takes =
               let d = parts.disk told in
               let w = d.works works in
               let goes = synced-goes d.header v new m parts.memory machine parts.order parts.in_step d.profile d.slots d.profile_built w (Ok tt) at.member at.extent at.is at.past at.some (takes.call.areas told) in
-              on-disk d.header (with_parts new (groups.at_stage Stored v.transactions) v.log v.turn) m memory machine order in_step d.profile d.slots d.profile_built
+              on-disk d.header (with_parts v new (groups.at_stage Stored v.transactions) v.log v.turn) m memory machine order in_step d.profile d.slots d.profile_built
               (staged-works d.header v new m parts.memory machine parts.order parts.in_step d.profile d.slots d.profile_built w Stored v.log v.turn refl (sound told)
               (goes-on d.header v new m parts.memory machine parts.order parts.in_step d.profile d.slots d.profile_built w goes));
         })
@@ -566,7 +642,7 @@ module _ (tells : Bool) (v new : StoreValue) (m : Machine Value) (t : TurnState)
       → new.transactions ≡ v.transactions → new.log ≡ v.log → new.turn ≡ Some (record t { stage = slots.slot_stage_after stage }) → Ends tells m (Ok said) new
   between stage is way call said what none same a b c =
       let after : Option TurnState = Some (record t { stage = slots.slot_stage_after stage }) in
-      let in_step : IsInStep (with_parts new v.transactions v.log after) = record {
+      let in_step : IsInStep (with_parts v new v.transactions v.log after) = record {
         slots = parts.in_step.slots;
         used = parts.in_step.used;
         turns = λ on. record { turning = ap is_turning turning; writing = writing; turn = (number, way) };
@@ -580,7 +656,7 @@ module _ (tells : Bool) (v new : StoreValue) (m : Machine Value) (t : TurnState)
             let w = d.works works in
             let mine = own told in
             let at : IsAtStage d.header w.layout (group_of w.layout v.transactions m) v.transactions.queue Turning after new.disk.areas = record { number = mine.number; long = mine.long; spelled = mine.spelled; at = led stage is call told } in
-            on-disk d.header (with_parts new v.transactions v.log after) m parts.memory machine parts.order in_step d.profile d.slots d.profile_built (record {
+            on-disk d.header (with_parts v new v.transactions v.log after) m parts.memory machine parts.order in_step d.profile d.slots d.profile_built (record {
               layout = w.layout;
               reading = w.reading;
               laid = w.laid;
@@ -606,19 +682,19 @@ module _ (tells : Bool) (v new : StoreValue) (m : Machine Value) (t : TurnState)
       (out-rest v.transactions.usages (flat_map numbers_of (take v.transactions.group v.transactions.queue)) (flat_map numbers_of (drop v.transactions.group v.transactions.queue)) Kept rest) in
       let step : steps.Step IsValue m (steps.Published v.transactions.group) (steps.group_published m) = (works, group-some, parts.memory.group, refl) in
       let machine' : IsMachine IsValue (steps.group_published m) = run-machine IsValue m (steps.group_published m) (steps.Published v.transactions.group ∷ []) machine (steps.group_published m, step, refl) in
-      let in_step : IsInStep (with_parts new (groups.published v.transactions) log None) = record {
+      let in_step : IsInStep (with_parts v new (groups.published v.transactions) log None) = record {
         slots = parts.in_step.slots;
         used = omega (arith, number, parts.in_step.used);
         turns = λ on. record { turning = refl; writing = refl; turn = tt };
       } in
-      let after : Parts tells (with_parts new (groups.published v.transactions) log None) (steps.group_published m) = record {
+      let after : Parts tells (with_parts v new (groups.published v.transactions) log None) (steps.group_published m) = record {
         memory = memory;
         order = order;
         in_step = in_step;
         disk = λ told.
             let d = parts.disk told in
             let w = d.works works in
-            on-disk d.header (with_parts new (groups.published v.transactions) log None) (steps.group_published m) memory machine' order in_step d.profile d.slots d.profile_built
+            on-disk d.header (with_parts v new (groups.published v.transactions) log None) (steps.group_published m) memory machine' order in_step d.profile d.slots d.profile_built
             (published-works d.header v new m parts.memory machine parts.order parts.in_step d.profile d.slots d.profile_built w group-some t.number (own told).number (sound told) (led slots.GateWritten is call told));
       } in
       subst (λ (e : Did). Ends tells m (Ok e) new) (sym same)
@@ -673,7 +749,7 @@ module _ (tells : Bool) (v new : StoreValue) (m : Machine Value) (parts : Parts 
       let log : LogState = record v.log { writing = true } in
       let memory = restaged v.transactions m Turning parts.memory (λ _. some-stored) in
       let order = keeps-begun v.transactions parts.order asks in
-      let in_step : IsInStep (with_parts new (groups.at_stage Turning v.transactions) log after) = record {
+      let in_step : IsInStep (with_parts v new (groups.at_stage Turning v.transactions) log after) = record {
         slots = parts.in_step.slots;
         used = parts.in_step.used;
         turns = λ on. record { turning = refl; writing = refl; turn = (refl, tt) };
@@ -687,14 +763,14 @@ module _ (tells : Bool) (v new : StoreValue) (m : Machine Value) (parts : Parts 
             let w = d.works works in
             let mine = first-turn told in
             let on = goes-on d.header v new m parts.memory machine parts.order parts.in_step d.profile d.slots d.profile_built w (first-goes (Ok tt) told (to.call.areas told)) in
-            on-disk d.header (with_parts new (groups.at_stage Turning v.transactions) log after) m memory machine order in_step d.profile d.slots d.profile_built
+            on-disk d.header (with_parts v new (groups.at_stage Turning v.transactions) log after) m memory machine order in_step d.profile d.slots d.profile_built
             (staged-works d.header v new m parts.memory machine parts.order parts.in_step d.profile d.slots d.profile_built w Turning log after refl (sound told)
             (record { number = mine.number; long = mine.long; spelled = mine.spelled; at = on }));
       })
   begun-step asks (Err why) to =
       let log : LogState = record v.log { writing = true } in
       let same : groups.broken (groups.at_stage Turning v.transactions) ≡ groups.at_stage Turning (groups.broken v.transactions) = refl in
-      let parts' : Parts tells (with_parts new (groups.broken v.transactions) log None) (steps.broken m) = fails-parts tells v new m parts machine works log None refl refl refl (λ told. first-goes (Err (record {})) told (to.call.areas told)) in (
+      let parts' : Parts tells (with_parts v new (groups.broken v.transactions) log None) (steps.broken m) = fails-parts tells v new m parts machine works log None refl refl refl (λ told. first-goes (Err (record {})) told (to.call.areas told)) in (
         steps.broken m,
         (steps.broken m, (works, refl), refl),
         subst (λ (x : StoreValue). Parts tells x (steps.broken m))

@@ -20,7 +20,11 @@ use Rattle.transactions.specs.Values.{is_own}
 use Rattle.store.specs.Calls as stores
 use Rattle.store.specs.Values.{StoreValue}
 use Rattle.store.specs.Pumps.{Pumps}
-use Rattle.standing.specs.Laws.{submission_of, event_of, begins_in, ends_in, RedeemsAs}
+use Rattle.store.specs.Archives.{StartsArchive}
+use Rattle.store.specs.Jobs.{PumpsJob}
+use Rattle.store.specs.declared.job.JobDid.{JobDid}
+use Rattle.store.specs.declared.job.StartFault.{StartFault}
+use Rattle.standing.specs.Laws.{submission_of, event_of, begins_in, ends_in, job_ends_in, RedeemsAs}
 use Rattle.standing.specs.Stands.{Stands}
 
 -- what a begin leads to, by its answer
@@ -50,3 +54,13 @@ PumpStands = (tells : Bool) (old new : StoreValue) (answer : Result Did PumpFaul
 abbrev pub RedeemStands : Type 0
 RedeemStands = (tells : Bool) (old new : StoreValue) (ticket : TicketValue) (answer : Redeemed) (m : Machine Value) → Stands tells old m → stores.Redeems old ticket answer new
     → RedeemsAs (answers.redeemed_by m ticket.time) answer × Stands tells new m
+
+-- an archive begins, or it is refused: nothing of the machine's happens
+abbrev pub ArchiveStartStands : Type 0
+ArchiveStartStands = (tells : Bool) (old new : StoreValue) (upto : ℕ) (answer : Result (Unit {0}) StartFault) (m : Machine Value) → Stands tells old m
+    → StartsArchive old upto answer new → Stands tells new m
+
+-- a step of a job changes nothing of the machine's, unless the device refuses it
+abbrev pub JobPumpStands : Type 0
+JobPumpStands = (tells : Bool) (old new : StoreValue) (answer : Result JobDid PumpFault) (m : Machine Value) → Stands tells old m → (IsTrue tells → AreSound new.disk.areas) → PumpsJob tells old answer new
+    → MatchBool m.failed ((answer ≡ Err pump.Failed) × Stands tells new m) ((after : Machine Value) × Run IsValue m (job_ends_in answer) after × Stands tells new after)

@@ -22,6 +22,7 @@ use Rattle.timequery.specs.View.{ViewValue}
 use Rattle.timequery.specs.declared.fault.QueryFault.{QueryFault}
 use Rattle.timequery.specs.declared.fault.QueryFault.TheVariants as query
 use Rattle.store.specs.Calls as stores
+use Rattle.store.specs.declared.job.JobDid.{JobDid}
 use Rattle.group.specs.declared.answers.Submitted.{Submitted}
 use Rattle.group.specs.declared.answers.Submitted.TheVariants as submitted
 use Rattle.group.specs.declared.answers.SubmitFault.{SubmitFault}
@@ -31,6 +32,7 @@ use Rattle.transactions.specs.Calls as calls
 use Rattle.group.specs.declared.answers.Did.{Did}
 use Rattle.group.specs.declared.answers.Did.TheVariants as did
 use Rattle.group.specs.declared.answers.PumpFault.{PumpFault}
+use Rattle.group.specs.declared.answers.PumpFault.TheVariants as pump
 use Rattle.store.specs.Values.{StoreValue}
 use Rattle.standing.specs.Standing.{HasWrites, StandsInMemory}
 
@@ -73,7 +75,18 @@ ends_in (Ok did.BodyWritten) = []
 ends_in (Ok did.BodySynced) = []
 ends_in (Ok did.GateWritten) = []
 ends_in (Ok (did.Published count)) = Published count ∷ []
-ends_in (Err why) = Broke ∷ []
+ends_in (Err pump.Busy) = []
+ends_in (Err pump.NoMemory) = []
+ends_in (Err pump.Failed) = Broke ∷ []
+
+-- ---- steps of a job
+
+-- a job's steps are none of the machine's, but for a refused one
+abbrev pub job_ends_in : Result JobDid PumpFault → List (Event Value)
+job_ends_in (Ok what) = []
+job_ends_in (Err pump.Busy) = []
+job_ends_in (Err pump.NoMemory) = []
+job_ends_in (Err pump.Failed) = Broke ∷ []
 
 -- ---- tickets and labels
 

@@ -1,9 +1,10 @@
 -- What a store's disk stands for: what a stop may leave, and how the commits that wait are stored.
-use Rattle.std.specs.Prelude.{ℕ, ◌≡◌, ◌+◌, ◌++◌, IsTrue, false, List, [], ◌∷◌, length, map, take, drop, Option, MatchOption}
+use Rattle.std.specs.Prelude.{ℕ, ◌≡◌, ◌<◌, ◌≤◌, ◌+◌, ◌++◌, IsTrue, false, List, [], ◌∷◌, length, map, take, drop, Option, None, Some, MatchOption}
 use Rattle.std.specs.List.{AllByRecursion, flat_map}
-use Rattle.disk.specs.Areas.{Areas, Image, AreSound, LeavesImage}
-use Rattle.wire.specs.Spelling.{IsSpelled}
-use Rattle.wire.specs.declared.slot.Body.TheVariants.{Commit as CommitBody}
+use Rattle.disk.specs.Areas.{AreaState, Areas, Image, AreSound, IsSound, LeavesImage}
+use Rattle.disk.specs.Parts.{HoldsPart}
+use Rattle.wire.specs.Spelling.{IsSpelled, IsRun}
+use Rattle.wire.specs.declared.slot.Body.TheVariants.{Commit as CommitBody, Archived as ArchivedBody}
 use Rattle.wire.specs.declared.slot.Slot.{Slot}
 use Rattle.history.specs.declared.key.Key.{Key}
 use Rattle.history.specs.Histories as histories
@@ -13,19 +14,21 @@ use Rattle.history.specs.Machine.{Machine}
 use Rattle.image.specs.Values.{Value}
 use Rattle.image.specs.Reading.{Reading}
 use Rattle.image.specs.Facts.{latest}
-use Rattle.image.specs.Plans.{stored_record, stored_member}
-use Rattle.image.specs.StandsFor.{StandsFor}
+use Rattle.image.specs.Plans.{stored_record, stored_member, IsArchivePlan}
+use Rattle.image.specs.StandsFor.{StandsFor, archived_upto}
 use Rattle.extents.specs.Usages.{IsKept}
 use Rattle.deltas.specs.Extents.{extent_bytes}
 use Rattle.deltas.specs.Packing.{bodies}
 use Rattle.status.specs.declared.header.Header.{Header}
 use Rattle.status.specs.Header.{total}
-use Rattle.status.specs.Rules.{is_built}
+use Rattle.status.specs.Rules.{is_built, runs_of, row_end}
 use Rattle.status.specs.SlotCalls.{Begun}
 use Rattle.status.specs.TurnState.{TurnState}
 use Rattle.reading.specs.Records.{record_bytes}
 use Rattle.reading.specs.Layouts.{Layout, StoredMember, IsLayoutOf, HoldsLayout, live, extents_of}
-use Rattle.reading.specs.Keeping.{RestsAs}
+use Rattle.reading.specs.Runs.{StoredRun, IsStoredRun, KeepsRun, run_bytes}
+use Rattle.reading.specs.Jobs.{archived}
+use Rattle.reading.specs.Keeping.{RestsAs, StatusRests}
 use Rattle.reading.specs.Opening.{AreBuilt}
 use Rattle.reading.specs.SlotTurns.{IsTurnAt}
 use Rattle.reading.specs.Turn.{Group, laid_out, IsStoring}
@@ -34,7 +37,11 @@ use Rattle.group.specs.Sealing.{chain_of, first_number}
 use Rattle.transactions.specs.Values.{TransactionsValue}
 use Rattle.transactions.specs.declared.stage.GroupStage.{GroupStage}
 use Rattle.transactions.specs.declared.stage.GroupStage.TheVariants.{NoGroup, Storing, Stored, Turning}
-use Rattle.store.specs.Values.{StoreValue}
+use Rattle.archive.specs.Pieces.{InWriting}
+use Rattle.store.specs.declared.job.ArchiveJob.{ArchiveJob}
+use Rattle.store.specs.declared.job.JobStage.{JobStage}
+use Rattle.store.specs.declared.job.JobStage.TheVariants as job
+use Rattle.store.specs.Values.{StoreValue, turn_of}
 
 -- ---- images of a store
 
@@ -110,9 +117,58 @@ IsAtStage header layout group qs (Storing member extent) turn areas =
 IsAtStage header layout group qs Stored turn areas = IsTurnAt header layout group.slot (laid_out layout group) Begun areas
 IsAtStage header layout group qs Turning turn areas = MatchOption turn ⊥ (λ t. IsTurnOf header layout group t areas)
 
+-- ---- the archive that is being made
+
+-- The run may come next: it is the plan of an archive, stands behind the other runs, and its numbers are in range.
+pub record IsNextRun (layout : Layout) (reading : Reading) (h : History Value) (run : StoredRun) : Type 0 where
+  pub plan : IsArchivePlan reading run.entry.upto run.records
+  pub later : archived_upto reading < run.entry.upto
+  pub by_last : run.entry.upto ≤ histories.last h
+  pub stored : IsStoredRun run
+  pub behind : run.entry.start ≡ row_end 0 (runs_of layout.slots)
+  pub in_range : IsRun run.entry
+
+-- the front of the run is written, and this is left of it
+pub record IsWritten (run : StoredRun) (writer : InWriting) (a : AreaState) : Type 0 where
+  pub front : List ℕ
+  pub whole : front ++ writer.left ≡ run_bytes run.records
+  pub place : writer.at ≡ run.entry.start + length front
+  pub held : HoldsPart run.entry.start front a.bytes
+
+abbrev pub slot_of_run : ℕ → StoredRun → Slot
+slot_of_run number run = record { number = number; body = ArchivedBody run.entry }
+
+-- the slot in the writing is the run's
+pub record IsTurnOfRun (header : Header) (layout : Layout) (run : StoredRun) (t : TurnState) (areas : Areas) : Type 0 where
+  pub number : t.number ≡ length layout.slots
+  pub long : length t.body ≡ 511
+  pub spelled : IsSpelled header.profile (length layout.slots) t.body (slot_of_run (length layout.slots) run)
+  pub at : IsTurnAt header layout (slot_of_run (length layout.slots) run) (archived layout (slot_of_run (length layout.slots) run) run) t.stage areas
+
+-- the areas at a stage of the job
+abbrev pub IsAtJob : Header → Layout → StoredRun → InWriting → JobStage → Areas → Type 0
+IsAtJob header layout run writer job.Writing areas = IsWritten run writer areas.archive
+IsAtJob header layout run writer job.Stored areas = KeepsRun areas.archive run
+IsAtJob header layout run writer (job.Turning t) areas = IsTurnOfRun header layout run t areas
+
+pub record JobIsAt (header : Header) (layout : Layout) (reading : Reading) (h : History Value) (j : ArchiveJob) (areas : Areas) : Type 0 where
+  pub run : StoredRun
+  pub entry : run.entry ≡ j.run
+  pub next : IsNextRun layout reading h run
+  pub at : IsAtJob header layout run j.writer j.stage areas
+
+abbrev pub HasJob : Header → Layout → Reading → History Value → Option ArchiveJob → Areas → Type 0
+HasJob header layout reading h None areas = Unit {0}
+HasJob header layout reading h (Some j) areas = JobIsAt header layout reading h j areas
+
+-- while a job's slot is in the writing, a group goes its way as if the status area rested; this is what it would be
+abbrev pub IsRested : Header → Layout → Option TurnState → AreaState → AreaState → Type 0
+IsRested header layout None rested status = status ≡ rested
+IsRested header layout (Some t) rested status = StatusRests header layout.slots rested × IsSound rested
+
 -- ---- the store
 
--- No call was refused. The disk has a log that stands for what is published, beside it what is written of the group, and no live chain has an extent that is not kept.
+-- No call was refused. The disk has a log that stands for what is published, beside it what is written of the group and of the job's run, and no live chain has an extent that is not kept.
 pub record Works (header : Header) (v : StoreValue) (m : Machine Value) : Type 0 where
   pub layout : Layout
   pub reading : Reading
@@ -122,7 +178,12 @@ pub record Works (header : Header) (v : StoreValue) (m : Machine Value) : Type 0
   pub used : v.log.used ≡ length layout.slots
   pub kept : AllByRecursion (λ e. IsKept v.transactions.usages e.number) (live layout)
   pub packed : AllPacked m.published v.transactions.queue m.queue
-  pub at : IsAtStage header layout (group_of layout v.transactions m) v.transactions.queue v.transactions.stage v.turn v.disk.areas
+  pub archived : v.archived ≡ archived_upto reading
+  pub runs_end : v.runs_end ≡ row_end 0 (runs_of layout.slots)
+  pub rested : AreaState
+  pub rests : IsRested header layout (turn_of v.job) rested v.disk.areas.status
+  pub at : IsAtStage header layout (group_of layout v.transactions m) v.transactions.queue v.transactions.stage v.turn (record v.disk.areas { status = rested })
+  pub job : HasJob header layout reading m.published v.job v.disk.areas
   pub sound : AreSound v.disk.areas
 
 -- Whatever a stop may leave stands for a front of the commit order: for what is published, or also for the whole group whose slot is in the writing.

@@ -3,7 +3,7 @@
 #![tactic(auto)]
 
 ghost use Rattle.standing.specs.Laws.{TimesAreOfLabel, ViewIsOfHistory, AtIsAnswered, ScanAtIsAnswered, BetweenIsAnswered, ScanBetweenIsAnswered};
-ghost use Rattle.standing.specs.Calls.{BeginStands, AbortStands, SubmitStands, PumpStands, RedeemStands};
+ghost use Rattle.standing.specs.Calls.{BeginStands, AbortStands, SubmitStands, PumpStands, RedeemStands, ArchiveStartStands, JobPumpStands};
 
 /// A begin takes the last published time as its snapshot.
 pub fn begin_stands()
@@ -26,6 +26,13 @@ pub fn submit_stands()
 /// leave stands for what is published, or for that with the whole group.
 pub fn pump_stands()
     ensures { PumpStands }
+{}
+
+/// An archive that begins, and each of its steps, changes nothing of the machine's. Before each step
+/// and after it, made or refused, whatever a stop may leave stands for what is published.
+pub fn archive_stands()
+    ensures start { ArchiveStartStands }
+    ensures step { JobPumpStands }
 {}
 
 /// A ticket is answered as the machine says.
