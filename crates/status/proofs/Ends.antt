@@ -15,16 +15,17 @@ use Rattle.status.specs.Rules.{head_of, log_of, slot_of, runs_in, runs_of, row_e
 use Rattle.status.specs.declared.log_end.LogEnd.{LogEnd}
 use Rattle.status.specs.Walking.{EndsAt}
 
-pub row_end-append : (place : ℕ) (xs ys : List Run) → row_end place (xs ++ ys) ≡ row_end (row_end place xs) ys
+row_end-append : (place : ℕ) (xs ys : List Run) → row_end place (xs ++ ys) ≡ row_end (row_end place xs) ys
 row_end-append place [] ys = refl
 row_end-append place (x ∷ xs) ys = row_end-append (x.start + x.len) xs ys
 
 pub log-push : (before : List Slot) (s : Slot) → log_of (before ++ s ∷ []) ≡ log_of before ++ slot_of s.body ∷ []
 log-push before s = map-append (λ (s : Slot). slot_of s.body) before (s ∷ [])
 
-pub runs-push : (before : List Slot) (s : Slot) → runs_of (before ++ s ∷ []) ≡ runs_of before ++ runs_in s.body
+runs-push : (before : List Slot) (s : Slot) → runs_of (before ++ s ∷ []) ≡ runs_of before ++ runs_in s.body
 runs-push before s = flat_map-append (λ (s : Slot). runs_in s.body) before (s ∷ []) ∙ ap (λ l. runs_of before ++ l) (append-nil (runs_in s.body))
 
+-- what may follow the slots before, told with one slot more of them
 pub end-push : (before : List Slot) (s : Slot) → row_end 0 (runs_of (before ++ s ∷ [])) ≡ row_end (row_end 0 (runs_of before)) (runs_in s.body)
 end-push before s = ap (row_end 0) (runs-push before s) ∙ row_end-append 0 (runs_of before) (runs_in s.body)
 
