@@ -157,6 +157,7 @@ fn read_settled<D: Disk>(alloc: Global, disk: &mut D) -> Result<Recovered, OpenF
     ensures rising { IfOk result (λ r. AreRisingAfter 0 (map head_named r.commits.items)) }
     ensures last { IfOk result (λ r. r.last ≡ last_time_after 0 (map head_named r.commits.items)) }
     ensures latest { IfOk result (λ r. latest r.chains ≤ r.last) }
+    ensures runs { IfOk result (λ r. AllByRecursion IsRun r.runs.items) }
     ensures found { IsTrue D.tells → IfOk result (IsReadFrom (image_of (D.state disk.old).areas)) }
     ensures fault { IsTrue D.tells → IfErr result (IsImageFault (image_of (D.state disk.old).areas)) }
     ensures reads { D.state disk.new ≡ after_reads result (D.state disk.old) }
@@ -198,6 +199,7 @@ pub fn read_image<D: Disk>(alloc: Global, disk: &mut D) -> Result<Recovered, Ope
     ensures rising { IfOk result (λ r. AreRisingAfter 0 (map head_named r.commits.items)) }
     ensures last { IfOk result (λ r. r.last ≡ last_time_after 0 (map head_named r.commits.items)) }
     ensures latest { IfOk result (λ r. latest r.chains ≤ r.last) }
+    ensures runs { IfOk result (λ r. AllByRecursion IsRun r.runs.items) }
 
     ensures found { IsTrue D.tells → IfOk result (IsReadFrom (image_of (D.state disk.old).areas)) }
     ensures fault { IsTrue D.tells → IfErr result (IsImageFault (image_of (D.state disk.old).areas)) }

@@ -34,6 +34,11 @@ returns-clause-rising g c =
     let entries : c.deref-3.result.now ≡ entries_of c.in_ok-slots.slots.items = c.deref-3.ensures.value ∙ c.in_ok-entries.ensures ∙ ap entries_of c.deref.ensures.value in
     rw c.in_ok-commits.ensures (subst (λ (l : List Member). AreRisingAfter 0 (map head_of l)) (sym entries) (entries_rise _ _ c.in_ok-slots.ensures.slots.rules))
 
+pub returns-clause-runs : goal.returns-clause-runs
+returns-clause-runs g c =
+    let runs : c.in_ok-runs.runs.items ≡ runs_of c.in_ok-slots.slots.items = c.in_ok-runs.ensures ∙ ap runs_of c.deref-4.ensures.value in
+    subst (AllByRecursion IsRun) (sym runs) (runs_in_range _ _ c.in_ok-slots.ensures.slots.in_range)
+
 pub returns-clause-found : goal.returns-clause-found
 returns-clause-found g c = λ told.
     let slots : List Slot = c.in_ok-slots.slots.items in
