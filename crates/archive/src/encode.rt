@@ -65,8 +65,10 @@ fn encode_head(head: &Head, out: &mut [u8; 4123]) -> usize
 /// How many bytes the record of this value has: 28 to 4,123.
 pub(crate) fn record_len(value: &Value) -> usize
     ensures is { (head : Head) → result ≡ length (record_bytes (record_of head value.now)) }
+    ensures least { 28 ≤ result }
     ensures most { result ≤ 4123 }
 {
+    let _fields = value.len();
     27 + value.fields().spelled().len()
 }
 

@@ -1,5 +1,5 @@
 //! A run as chunks: each record of a walk, and then, by a second walk, each entry of the index.
-ghost use Rattle.std.specs.Prelude.{◌≡◌, ◌+◌, ◌≤◌, ◌<◌, ◌^◌, ◌∷◌, [], None, Some, length, map, take, MatchOption, IfSome, IfNone};
+ghost use Rattle.std.specs.Prelude.{◌≡◌, ◌+◌, ◌*◌, ◌≤◌, ◌<◌, ◌^◌, ◌∷◌, [], None, Some, length, map, take, MatchOption, IfSome, IfNone};
 ghost use Rattle.std.specs.Option.{ForSome};
 ghost use Rattle.archive.specs.Pieces.{size_of, chunks_left, run_chunks, index_chunks};
 ghost use Rattle.archive.specs.Records.{record_bytes};
@@ -21,6 +21,8 @@ pub(crate) fn measure<W: RecordWalk>(walk: &mut W) -> Option<Sizes>
     ensures records { IfSome result (λ sizes. sizes.records ≡ length (W.left walk.old)) }
     ensures len { IfSome result (λ sizes. sizes.len ≡ size_of (W.left walk.old)) }
     ensures short { IfSome result (λ sizes. sizes.len < 2 ^ 63) }
+    ensures least { IfSome result (λ sizes. 36 * sizes.records ≤ sizes.len) }
+    ensures most { IfSome result (λ sizes. sizes.len ≤ 4131 * sizes.records) }
 {
     let mut records = 0;
     let mut len = 0;

@@ -1,4 +1,4 @@
-ghost use Rattle.std.specs.Prelude.{◌≡◌, ◌+◌, ◌<◌, ◌≤◌, ◌^◌, ◌↔◌, [], IsTrue, length, take, drop, MatchOption};
+ghost use Rattle.std.specs.Prelude.{◌≡◌, ◌+◌, ◌*◌, ◌<◌, ◌≤◌, ◌^◌, ◌↔◌, [], IsTrue, length, take, drop, IfSome, MatchOption};
 ghost use Rattle.archive.specs.Runs.{run_bytes};
 
 use crate::run_chunks::{RunChunks, measure};
@@ -40,8 +40,10 @@ impl<W: RecordWalk> RunWriter<W> {
     /// A writer of the run of all records of the walk, from the place `start` of the archive on;
     /// none where it would end past 2^63 - 1. It walks over them once.
     pub fn new(walk: W, start: u64) -> Option<Self>
-        ensures { MatchOption result (2 ^ 63 ≤ start + length (run_bytes (W.all walk)))
+        ensures is { MatchOption result (2 ^ 63 ≤ start + length (run_bytes (W.all walk)))
             (λ writer. writer ≡ record { at = start; left = run_bytes (W.all walk); records = length (W.all walk) }) }
+        ensures least { IfSome result (λ writer. 36 * writer.records ≤ length writer.left) }
+        ensures most { IfSome result (λ writer. length writer.left ≤ 4131 * writer.records) }
     {
         let mut walk = walk;
         walk.restart();

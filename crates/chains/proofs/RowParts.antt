@@ -53,7 +53,7 @@ no-row_late from to a b (Some v) late =
     let none : lasts (cut a b (record { from = from; to = to; value = v })) ≡ false = grind (arith, nat_tests) in
     rw none refl
 
-first-low : (s : ℕ) (xs : List Write) (w : Write) (ys : List Write) → IsRisingAfter s (xs ++ w ∷ ys) → first_time_or w.time xs ≤ w.time
+pub first-low : (s : ℕ) (xs : List Write) (w : Write) (ys : List Write) → IsRisingAfter s (xs ++ w ∷ ys) → first_time_or w.time xs ≤ w.time
 first-low s [] w ys up = omega arith
 first-low s (x ∷ xs) w ys up = let later = below x.time xs w ys up.2 in omega arith
 

@@ -1,5 +1,6 @@
 -- The rows of an interval: of one key's writes, and of a relation.
 use Rattle.std.specs.Prelude.{ℕ, ◌==◌, List, [], ◌∷◌, ◌++◌, map, if◌then◌else◌}
+use Rattle.std.specs.Borrow.{Bor}
 use Rattle.history.specs.declared.key.Key.{Key}
 use Rattle.history.specs.declared.time.TimedWrite.{TimedWrite}
 use Rattle.history.specs.declared.time.Version.{Version}
@@ -16,6 +17,10 @@ first_time_or end (w ∷ ws) = w.time
 abbrev pub versions_upto : {V : Type 0} → ℕ → List (TimedWrite V) → List (Version V)
 versions_upto end [] = []
 versions_upto end (w ∷ ws) = version_of w.time (first_time_or end ws) w.write ++ versions_upto end ws
+
+-- a version of a value in a loan, as the version of the value
+abbrev pub version_of_loan : Version (Bor Value) → Version Value
+version_of_loan v = record { from = v.from; to = v.to; value = v.value.now }
 
 -- what these chains show of a relation, one after another
 abbrev pub of_relation : {X : Type 0} → ℕ → (KeyWrites → List X) → List KeyWrites → List X

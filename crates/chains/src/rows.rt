@@ -49,7 +49,7 @@ pub(crate) fn add_record(
 }
 
 /// When the first of these writes was made; without one, later than every time.
-fn first_time(writes: &[TimedWrite<SharedValue>]) -> u64
+pub(crate) fn first_time(writes: &[TimedWrite<SharedValue>]) -> u64
     ensures { result ≡ spans.first_time writes.now }
 {
     match writes {

@@ -8,10 +8,7 @@ use Rattle.wire.specs.declared.slot.Run.{Run}
 use Rattle.wire.specs.declared.slot.Slot.{Slot}
 use Rattle.image.specs.Log.{MayAllCome}
 use Rattle.status.specs.Rules.{slot_of, log_of, runs_in, runs_of, row_end, AreInRow, is_built, MayFollow, KeepsRules}
-
-row_end-append : (place : ℕ) (xs ys : List Run) → row_end place (xs ++ ys) ≡ row_end (row_end place xs) ys
-row_end-append place [] ys = refl
-row_end-append place (x ∷ xs) ys = row_end-append (x.start + x.len) xs ys
+use Rattle.status.proofs.Ends.{log-push, end-push}
 
 row_parts : (place : ℕ) (xs ys : List Run) → AreInRow place (xs ++ ys) → AreInRow place xs × AreInRow (row_end place xs) ys
 row_parts place [] ys row = (tt, row)
@@ -20,16 +17,6 @@ row_parts place (x ∷ xs) ys row = let rest = row_parts (x.start + x.len) xs ys
 row_join : (place : ℕ) (xs ys : List Run) → AreInRow place xs → AreInRow (row_end place xs) ys → AreInRow place (xs ++ ys)
 row_join place [] ys a b = b
 row_join place (x ∷ xs) ys a b = (a.0, row_join (x.start + x.len) xs ys a.1 b)
-
-log-push : (before : List Slot) (s : Slot) → log_of (before ++ s ∷ []) ≡ log_of before ++ slot_of s.body ∷ []
-log-push before s = map-append (λ (s : Slot). slot_of s.body) before (s ∷ [])
-
-runs-push : (before : List Slot) (s : Slot) → runs_of (before ++ s ∷ []) ≡ runs_of before ++ runs_in s.body
-runs-push before s = flat_map-append (λ (s : Slot). runs_in s.body) before (s ∷ []) ∙ ap (λ l. runs_of before ++ l) (append-nil (runs_in s.body))
-
--- what may follow the slots before, told with one slot more of them
-end-push : (before : List Slot) (s : Slot) → row_end 0 (runs_of (before ++ s ∷ [])) ≡ row_end (row_end 0 (runs_of before)) (runs_in s.body)
-end-push before s = ap (row_end 0) (runs-push before s) ∙ row_end-append 0 (runs_of before) (runs_in s.body)
 
 module _ (profile : ℕ) where
   -- the slots behind some others, each after those before it

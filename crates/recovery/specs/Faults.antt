@@ -2,6 +2,7 @@
 use Rattle.std.specs.Prelude.{ℕ, List, length}
 use Rattle.disk.specs.Areas.{Image}
 use Rattle.disk.specs.declared.area.Area.TheVariants.{Status, Heap, Archive}
+use Rattle.wire.specs.declared.slot.Run.{Run}
 use Rattle.wire.specs.declared.slot.Slot.{Slot}
 use Rattle.status.specs.declared.header.Header.{Header}
 use Rattle.status.specs.Reading.{ReadsHeader, HoldsLog, IsDamaged}
@@ -51,6 +52,15 @@ IsHeapFault (Damaged Heap n) = Unit {0}
 IsHeapFault (Damaged Archive n) = ⊥
 IsHeapFault Device = Unit {0}
 IsHeapFault NoMemory = Unit {0}
+
+-- Why a log whose runs are these is not read with an archive of this length: the first run that does not end within it starts here.
+abbrev pub IsRunsFault : ℕ → List Run → OpenFault → Type 0
+IsRunsFault archive_len runs NotAStore = ⊥
+IsRunsFault archive_len runs (Damaged Status n) = ⊥
+IsRunsFault archive_len runs (Damaged Heap n) = ⊥
+IsRunsFault archive_len runs (Damaged Archive n) = FailsRuns archive_len runs n
+IsRunsFault archive_len runs Device = Unit {0}
+IsRunsFault archive_len runs NoMemory = ⊥
 
 -- why no header is read
 abbrev pub IsHeaderFault : List ℕ → OpenFault → Type 0

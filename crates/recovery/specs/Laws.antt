@@ -37,6 +37,7 @@ pub record SaySame (r s : Recovered) : Type 0 where
   pub floors : r.floor ≡ s.floor
   pub archives : r.archived ≡ s.archived
   pub reclaims : r.reclaimed ≡ s.reclaimed
+  pub runs_are : r.runs.items ≡ s.runs.items
   pub kept : (number : ℕ) → 1 ≤ number → number ≤ 65536 → (IsKept r.extents number ↔ IsKept s.extents number)
   pub free : (number : ℕ) → 1 ≤ number → number ≤ 65536 → (IsFree r.extents number ↔ IsFree s.extents number)
   pub live_are : map live_named r.live.items ≡ map live_named s.live.items

@@ -1,18 +1,21 @@
 //! Reading the image of a store.
 
-ghost use Rattle.std.specs.Prelude.{◌≡◌, ◌≤◌, ◌<◌, ◌^◌, IsTrue, IfOk, IfErr, OnOk, OnErr, map, length, Err, flat_map};
+ghost use Rattle.std.specs.Prelude.{◌≡◌, ◌≤◌, ◌<◌, ◌^◌, IsTrue, IfOk, IfErr, IfSome, IfNone, OnOk, OnErr, map, length, Err, flat_map};
+ghost use Rattle.std.specs.List.{AllByRecursion};
 ghost use Rattle.disk.specs.Areas.{image_of, settled_on, LeavesNoMore};
 ghost use Rattle.disk.specs.Calls.{refusals};
-ghost use Rattle.image.specs.Log.{AreRisingAfter, last_time_after};
+ghost use Rattle.image.specs.Log.{AreRisingAfter, last_time_after, archive_mark};
 ghost use Rattle.status.specs.Header.{total};
-ghost use Rattle.status.specs.Rules.{head_of, KeepsRules};
+ghost use Rattle.status.specs.Rules.{head_of, log_of, runs_of, KeepsRules};
+ghost use Rattle.wire.specs.Spelling.{IsRun};
 ghost use Rattle.image.specs.Reading.{Reading};
 ghost use Rattle.reading.specs.Layouts.{Layout, entries_of};
+ghost use Rattle.reading.specs.Opening.{EndsWithin, FailsRuns};
 ghost use Rattle.status.specs.declared.header.Header.{Header};
 ghost use Rattle.chains.specs.KeyWrites.{latest};
 ghost use Rattle.status.specs.Reading.{ReadsHeader};
 ghost use Rattle.recovery.specs.Answers.{after_reads};
-ghost use Rattle.recovery.specs.Faults.{IsReadFault, IsHeaderFault, IsImageFault};
+ghost use Rattle.recovery.specs.Faults.{IsReadFault, IsHeaderFault, IsRunsFault, IsImageFault};
 ghost use Rattle.recovery.specs.ReadsImage.{IsOpening, IsReadFrom};
 ghost use Rattle.recovery.specs.Names.{head_named, name_of, refusals_at_opening};
 
@@ -22,7 +25,7 @@ use crate::recovered::{CommitName, Recovered};
 use disk::{Area, DeviceFault, Disk};
 use status::{Header, read_header, read_log};
 use std::alloc::{AllocError, Global};
-use wire::{Body, Member, Slot};
+use wire::{Body, Member, Run, Slot};
 
 const MOST_SLOTS: u64 = 65_536;
 
@@ -39,6 +42,36 @@ fn entries(alloc: Global, slots: &[Slot]) -> Result<Vec<Member>, AllocError>
         rest = after;
     }
     Ok(entries)
+}
+
+// The runs that the slots name, in order.
+fn runs(alloc: Global, slots: &[Slot]) -> Result<Vec<Run>, AllocError>
+    ensures { IfOk result (λ runs. runs.items ≡ runs_of slots.now) }
+{
+    let mut runs = Vec::new(alloc);
+    let mut rest = slots;
+    while let [slot, after @ ..] = rest {
+        if let Body::Archived(run) = &slot.body {
+            runs.push(*run)?;
+        }
+        rest = after;
+    }
+    Ok(runs)
+}
+
+// The archive mark of the slots.
+fn archive_mark(slots: &[Slot]) -> u64
+    ensures { result ≡ archive_mark (log_of slots.now) }
+{
+    let mut mark = 0;
+    let mut rest = slots;
+    while let [slot, after @ ..] = rest {
+        if let Body::Archived(run) = &slot.body {
+            mark = run.upto;
+        }
+        rest = after;
+    }
+    mark
 }
 
 fn names(alloc: Global, entries: &[Member]) -> Result<Vec<CommitName>, AllocError>
@@ -74,6 +107,36 @@ fn settle<D: Disk>(disk: &mut D) -> Result<(), DeviceFault>
     Ok(())
 }
 
+// Where the first run starts that does not end within an archive of this length.
+fn first_past(runs: &[Run], archive_len: u64) -> Option<u64>
+    requires in_range { AllByRecursion IsRun runs.now }
+    ensures some { IfSome result (FailsRuns archive_len runs.now) }
+    ensures none { IfNone result (AllByRecursion (EndsWithin archive_len) runs.now) }
+{
+    let mut rest = runs;
+    while let [run, after @ ..] = rest {
+        if archive_len < run.start + run.len {
+            return Some(run.start);
+        }
+        rest = after;
+    }
+    None
+}
+
+// Whether each run ends within the archive.
+fn check_runs<D: Disk>(disk: &mut D, runs: &[Run]) -> Result<(), OpenFault>
+    requires in_range { AllByRecursion IsRun runs.now }
+    ensures within { IsTrue D.tells → OnOk result (AllByRecursion (EndsWithin (length (D.state disk.old).areas.archive.bytes)) runs.now) }
+    ensures fault { IsTrue D.tells → IfErr result (IsRunsFault (length (D.state disk.old).areas.archive.bytes) runs.now) }
+    ensures reads { D.state disk.new ≡ after_reads result (D.state disk.old) }
+{
+    let archive_len = disk.len(Area::Archive)?;
+    match first_past(runs, archive_len) {
+        Some(start) => Err(OpenFault::Damaged(Area::Archive, start)),
+        None => Ok(()),
+    }
+}
+
 // A header of at most 65,536 slots.
 fn find_header<D: Disk>(disk: &mut D) -> Result<Header, OpenFault>
     ensures found { IsTrue D.tells → IfOk result (ReadsHeader (D.state disk.old).areas.status.bytes) }
@@ -94,6 +157,7 @@ fn read_settled<D: Disk>(alloc: Global, disk: &mut D) -> Result<Recovered, OpenF
     ensures rising { IfOk result (λ r. AreRisingAfter 0 (map head_named r.commits.items)) }
     ensures last { IfOk result (λ r. r.last ≡ last_time_after 0 (map head_named r.commits.items)) }
     ensures latest { IfOk result (λ r. latest r.chains ≤ r.last) }
+    ensures runs { IfOk result (λ r. AllByRecursion IsRun r.runs.items) }
     ensures found { IsTrue D.tells → IfOk result (IsReadFrom (image_of (D.state disk.old).areas)) }
     ensures fault { IsTrue D.tells → IfErr result (IsImageFault (image_of (D.state disk.old).areas)) }
     ensures reads { D.state disk.new ≡ after_reads result (D.state disk.old) }
@@ -107,13 +171,16 @@ fn read_settled<D: Disk>(alloc: Global, disk: &mut D) -> Result<Recovered, OpenF
         Err(fault) => return Err(fault),
     };
     let commits = commit_names(alloc, &entries)?;
+    let runs = runs(alloc, &slots)?;
+    check_runs(disk, &runs)?;
     Ok(Recovered {
         header,
         used: slots.len() as u32,
         commits,
         floor: 0,
-        archived: 0,
+        archived: archive_mark(&slots),
         reclaimed: 0,
+        runs,
         extents: heap.extents,
         live: heap.live,
         chains: heap.chains,
@@ -132,6 +199,7 @@ pub fn read_image<D: Disk>(alloc: Global, disk: &mut D) -> Result<Recovered, Ope
     ensures rising { IfOk result (λ r. AreRisingAfter 0 (map head_named r.commits.items)) }
     ensures last { IfOk result (λ r. r.last ≡ last_time_after 0 (map head_named r.commits.items)) }
     ensures latest { IfOk result (λ r. latest r.chains ≤ r.last) }
+    ensures runs { IfOk result (λ r. AllByRecursion IsRun r.runs.items) }
 
     ensures found { IsTrue D.tells → IfOk result (IsReadFrom (image_of (D.state disk.old).areas)) }
     ensures fault { IsTrue D.tells → IfErr result (IsImageFault (image_of (D.state disk.old).areas)) }

@@ -6,6 +6,7 @@ ghost use Rattle.chains.specs.KeyWrites.{latest};
 use chains::Frozen;
 use extents::Extents;
 use status::Header;
+use wire::Run;
 
 /// A commit, as its slot names it: its time, in microseconds since 1970, and its label.
 #[derive(Clone, Copy, Debug, PartialEq, Eq)]
@@ -45,6 +46,8 @@ pub struct Recovered {
     pub floor: u64,
     pub archived: u64,
     pub reclaimed: u64,
+    /// The runs of the archive, in the log's order.
+    pub runs: Vec<Run>,
     /// The extents of the live chains are kept, and the others are free.
     pub extents: Extents,
     pub live: Vec<LiveChain>,

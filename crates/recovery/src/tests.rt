@@ -4,6 +4,7 @@ use disk::{Area, DeviceFault, Disk, MemDisk};
 use history::Key;
 use std::alloc::{AllocError, Global};
 use std::test::Fail;
+use wire::Run;
 
 // The bytes of an area from a place on, where they are there.
 fn read_at(disk: &mut MemDisk, area: Area, at: u32, buf: &mut [u8]) -> Result<bool, DeviceFault> {
@@ -224,6 +225,88 @@ fn no_extent_is_in_two_chains(rt: HostRuntime) -> Result<(), Fail> {
     let mut disk = two_commits(rt.alloc(), 1)?;
     let got = fault(rt.alloc(), &mut disk);
     assert_eq!(rt; got, Some(OpenFault::Damaged(Area::Heap, 1)));
+    Ok(())
+}
+
+// A slot of one commit, whose chain is the extent of the same label.
+fn put_commit(status: &mut Vec<u8>, at: u16, number: u8, time: u8) {
+    let label = number.saturating_add(1);
+    put(status, at, &[0xC7, 1, 1, 0, number]);
+    put(status, at.saturating_add(8), &[label]);
+    put(status, at.saturating_add(16), &[time]);
+    put(
+        status,
+        at.saturating_add(24),
+        &[label, 0, 0, 0, 1, 0, 0, 0, 1],
+    );
+}
+
+// An extent of this number and so many bytes used, with a record of (1, 7).
+fn put_record(heap: &mut Vec<u8>, at: u16, number: u8, used: u8, kind: u8, value: &[u8]) {
+    put(heap, at, &[number, 0, 0, 0, 0, 0, 0, 0, used]);
+    put(heap, at.saturating_add(16), &[kind, 1, 0, 7]);
+    put(heap, at.saturating_add(27), value);
+}
+
+// The run of a from 100 to 110 and b from 110 to 120, both of (1, 7).
+const RUN: [u8; 74] = [
+    1, 0, 7, 0, 0, 0, 0, 0, 0, 0, 100, 0, 0, 0, 0, 0, 0, 0, 110, 0, 0, 0, 0, 0, 0, 0, 1, 1, 97, 1,
+    0, 7, 0, 0, 0, 0, 0, 0, 0, 110, 0, 0, 0, 0, 0, 0, 0, 120, 0, 0, 0, 0, 0, 0, 0, 1, 1, 98, 0, 0,
+    0, 0, 0, 0, 0, 0, 29, 0, 0, 0, 0, 0, 0, 0,
+];
+
+// The record (1, 7) is a at 100, b at 110, gone at 120 and c at 130, and what ended by 120 is archived in a run of 74 bytes.
+fn one_run(alloc: Global, archive_len: usize) -> Result<MemDisk, AllocError> {
+    let mut status = zeros(alloc, 8704)?;
+    put(&mut status, 0, b"NOOVER01");
+    put(&mut status, 8, &[1, 0, 0, 0, 16]);
+    put_commit(&mut status, 512, 0, 100);
+    put_commit(&mut status, 1024, 1, 110);
+    put_commit(&mut status, 1536, 2, 120);
+    put_commit(&mut status, 2048, 3, 130);
+    put(&mut status, 2560, &[0xC7, 2, 0, 0, 4, 0, 0, 0, 120]);
+    put(&mut status, 2584, &[74, 0, 0, 0, 0, 0, 0, 0, 2]);
+    let mut heap = zeros(alloc, 32768)?;
+    put_record(&mut heap, 0, 1, 14, 1, &[1, 1, 97]);
+    put_record(&mut heap, 8192, 2, 14, 1, &[1, 1, 98]);
+    put_record(&mut heap, 16384, 3, 11, 3, &[]);
+    put_record(&mut heap, 24576, 4, 14, 1, &[1, 1, 99]);
+    let mut archive = zeros(alloc, archive_len)?;
+    put(&mut archive, 0, &RUN);
+    Ok(MemDisk::with_bytes(status, heap, archive))
+}
+
+#[test]
+fn an_archived_slot_is_read(rt: HostRuntime) -> Result<(), Fail> {
+    let mut disk = one_run(rt.alloc(), 74)?;
+    let found = read_image(rt.alloc(), &mut disk)?;
+    assert_eq!(rt; (found.used, found.last), (5, 130));
+    assert_eq!(rt; (found.archived, found.reclaimed, found.floor), (120, 0, 0));
+    assert_eq!(rt; found.runs.len(), 1);
+    let run = Run {
+        upto: 120,
+        start: 0,
+        len: 74,
+        records: 2,
+    };
+    assert_eq!(rt; found.runs[0], run);
+    let key = Key {
+        relation: 1,
+        record: 7,
+    };
+    assert!(rt; found.chains.at(key, 115).is_some());
+    assert!(rt; found.chains.at(key, 125).is_none());
+    Ok(())
+}
+
+#[test]
+fn a_run_ends_within_the_archive(rt: HostRuntime) -> Result<(), Fail> {
+    let cut = Some(OpenFault::Damaged(Area::Archive, 0));
+    for (archive_len, want) in [(0, cut), (73, cut), (74, None), (100, None)] {
+        let mut disk = one_run(rt.alloc(), archive_len)?;
+        let got = fault(rt.alloc(), &mut disk);
+        assert_eq!(rt; got, want, "at {archive_len}");
+    }
     Ok(())
 }
 

@@ -7,10 +7,10 @@ use Rattle.std.proofs.lemmas.Option.{slice_get_within}
 use Rattle.disk.specs.Parts.{HoldsPart}
 use Rattle.wire.specs.Spelling.{IsSpelled}
 use Rattle.wire.specs.declared.slot.Slot.{Slot}
-use Rattle.image.specs.Log.{last_time}
+use Rattle.status.specs.declared.log_end.LogEnd.{LogEnd}
 use Rattle.status.specs.Log.{slot_start, gate_at, body_at}
-use Rattle.status.specs.Rules.{log_of, MayFollow, KeepsRules}
-use Rattle.status.specs.Walking.{IsWalk}
+use Rattle.status.specs.Rules.{MayFollow, KeepsRules}
+use Rattle.status.specs.Walking.{EndsAt, IsWalk}
 use Rattle.status.proofs.Agreement.{slice_get-push}
 
 rules_more : (profile : ℕ) (slots : List Slot) (slot : Slot) → KeepsRules profile slots → MayFollow profile slots slot → KeepsRules profile (slots ++ slot ∷ [])
@@ -21,21 +21,21 @@ rules_more profile slots slot rules may n other is = elim (slice_get-push slots 
   | inr last ↦ rw (take_at slots (slot ∷ []) n (sym last.0), ← last.1) may
 ]
 
-pub walk_more : (profile : ℕ) (slots : List Slot) (slot : Slot) (last now n : ℕ) (body : List ℕ) → IsWalk profile slots last → n ≡ length slots → IsSpelled profile n body slot
-    → MayFollow profile slots slot → now ≡ last_time (log_of (slots ++ slot ∷ [])) → IsWalk profile (slots ++ slot ∷ []) now
-walk_more profile slots slot last now n body walk n_is spelled may now_is = record {
+pub walk_more : (profile : ℕ) (slots : List Slot) (slot : Slot) (end now : LogEnd) (n : ℕ) (body : List ℕ) → IsWalk profile slots end → n ≡ length slots → IsSpelled profile n body slot
+    → MayFollow profile slots slot → EndsAt (slots ++ slot ∷ []) now → IsWalk profile (slots ++ slot ∷ []) now
+walk_more profile slots slot end now n body walk n_is spelled may ends = record {
   are_slots = record {
     own = λ m other is. elim (slice_get-push slots slot other m is) [
       | inl earlier ↦ walk.are_slots.own m other earlier
-      | inr end ↦ rw (← end.1) (spelled.own ∙ n_is ∙ sym end.0)
+      | inr last ↦ rw (← last.1) (spelled.own ∙ n_is ∙ sym last.0)
     ];
     in_range = λ m other is. elim (slice_get-push slots slot other m is) [
       | inl earlier ↦ walk.are_slots.in_range m other earlier
-      | inr end ↦ rw (← end.1) spelled.in_range
+      | inr last ↦ rw (← last.1) spelled.in_range
     ];
     rules = rules_more profile slots slot walk.are_slots.rules may;
   };
-  last_is = now_is;
+  ends = ends;
 }
 
 -- slot i of a chunk that begins with slot n

@@ -1,5 +1,5 @@
 -- The log's own rules: which slot may follow others.
-use Rattle.std.specs.Prelude.{◌≡◌, ℕ, ◌+◌, ◌==◌, ◌&&◌, Bool, IsTrue, List, [], ◌∷◌, map, flat_map, take, slice_get, Some}
+use Rattle.std.specs.Prelude.{◌≡◌, ℕ, ◌+◌, ◌==◌, ◌&&◌, ◌||◌, Bool, IsTrue, List, [], ◌∷◌, map, flat_map, take, slice_get, Some}
 use Rattle.wire.specs.Spelling.{kind_of}
 use Rattle.wire.specs.declared.slot.Member.{Member as Entry}
 use Rattle.wire.specs.declared.slot.Run.{Run}
@@ -11,7 +11,7 @@ use Rattle.image.specs.Log.{MayCome}
 
 -- Which kinds of slot are built, in which profiles. A store of a profile is read once its commits are built.
 abbrev pub is_built : ℕ → ℕ → Bool
-is_built profile kind = (profile == 1) && (kind == 1)
+is_built profile kind = (profile == 1) && ((kind == 1) || (kind == 2))
 
 -- ---- a slot as the rules see it
 

@@ -1,15 +1,17 @@
 -- The reading of slots, one after the other.
-use Rattle.std.specs.Prelude.{◌≡◌, ◌≢◌, ◌<◌, ℕ, Bool, true, false, List, [], ◌∷◌, ◌++◌, length, drop, slice_index, Result, Ok, Err}
+use Rattle.std.specs.Prelude.{◌≡◌, ◌≢◌, ◌<◌, ◌≤◌, ℕ, Bool, true, false, List, [], ◌∷◌, ◌++◌, length, drop, slice_index, Result, Ok, Err}
 use Rattle.wire.specs.Spelling.{IsSpelled}
 use Rattle.wire.specs.declared.slot.Member.{Member}
+use Rattle.wire.specs.declared.slot.Run.{Run}
 use Rattle.wire.specs.declared.slot.Slot.{Slot}
-use Rattle.image.specs.Log.{last_time}
+use Rattle.image.specs.Log.{last_time, archive_mark}
 use Rattle.status.specs.declared.header.Header.{Header}
 use Rattle.status.specs.declared.fault.LogFault.{LogFault}
 use Rattle.status.specs.declared.fault.LogFault.TheVariants.{NotAStore, Damaged, Device, NoMemory}
 use Rattle.status.specs.Header.{total}
+use Rattle.status.specs.declared.log_end.LogEnd.{LogEnd}
 use Rattle.status.specs.Log.{IsOpen, OpensWith}
-use Rattle.status.specs.Rules.{log_of, MayFollow}
+use Rattle.status.specs.Rules.{log_of, runs_of, row_end, MayFollow}
 use Rattle.status.specs.Reading.{AreSlots, IsLogFault}
 
 -- the first of these commits is later than a time
@@ -17,10 +19,22 @@ abbrev pub StartsAfter : ℕ → List Member → Type 0
 StartsAfter time [] = ⊥
 StartsAfter time (m ∷ ms) = time < m.time
 
--- these slots were read, and this is the time of their last commit
-pub record IsWalk (profile : ℕ) (slots : List Slot) (last : ℕ) : Type 0 where
+-- the log of these slots ends here: the time of its last commit, its archive mark and the end of its last run
+pub record EndsAt (slots : List Slot) (end : LogEnd) : Type 0 where
+  pub last_is : end.last ≡ last_time (log_of slots)
+  pub archived_is : end.archived ≡ archive_mark (log_of slots)
+  pub runs_end_is : end.runs_end ≡ row_end 0 (runs_of slots)
+
+-- the run goes further than the archive mark, no further than the last commit, and starts where the last run ends
+pub record IsNextRun (end : LogEnd) (run : Run) : Type 0 where
+  pub later : end.archived < run.upto
+  pub upto_last : run.upto ≤ end.last
+  pub next : run.start ≡ end.runs_end
+
+-- these slots were read, and their log ends here
+pub record IsWalk (profile : ℕ) (slots : List Slot) (end : LogEnd) : Type 0 where
   pub are_slots : AreSlots profile slots
-  pub last_is : last ≡ last_time (log_of slots)
+  pub ends : EndsAt slots end
 
 -- what 512 bytes add to the slots before them: nothing where their gate is closed, else the slot that they are
 abbrev pub Takes : ℕ → List Slot → List ℕ → Bool → List Slot → Type 0

@@ -2,110 +2,51 @@
 ghost use Rattle.std.specs.Prelude.{◌≡◌, ◌≢◌, ◌↔◌, ◌+◌, ◌*◌, ◌<◌, ◌≤◌, ℕ, List, [], ◌∷◌, ◌++◌, map, length, drop, true, false, vec_len, slice_index, slice_range, IsTrue, IfOk, IfErr, OnOk, MatchBool, MatchResult};
 ghost use Rattle.disk.specs.Calls.{looked};
 ghost use Rattle.disk.specs.Parts.{HoldsPart};
-ghost use Rattle.wire.specs.Spelling.{InRange, kind_of};
 ghost use Rattle.wire.specs.declared.slot.Slot.{Slot};
-ghost use Rattle.image.specs.Log.{last_time_after, last_time};
 ghost use Rattle.status.specs.declared.header.Header.{Header};
 ghost use Rattle.status.specs.Header.{total};
 ghost use Rattle.status.specs.Log.{slot_start, IsOpen, HasRoom, OpensWith};
-ghost use Rattle.status.specs.Rules.{head_of, log_of, MayFollow};
 ghost use Rattle.status.specs.Reading.{read_by, AreSlots, HoldsLog, IsLogFault, AnswersLog};
-ghost use Rattle.status.specs.Walking.{StartsAfter, IsWalk, Takes, IsTakeFault, IsWalkFault, IsSlotsFault, Goes, IsReadOn, HasReadAll};
+ghost use Rattle.status.specs.Walking.{IsWalk, Takes, IsTakeFault, IsWalkFault, IsSlotsFault, Goes, IsReadOn, HasReadAll};
 
 use crate::fault::LogFault;
 use crate::header::Header;
-use crate::reading::is_built;
+use crate::log_end::LogEnd;
 use crate::turn::{OPEN, slot_place};
-use arrayvec::ArrayVec;
 use disk::{Area, DeviceFault, Disk};
 use std::alloc::Global;
-use wire::{Body, Member, Slot, decode_slot, one_spelling};
+use wire::{Slot, decode_slot, one_spelling};
 
 const SLOTS_A_READ: u32 = 16;
 
-// The slots read so far, and the time of their last commit.
+// The slots read so far, and where their log ends.
 #[derive(Drop)]
 struct Walk {
     profile: u32,
     slots: Vec<Slot>,
-    last: u64,
-}
-
-fn kind_of(body: &Body) -> u8
-    ensures { result ≡ kind_of body.now }
-{
-    match body {
-        Body::Commit(_) => 1,
-        Body::Archived(_) => 2,
-        Body::Reclaimed(_) => 3,
-        Body::Floor { .. } => 4,
-    }
-}
-
-// Whether the first of these commits is later than a time.
-fn starts_after(time: u64, members: &[Member]) -> bool
-    ensures { IsTrue result ↔ StartsAfter time members.now }
-{
-    match members {
-        [first, ..] => time < first.time,
-        [] => false,
-    }
-}
-
-// Whether a slot may follow others, of which this is the time of the last commit.
-fn may_follow(profile: u32, last: u64, slot: &Slot) -> bool
-    ensures { InRange profile slot.now.body → (before : List Slot) → last ≡ last_time (log_of before) → (IsTrue result ↔ MayFollow profile before slot.now) }
-{
-    if !is_built(profile, kind_of(&slot.body)) {
-        return false;
-    }
-    match &slot.body {
-        Body::Commit(members) => starts_after(last, members.as_slice()),
-        _ => false,
-    }
-}
-
-// The time of the last of these commits, or that before them.
-fn last_after(before: u64, members: &[Member]) -> u64
-    ensures { result ≡ last_time_after before (map head_of members.now) }
-{
-    let mut last = before;
-    for member in members {
-        last = member.time;
-    }
-    last
-}
-
-// The time of the last commit, once this slot follows.
-fn last_with(before: u64, slot: &Slot) -> u64
-    ensures { (slots : List Slot) → before ≡ last_time (log_of slots) → result ≡ last_time (log_of (slots ++ slot.now ∷ [])) }
-{
-    match &slot.body {
-        Body::Commit(members) => last_after(before, members.as_slice()),
-        _ => before,
-    }
+    end: LogEnd,
 }
 
 impl Walk {
     fn new(alloc: Global, profile: u32) -> Walk
         ensures profile { result.profile ≡ profile }
         ensures slots { result.slots.items ≡ [] }
-        ensures walk { IsWalk profile result.slots.items result.last }
+        ensures walk { IsWalk profile result.slots.items result.end }
     {
         Walk {
             profile,
             slots: Vec::new(alloc),
-            last: 0,
+            end: LogEnd::start(),
         }
     }
 
     // Reads a slot of 512 bytes, and tells whether its gate is open.
     fn take_slot(&mut self, bytes: &[u8]) -> Result<bool, LogFault>
-        requires walk { IsWalk self.old.profile self.old.slots.items self.old.last }
+        requires walk { IsWalk self.old.profile self.old.slots.items self.old.end }
         requires few { length self.old.slots.items < 65536 }
         requires whole { length bytes.now ≡ 512 }
         ensures profile { self.new.profile ≡ self.old.profile }
-        ensures walk { IsWalk self.new.profile self.new.slots.items self.new.last }
+        ensures walk { IsWalk self.new.profile self.new.slots.items self.new.end }
         ensures takes { IfOk result (λ on. Takes self.old.profile self.old.slots.items bytes.now on self.new.slots.items) }
         ensures fault { IfErr result (IsTakeFault self.old.profile self.old.slots.items bytes.now) }
     {
@@ -118,12 +59,12 @@ impl Walk {
         let Ok(slot) = decode_slot(self.profile, number, &body) else {
             return Err(LogFault::Damaged(number));
         };
-        if !may_follow(self.profile, self.last, &slot) {
+        if !self.end.may_be_followed(self.profile, &slot) {
             return Err(LogFault::Damaged(number));
         }
-        let last = last_with(self.last, &slot);
+        let end = self.end.with(&slot);
         self.slots.push(slot)?;
-        self.last = last;
+        self.end = end;
         Ok(true)
     }
 }
@@ -131,11 +72,11 @@ impl Walk {
 impl Walk {
     // Reads so many slots, and tells whether all their gates are open.
     fn take_chunk(&mut self, chunk: &[u8], count: usize) -> Result<bool, LogFault>
-        requires walk { IsWalk self.old.profile self.old.slots.items self.old.last }
+        requires walk { IsWalk self.old.profile self.old.slots.items self.old.end }
         requires few { length self.old.slots.items + count ≤ 65536 }
         requires whole { length chunk.now ≡ 512 * count }
         ensures profile { self.new.profile ≡ self.old.profile }
-        ensures walk { IsWalk self.new.profile self.new.slots.items self.new.last }
+        ensures walk { IsWalk self.new.profile self.new.slots.items self.new.end }
         ensures more { IfOk result (λ on. MatchBool on (length self.new.slots.items ≡ length self.old.slots.items + count) (length self.new.slots.items < length self.old.slots.items + count)) }
         ensures fault { IfErr result IsWalkFault }
         ensures goes { (header : Header) (bytes : List ℕ) → header.profile ≡ self.old.profile → length self.old.slots.items + count ≤ total header
@@ -166,13 +107,13 @@ fn read_on<D: Disk>(
     walk: &mut Walk,
     buffer: &mut [u8],
 ) -> Result<bool, LogFault>
-    requires walk { IsWalk walk.old.profile walk.old.slots.items walk.old.last }
+    requires walk { IsWalk walk.old.profile walk.old.slots.items walk.old.end }
     requires less { length walk.old.slots.items < all }
     requires few { all ≤ 65536 }
     requires buffer { length buffer.old ≡ 8192 }
     requires room { IsTrue D.tells → slot_start all ≤ length (D.state disk.old).areas.status.bytes }
     ensures profile { walk.new.profile ≡ walk.old.profile }
-    ensures walk { IsWalk walk.new.profile walk.new.slots.items walk.new.last }
+    ensures walk { IsWalk walk.new.profile walk.new.slots.items walk.new.end }
     ensures more { IfOk result (λ on. MatchBool on (length walk.old.slots.items < length walk.new.slots.items) (Unit {0})) }
     ensures within { OnOk result (length walk.new.slots.items ≤ all) }
     ensures fault { IfErr result IsSlotsFault }
@@ -194,13 +135,13 @@ fn read_slots<D: Disk>(
     walk: &mut Walk,
     buffer: &mut [u8],
 ) -> Result<(), LogFault>
-    requires walk { IsWalk walk.old.profile walk.old.slots.items walk.old.last }
+    requires walk { IsWalk walk.old.profile walk.old.slots.items walk.old.end }
     requires less { length walk.old.slots.items ≤ all }
     requires few { all ≤ 65536 }
     requires buffer { length buffer.old ≡ 8192 }
     requires room { IsTrue D.tells → slot_start all ≤ length (D.state disk.old).areas.status.bytes }
     ensures profile { walk.new.profile ≡ walk.old.profile }
-    ensures walk { IsWalk walk.new.profile walk.new.slots.items walk.new.last }
+    ensures walk { IsWalk walk.new.profile walk.new.slots.items walk.new.end }
     ensures within { OnOk result (length walk.new.slots.items ≤ all) }
     ensures fault { IfErr result IsSlotsFault }
     ensures goes { IsTrue D.tells → (header : Header) → header.profile ≡ walk.old.profile → total header ≡ all

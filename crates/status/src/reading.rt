@@ -13,12 +13,14 @@ use disk::{Area, DeviceFault, Disk};
 
 const COMMIT: u8 = 1;
 
+const ARCHIVED: u8 = 2;
+
 /// Whether slots of a kind are built in a profile. A store of a profile is read once its commits
 /// are built.
 pub fn is_built(profile: u32, kind: u8) -> bool
     ensures { result ≡ is_built profile kind }
 {
-    profile == 1 && kind == COMMIT
+    profile == 1 && (kind == COMMIT || kind == ARCHIVED)
 }
 
 // The header at the front of an area of this length.

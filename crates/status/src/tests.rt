@@ -3,7 +3,7 @@ use arrayvec::ArrayVec;
 use disk::{Area, Disk, MemDisk};
 use std::alloc::Global;
 use std::test::Fail;
-use wire::{Body, Member};
+use wire::{Anchors, Body, Member, Run};
 
 // The front of a header of 16 slots.
 const HEADER: [u8; 16] = [
@@ -148,9 +148,107 @@ fn a_full_log_begins_no_slot(rt: HostRuntime) {
     assert!(rt; !log.is_writing());
 }
 
+const FIRST_RUN: Run = Run {
+    upto: 60,
+    start: 0,
+    len: 40,
+    records: 1,
+};
+
+const SECOND_RUN: Run = Run {
+    upto: 100,
+    start: 40,
+    len: 74,
+    records: 2,
+};
+
+// How many slots are read where a commit at 100 comes first and then these, or why none are.
+fn read_behind(alloc: Global, bodies: Vec<Body>) -> Result<Result<usize, LogFault>, Fail> {
+    let mut disk = empty(alloc, 16)?;
+    let header = read_header(&mut disk)?;
+    let mut log = StatusLog::new(&header, 0);
+    write_slot(&mut log, commit(100), &mut disk)?;
+    for body in bodies {
+        write_slot(&mut log, body, &mut disk)?;
+    }
+    match read_log(alloc, &mut disk, &header) {
+        Ok(slots) => Ok(Ok(slots.len())),
+        Err(fault) => Ok(Err(fault)),
+    }
+}
+
+fn read_runs(alloc: Global, runs: &[Run]) -> Result<Result<usize, LogFault>, Fail> {
+    let mut bodies = Vec::new(alloc);
+    for run in runs {
+        bodies.push(Body::Archived(*run))?;
+    }
+    read_behind(alloc, bodies)
+}
+
 #[test]
-fn commits_of_profile_1_are_built(rt: HostRuntime) {
+fn archived_slots_are_read(rt: HostRuntime) -> Result<(), Fail> {
+    let read = read_runs(rt.alloc(), &[FIRST_RUN, SECOND_RUN])?;
+    assert_eq!(rt; read, Ok(3));
+    Ok(())
+}
+
+#[test]
+fn an_archive_mark_rises_up_to_the_last_commit(rt: HostRuntime) -> Result<(), Fail> {
+    let again = Run {
+        upto: 60,
+        ..SECOND_RUN
+    };
+    assert_eq!(rt;
+        read_runs(rt.alloc(), &[FIRST_RUN, again])?,
+        Err(LogFault::Damaged(2))
+    );
+    let past = Run {
+        upto: 101,
+        ..SECOND_RUN
+    };
+    assert_eq!(rt;
+        read_runs(rt.alloc(), &[FIRST_RUN, past])?,
+        Err(LogFault::Damaged(2))
+    );
+    Ok(())
+}
+
+#[test]
+fn a_run_starts_where_the_last_one_ends(rt: HostRuntime) -> Result<(), Fail> {
+    let away = Run {
+        start: 1,
+        ..FIRST_RUN
+    };
+    assert_eq!(rt; read_runs(rt.alloc(), &[away])?, Err(LogFault::Damaged(1)));
+    let behind = Run {
+        start: 41,
+        ..SECOND_RUN
+    };
+    assert_eq!(rt;
+        read_runs(rt.alloc(), &[FIRST_RUN, behind])?,
+        Err(LogFault::Damaged(2))
+    );
+    Ok(())
+}
+
+#[test]
+fn a_reclaimed_slot_is_not_read(rt: HostRuntime) -> Result<(), Fail> {
+    let mut bodies = Vec::new(rt.alloc());
+    bodies.push(Body::Archived(FIRST_RUN))?;
+    bodies.push(Body::Reclaimed(Anchors {
+        upto: 60,
+        first: 0,
+        extents: 0,
+        records: 0,
+    }))?;
+    assert_eq!(rt; read_behind(rt.alloc(), bodies)?, Err(LogFault::Damaged(2)));
+    Ok(())
+}
+
+#[test]
+fn commits_and_runs_of_profile_1_are_built(rt: HostRuntime) {
     assert!(rt; is_built(1, 1));
-    assert!(rt; !is_built(1, 2));
+    assert!(rt; is_built(1, 2));
+    assert!(rt; !is_built(1, 3));
     assert!(rt; !is_built(2, 1));
 }

@@ -2,6 +2,7 @@
 //! that is being written, and what is published.
 #![tactic(auto)]
 
+mod slots;
 mod stage;
 mod steps;
 mod submit;

@@ -154,18 +154,6 @@ impl Transactions {
             }
         }
     }
-
-    // The slots that are left, less one for each commit that waits for one.
-    fn spare(&self) -> u32
-        ensures { result ≡ spare self.now }
-    {
-        let waiting = self.queue.len() as u32;
-        let claimed = match self.stage {
-            GroupStage::Turning => 1 + (waiting - self.group as u32),
-            _ => waiting,
-        };
-        self.slots - self.used - claimed
-    }
 }
 
 // Whether gone stands only where the key has a value at the snapshot.

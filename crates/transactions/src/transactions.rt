@@ -1,5 +1,5 @@
 //! What a store keeps in memory of its transactions.
-ghost use Rattle.std.specs.Prelude.{◌≡◌, ◌≤◌, [], length, false, IfOk, if◌then◌else◌};
+ghost use Rattle.std.specs.Prelude.{◌≡◌, ◌<◌, ◌≤◌, ◌^◌, [], length, false, IfOk, if◌then◌else◌};
 ghost use Rattle.chains.specs.KeyWrites.{latest};
 ghost use Rattle.group.specs.CommitOrder.{IsRisingAfter, last_time, times_of};
 ghost use Rattle.transactions.specs.declared.stage.GroupStage.TheVariants.{NoGroup};
@@ -220,9 +220,17 @@ impl Transactions {
         self.mark
     }
 
+    /// One more holder of the versions of what is published.
+    pub fn versions(&self) -> Result<Frozen, AllocError>
+        ensures { IfOk result (λ versions. versions ≡ self.now.versions) }
+    {
+        self.versions.share()
+    }
+
     /// The time of the last published commit in microseconds since 1970, 0 for none.
     pub fn last(&self) -> u64
-        ensures { result ≡ last self.now }
+        ensures is { result ≡ last self.now }
+        ensures in_range { result < 2 ^ 63 }
     {
         self.order.last()
     }

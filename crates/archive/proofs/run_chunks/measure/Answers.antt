@@ -13,6 +13,8 @@ loop-value-preserved g c =
       records = omega (arith, less.0, c.loop-value.invariant.records);
       len = omega (arith, less.1, c.loop-value.invariant.len, c.record_len.ensures.is c.in-Some.field-0-0);
       few = omega (arith, c.loop-value.invariant.few);
+      least = omega (arith, c.loop-value.invariant.least, c.record_len.ensures.least);
+      most = omega (arith, c.loop-value.invariant.most, c.record_len.ensures.most);
       short = omega arith;
     }
 

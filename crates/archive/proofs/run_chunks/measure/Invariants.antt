@@ -1,4 +1,4 @@
-use Rattle.std.proofs.Common.{◌≡◌, ◌+◌, ◌≤◌, ◌<◌, ◌^◌, length}
+use Rattle.std.proofs.Common.{◌≡◌, ◌+◌, ◌*◌, ◌≤◌, ◌<◌, ◌^◌, length}
 use Rattle.archive.specs.Pieces.{size_of}
 use Rattle.archive.proofs.run_chunks.measure.Given as goal
 
@@ -8,6 +8,8 @@ invariant-loop-value g l = record {
   records : l.records + length (g.W.RecordWalk.left l.walk) ≡ length (g.W.RecordWalk.left l.initial.walk);
   len : l.len + size_of (g.W.RecordWalk.left l.walk) ≡ size_of (g.W.RecordWalk.left l.initial.walk);
   few : l.records ≤ l.len;
+  least : 36 * l.records ≤ l.len;
+  most : l.len ≤ 4131 * l.records;
   short : l.len < 2 ^ 63;
 }
 

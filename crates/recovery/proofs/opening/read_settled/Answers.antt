@@ -1,17 +1,22 @@
 use Rattle.disk.specs.Calls.{DiskState}
 use Rattle.disk.specs.Areas.{image_of}
 use Rattle.status.specs.Reading.{HoldsLog}
-use Rattle.std.proofs.Common.{◌≡◌, List, arith, map, ap, refl, sym, subst, ◌∙◌}
+use Rattle.std.proofs.Common.{◌≡◌, List, arith, length, map, ap, refl, sym, subst, ◌∙◌}
+use Rattle.std.proofs.lemmas.Result.{err_from_is_err_and}
 use Rattle.std.specs.List.{AllByRecursion}
-use Rattle.wire.specs.Spelling.{IsMember}
+use Rattle.wire.specs.Spelling.{IsMember, IsRun}
+use Rattle.wire.specs.declared.slot.Run.{Run}
 use Rattle.wire.specs.declared.slot.Member.{Member}
 use Rattle.wire.specs.declared.slot.Slot.{Slot}
-use Rattle.image.specs.Log.{AreRisingAfter, last_time_after}
-use Rattle.status.specs.Rules.{head_of}
+use Rattle.image.specs.Log.{AreRisingAfter, last_time_after, archive_mark}
+use Rattle.status.specs.Rules.{head_of, log_of, runs_of}
 use Rattle.reading.specs.Layouts.{entries_of}
+use Rattle.reading.specs.Opening.{EndsWithin}
+use Rattle.recovery.specs.declared.fault.OpenFault.{OpenFault}
+use Rattle.recovery.specs.Faults.{IsRunsFault}
 use Rattle.recovery.specs.HeapReads.{HoldsEntries, IsMembersFault}
 use Rattle.recovery.proofs.Heads.{entries_rise}
-use Rattle.recovery.proofs.OpenedHeap.{entries_in_range, image_read, members_fail}
+use Rattle.recovery.proofs.OpenedHeap.{entries_in_range, runs_in_range, image_read, members_fail, runs_fail}
 use Rattle.recovery.proofs.opening.read_settled.Goals as goal
 
 pub read_members-requires-clause-rising : goal.read_members-requires-clause-rising
@@ -29,6 +34,11 @@ returns-clause-rising g c =
     let entries : c.deref-3.result.now ≡ entries_of c.in_ok-slots.slots.items = c.deref-3.ensures.value ∙ c.in_ok-entries.ensures ∙ ap entries_of c.deref.ensures.value in
     rw c.in_ok-commits.ensures (subst (λ (l : List Member). AreRisingAfter 0 (map head_of l)) (sym entries) (entries_rise _ _ c.in_ok-slots.ensures.slots.rules))
 
+pub returns-clause-runs : goal.returns-clause-runs
+returns-clause-runs g c =
+    let runs : c.in_ok-runs.runs.items ≡ runs_of c.in_ok-slots.slots.items = c.in_ok-runs.ensures ∙ ap runs_of c.deref-4.ensures.value in
+    subst (AllByRecursion IsRun) (sym runs) (runs_in_range _ _ c.in_ok-slots.ensures.slots.in_range)
+
 pub returns-clause-found : goal.returns-clause-found
 returns-clause-found g c = λ told.
     let slots : List Slot = c.in_ok-slots.slots.items in
@@ -39,13 +49,18 @@ returns-clause-found g c = λ told.
     let heap : HoldsEntries (g.D.Disk.state c.args.disk.now).areas.heap.bytes (entries_of slots) c.in-Ok.heap =
     subst (λ (l : List Member). HoldsEntries (g.D.Disk.state c.args.disk.now).areas.heap.bytes l c.in-Ok.heap) again
     (subst (λ (s : DiskState). HoldsEntries s.areas.heap.bytes c.deref-2.result.now c.in-Ok.heap) state (c.in-Ok.ensures.read told)) in
-    image_read (image_of (g.D.Disk.state c.args.disk.now).areas) c.in_ok-header.header slots (record { header_reads = c.in_ok-header.ensures.found told; log = log }) c.in-Ok.heap _ refl heap
+    let runs : c.deref-5.result.now ≡ runs_of slots = c.deref-5.ensures.value ∙ c.in_ok-runs.ensures ∙ ap runs_of c.deref-4.ensures.value in
+    let within : AllByRecursion (EndsWithin (length (g.D.Disk.state c.args.disk.now).areas.archive.bytes)) (runs_of slots) =
+    subst (AllByRecursion (EndsWithin (length (g.D.Disk.state c.args.disk.now).areas.archive.bytes))) runs
+    (subst (λ (s : DiskState). AllByRecursion (EndsWithin (length s.areas.archive.bytes)) c.deref-5.result.now) (c.in-Ok.ensures.reads ∙ state) (c.in_ok-check_runs.ensures.within told)) in
+    image_read (image_of (g.D.Disk.state c.args.disk.now).areas) c.in_ok-header.header slots (record { header_reads = c.in_ok-header.ensures.found told; log = log }) c.in-Ok.heap _ refl heap within
     (record {
       used = omega (arith, c.len-2.ensures, c.in_ok-slots.slots.ok.0);
       commits = c.in_ok-commits.ensures ∙ ap (λ (l : List Member). map head_of l) entries;
       floor = refl;
-      archived = refl;
+      archived = c.archive_mark.ensures ∙ ap (λ (l : List Slot). archive_mark (log_of l)) c.deref-6.ensures.value;
       reclaimed = refl;
+      runs = c.in_ok-runs.ensures ∙ ap runs_of c.deref-4.ensures.value;
       extents = refl;
       live = refl;
       chains = refl;
@@ -62,3 +77,26 @@ returns-in-Err-clause-fault g c = λ told.
     subst (λ (l : List Member). IsMembersFault (g.D.Disk.state c.args.disk.now).areas.heap.bytes l c.in-Err.fault) again
     (subst (λ (s : DiskState). IsMembersFault s.areas.heap.bytes c.deref-2.result.now c.in-Err.fault) state (c.in-Err.ensures.first told)) in
     members_fail (image_of (g.D.Disk.state c.args.disk.now).areas) c.in_ok-header.header slots (record { header_reads = c.in_ok-header.ensures.found told; log = log }) c.in-Err.fault fails
+
+pub check_runs-requires : goal.check_runs-requires
+check_runs-requires g c =
+    let runs : c.deref-5.result.now ≡ runs_of c.in_ok-slots.slots.items = c.deref-5.ensures.value ∙ c.in_ok-runs.ensures ∙ ap runs_of c.deref-4.ensures.value in
+    record { in_range = subst (AllByRecursion IsRun) (sym runs) (runs_in_range _ _ c.in_ok-slots.ensures.slots.in_range) }
+
+pub returns-in_err-check_runs-clause-fault : goal.returns-in_err-check_runs-clause-fault
+returns-in_err-check_runs-clause-fault g c = λ told.
+    let slots : List Slot = c.in_ok-slots.slots.items in
+    let log = subst (λ (s : DiskState). HoldsLog c.in_ok-header.header s.areas.status.bytes slots) c.in_ok-header.ensures.reads (c.in_ok-slots.ensures.log told) in
+    let again : c.deref-2.result.now ≡ entries_of slots = c.deref-2.ensures.value ∙ c.in_ok-entries.ensures ∙ ap entries_of c.deref.ensures.value in
+    let runs : c.deref-5.result.now ≡ runs_of slots = c.deref-5.ensures.value ∙ c.in_ok-runs.ensures ∙ ap runs_of c.deref-4.ensures.value in
+    let state = c.in_ok-heap_len.ensures.same ∙ c.in_ok-slots.ensures.same ∙ c.in_ok-header.ensures.reads in
+    let heap : HoldsEntries (g.D.Disk.state c.args.disk.now).areas.heap.bytes (entries_of slots) c.in-Ok.heap =
+    subst (λ (l : List Member). HoldsEntries (g.D.Disk.state c.args.disk.now).areas.heap.bytes l c.in-Ok.heap) again
+    (subst (λ (s : DiskState). HoldsEntries s.areas.heap.bytes c.deref-2.result.now c.in-Ok.heap) state (c.in-Ok.ensures.read told)) in
+    let fault : OpenFault = c.in_err-check_runs.field-0.0 in
+    let fails : IsRunsFault (length (g.D.Disk.state c.args.disk.now).areas.archive.bytes) (runs_of slots) fault =
+    subst (λ (l : List Run). IsRunsFault (length (g.D.Disk.state c.args.disk.now).areas.archive.bytes) l fault) runs
+    (subst (λ (s : DiskState). IsRunsFault (length s.areas.archive.bytes) c.deref-5.result.now fault) (c.in-Ok.ensures.reads ∙ state) (c.in_err-check_runs.ensures.fault told)) in
+    let p = err_from_is_err_and c.from_residual-in_err-check_runs.result c.from_residual-in_err-check_runs.ensures.1 in
+    rw (p.1, p.2)
+    (runs_fail (image_of (g.D.Disk.state c.args.disk.now).areas) c.in_ok-header.header slots (record { header_reads = c.in_ok-header.ensures.found told; log = log }) c.in-Ok.heap fault heap fails)

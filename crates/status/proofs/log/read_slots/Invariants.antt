@@ -9,7 +9,7 @@ use Rattle.status.proofs.log.read_slots.Given as goal
 abbrev pub invariant-loop-disk : goal.invariant-loop-disk
 invariant-loop-disk g l = record {
   profile : l.walk.profile ≡ l.fn.walk.profile;
-  walk : IsWalk l.walk.profile l.walk.slots.items l.walk.last;
+  walk : IsWalk l.walk.profile l.walk.slots.items l.walk.end;
   within : length l.walk.slots.items ≤ l.all;
   same : g.D.Disk.state l.disk ≡ g.D.Disk.state l.fn.disk;
   goes : IsTrue g.D.Disk.tells → (header : Header) → header.profile ≡ l.fn.walk.profile → total header ≡ l.all

@@ -1,0 +1,107 @@
+//! Where a log ends, and which slot may follow.
+ghost use Rattle.std.specs.Prelude.{◌≡◌, ◌↔◌, ◌+◌, ◌<◌, ◌≤◌, ◌^◌, List, [], ◌∷◌, ◌++◌, map, ℕ, IsTrue};
+ghost use Rattle.wire.specs.Spelling.{InRange, kind_of};
+ghost use Rattle.wire.specs.declared.slot.Slot.{Slot};
+ghost use Rattle.image.specs.Log.{last_time_after};
+ghost use Rattle.status.specs.Rules.{head_of, MayFollow};
+ghost use Rattle.status.specs.Walking.{StartsAfter, IsNextRun, EndsAt};
+
+use crate::reading::is_built;
+use arrayvec::ArrayVec;
+use wire::{Body, Member, Run, Slot};
+
+/// Where a log ends. Times are microseconds since 1970.
+#[derive(Clone, Copy)]
+pub struct LogEnd {
+    /// The time of the last commit, 0 for none.
+    pub last: u64,
+    /// The archive mark, 0 for none.
+    pub archived: u64,
+    /// The byte of the archive at which the last run ends, 0 for none.
+    pub runs_end: u64,
+}
+
+fn kind_of(body: &Body) -> u8
+    ensures { result ≡ kind_of body.now }
+{
+    match body {
+        Body::Commit(_) => 1,
+        Body::Archived(_) => 2,
+        Body::Reclaimed(_) => 3,
+        Body::Floor { .. } => 4,
+    }
+}
+
+// Whether the first of these commits is later than a time.
+fn starts_after(time: u64, members: &[Member]) -> bool
+    ensures { IsTrue result ↔ StartsAfter time members.now }
+{
+    match members {
+        [first, ..] => time < first.time,
+        [] => false,
+    }
+}
+
+// The time of the last of these commits, or that before them.
+fn last_after(before: u64, members: &[Member]) -> u64
+    ensures { result ≡ last_time_after before (map head_of members.now) }
+{
+    let mut last = before;
+    for member in members {
+        last = member.time;
+    }
+    last
+}
+
+impl LogEnd {
+    /// That of a log without slots.
+    pub fn start() -> LogEnd
+        ensures { EndsAt [] result }
+    {
+        LogEnd {
+            last: 0,
+            archived: 0,
+            runs_end: 0,
+        }
+    }
+
+    // Whether the run goes further than the archive mark, no further than the last commit, and starts where the last run ends.
+    fn takes_run(&self, run: &Run) -> bool
+        ensures { IsTrue result ↔ IsNextRun self.now run.now }
+    {
+        self.archived < run.upto && run.upto <= self.last && run.start == self.runs_end
+    }
+
+    /// Whether this slot may follow in a store of this profile.
+    pub fn may_be_followed(&self, profile: u32, slot: &Slot) -> bool
+        ensures { InRange profile slot.now.body → (before : List Slot) → EndsAt before self.now → (IsTrue result ↔ MayFollow profile before slot.now) }
+    {
+        if !is_built(profile, kind_of(&slot.body)) {
+            return false;
+        }
+        match &slot.body {
+            Body::Commit(members) => starts_after(self.last, members.as_slice()),
+            Body::Archived(run) => self.takes_run(run),
+            _ => false,
+        }
+    }
+
+    /// Where the log ends once this slot follows.
+    pub fn with(&self, slot: &Slot) -> LogEnd
+        requires in_range { (profile : ℕ) × InRange profile slot.now.body }
+        ensures { (before : List Slot) → EndsAt before self.now → EndsAt (before ++ slot.now ∷ []) result }
+    {
+        match &slot.body {
+            Body::Commit(members) => LogEnd {
+                last: last_after(self.last, members.as_slice()),
+                ..*self
+            },
+            Body::Archived(run) => LogEnd {
+                archived: run.upto,
+                runs_end: run.start + run.len,
+                ..*self
+            },
+            _ => *self,
+        }
+    }
+}
