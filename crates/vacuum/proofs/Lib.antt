@@ -1,0 +1,5 @@
+pub mod Firsts
+pub mod Standing
+pub mod Keys
+pub mod Records
+pub mod Anchors
