@@ -3,3 +3,4 @@ pub mod Standing
 pub mod Keys
 pub mod Records
 pub mod Anchors
+pub mod Plans
