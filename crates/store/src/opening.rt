@@ -53,6 +53,7 @@ impl<D: Disk> Store<D> {
             floor,
             archived: _,
             reclaimed: _,
+            runs: _,
             extents,
             live: _,
             chains,
