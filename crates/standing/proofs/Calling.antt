@@ -76,7 +76,12 @@ same-works header v m opened heads snapshots w = record {
   used = w.used;
   kept = w.kept;
   packed = w.packed;
+  archived = w.archived;
+  runs_end = w.runs_end;
+  rested = w.rested;
+  rests = w.rests;
   at = w.at;
+  job = w.job;
   sound = w.sound;
 }
 
@@ -301,8 +306,13 @@ queued-works header v m label time numbers snapshots c order memory least many w
       used = w.used;
       kept = all-taken v.transactions.usages numbers (live w.layout) least w.kept;
       packed = packed-more m.published v.transactions.queue m.queue q c w.packed (queued-packed v.transactions (commit_order m) c label time numbers (order-has v.transactions m memory) many);
-      at = subst (λ (g : Group). IsAtStage header w.layout g (v.transactions.queue ++ q ∷ []) v.transactions.stage v.turn v.disk.areas) groups
-          (stage-same header w.layout (group_of w.layout v.transactions m) v.transactions.queue q v.transactions.group v.transactions.stage v.turn v.disk.areas order.stage_fits order.group_within w.at);
+      at = subst (λ (g : Group). IsAtStage header w.layout g (v.transactions.queue ++ q ∷ []) v.transactions.stage v.turn (record v.disk.areas { status = w.rested })) groups
+          (stage-same header w.layout (group_of w.layout v.transactions m) v.transactions.queue q v.transactions.group v.transactions.stage v.turn (record v.disk.areas { status = w.rested }) order.stage_fits order.group_within w.at);
+      archived = w.archived;
+      runs_end = w.runs_end;
+      rested = w.rested;
+      rests = w.rests;
+      job = w.job;
       sound = w.sound;
     }
 

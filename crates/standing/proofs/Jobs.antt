@@ -44,6 +44,10 @@ use Rattle.store.specs.Values.{turn_in, turn_of}
 use Rattle.standing.specs.OnDisk.{IsImageOf, IsNextRun, IsWritten, slot_of_run, IsTurnOfRun, IsAtJob, JobIsAt, HasJob, IsRested}
 use Rattle.standing.proofs.Joining.{built-more}
 
+-- where commits are built archives are
+pub archives-built : (profile : ℕ) → IsTrue (is_built profile 1) → IsTrue (is_built profile 2)
+archives-built profile built = built
+
 -- ---- the status area as it would rest
 
 -- where no job's slot is in the writing, that is the status area

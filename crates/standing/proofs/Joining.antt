@@ -9,7 +9,7 @@ use Rattle.history.specs.Histories.{History, MayAllFollow}
 use Rattle.history.specs.Machine.{Machine, IsMachine}
 use Rattle.history.specs.Fronts.{OnFront}
 use Rattle.history.proofs.Histories.{may_follow-behind, may_follow-front}
-use Rattle.disk.specs.Areas.{Areas, Image, AreSound, LeavesImage}
+use Rattle.disk.specs.Areas.{Areas, Image, AreSound, LeavesImage, loosened}
 use Rattle.disk.specs.declared.area.DeviceFault.{DeviceFault}
 use Rattle.wire.specs.Spelling.{IsSpelled, spelling, kind_of}
 use Rattle.wire.specs.declared.slot.Body.TheVariants.{Commit as CommitBody}
@@ -31,15 +31,17 @@ use Rattle.status.specs.Header.{total}
 use Rattle.status.specs.Rules.{is_built}
 use Rattle.status.specs.SlotCalls.{SlotStage}
 use Rattle.status.specs.SlotCalls as slots
-use Rattle.reading.specs.Extents.{Extent, IsExtent, AreDistinct}
+use Rattle.reading.specs.Extents.{Extent, IsExtent, AreDistinct, extent_start, extent_bytes}
+use Rattle.reading.specs.Keeping.{KeepsExtents}
 use Rattle.reading.specs.Layouts.{Layout, StoredMember, IsStoredMember, IsLayoutOf, HoldsLayout, live, extents_of}
 use Rattle.reading.specs.Opening.{AreBuilt}
 use Rattle.reading.specs.SlotTurns.{MayAt, MayWithin}
-use Rattle.reading.specs.Turn.{Group, laid_out, MayJoin, Stage, IsAt, IsCallOf, stage_after, MayBe, MayBecome}
+use Rattle.reading.specs.Turn.{Group, laid_out, MayJoin, Stage, IsAt, IsCallOf, stage_after, MayBe, MayBecome, IsStoring}
 use Rattle.reading.specs.Turn as turns
 use Rattle.reading.proofs.Lists.{AreCross, distinct_join}
 use Rattle.reading.proofs.Layouts.{group_extents_are, live_extents_are, stands_more, laid_more}
 use Rattle.reading.proofs.Groups.{group_holds, group_call_holds, group_call_leads}
+use Rattle.reading.proofs.Groups as grouping
 use Rattle.group.specs.Queued.{QueuedValue, numbers_of}
 use Rattle.transactions.specs.Values.{TransactionsValue}
 use Rattle.transactions.specs.Order.{IsInOrder}
@@ -236,6 +238,11 @@ module _ (header : Header) (v : TransactionsValue) (m : Machine Value) (layout :
       on-front image (inl (old_image image (group_call_holds header layout group room live_are group_are free bytes long spelled (turns.Storing done rest) result old new image at sound call left)))
   leaves_within bytes long spelled (turns.Turning stage) result old new image at sound call left =
       within-slot stage image (group_call_holds header layout group room live_are group_are free bytes long spelled (turns.Turning stage) result old new image at sound call left)
+
+  -- while an extent of the group is written, the live chains are kept
+  pub torn_kept : (done : List Extent) (e : Extent) (rest : List Extent) (old : Areas) → IsStoring header layout group done (e ∷ rest) old → AreSound old
+      → KeepsExtents (live layout) (loosened (extent_start e.number) (length (extent_bytes e)) old.heap.bytes old.heap)
+  torn_kept done e rest old at sound = grouping.torn_kept header layout group room live_are group_are free done e rest old at sound
 
   -- where a call leads that is answered Ok
   pub leads : (bytes : List ℕ) → length bytes ≡ 511 → IsSpelled header.profile (length layout.slots) bytes group.slot → (stage : Stage) (old new : Areas) → IsAt header layout group stage old → AreSound old

@@ -1,5 +1,5 @@
 -- A step of a group keeps what the store stands for, in memory and on its disk.
-use Rattle.std.proofs.Common.{◌≡◌, cond, slice_get, ℕ, suc, ◌+◌, ◌<◌, ◌≤◌, ◌==◌, nat_lt, Bool, true, false, List, [], ◌∷◌, ◌++◌, length, take, drop, Option, None, Some, is_some, Result, Ok, Err, MatchBool, MatchOption, refl, arith, ap, sym, subst, ◌∙◌, inl, inr, length-append}
+use Rattle.std.proofs.Common.{◌≡◌, cond, slice_get, ℕ, suc, ◌+◌, ◌<◌, ◌≤◌, ◌==◌, nat_lt, Bool, true, false, List, [], ◌∷◌, ◌++◌, length, take, drop, Option, None, Some, is_some, ◌||◌, Result, Ok, Err, MatchBool, MatchOption, refl, arith, ap, sym, subst, ◌∙◌, inl, inr, length-append}
 use Rattle.std.specs.Prelude.{IsTrue, min}
 use Rattle.std.specs.List.{flat_map}
 use Rattle.std.proofs.lemmas.Bool.{cases_lt}
@@ -21,7 +21,7 @@ use Rattle.image.proofs.PlansStay.{archive-plan-stays}
 use Rattle.disk.specs.Areas.{AreaState, Areas, Image, AreSound, LeavesImage, loosened, while_written}
 use Rattle.disk.proofs.Stops.{left_by_write, left_by_sync}
 use Rattle.disk.specs.Calls.{Writes, Syncs}
-use Rattle.disk.specs.declared.area.Area.TheVariants.{Heap}
+use Rattle.disk.specs.declared.area.Area.TheVariants.{Status, Heap}
 use Rattle.wire.specs.declared.slot.Body.{Body}
 use Rattle.wire.specs.declared.slot.Body.TheVariants.{Commit as CommitBody, Archived, Reclaimed, Floor}
 use Rattle.wire.specs.declared.slot.Member.{Member as Entry}
@@ -66,7 +66,7 @@ use Rattle.store.specs.Values.{StoreValue, KeepsJob, IsInStep, IsOnItsWay, turn_
 use Rattle.store.specs.declared.job.ArchiveJob.{ArchiveJob}
 use Rattle.store.specs.declared.job.JobStage.{JobStage}
 use Rattle.store.specs.declared.job.JobStage.TheVariants as job
-use Rattle.store.specs.Pumps.{Pumps, TakesStep, WritesExtent, TurnsSlot, IsTurned, started, begun, SyncsHeap}
+use Rattle.store.specs.Pumps.{Pumps, TakesStep, WritesExtent, BeginsSlot, TurnsSlot, IsTurned, started, begun, SyncsHeap}
 use Rattle.standing.specs.Standing.{StandsInMemory}
 use Rattle.standing.specs.OnDisk.{IsImageOf, AllPacked, written_before, group_of, IsAtStage, IsTurnOf, IsNextRun, IsAtJob, HasJob, IsRested, Works, StandsOnDisk}
 use Rattle.standing.specs.Stands.{Stands}
@@ -77,7 +77,7 @@ use Rattle.standing.proofs.Usages.{AllKept, all-published}
 use Rattle.standing.proofs.Joining as joining
 use Rattle.standing.proofs.Joining.{numbers-split}
 use Rattle.standing.proofs.Publishing.{restaged, breaks, publishes, begins}
-use Rattle.standing.proofs.Jobs.{resting, rested-now, rested-sound, sound-at, job-beside-heap, job-beside-status, job-moves, run-leaves, rested-write, rested-sync}
+use Rattle.standing.proofs.Jobs.{resting, rested-now, rested-sound, sound-at, job-beside-heap, job-beside-status, job-moves, run-leaves, archives-built, rested-write, rested-sync}
 
 -- ---- room in the log
 
@@ -401,6 +401,44 @@ module _ (header : Header) (v new : StoreValue) (m : Machine Value) (memory : St
           some = some;
         }
 
+  -- ---- calls of the heap beside a job
+
+  -- what a refused write of an extent leaves
+  wrote-leaves : (member extent : ℕ) → v.transactions.stage ≡ Storing member extent → member < v.transactions.group → (stored : StoredExtent)
+      → groups.extent_at (slice_get v.transactions.queue member) extent ≡ Some stored → Writes Heap (extent_start stored.extent) stored.image (Err (record {})) v.disk.areas new.disk.areas
+      → (image : Image) → LeavesImage new.disk.areas image → OnFront (IsImageOf header image) m
+  wrote-leaves member extent is low stored there call image left =
+      let some : 0 < v.transactions.group = omega (arith, low) in
+      let found : IsNext (drop (written_before v.transactions.queue member extent) (extents_of ((group_of w.layout v.transactions m).members))) stored = next-is v.transactions.group m.published v.transactions.queue m.queue member extent stored w.packed low there in
+      let base : Areas = resting-areas header v m w in
+      let all : List Extent = extents_of ((group_of w.layout v.transactions m).members) in
+      let k : ℕ = written_before v.transactions.queue member extent in
+      let here = subst (λ (s : GroupStage). IsAtStage header w.layout (group_of w.layout v.transactions m) v.transactions.queue s v.turn base) is w.at in
+      let at = subst (λ (es : List Extent). turns.IsStoring header w.layout (group_of w.layout v.transactions m) (take k all) es base) found.is here in
+      let before = (left_by_write Heap (extent_start stored.extent) stored.image (Err (record {})) v.disk.areas new.disk.areas call w.sound).each image left in
+      let torn : AreaState = loosened (extent_start stored.extent) (length stored.image) v.disk.areas.heap.bytes v.disk.areas.heap in
+      let keeps : KeepsExtents (live w.layout) torn =
+      subst (λ (n : ℕ). KeepsExtents (live w.layout) (loosened (extent_start n) (length stored.image) v.disk.areas.heap.bytes v.disk.areas.heap)) found.number
+      (subst (λ (bytes : List ℕ). KeepsExtents (live w.layout) (loosened (extent_start found.extent.number) (length bytes) v.disk.areas.heap.bytes v.disk.areas.heap)) found.bytes
+      (joining.torn_kept header v.transactions m w.layout w.reading memory machine order w.laid w.stands built w.built w.kept w.packed some (room-left header v m order in_step slots_are w some) (take k all) found.extent found.rest base at (resting-sound header v m w))) in
+      by-job header v m order in_step slots_are built (archives-built header.profile built) w (record v.disk.areas { heap = torn }) image v.job refl
+      (job-beside-heap header w.layout w.reading m.published v.job v.disk.areas torn keeps w.job) before
+      (λ still. goes-leaves (record {}) v.disk.areas new.disk.areas
+      (wrote-goes (Err (record {})) member extent is low stored there v.disk.areas new.disk.areas w.sound (now-at header v m w still) call) image left)
+
+  -- what is left by a call that changed nothing
+  same-leaves : new.disk.areas ≡ v.disk.areas → (image : Image) → LeavesImage new.disk.areas image → OnFront (IsImageOf header image) m
+  same-leaves same image left =
+      works-leave header v m memory machine order in_step slots_are built (archives-built header.profile built) w image (subst (λ (a : Areas). LeavesImage a image) same left)
+
+  -- the store after a call of the heap that was made
+  heap-works : (s : GroupStage) → AreSound new.disk.areas → (heap : AreaState) → new.disk.areas ≡ record v.disk.areas { heap = heap } → KeepsExtents (live w.layout) heap
+      → IsAtStage header w.layout (group_of w.layout v.transactions m) v.transactions.queue s v.turn (record new.disk.areas { status = w.rested }) → Works header (with_parts v new (groups.at_stage s v.transactions) v.log v.turn) m
+  heap-works s sound heap is keeps at =
+      staged-works s v.log v.turn refl sound w.rested
+      (subst (λ (a : Areas). IsRested header w.layout (turn_of v.job) w.rested a.status) (sym is) w.rests) at
+      (subst (λ (a : Areas). HasJob header w.layout w.reading m.published v.job a) (sym is) (job-beside-heap header w.layout w.reading m.published v.job v.disk.areas heap keeps w.job))
+
   -- ---- the slot is begun, or goes on
 
   abbrev named : Slot
@@ -438,10 +476,34 @@ module _ (header : Header) (v new : StoreValue) (m : Machine Value) (memory : St
 
   -- ---- the group is published
 
-  published-works : 0 < v.transactions.group → (number : ℕ) → number ≡ length w.layout.slots → AreSound new.disk.areas → IsTurnAt header w.layout named (laid_out w.layout (group_of w.layout v.transactions m)) slots.Opened new.disk.areas
-      → Works header (with_parts v new (groups.published v.transactions) (record v.log { used = number + 1; writing = false }) None) (steps.group_published m)
-  published-works some number last sound at =
+  -- a run that may come next still may, behind the group
+  next-run : (some : 0 < v.transactions.group) (run : StoredRun) → IsNextRun w.layout w.reading m.published run
+      → IsNextRun (laid_out w.layout (group_of w.layout v.transactions m)) (with_group w.reading (turns.members_of (group_of w.layout v.transactions m))) (m.published ++ take m.group m.queue) run
+  next-run some run next =
       let room = room-left header v m order in_step slots_are w some in
+      let group : turns.Group = group_of w.layout v.transactions m in
+      let joins = joining.joins header v.transactions m w.layout w.reading memory machine order w.laid w.stands built w.built w.kept w.packed some room in
+      let space = has_room header w.layout w.reading m.published (take v.transactions.group m.queue) m.floors group w.laid w.stands joins in
+      let grown : last m.published ≤ last (m.published ++ take v.transactions.group m.queue) =
+      (let up = last-later (last m.published) (take v.transactions.group m.queue) (rising-from_following IsValue m.published (take v.transactions.group m.queue) joins.is_group.may) in
+      omega (arith, up, last_after-append 0 m.published (take v.transactions.group m.queue))) in
+      let same : archived_upto (with_group w.reading (turns.members_of group)) ≡ archived_upto w.reading = same_archived w.reading m.published m.floors w.stands (turns.members_of group) (take v.transactions.group m.queue) joins.is_group space in
+      subst (λ (n : ℕ). IsNextRun (laid_out w.layout group) (with_group w.reading (turns.members_of group)) (m.published ++ take n m.queue) run) memory.group (record {
+        plan = archive-plan-stays w.reading m.published (take v.transactions.group m.queue) m.floors (turns.members_of group) w.stands joins.is_group space run.entry.upto run.records next.by_last next.plan;
+        later = omega (arith, same, next.later);
+        by_last = omega (arith, grown, next.by_last);
+        stored = next.stored;
+        behind = next.behind ∙ ap (row_end 0) (sym (runs_more header w.layout w.reading m.published (take v.transactions.group m.queue) m.floors group w.laid w.stands joins));
+        in_range = next.in_range;
+      })
+
+  published-works : 0 < v.transactions.group → turn_of v.job ≡ None → (number : ℕ) → number ≡ length w.layout.slots → AreSound new.disk.areas → (status : AreaState) → new.disk.areas ≡ record v.disk.areas { status = status }
+      → IsTurnAt header w.layout named (laid_out w.layout (group_of w.layout v.transactions m)) slots.Opened new.disk.areas
+      → Works header (with_parts v new (groups.published v.transactions) (record v.log { used = number + 1; writing = false }) None) (steps.group_published m)
+  published-works some still number last sound status is at =
+      let room = room-left header v m order in_step slots_are w some in
+      let joins = joining.joins header v.transactions m w.layout w.reading memory machine order w.laid w.stands built w.built w.kept w.packed some room in
+      let space = has_room header w.layout w.reading m.published (take v.transactions.group m.queue) m.floors (group_of w.layout v.transactions m) w.laid w.stands joins in
       let group : turns.Group = group_of w.layout v.transactions m in
       let size : v.transactions.group ≡ m.group = memory.group in
       record {
@@ -458,7 +520,13 @@ module _ (header : Header) (v new : StoreValue) (m : Machine Value) (memory : St
             (joining.numbers header v.transactions m w.layout w.reading memory machine order w.laid w.stands built w.built w.kept w.packed some room)
             w.kept);
         packed = subst (λ (n : ℕ). AllPacked (m.published ++ take n m.queue) (drop v.transactions.group v.transactions.queue) (drop n m.queue)) size (packed-rest v.transactions.group m.published v.transactions.queue m.queue w.packed);
+        archived = w.archived ∙ sym (same_archived w.reading m.published m.floors w.stands (turns.members_of (group_of w.layout v.transactions m)) (take v.transactions.group m.queue) joins.is_group space);
+        runs_end = w.runs_end ∙ ap (row_end 0) (sym (runs_more header w.layout w.reading m.published (take v.transactions.group m.queue) m.floors (group_of w.layout v.transactions m) w.laid w.stands joins));
+        rested = new.disk.areas.status;
+        rests = rested-now header (laid_out w.layout (group_of w.layout v.transactions m)) (turn_of v.job) new.disk.areas.status still;
         at = record { status = at.status; parts = at.new_parts };
+        job = job-moves header w.layout (laid_out w.layout (group_of w.layout v.transactions m)) w.reading (with_group w.reading (turns.members_of (group_of w.layout v.transactions m))) m.published (m.published ++ take m.group m.queue) v.job new.disk.areas still (next-run some)
+            (subst (λ (a : Areas). HasJob header w.layout w.reading m.published v.job a) (sym is) (job-beside-status header w.layout w.reading m.published v.job v.disk.areas status still w.job));
         sound = sound;
       }
 
@@ -467,8 +535,10 @@ module _ (header : Header) (v new : StoreValue) (m : Machine Value) (memory : St
 abbrev Ends : Bool → Machine Value → Result Did PumpFault → StoreValue → Type 0
 Ends tells m answer v = (after : Machine Value) × Run IsValue m (ends_in answer) after × Parts tells v after
 
-same-store : (new : StoreValue) (transactions : TransactionsValue) (log : LogState) (turn : Option TurnState) → new.transactions ≡ transactions → new.log ≡ log → new.turn ≡ turn → with_parts v new transactions log turn ≡ new
-same-store new transactions log turn a b c = let x = sym a in let y = sym b in let z = sym c in λ i. record { transactions = x i; log = y i; turn = z i; disk = new.disk }
+same-store : (v new : StoreValue) (transactions : TransactionsValue) (log : LogState) (turn : Option TurnState) → KeepsJob v new → new.transactions ≡ transactions → new.log ≡ log → new.turn ≡ turn → with_parts v new transactions log turn ≡ new
+same-store v new transactions log turn keeps a b c =
+    let x = sym a in let y = sym b in let z = sym c in let j = sym keeps.job in let k = sym keeps.archived in let l = sym keeps.runs_end in
+    λ i. record { transactions = x i; log = y i; turn = z i; job = j i; archived = k i; runs_end = l i; disk = new.disk }
 
 broken-order : (v : TransactionsValue) → IsInOrder v → IsInOrder (groups.broken v)
 broken-order v order = record {
@@ -485,28 +555,29 @@ broken-order v order = record {
 
 -- a refused call
 fails-parts : (tells : Bool) (v new : StoreValue) (m : Machine Value) → (parts : Parts tells v m) → IsMachine IsValue m → (works : m.failed ≡ false) → (log : LogState) (turn : Option TurnState) → log.profile ≡ v.log.profile → log.slots ≡ v.log.slots → log.used ≡ v.log.used
-    → ((told : IsTrue tells) → Goes (parts.disk told).header v m ((parts.disk told).works works) (Err (record {})) new.disk.areas) → Parts tells (with_parts v new (groups.broken v.transactions) log turn) (steps.broken m)
-fails-parts tells v new m parts machine works log turn same many used goes = record {
+    → ((told : IsTrue tells) (image : Image) → LeavesImage new.disk.areas image → OnFront (IsImageOf (parts.disk told).header image) m) → Parts tells (with_parts v new (groups.broken v.transactions) log turn) (steps.broken m)
+fails-parts tells v new m parts machine works log turn same many used leaves = record {
   memory = breaks v.transactions m parts.memory;
   order = broken-order v.transactions parts.order;
   in_step = record { slots = many ∙ parts.in_step.slots; used = used ∙ parts.in_step.used; turns = λ no. absurd cc };
   disk = λ told.
       let d = parts.disk told in
-      breaks-disk d.header v new m parts.memory machine parts.order parts.in_step d.profile d.slots d.profile_built (d.works works) (record {}) log turn (goes told) same many;
+      breaks-disk d.header v new m parts.memory machine parts.order parts.in_step d.profile d.slots d.profile_built (d.works works) log turn (leaves told) same many;
 }
 
-fails-step : (tells : Bool) (v new : StoreValue) (m : Machine Value) (why : PumpFault) → (parts : Parts tells v m) → IsMachine IsValue m → (works : m.failed ≡ false) → (log : LogState) (turn : Option TurnState) → log.profile ≡ v.log.profile → log.slots ≡ v.log.slots → log.used ≡ v.log.used
+fails-step : (tells : Bool) (v new : StoreValue) (m : Machine Value) (why : PumpFault) → why ≡ pump.Failed → KeepsJob v new → (parts : Parts tells v m) → IsMachine IsValue m → (works : m.failed ≡ false) → (log : LogState) (turn : Option TurnState) → log.profile ≡ v.log.profile → log.slots ≡ v.log.slots → log.used ≡ v.log.used
     → new.transactions ≡ groups.broken v.transactions → new.log ≡ log → new.turn ≡ turn
-    → ((told : IsTrue tells) → Goes (parts.disk told).header v m ((parts.disk told).works works) (Err (record {})) new.disk.areas) → Ends tells m (Err why) new
-fails-step tells v new m why parts machine works log turn same many used a b c goes =
-    (steps.broken m, (steps.broken m, (works, refl), refl), subst (λ (x : StoreValue). Parts tells x (steps.broken m)) (same-store new (groups.broken v.transactions) log turn a b c) (fails-parts tells v new m parts machine works log turn same many used goes))
+    → ((told : IsTrue tells) (image : Image) → LeavesImage new.disk.areas image → OnFront (IsImageOf (parts.disk told).header image) m) → Ends tells m (Err why) new
+fails-step tells v new m why is keeps parts machine works log turn same many used a b c leaves =
+    subst (λ (e : PumpFault). Ends tells m (Err e) new) (sym is)
+    (steps.broken m, (steps.broken m, (works, refl), refl), subst (λ (x : StoreValue). Parts tells x (steps.broken m)) (same-store v new (groups.broken v.transactions) log turn keeps a b c) (fails-parts tells v new m parts machine works log turn same many used leaves))
 
 -- a call that is made, and tells nothing of the machine
-stays-step : (tells : Bool) (v new : StoreValue) (m : Machine Value) (said what : Did) → ends_in (Ok what) ≡ [] → said ≡ what → (transactions : TransactionsValue) (log : LogState) (turn : Option TurnState) → new.transactions ≡ transactions → new.log ≡ log → new.turn ≡ turn
+stays-step : (tells : Bool) (v new : StoreValue) (m : Machine Value) (said what : Did) → KeepsJob v new → ends_in (Ok what) ≡ [] → said ≡ what → (transactions : TransactionsValue) (log : LogState) (turn : Option TurnState) → new.transactions ≡ transactions → new.log ≡ log → new.turn ≡ turn
     → Parts tells (with_parts v new transactions log turn) m → Ends tells m (Ok said) new
-stays-step tells v new m said what none is transactions log turn a b c parts =
+stays-step tells v new m said what keeps none is transactions log turn a b c parts =
     subst (λ (d : Did). Ends tells m (Ok d) new) (sym is)
-    (m, subst (λ (es : List (Event Value)). Run IsValue m es m) (sym none) refl, subst (λ (x : StoreValue). Parts tells x m) (same-store new transactions log turn a b c) parts)
+    (m, subst (λ (es : List (Event Value)). Run IsValue m es m) (sym none) refl, subst (λ (x : StoreValue). Parts tells x m) (same-store v new transactions log turn keeps a b c) parts)
 
 -- ---- an extent
 
@@ -529,6 +600,21 @@ behind-turning : (qs : List QueuedValue) (member extent : ℕ) (o : Option Queue
 behind-turning qs member extent None = refl
 behind-turning qs member extent (Some q) = elim (nat_lt (extent + 1) (length q.stored)) as (λ (b : Bool). is_turning (cond b (Storing member (extent + 1)) (Storing (member + 1) 0)) ≡ false) [ true ↦ refl | false ↦ refl ]
 
+-- a call of the heap changes the heap alone
+heap-alone : (old new : Areas) (heap : AreaState) → new ≡ record old { heap = heap } → new ≡ record old { heap = new.heap }
+heap-alone old new heap is = is ∙ ap (λ (a : Areas). record old { heap = a.heap }) (sym is)
+
+-- and one of the status area that area alone
+status-alone : (old new : Areas) (status : AreaState) → new ≡ record old { status = status } → new ≡ record old { status = new.status }
+status-alone old new status is = is ∙ ap (λ (a : Areas). record old { status = a.status }) (sym is)
+
+slot-alone : (stage : SlotStage) (number : ℕ) (body : List ℕ) (old new : Areas) → IsSlotCall number body stage (Ok tt) old new → new ≡ record old { status = new.status }
+slot-alone slots.Begun number body old new call = status-alone old new _ call.written
+slot-alone slots.BodyWritten number body old new call = status-alone old new _ call.synced
+slot-alone slots.BodySynced number body old new call = status-alone old new _ call.written
+slot-alone slots.GateWritten number body old new call = status-alone old new _ call.synced
+slot-alone slots.Opened number body old new call = absurd call
+
 wrote-step : (tells : Bool) (v new : StoreValue) (answer : Result Did PumpFault) (m : Machine Value) → Parts tells v m → IsMachine IsValue m → (works : m.failed ≡ false) → groups.due v.transactions ≡ next.WriteExtent → (IsTrue tells → AreSound new.disk.areas)
     → (o : Option StoredExtent) → groups.next_extent v.transactions ≡ o → MatchOption o ⊥ (λ stored. WritesExtent tells stored v answer new) → Ends tells m answer new
 wrote-step tells v new answer m parts machine works asks sound None found takes = absurd takes
@@ -539,8 +625,8 @@ wrote-step tells v new answer m parts machine works asks sound (Some stored) fou
   where
     by-answer : (answer : Result Did PumpFault) (at : IsStoring v.transactions.stage v.transactions.group) → groups.extent_at (slice_get v.transactions.queue at.member) at.extent ≡ Some stored → WritesExtent tells stored v answer new → Ends tells m answer new
     by-answer (Err why) at there takes =
-        fails-step tells v new m why parts machine works v.log v.turn refl refl refl takes.steps.answer.1 takes.steps.log takes.steps.turn
-        (λ told. let d = parts.disk told in wrote-goes d.header v new m parts.memory machine parts.order parts.in_step d.profile d.slots d.profile_built (d.works works) (Err (record {})) at.member at.extent at.is at.low stored there (takes.call.areas told))
+        fails-step tells v new m why takes.steps.answer.0 takes.steps.job parts machine works v.log v.turn refl refl refl takes.steps.answer.1 takes.steps.log takes.steps.turn
+        (λ told. let d = parts.disk told in wrote-leaves d.header v new m parts.memory machine parts.order parts.in_step d.profile d.slots d.profile_built (d.works works) at.member at.extent at.is at.low stored there (takes.call.areas told))
     by-answer (Ok said) at there takes =
         let stage = groups.stage_behind v.transactions.queue v.transactions.stage in
         let memory = restaged v.transactions m stage parts.memory (λ _. omega (arith, at.low)) in
@@ -552,18 +638,23 @@ wrote-step tells v new answer m parts machine works asks sound (Some stored) fou
           used = parts.in_step.used;
           turns = λ on. let was = parts.in_step.turns on in record { turning = turning ∙ was.turning; writing = was.writing; turn = was.turn; job = was.job };
         } in
-        stays-step tells v new m said did.WroteExtent refl takes.steps.answer.0 (groups.wrote_extent v.transactions) v.log v.turn takes.steps.answer.1 takes.steps.log takes.steps.turn (record {
+        stays-step tells v new m said did.WroteExtent takes.steps.job refl takes.steps.answer.0 (groups.wrote_extent v.transactions) v.log v.turn takes.steps.answer.1 takes.steps.log takes.steps.turn (record {
           memory = memory;
           order = order;
           in_step = in_step;
           disk = λ told.
               let d = parts.disk told in
               let w = d.works works in
-              let goes = wrote-goes d.header v new m parts.memory machine parts.order parts.in_step d.profile d.slots d.profile_built w (Ok tt) at.member at.extent at.is at.low stored there (takes.call.areas told) in
+              let base = resting-areas d.header v m w in
+              let then : Areas = record new.disk.areas { status = w.rested } in
+              let call = rested-write w.rested (extent_start stored.extent) stored.image v.disk.areas new.disk.areas (takes.call.areas told) in
+              let sound' = resting-sound d.header v m w in
+              let goes = wrote-goes d.header v new m parts.memory machine parts.order parts.in_step d.profile d.slots d.profile_built w (Ok tt) at.member at.extent at.is at.low stored there base then sound' w.at call in
+              let on = goes-on d.header v new m parts.memory machine parts.order parts.in_step d.profile d.slots d.profile_built w base then goes in
+              let is : new.disk.areas ≡ record v.disk.areas { heap = new.disk.areas.heap } = heap-alone v.disk.areas new.disk.areas _ (takes.call.areas told).written in
               on-disk d.header (with_parts v new (groups.wrote_extent v.transactions) v.log v.turn) m memory machine order in_step d.profile d.slots d.profile_built
-              (staged-works d.header v new m parts.memory machine parts.order parts.in_step d.profile d.slots d.profile_built w stage v.log v.turn refl (sound told)
-              (wrote-at d.header v new m parts.memory machine parts.order parts.in_step d.profile d.slots d.profile_built w (Ok tt) at.member at.extent at.is at.low stored there (takes.call.areas told)
-              (goes-on d.header v new m parts.memory machine parts.order parts.in_step d.profile d.slots d.profile_built w goes)));
+              (heap-works d.header v new m parts.memory machine parts.order parts.in_step d.profile d.slots d.profile_built w stage (sound told) new.disk.areas.heap is on.rests.parts.extents
+              (wrote-at d.header v new m parts.memory machine parts.order parts.in_step d.profile d.slots d.profile_built w (Ok tt) at.member at.extent at.is at.low stored there base then sound' w.at call on));
         })
 
 -- ---- the heap
@@ -591,8 +682,8 @@ synced-step tells v new answer m parts machine works asks sound takes =
   where
     by-answer : (answer : Result Did PumpFault) → IsAllStored v.transactions.stage v.transactions.group → SyncsHeap tells v answer new → Ends tells m answer new
     by-answer (Err why) at takes =
-        fails-step tells v new m why parts machine works v.log v.turn refl refl refl takes.steps.answer.1 takes.steps.log takes.steps.turn
-        (λ told. let d = parts.disk told in synced-goes d.header v new m parts.memory machine parts.order parts.in_step d.profile d.slots d.profile_built (d.works works) (Err (record {})) at.member at.extent at.is at.past at.some (takes.call.areas told))
+        fails-step tells v new m why takes.steps.answer.0 takes.steps.job parts machine works v.log v.turn refl refl refl takes.steps.answer.1 takes.steps.log takes.steps.turn
+        (λ told. let d = parts.disk told in same-leaves d.header v new m parts.memory machine parts.order parts.in_step d.profile d.slots d.profile_built (d.works works) (takes.call.areas told).same)
     by-answer (Ok said) at takes =
         let memory = restaged v.transactions m Stored parts.memory (λ _. at.some) in
         let order = keeps-synced v.transactions parts.order asks in
@@ -601,17 +692,21 @@ synced-step tells v new answer m parts machine works asks sound takes =
           used = parts.in_step.used;
           turns = λ on. let was = parts.in_step.turns on in record { turning = sym (ap is_turning at.is) ∙ was.turning; writing = was.writing; turn = was.turn; job = was.job };
         } in
-        stays-step tells v new m said did.HeapSynced refl takes.steps.answer.0 (groups.at_stage Stored v.transactions) v.log v.turn takes.steps.answer.1 takes.steps.log takes.steps.turn (record {
+        stays-step tells v new m said did.HeapSynced takes.steps.job refl takes.steps.answer.0 (groups.at_stage Stored v.transactions) v.log v.turn takes.steps.answer.1 takes.steps.log takes.steps.turn (record {
           memory = memory;
           order = order;
           in_step = in_step;
           disk = λ told.
               let d = parts.disk told in
               let w = d.works works in
-              let goes = synced-goes d.header v new m parts.memory machine parts.order parts.in_step d.profile d.slots d.profile_built w (Ok tt) at.member at.extent at.is at.past at.some (takes.call.areas told) in
+              let base = resting-areas d.header v m w in
+              let then : Areas = record new.disk.areas { status = w.rested } in
+              let goes = synced-goes d.header v new m parts.memory machine parts.order parts.in_step d.profile d.slots d.profile_built w (Ok tt) at.member at.extent at.is at.past at.some base then (resting-sound d.header v m w) w.at
+              (rested-sync w.rested v.disk.areas new.disk.areas (takes.call.areas told)) in
+              let on = goes-on d.header v new m parts.memory machine parts.order parts.in_step d.profile d.slots d.profile_built w base then goes in
+              let is : new.disk.areas ≡ record v.disk.areas { heap = new.disk.areas.heap } = heap-alone v.disk.areas new.disk.areas _ (takes.call.areas told).synced in
               on-disk d.header (with_parts v new (groups.at_stage Stored v.transactions) v.log v.turn) m memory machine order in_step d.profile d.slots d.profile_built
-              (staged-works d.header v new m parts.memory machine parts.order parts.in_step d.profile d.slots d.profile_built w Stored v.log v.turn refl (sound told)
-              (goes-on d.header v new m parts.memory machine parts.order parts.in_step d.profile d.slots d.profile_built w goes));
+              (heap-works d.header v new m parts.memory machine parts.order parts.in_step d.profile d.slots d.profile_built w Stored (sound told) new.disk.areas.heap is on.old_parts.extents on);
         })
 
 -- ---- the slot
@@ -622,7 +717,7 @@ IsGroupTurn tells v m disk works t = (told : IsTrue tells) → IsTurnOf (disk to
 
 -- a slot on its way: the store has the stage and the turn of it
 module _ (tells : Bool) (v new : StoreValue) (m : Machine Value) (t : TurnState) (parts : Parts tells v m) (machine : IsMachine IsValue m) (works : m.failed ≡ false) (turning : v.transactions.stage ≡ Turning) (number : t.number ≡ v.log.used)
-    (writing : v.log.writing ≡ true) (own : IsGroupTurn tells v m parts.disk works t) (sound : IsTrue tells → AreSound new.disk.areas) where
+    (writing : v.log.writing ≡ true) (own : IsGroupTurn tells v m parts.disk works t) (sound : IsTrue tells → AreSound new.disk.areas) (still : turn_of v.job ≡ None) (keeps : KeepsJob v new) where
   group-some : 0 < v.transactions.group
   group-some = subst (λ (s : GroupStage). StageFits s v.transactions.group v.transactions.queue) turning parts.order.stage_fits
 
@@ -635,7 +730,11 @@ module _ (tells : Bool) (v new : StoreValue) (m : Machine Value) (t : TurnState)
       let w = d.works works in
       let goes = slot-goes d.header v new m parts.memory machine parts.order parts.in_step d.profile d.slots d.profile_built w (Ok tt) t (own told) group-some (call told) in
       subst (λ (s : SlotStage). IsTurnAt d.header w.layout (group_of w.layout v.transactions m).slot (laid_out w.layout (group_of w.layout v.transactions m)) (slots.slot_stage_after s) new.disk.areas) is
-      (goes-on d.header v new m parts.memory machine parts.order parts.in_step d.profile d.slots d.profile_built w goes)
+      (goes-on d.header v new m parts.memory machine parts.order parts.in_step d.profile d.slots d.profile_built w v.disk.areas new.disk.areas goes)
+
+  -- no job's slot is in the writing beside it
+  abbrev no-other : (n : ℕ) (turn : Option TurnState) → MatchOption (turn_of v.job) (Unit {0}) (λ u. (u.number ≡ n) × IsOnItsWay u.stage × (turn ≡ None))
+  no-other n turn = subst (λ (o : Option TurnState). MatchOption o (Unit {0}) (λ u. (u.number ≡ n) × IsOnItsWay u.stage × (turn ≡ None))) (sym still) tt
 
   -- what the store is then
   between : (stage : SlotStage) → t.stage ≡ stage → IsOnItsWay (slots.slot_stage_after stage) → (IsTrue tells → IsSlotCall t.number t.body t.stage (Ok tt) v.disk.areas new.disk.areas) → (said what : Did) → ends_in (Ok what) ≡ [] → said ≡ what
@@ -645,9 +744,9 @@ module _ (tells : Bool) (v new : StoreValue) (m : Machine Value) (t : TurnState)
       let in_step : IsInStep (with_parts v new v.transactions v.log after) = record {
         slots = parts.in_step.slots;
         used = parts.in_step.used;
-        turns = λ on. record { turning = ap is_turning turning; writing = writing; turn = (number, way) };
+        turns = λ on. record { turning = ap is_turning turning; writing = writing; turn = (number, way); job = no-other v.log.used after };
       } in
-      stays-step tells v new m said what none same v.transactions v.log after a b c (record {
+      stays-step tells v new m said what keeps none same v.transactions v.log after a b c (record {
         memory = parts.memory;
         order = parts.order;
         in_step = in_step;
@@ -665,7 +764,13 @@ module _ (tells : Bool) (v new : StoreValue) (m : Machine Value) (t : TurnState)
               used = w.used;
               kept = w.kept;
               packed = w.packed;
+              archived = w.archived;
+              runs_end = w.runs_end;
+              rested = new.disk.areas.status;
+              rests = rested-now d.header w.layout (turn_of v.job) new.disk.areas.status still;
               at = subst (λ (s : GroupStage). IsAtStage d.header w.layout (group_of w.layout v.transactions m) v.transactions.queue s after new.disk.areas) (sym turning) at;
+              job = subst (λ (a : Areas). HasJob d.header w.layout w.reading m.published v.job a) (sym (slot-alone t.stage t.number t.body v.disk.areas new.disk.areas (call told)))
+                  (job-beside-status d.header w.layout w.reading m.published v.job v.disk.areas new.disk.areas.status still w.job);
               sound = sound told;
             });
       })
@@ -685,7 +790,7 @@ module _ (tells : Bool) (v new : StoreValue) (m : Machine Value) (t : TurnState)
       let in_step : IsInStep (with_parts v new (groups.published v.transactions) log None) = record {
         slots = parts.in_step.slots;
         used = omega (arith, number, parts.in_step.used);
-        turns = λ on. record { turning = refl; writing = refl; turn = tt };
+        turns = λ on. record { turning = refl; writing = sym (ap (λ (o : Option TurnState). is_some o) still); turn = tt; job = no-other (t.number + 1) None };
       } in
       let after : Parts tells (with_parts v new (groups.published v.transactions) log None) (steps.group_published m) = record {
         memory = memory;
@@ -695,10 +800,11 @@ module _ (tells : Bool) (v new : StoreValue) (m : Machine Value) (t : TurnState)
             let d = parts.disk told in
             let w = d.works works in
             on-disk d.header (with_parts v new (groups.published v.transactions) log None) (steps.group_published m) memory machine' order in_step d.profile d.slots d.profile_built
-            (published-works d.header v new m parts.memory machine parts.order parts.in_step d.profile d.slots d.profile_built w group-some t.number (own told).number (sound told) (led slots.GateWritten is call told));
+            (published-works d.header v new m parts.memory machine parts.order parts.in_step d.profile d.slots d.profile_built w group-some still t.number (own told).number (sound told) new.disk.areas.status
+            (slot-alone t.stage t.number t.body v.disk.areas new.disk.areas (call told)) (led slots.GateWritten is call told));
       } in
       subst (λ (e : Did). Ends tells m (Ok e) new) (sym same)
-      (steps.group_published m, (steps.group_published m, step, refl), subst (λ (x : StoreValue). Parts tells x (steps.group_published m)) (same-store new (groups.published v.transactions) log None a b c) after)
+      (steps.group_published m, (steps.group_published m, step, refl), subst (λ (x : StoreValue). Parts tells x (steps.group_published m)) (same-store v new (groups.published v.transactions) log None keeps a b c) after)
 
   turned : (stage : SlotStage) → t.stage ≡ stage → (IsTrue tells → IsSlotCall t.number t.body t.stage (Ok tt) v.disk.areas new.disk.areas) → groups.due v.transactions ≡ next.AdvanceSlot → (what : Did) → IsTurned stage t v what new → Ends tells m (Ok what) new
   turned slots.Begun is call asks what to = between slots.Begun is tt call what did.BodyWritten refl to.0 to.1 to.2 to.3
@@ -710,8 +816,10 @@ module _ (tells : Bool) (v new : StoreValue) (m : Machine Value) (t : TurnState)
   slot-step : groups.due v.transactions ≡ next.AdvanceSlot → (answer : Result Did PumpFault) → TurnsSlot tells t v answer new → Ends tells m answer new
   slot-step asks (Ok what) turns = turned t.stage refl turns.call.areas asks what turns.answer
   slot-step asks (Err why) turns =
-      fails-step tells v new m why parts machine works v.log None refl refl refl turns.answer.transactions turns.answer.log turns.answer.turn
-      (λ told. let d = parts.disk told in slot-goes d.header v new m parts.memory machine parts.order parts.in_step d.profile d.slots d.profile_built (d.works works) (Err (record {})) t (own told) group-some (turns.call.areas told))
+      fails-step tells v new m why turns.answer.fault keeps parts machine works v.log None refl refl refl turns.answer.transactions turns.answer.log turns.answer.turn
+      (λ told. let d = parts.disk told in
+      goes-leaves d.header v new m parts.memory machine parts.order parts.in_step d.profile d.slots d.profile_built (d.works works) (record {}) v.disk.areas new.disk.areas
+      (slot-goes d.header v new m parts.memory machine parts.order parts.in_step d.profile d.slots d.profile_built (d.works works) (Err (record {})) t (own told) group-some (turns.call.areas told)))
 
 -- ---- the slot is begun
 
@@ -724,7 +832,7 @@ begin-is (Storing member extent) group asks =
 
 -- the group's slot is in the writing, and no call of it is made: the store is on its way to the first one
 module _ (tells : Bool) (v new : StoreValue) (m : Machine Value) (parts : Parts tells v m) (machine : IsMachine IsValue m) (works : m.failed ≡ false) (stored : v.transactions.stage ≡ Stored)
-    (sound : IsTrue tells → AreSound new.disk.areas) (body : Body) (commit : IsCommitOf (groups.entries v.transactions) body) where
+    (sound : IsTrue tells → AreSound new.disk.areas) (body : Body) (commit : IsCommitOf (groups.entries v.transactions) body) (still : turn_of v.job ≡ None) (keeps : KeepsJob v new) where
   abbrev first : TurnState
   first = record { number = v.log.used; body = spelling v.log.profile (record { number = v.log.used; body = body }); stage = slots.Begun }
 
@@ -736,9 +844,9 @@ module _ (tells : Bool) (v new : StoreValue) (m : Machine Value) (parts : Parts 
       let d = parts.disk told in
       let w = d.works works in
       begun-turn d.header v new m parts.memory machine parts.order parts.in_step d.profile d.slots d.profile_built w body commit
-      (subst (λ (s : GroupStage). IsAtStage d.header w.layout (group_of w.layout v.transactions m) v.transactions.queue s v.turn v.disk.areas) stored w.at) some-stored
+      (subst (λ (s : GroupStage). IsAtStage d.header w.layout (group_of w.layout v.transactions m) v.transactions.queue s v.turn v.disk.areas) stored (now-at d.header v m w still)) some-stored
 
-  abbrev first-goes : (answer : Result (Unit {0}) DeviceFault) (told : IsTrue tells) → IsSlotCall first.number first.body slots.Begun answer v.disk.areas new.disk.areas → Goes (parts.disk told).header v m ((parts.disk told).works works) answer new.disk.areas
+  abbrev first-goes : (answer : Result (Unit {0}) DeviceFault) (told : IsTrue tells) → IsSlotCall first.number first.body slots.Begun answer v.disk.areas new.disk.areas → Goes (parts.disk told).header v m ((parts.disk told).works works) answer v.disk.areas new.disk.areas
   first-goes answer told call =
       let d = parts.disk told in
       slot-goes d.header v new m parts.memory machine parts.order parts.in_step d.profile d.slots d.profile_built (d.works works) answer first (first-turn told) some-stored call
@@ -752,9 +860,14 @@ module _ (tells : Bool) (v new : StoreValue) (m : Machine Value) (parts : Parts 
       let in_step : IsInStep (with_parts v new (groups.at_stage Turning v.transactions) log after) = record {
         slots = parts.in_step.slots;
         used = parts.in_step.used;
-        turns = λ on. record { turning = refl; writing = refl; turn = (refl, tt) };
+        turns = λ on. record {
+          turning = refl;
+          writing = refl;
+          turn = (refl, tt);
+          job = subst (λ (o : Option TurnState). MatchOption o (Unit {0}) (λ u. (u.number ≡ v.log.used) × IsOnItsWay u.stage × (after ≡ None))) (sym still) tt;
+        };
       } in
-      stays-step tells v new m what did.BodyWritten refl to.answer.0 (groups.at_stage Turning v.transactions) log after to.answer.1 to.answer.2 to.answer.3 (record {
+      stays-step tells v new m what did.BodyWritten keeps refl to.answer.0 (groups.at_stage Turning v.transactions) log after to.answer.1 to.answer.2 to.answer.3 (record {
         memory = memory;
         order = order;
         in_step = in_step;
@@ -762,19 +875,24 @@ module _ (tells : Bool) (v new : StoreValue) (m : Machine Value) (parts : Parts 
             let d = parts.disk told in
             let w = d.works works in
             let mine = first-turn told in
-            let on = goes-on d.header v new m parts.memory machine parts.order parts.in_step d.profile d.slots d.profile_built w (first-goes (Ok tt) told (to.call.areas told)) in
+            let on = goes-on d.header v new m parts.memory machine parts.order parts.in_step d.profile d.slots d.profile_built w v.disk.areas new.disk.areas (first-goes (Ok tt) told (to.call.areas told)) in
             on-disk d.header (with_parts v new (groups.at_stage Turning v.transactions) log after) m memory machine order in_step d.profile d.slots d.profile_built
-            (staged-works d.header v new m parts.memory machine parts.order parts.in_step d.profile d.slots d.profile_built w Turning log after refl (sound told)
-            (record { number = mine.number; long = mine.long; spelled = mine.spelled; at = on }));
+            (staged-works d.header v new m parts.memory machine parts.order parts.in_step d.profile d.slots d.profile_built w Turning log after refl (sound told) new.disk.areas.status
+            (rested-now d.header w.layout (turn_of v.job) new.disk.areas.status still) (record { number = mine.number; long = mine.long; spelled = mine.spelled; at = on })
+            (subst (λ (a : Areas). HasJob d.header w.layout w.reading m.published v.job a) (sym (slot-alone slots.Begun first.number first.body v.disk.areas new.disk.areas (to.call.areas told)))
+            (job-beside-status d.header w.layout w.reading m.published v.job v.disk.areas new.disk.areas.status still w.job)));
       })
   begun-step asks (Err why) to =
       let log : LogState = record v.log { writing = true } in
-      let same : groups.broken (groups.at_stage Turning v.transactions) ≡ groups.at_stage Turning (groups.broken v.transactions) = refl in
-      let parts' : Parts tells (with_parts v new (groups.broken v.transactions) log None) (steps.broken m) = fails-parts tells v new m parts machine works log None refl refl refl (λ told. first-goes (Err (record {})) told (to.call.areas told)) in (
+      let parts' : Parts tells (with_parts v new (groups.broken v.transactions) log None) (steps.broken m) =
+      fails-parts tells v new m parts machine works log None refl refl refl
+      (λ told. let d = parts.disk told in
+      goes-leaves d.header v new m parts.memory machine parts.order parts.in_step d.profile d.slots d.profile_built (d.works works) (record {}) v.disk.areas new.disk.areas (first-goes (Err (record {})) told (to.call.areas told))) in
+      subst (λ (e : PumpFault). Ends tells m (Err e) new) (sym to.answer.fault) (
         steps.broken m,
         (steps.broken m, (works, refl), refl),
         subst (λ (x : StoreValue). Parts tells x (steps.broken m))
-            (same-store new (groups.at_stage Turning (groups.broken v.transactions)) log None to.answer.transactions to.answer.log to.answer.turn) (record {
+            (same-store v new (groups.at_stage Turning (groups.broken v.transactions)) log None keeps to.answer.transactions to.answer.log to.answer.turn) (record {
               memory = restaged (groups.broken v.transactions) (steps.broken m) Turning parts'.memory (λ _. some-stored);
               order = broken-order (groups.at_stage Turning v.transactions) (keeps-begun v.transactions parts.order asks);
               in_step = record { slots = parts'.in_step.slots; used = parts'.in_step.used; turns = λ no. absurd cc };
@@ -784,6 +902,11 @@ module _ (tells : Bool) (v new : StoreValue) (m : Machine Value) (parts : Parts 
       )
 
 -- ---- every step
+
+-- while a group's slot is in the writing no job's is
+no-job-turn : (o turn : Option TurnState) (t : TurnState) → turn ≡ Some t → (n : ℕ) → MatchOption o (Unit {0}) (λ u. (u.number ≡ n) × IsOnItsWay u.stage × (turn ≡ None)) → o ≡ None
+no-job-turn None turn t is n apart = refl
+no-job-turn (Some u) turn t is n apart = let none : Some t ≡ None = sym is ∙ apart.2 in absurd cc
 
 advance-step : (tells : Bool) (v new : StoreValue) (m : Machine Value) → (parts : Parts tells v m) → IsMachine IsValue m → (works : m.failed ≡ false) → groups.due v.transactions ≡ next.AdvanceSlot → (IsTrue tells → AreSound new.disk.areas) → (answer : Result Did PumpFault)
     → MatchOption v.turn ⊥ (λ turn. TurnsSlot tells turn v answer new) → Ends tells m answer new
@@ -800,14 +923,15 @@ advance-step tells v new m parts machine works asks sound answer takes =
     by-turn None at takes = absurd takes
     by-turn (Some t) at takes =
         let turns = parts.in_step.turns on in
+        let still : turn_of v.job ≡ None = no-job-turn (turn_of v.job) v.turn t at v.log.used turns.job in
         let mine : MatchOption (Some t) (Unit {0}) (λ t. (t.number ≡ v.log.used) × IsOnItsWay t.stage) = subst (λ (o : Option TurnState). MatchOption o (Unit {0}) (λ t. (t.number ≡ v.log.used) × IsOnItsWay t.stage)) at turns.turn in
-        slot-step tells v new m t parts machine works is mine.0 (turns.writing ∙ ap (λ (o : Option TurnState). is_some o) at)
+        slot-step tells v new m t parts machine works is mine.0 (turns.writing ∙ ap (λ (o : Option TurnState). is_some o || is_some (turn_of v.job)) at)
         (λ told.
         let d = parts.disk told in
         let w = d.works works in
         subst (λ (o : Option TurnState). IsAtStage d.header w.layout (group_of w.layout v.transactions m) v.transactions.queue Turning o v.disk.areas) at
-        (subst (λ (s : GroupStage). IsAtStage d.header w.layout (group_of w.layout v.transactions m) v.transactions.queue s v.turn v.disk.areas) is w.at))
-        sound asks answer takes
+        (subst (λ (s : GroupStage). IsAtStage d.header w.layout (group_of w.layout v.transactions m) v.transactions.queue s v.turn v.disk.areas) is (now-at d.header v m w still)))
+        sound still takes.job asks answer takes
 
 step : (tells : Bool) (s : NextStep) (v new : StoreValue) (answer : Result Did PumpFault) (m : Machine Value) → Parts tells v m → IsMachine IsValue m → m.failed ≡ false → groups.due v.transactions ≡ s → (IsTrue tells → AreSound new.disk.areas)
     → TakesStep tells s v answer new → Ends tells m answer new
@@ -815,8 +939,13 @@ step tells next.Idle v new answer m parts machine works asks sound takes =
     subst (λ (r : Result Did PumpFault). Ends tells m r new) (sym takes.0) (m, refl, subst (λ (x : StoreValue). Parts tells x m) (sym takes.1) parts)
 step tells next.WriteExtent v new answer m parts machine works asks sound takes = wrote-step tells v new answer m parts machine works asks sound (groups.next_extent v.transactions) refl takes
 step tells next.SyncHeap v new answer m parts machine works asks sound takes = synced-step tells v new answer m parts machine works asks sound takes
-step tells next.BeginSlot v new answer m parts machine works asks sound takes =
-    begun-step tells v new m parts machine works (begin-is v.transactions.stage v.transactions.group asks) sound takes.body takes.commit asks answer takes.turns
+step tells next.BeginSlot v new answer m parts machine works asks sound takes = by-job-turn (turn_of v.job) refl takes
+  where
+    by-job-turn : (o : Option TurnState) → turn_of v.job ≡ o → MatchBool (is_some o) ((answer ≡ Err pump.Busy) × (new ≡ v)) (BeginsSlot tells v answer new) → Ends tells m answer new
+    by-job-turn (Some u) at busy = subst (λ (r : Result Did PumpFault). Ends tells m r new) (sym busy.0) (m, refl, subst (λ (x : StoreValue). Parts tells x m) (sym busy.1) parts)
+    by-job-turn None still first =
+        let keeps : KeepsJob v new = (let k = first.turns.job in record { job = k.job; archived = k.archived; runs_end = k.runs_end }) in
+        begun-step tells v new m parts machine works (begin-is v.transactions.stage v.transactions.group asks) sound first.body first.commit still keeps asks answer first.turns
 step tells next.AdvanceSlot v new answer m parts machine works asks sound takes = advance-step tells v new m parts machine works asks sound answer takes
 
 -- the store whose group may have begun
