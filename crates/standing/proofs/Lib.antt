@@ -15,4 +15,5 @@ pub mod Usages
 pub mod Joining
 pub mod Jobs
 pub mod Pumping
+pub mod JobPumping
 pub mod Calling

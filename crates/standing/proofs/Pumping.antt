@@ -87,14 +87,14 @@ claims-some (Storing member extent) group waiting some within = omega (arith, so
 claims-some Stored group waiting some within = omega (arith, some, within)
 claims-some Turning group waiting some within = omega arith
 
-room-left : (header : Header) (v : StoreValue) (m : Machine Value) → IsInOrder v.transactions → IsInStep v → (v.log.slots ≡ total header) → (w : Works header v m) → 0 < v.transactions.group → length w.layout.slots < total header
+pub room-left : (header : Header) (v : StoreValue) (m : Machine Value) → IsInOrder v.transactions → IsInStep v → (v.log.slots ≡ total header) → (w : Works header v m) → 0 < v.transactions.group → length w.layout.slots < total header
 room-left header v m order in_step slots_are w some =
     let claims = claims-some v.transactions.stage v.transactions.group (length v.transactions.queue) some order.group_within in
     omega (arith, claims, order.room, in_step.slots, in_step.used, slots_are, w.used)
 
 -- ---- what a stop may leave
 
-stage-leaves : (header : Header) (v : StoreValue) (m : Machine Value) → StandsInMemory v.transactions m → IsMachine IsValue m → IsInOrder v.transactions → IsTrue (is_built header.profile 1)
+pub stage-leaves : (header : Header) (v : StoreValue) (m : Machine Value) → StandsInMemory v.transactions m → IsMachine IsValue m → IsInOrder v.transactions → IsTrue (is_built header.profile 1)
     → (w : Works header v m) → ((0 < v.transactions.group) → length w.layout.slots < total header) → (areas : Areas) (s : GroupStage) (o : Option TurnState) → StageFits s v.transactions.group v.transactions.queue
     → IsAtStage header w.layout (group_of w.layout v.transactions m) v.transactions.queue s o areas → (image : Image) → LeavesImage areas image → OnFront (IsImageOf header image) m
 stage-leaves header v m memory machine order built w room areas NoGroup o fits at image left =
@@ -112,7 +112,7 @@ abbrev resting-areas : (header : Header) (v : StoreValue) (m : Machine Value) �
 resting-areas header v m w = record v.disk.areas { status = w.rested }
 
 -- where no job's slot is in the writing, a group is where it is on the disk as it stands
-now-at : (header : Header) (v : StoreValue) (m : Machine Value) (w : Works header v m) → turn_of v.job ≡ None
+pub now-at : (header : Header) (v : StoreValue) (m : Machine Value) (w : Works header v m) → turn_of v.job ≡ None
     → IsAtStage header w.layout (group_of w.layout v.transactions m) v.transactions.queue v.transactions.stage v.turn v.disk.areas
 now-at header v m w still =
     subst (λ (a : AreaState). IsAtStage header w.layout (group_of w.layout v.transactions m) v.transactions.queue v.transactions.stage v.turn (record v.disk.areas { status = a }))
@@ -122,7 +122,7 @@ resting-sound : (header : Header) (v : StoreValue) (m : Machine Value) (w : Work
 resting-sound header v m w = sound-at v.disk.areas w.rested w.sound (rested-sound header w.layout (turn_of v.job) w.rested v.disk.areas.status (w.sound Status) w.rests)
 
 -- a slot is there for a job
-job-room : (header : Header) (v : StoreValue) (m : Machine Value) → IsInOrder v.transactions → IsInStep v → (v.log.slots ≡ total header) → (w : Works header v m) → lent_to v.job ≡ 1 → length w.layout.slots < total header
+pub job-room : (header : Header) (v : StoreValue) (m : Machine Value) → IsInOrder v.transactions → IsInStep v → (v.log.slots ≡ total header) → (w : Works header v m) → lent_to v.job ≡ 1 → length w.layout.slots < total header
 job-room header v m order in_step slots_are w lent = omega (arith, lent, order.room, in_step.slots, in_step.used, slots_are, w.used)
 
 -- what is left while a job's slot is in the writing, or by what else is so
@@ -138,13 +138,13 @@ by-job header v m order in_step slots_are built archives w areas image (Some j) 
     by-stage (job.Turning t) at turn =
         run-leaves header m w.layout w.reading w.laid w.stands built archives w.built (job-room header v m order in_step slots_are w (ap lent_to is)) has.run has.next t.stage areas image turn.at left
 
-works-leave : (header : Header) (v : StoreValue) (m : Machine Value) → StandsInMemory v.transactions m → IsMachine IsValue m → IsInOrder v.transactions → IsInStep v → v.log.slots ≡ total header
+pub works-leave : (header : Header) (v : StoreValue) (m : Machine Value) → StandsInMemory v.transactions m → IsMachine IsValue m → IsInOrder v.transactions → IsInStep v → v.log.slots ≡ total header
     → IsTrue (is_built header.profile 1) → IsTrue (is_built header.profile 2) → (w : Works header v m) → (image : Image) → LeavesImage v.disk.areas image → OnFront (IsImageOf header image) m
 works-leave header v m memory machine order in_step slots_are built archives w image left =
     by-job header v m order in_step slots_are built archives w v.disk.areas image v.job refl w.job left
     (λ still. stage-leaves header v m memory machine order built w (room-left header v m order in_step slots_are w) v.disk.areas v.transactions.stage v.turn order.stage_fits (now-at header v m w still) image left)
 
-on-disk : (header : Header) (v : StoreValue) (m : Machine Value) → StandsInMemory v.transactions m → IsMachine IsValue m → IsInOrder v.transactions → IsInStep v → v.log.profile ≡ header.profile → v.log.slots ≡ total header
+pub on-disk : (header : Header) (v : StoreValue) (m : Machine Value) → StandsInMemory v.transactions m → IsMachine IsValue m → IsInOrder v.transactions → IsInStep v → v.log.profile ≡ header.profile → v.log.slots ≡ total header
     → IsTrue (is_built header.profile 1) → Works header v m → StandsOnDisk v m
 on-disk header v m memory machine order in_step profile slots_are built w = record {
   header = header;
@@ -540,7 +540,7 @@ same-store v new transactions log turn keeps a b c =
     let x = sym a in let y = sym b in let z = sym c in let j = sym keeps.job in let k = sym keeps.archived in let l = sym keeps.runs_end in
     λ i. record { transactions = x i; log = y i; turn = z i; job = j i; archived = k i; runs_end = l i; disk = new.disk }
 
-broken-order : (v : TransactionsValue) → IsInOrder v → IsInOrder (groups.broken v)
+pub broken-order : (v : TransactionsValue) → IsInOrder v → IsInOrder (groups.broken v)
 broken-order v order = record {
   split = order.split;
   latest = order.latest;
@@ -608,7 +608,7 @@ heap-alone old new heap is = is ∙ ap (λ (a : Areas). record old { heap = a.he
 status-alone : (old new : Areas) (status : AreaState) → new ≡ record old { status = status } → new ≡ record old { status = new.status }
 status-alone old new status is = is ∙ ap (λ (a : Areas). record old { status = a.status }) (sym is)
 
-slot-alone : (stage : SlotStage) (number : ℕ) (body : List ℕ) (old new : Areas) → IsSlotCall number body stage (Ok tt) old new → new ≡ record old { status = new.status }
+pub slot-alone : (stage : SlotStage) (number : ℕ) (body : List ℕ) (old new : Areas) → IsSlotCall number body stage (Ok tt) old new → new ≡ record old { status = new.status }
 slot-alone slots.Begun number body old new call = status-alone old new _ call.written
 slot-alone slots.BodyWritten number body old new call = status-alone old new _ call.synced
 slot-alone slots.BodySynced number body old new call = status-alone old new _ call.written
