@@ -1,4 +1,4 @@
-use Rattle.std.proofs.Common.{◌≡◌, ◌∙◌, List, [], drop, ap, sym}
+use Rattle.std.proofs.Common.{◌≡◌, ◌∙◌, List, drop, ap, sym}
 use Rattle.deltas.specs.declared.«record».Record.{Record}
 use Rattle.chains.specs.declared.bound.Bound.TheVariants.{After}
 use Rattle.chains.specs.Bounds.{is_in}
@@ -6,7 +6,7 @@ use Rattle.chains.specs.KeyWrites.{KeyWrites}
 use Rattle.vacuum.specs.Anchors.{olds_at}
 use Rattle.vacuum.proofs.Keys.{found-rises}
 use Rattle.vacuum.proofs.Standing.{olds-few}
-use Rattle.vacuum.proofs.Anchors.{olds-none_left, olds-step, anchored-none}
+use Rattle.vacuum.proofs.Anchors.{olds-none_left, olds-step}
 use Rattle.vacuum.proofs.anchor_source.next_bound.Goals as goal
 
 pub returns-in-None-clause-left : goal.returns-in-None-clause-left
