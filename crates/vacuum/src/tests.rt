@@ -1,5 +1,4 @@
-ghost use Rattle.std.specs.Prelude.{◌≡◌, ◌≤◌, IfOk};
-ghost use Rattle.history.specs.Key.{key_of};
+ghost use Rattle.std.specs.Prelude.{◌<◌, ◌≤◌, ◌^◌, IfOk};
 ghost use Rattle.chains.specs.KeyWrites.{latest};
 
 use crate::{AnchorSource, ArchiveWalk, archive_run, laws};
@@ -30,9 +29,7 @@ const OLDS: [u8; 44] = [
     0, 0, 0, 0x69, 0, 0, 0, 0, 0, 0, 0, 1, 1, 0x78,
 ];
 
-fn put(alloc: Global, number: u64, field: &[u8]) -> Result<KeyWrite<SharedValue>, AllocError>
-    ensures { IfOk result (λ w. w.key ≡ key_of 1 number) }
-{
+fn put(alloc: Global, number: u64, field: &[u8]) -> Result<KeyWrite<SharedValue>, AllocError> {
     let Ok(value) = Value::new(alloc, &[field]) else {
         return Err(AllocError);
     };
@@ -45,23 +42,37 @@ fn put(alloc: Global, number: u64, field: &[u8]) -> Result<KeyWrite<SharedValue>
     })
 }
 
+/// The versions with one more write, and no later one.
+fn written(
+    alloc: Global,
+    frozen: &Frozen,
+    time: u64,
+    write: KeyWrite<SharedValue>,
+) -> Result<Frozen, AllocError>
+    requires later { latest frozen.now < time }
+    requires in_range { time < 2 ^ 63 }
+    ensures { IfOk result (λ f. latest f ≤ time) }
+{
+    frozen.with_commit(alloc, time, &[write])
+}
+
 /// Record 7 is a from 100 on, b from 110 on, gone from 120 on and c from 130 on.
 fn one_key(alloc: Global) -> Result<Frozen, AllocError> {
     let gone = KeyWrite {
         key: SEVEN,
         write: None,
     };
-    let frozen = Frozen::new().with_commit(alloc, 100, &[put(alloc, 7, b"a")?])?;
-    let frozen = frozen.with_commit(alloc, 110, &[put(alloc, 7, b"b")?])?;
-    let frozen = frozen.with_commit(alloc, 120, &[gone])?;
-    frozen.with_commit(alloc, 130, &[put(alloc, 7, b"c")?])
+    let frozen = written(alloc, &Frozen::new(), 100, put(alloc, 7, b"a")?)?;
+    let frozen = written(alloc, &frozen, 110, put(alloc, 7, b"b")?)?;
+    let frozen = written(alloc, &frozen, 120, gone)?;
+    written(alloc, &frozen, 130, put(alloc, 7, b"c")?)
 }
 
 /// Record 7 is a from 100 on and b from 110 on, and record 8 is x from 105 on.
 fn two_keys(alloc: Global) -> Result<Frozen, AllocError> {
-    let frozen = Frozen::new().with_commit(alloc, 100, &[put(alloc, 7, b"a")?])?;
-    let frozen = frozen.with_commit(alloc, 105, &[put(alloc, 8, b"x")?])?;
-    frozen.with_commit(alloc, 110, &[put(alloc, 7, b"b")?])
+    let frozen = written(alloc, &Frozen::new(), 100, put(alloc, 7, b"a")?)?;
+    let frozen = written(alloc, &frozen, 105, put(alloc, 8, b"x")?)?;
+    written(alloc, &frozen, 110, put(alloc, 7, b"b")?)
 }
 
 /// Record 7 is 1 from 10 on, 2 from 20 on and so forth up to 100 from 1,000 on, and record 9 is x
@@ -69,11 +80,11 @@ fn two_keys(alloc: Global) -> Result<Frozen, AllocError> {
 fn long_key(alloc: Global) -> Result<Frozen, AllocError> {
     let mut frozen = Frozen::new();
     for number in 1..101u8 {
-        let writes = [put(alloc, 7, &[number])?];
-        frozen = frozen.with_commit(alloc, u64::from(number) * 10, &writes)?;
+        let time = u64::from(number) * 10;
+        frozen = written(alloc, &frozen, time, put(alloc, 7, &[number])?)?;
     }
-    let frozen = frozen.with_commit(alloc, 1010, &[put(alloc, 9, b"x")?])?;
-    frozen.with_commit(alloc, 1020, &[put(alloc, 9, b"y")?])
+    let frozen = written(alloc, &frozen, 1010, put(alloc, 9, b"x")?)?;
+    written(alloc, &frozen, 1020, put(alloc, 9, b"y")?)
 }
 
 /// The number of the next record and from when up to when its value stands; none at the end.
