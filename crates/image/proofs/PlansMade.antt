@@ -154,9 +154,61 @@ all-order vs [] apart sorted = tt
 all-order vs (k ∷ ks) apart sorted =
     before-append (map (archive_record k) (vs k)) (archive_records vs ks) (own-order k 0 (vs k) (apart k)) (all-order vs ks apart sorted.1) (before-keys vs k (vs k) ks sorted.0)
 
-pub own-above : (us : List (Version Value)) (low k : Key) → key_cmp low k ≡ Less → AllByRecursion (λ x. key_cmp low x ≡ Less) (map (λ old. old.key) (map (old_record k) us))
+own-above : (us : List (Version Value)) (low k : Key) → key_cmp low k ≡ Less → AllByRecursion (λ x. key_cmp low x ≡ Less) (map (λ old. old.key) (map (old_record k) us))
 own-above [] low k less = tt
 own-above (u ∷ us) low k less = (less, own-above us low k less)
+
+-- ---- the versions of one key that a job takes
+
+pub one-archived : (mark low upto : ℕ) (floors : ℕ → ℕ) (key : Key) (t : ℕ) (vs : List (Version Value)) → mark ≤ low → floors key.relation ≤ low → FollowOneAnotherFrom t vs
+    → AllByRecursion (IsArchived mark floors upto) (map (archive_record key) (filter (ends_by upto) (filter (ends_after low) vs)))
+one-archived mark low upto floors key t [] by also apart = tt
+one-archived mark low upto floors key t (v ∷ vs) by also apart =
+    let Is = IsArchived mark floors upto in
+    let rest = one-archived mark low upto floors key v.to vs by also apart.2 in
+    let Goal : Bool → Bool → Type 0 = λ a b. ends_after low v ≡ a → ends_by upto v ≡ b → AllByRecursion Is (map (archive_record key) (filter (ends_by upto) (cond a (v ∷ filter (ends_after low) vs) (filter (ends_after low) vs)))) in
+    let all : (a b : Bool) → Goal a b = λ a b. elim a as (λ a. Goal a b) [
+      | true ↦ elim b as (λ b. Goal true b) [
+        | true ↦ λ e k. rw k (record { lasts = apart.1; after_mark = grind (arith, nat_tests); after_floor = grind (arith, nat_tests); by_upto = grind (arith, nat_tests) }, rest)
+        | false ↦ λ e k. rw k rest
+      ]
+      | false ↦ λ e k. rest
+    ] in
+    all (ends_after low v) (ends_by upto v) refl refl
+
+pub one-anchor : (k : Key) (m t : ℕ) (vs : List (Version Value)) → 0 < t → FollowOneAnotherFrom t vs → AllByRecursion (IsAnchorUpto m) (map (old_record k) (filter (stands_at m) vs))
+one-anchor k m t [] some apart = tt
+one-anchor k m t (v ∷ vs) some apart =
+    let rest = one-anchor k m v.to vs (omega (arith, apart.0, apart.1)) apart.2 in
+    let Goal : Bool → Type 0 = λ b. stands_at m v ≡ b → AllByRecursion (IsAnchorUpto m) (map (old_record k) (cond b (v ∷ filter (stands_at m) vs) (filter (stands_at m) vs))) in
+    let all : (b : Bool) → Goal b = λ b. elim b as Goal [
+      | true ↦ λ e. ((omega (arith, apart.0), grind (arith, nat_tests)), rest)
+      | false ↦ λ e. rest
+    ] in
+    all (stands_at m v) refl
+
+-- one version of a key at most stands at a time
+pub keep-sorted : (k : Key) (m t : ℕ) (vs : List (Version Value)) (rest : List Key) → FollowOneAnotherFrom t vs → IsStrictlySortedBy key_cmp rest → AllByRecursion (λ x. key_cmp k x ≡ Less) rest
+    → IsStrictlySortedBy key_cmp (map (λ old. old.key) (map (old_record k) (filter (stands_at m) vs)) ++ rest)
+unfolding IsStrictlySortedBy
+keep-sorted k m t [] rest apart sorted above = sorted
+keep-sorted k m t (v ∷ vs) rest apart sorted above =
+    let keys : List (Version Value) → List Key = λ l. map (λ (old : OldRecord). old.key) (map (old_record k) l) ++ rest in
+    let Goal : Bool → Type 0 = λ b. stands_at m v ≡ b → IsStrictlySortedBy key_cmp (keys (cond b (v ∷ filter (stands_at m) vs) (filter (stands_at m) vs))) in
+    let all : (b : Bool) → Goal b = λ b. elim b as Goal [
+      | true ↦ λ e.
+          let before : m < v.to = grind (arith, nat_tests) in
+          let none : filter (stands_at m) vs ≡ [] = filter-standing v.to m vs before apart.2 in
+          rw none (above, sorted)
+      | false ↦ λ e. keep-sorted k m v.to vs rest apart.2 sorted above
+    ] in
+    all (stands_at m v) refl
+
+pub keys-above : (vs : Key → List (Version Value)) (low : Key) (ks : List Key) → AllByRecursion (λ k. key_cmp low k ≡ Less) ks → AllByRecursion (λ k. key_cmp low k ≡ Less) (map (λ old. old.key) (old_records vs ks))
+keys-above vs low [] above = tt
+keys-above vs low (k ∷ ks) above =
+    subst (AllByRecursion (λ x. key_cmp low x ≡ Less)) (sym (map-append (λ (old : OldRecord). old.key) (map (old_record k) (vs k)) (old_records vs ks)))
+    (AllByRecursion-append (λ x. key_cmp low x ≡ Less) (map (λ old. old.key) (map (old_record k) (vs k))) (map (λ old. old.key) (old_records vs ks)) (own-above (vs k) low k above.0) (keys-above vs low ks above.1))
 
 -- ---- an archive
 
@@ -176,29 +228,11 @@ module _ (reading : Reading) (rise : (key : Key) → IsRisingAfter 0 (heap_facts
         apart-earlier 0 1 (to_archive reading upto key) (omega arith)
         (apart-filter 1 (ends_by upto) (filter (ends_after low) (heap_versions reading key)) (apart-filter 1 (ends_after low) (heap_versions reading key) (heap-apart key)))
 
-    one-archived : (key : Key) (t : ℕ) (vs : List (Version Value)) → FollowOneAnotherFrom t vs
-        → AllByRecursion (IsArchived (archived_upto reading) (floor_of reading.log) upto) (map (archive_record key) (filter (ends_by upto) (filter (ends_after (max (archived_upto reading) (floor_of reading.log key.relation))) vs)))
-    one-archived key t [] apart = tt
-    one-archived key t (v ∷ vs) apart =
-        let low = max (archived_upto reading) (floor_of reading.log key.relation) in
-        let Is = IsArchived (archived_upto reading) (floor_of reading.log) upto in
-        let more = filter (ends_by upto) (filter (ends_after low) vs) in
-        let rest = one-archived key v.to vs apart.2 in
-        let Goal : Bool → Bool → Type 0 = λ a b. ends_after low v ≡ a → ends_by upto v ≡ b → AllByRecursion Is (map (archive_record key) (filter (ends_by upto) (cond a (v ∷ filter (ends_after low) vs) (filter (ends_after low) vs)))) in
-        let all : (a b : Bool) → Goal a b = λ a b. elim a as (λ a. Goal a b) [
-          | true ↦ elim b as (λ b. Goal true b) [
-            | true ↦ λ e k. rw k (record { lasts = apart.1; after_mark = grind (arith, nat_tests); after_floor = grind (arith, nat_tests); by_upto = grind (arith, nat_tests) }, rest)
-            | false ↦ λ e k. rw k rest
-          ]
-          | false ↦ λ e k. rest
-        ] in
-        all (ends_after low v) (ends_by upto v) refl refl
-
     all-archived : (ks : List Key) → AllByRecursion (IsArchived (archived_upto reading) (floor_of reading.log) upto) (archive_records (to_archive reading upto) ks)
     all-archived [] = tt
     all-archived (k ∷ ks) =
         AllByRecursion-append (IsArchived (archived_upto reading) (floor_of reading.log) upto) (map (archive_record k) (to_archive reading upto k)) (archive_records (to_archive reading upto) ks)
-        (one-archived k 1 (heap_versions reading k) (heap-apart k)) (all-archived ks)
+        (one-archived (archived_upto reading) (max (archived_upto reading) (floor_of reading.log k.relation)) upto (floor_of reading.log) k 1 (heap_versions reading k) (omega arith) (omega arith) (heap-apart k)) (all-archived ks)
 
     pub archive-plan_is : IsArchivePlan reading upto (archive_plan reading upto)
     archive-plan_is = record {
@@ -216,29 +250,6 @@ module _ (reading : Reading) (rise : (key : Key) → IsRisingAfter 0 (heap_facts
 
   -- ---- a reclaim
 
-  keys-above : (vs : Key → List (Version Value)) (low : Key) (ks : List Key) → AllByRecursion (λ k. key_cmp low k ≡ Less) ks → AllByRecursion (λ k. key_cmp low k ≡ Less) (map (λ old. old.key) (old_records vs ks))
-  keys-above vs low [] above = tt
-  keys-above vs low (k ∷ ks) above =
-      subst (AllByRecursion (λ x. key_cmp low x ≡ Less)) (sym (map-append (λ (old : OldRecord). old.key) (map (old_record k) (vs k)) (old_records vs ks)))
-      (AllByRecursion-append (λ x. key_cmp low x ≡ Less) (map (λ old. old.key) (map (old_record k) (vs k))) (map (λ old. old.key) (old_records vs ks)) (own-above (vs k) low k above.0) (keys-above vs low ks above.1))
-
-  -- one version of a key at most stands at a time
-  keep-sorted : (k : Key) (m t : ℕ) (vs : List (Version Value)) (rest : List Key) → FollowOneAnotherFrom t vs → IsStrictlySortedBy key_cmp rest → AllByRecursion (λ x. key_cmp k x ≡ Less) rest
-      → IsStrictlySortedBy key_cmp (map (λ old. old.key) (map (old_record k) (filter (stands_at m) vs)) ++ rest)
-  unfolding IsStrictlySortedBy
-  keep-sorted k m t [] rest apart sorted above = sorted
-  keep-sorted k m t (v ∷ vs) rest apart sorted above =
-      let keys : List (Version Value) → List Key = λ l. map (λ (old : OldRecord). old.key) (map (old_record k) l) ++ rest in
-      let Goal : Bool → Type 0 = λ b. stands_at m v ≡ b → IsStrictlySortedBy key_cmp (keys (cond b (v ∷ filter (stands_at m) vs) (filter (stands_at m) vs))) in
-      let all : (b : Bool) → Goal b = λ b. elim b as Goal [
-        | true ↦ λ e.
-            let before : m < v.to = grind (arith, nat_tests) in
-            let none : filter (stands_at m) vs ≡ [] = filter-standing v.to m vs before apart.2 in
-            rw none (above, sorted)
-        | false ↦ λ e. keep-sorted k m v.to vs rest apart.2 sorted above
-      ] in
-      all (stands_at m v) refl
-
   kept-sorted : (m : ℕ) (ks : List Key) → IsStrictlySortedBy key_cmp ks → IsStrictlySortedBy key_cmp (map (λ old. old.key) (old_records (λ key. filter (stands_at m) (heap_versions reading key)) ks))
   unfolding IsStrictlySortedBy
   kept-sorted m [] sorted = tt
@@ -246,17 +257,6 @@ module _ (reading : Reading) (rise : (key : Key) → IsRisingAfter 0 (heap_facts
       let vs : Key → List (Version Value) = λ key. filter (stands_at m) (heap_versions reading key) in
       subst (IsStrictlySortedBy key_cmp) (sym (map-append (λ (old : OldRecord). old.key) (map (old_record k) (vs k)) (old_records vs ks)))
       (keep-sorted k m 1 (heap_versions reading k) (map (λ (old : OldRecord). old.key) (old_records vs ks)) (heap-apart k) (kept-sorted m ks sorted.1) (keys-above vs k ks sorted.0))
-
-  one-anchor : (k : Key) (m t : ℕ) (vs : List (Version Value)) → 0 < t → FollowOneAnotherFrom t vs → AllByRecursion (IsAnchorUpto m) (map (old_record k) (filter (stands_at m) vs))
-  one-anchor k m t [] some apart = tt
-  one-anchor k m t (v ∷ vs) some apart =
-      let rest = one-anchor k m v.to vs (omega (arith, apart.0, apart.1)) apart.2 in
-      let Goal : Bool → Type 0 = λ b. stands_at m v ≡ b → AllByRecursion (IsAnchorUpto m) (map (old_record k) (cond b (v ∷ filter (stands_at m) vs) (filter (stands_at m) vs))) in
-      let all : (b : Bool) → Goal b = λ b. elim b as Goal [
-        | true ↦ λ e. ((omega (arith, apart.0), grind (arith, nat_tests)), rest)
-        | false ↦ λ e. rest
-      ] in
-      all (stands_at m v) refl
 
   all-anchors : (ks : List Key) → AllByRecursion (IsAnchorUpto (archived_upto reading)) (old_records (to_keep reading) ks)
   all-anchors [] = tt

@@ -1,13 +1,12 @@
 -- What is left of a walk over anchor records, key by key.
-use Rattle.std.proofs.Common.{◌≡◌, ℕ, ◌<◌, ◌≤◌, Bool, true, false, List, [], ◌∷◌, ◌++◌, length, map, Option, Some, None, drop, refl, ap, sym, subst, ◌∙◌, arith}
-use Rattle.std.specs.Prelude.{find, option_map}
+use Rattle.std.proofs.Common.{◌≡◌, ℕ, ◌<◌, List, [], ◌++◌, length, Some, None, drop, ap, sym, subst, ◌∙◌, arith}
+use Rattle.std.specs.Prelude.{find}
 use Rattle.std.specs.List.{slice_get}
 use Rattle.std.proofs.lemmas.List.{map-append}
 use Rattle.chains.specs.declared.bound.Bound.{Bound}
 use Rattle.chains.specs.declared.bound.Bound.TheVariants.{From, After}
 use Rattle.chains.specs.Bounds.{is_in}
 use Rattle.chains.specs.KeyWrites.{KeyWrites, IsOrdered}
-use Rattle.image.specs.Reading.{OldRecord}
 use Rattle.deltas.specs.Records.{old_record_of}
 use Rattle.vacuum.specs.Archives.{keys_within}
 use Rattle.vacuum.specs.Anchors.{key_anchors, anchors_of, key_olds, olds_of, olds_at, HasAnchor, IsAnchored}

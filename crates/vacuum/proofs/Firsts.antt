@@ -1,5 +1,5 @@
 -- The first of one key's versions that ends after a time, and those behind it.
-use Rattle.std.proofs.Common.{◌≡◌, ℕ, ◌<◌, ◌≤◌, nat_le, nat_lt, Bool, true, false, cond, List, [], ◌∷◌, Option, Some, None, map, refl, ap, sym, subst, ◌∙◌, arith}
+use Rattle.std.proofs.Common.{◌≡◌, ℕ, ◌<◌, ◌≤◌, nat_le, nat_lt, Bool, true, false, cond, List, [], ◌∷◌, Some, None, map, refl, ap, sym, subst, ◌∙◌, arith}
 use Rattle.std.specs.Prelude.{find, filter}
 use Rattle.std.proofs.lemmas.Bool.Decides.{nat_tests}
 use Rattle.history.specs.declared.time.Version.{Version}
@@ -7,10 +7,9 @@ use Rattle.history.specs.Time.{IsRisingAfter}
 use Rattle.history.specs.Versions.{first_time, versions, ends_after, ends_by, FollowOneAnotherFrom}
 use Rattle.history.proofs.Orders.{is_lt, not_lt, is_le}
 use Rattle.history.proofs.Values.{versions-apart}
-use Rattle.chains.specs.Writes.{Value, Write}
+use Rattle.chains.specs.Writes.{Value}
 use Rattle.chains.specs.KeyWrites.{KeyWrites}
 use Rattle.chains.proofs.Walks.{find-none-filter}
-use Rattle.image.specs.Reading.{ArchiveRecord}
 use Rattle.image.specs.PlansMade.{archive_record}
 use Rattle.vacuum.specs.Archives.{key_records}
 

@@ -1,5 +1,5 @@
 -- What a walk goes over is the plan.
-use Rattle.std.proofs.Common.{◌≡◌, ℕ, ◌<◌, ◌≤◌, max, Bool, true, false, cond, List, [], ◌∷◌, ◌++◌, map, Option, Some, None, refl, ap, sym, subst, ◌∙◌, arith}
+use Rattle.std.proofs.Common.{◌≡◌, ℕ, ◌≤◌, max, true, false, cond, List, [], ◌∷◌, ◌++◌, map, Some, None, refl, ap, sym, subst, ◌∙◌, arith}
 use Rattle.std.specs.Prelude.{filter}
 use Rattle.std.specs.List.{AllByRecursion, flat_map}
 use Rattle.std.specs.List.Sorted.{IsStrictlySortedBy}
@@ -11,19 +11,19 @@ use Rattle.history.specs.declared.time.Version.{Version}
 use Rattle.history.specs.Key.{key_cmp, key_lt, same_key}
 use Rattle.history.specs.Versions.{versions, ends_after, ends_by, stands_at, as_write, first_time, FollowOneAnotherFrom}
 use Rattle.history.proofs.Filters.{AllByRecursion-append}
-use Rattle.history.proofs.Values.{versions-apart, apart-earlier, first_time-later, filter-standing}
+use Rattle.history.proofs.Values.{versions-apart, apart-earlier, first_time-later}
 use Rattle.chains.specs.Writes.{Value, Write}
-use Rattle.chains.specs.KeyWrites.{KeyWrites, AllAbove, IsOrdered, AreRising, writes_of}
+use Rattle.chains.specs.KeyWrites.{KeyWrites, AllAbove, IsOrdered, writes_of}
 use Rattle.chains.proofs.Order.{lt-other'}
 use Rattle.chains.proofs.Rising.{rising-writes_of}
-use Rattle.image.specs.Reading.{OldRecord, ArchiveRecord, Reading}
+use Rattle.image.specs.Reading.{OldRecord, Reading}
 use Rattle.image.specs.Log.{floor_of}
-use Rattle.image.specs.Facts.{old_write, heap_versions, version_for}
+use Rattle.image.specs.Facts.{old_write, version_for}
 use Rattle.image.specs.StandsFor.{IsAnchorUpto, IsArchived, IsRun, archived_upto}
 use Rattle.image.specs.Plans.{IsArchivePlan, IsReclaimPlan}
 use Rattle.image.specs.PlansMade.{archive_record, archive_records, old_record, old_records}
 use Rattle.image.proofs.KeysInOrder.{AreOthers}
-use Rattle.image.proofs.PlansMade.{each-key, map-same, apart-filter, in_order, all-order, own-above}
+use Rattle.image.proofs.PlansMade.{each-key, map-same, apart-filter, in_order, all-order, one-archived, one-anchor, keep-sorted, keys-above}
 use Rattle.vacuum.specs.Archives.{AreInMemory, records_of}
 use Rattle.vacuum.specs.Anchors.{anchors_of}
 use Rattle.vacuum.specs.Laws.{HoldsHeap}
@@ -66,59 +66,6 @@ module _ {R : Type 0} (say : Key → List Write → List R) where
   by-key [] ordered = refl
   by-key (c ∷ cs) ordered =
       rw (same-self c.key) (ap (λ l. say c.key c.writes ++ l) (by-key cs ordered.1 ∙ sym (tail-same c cs cs ordered.0)))
-
--- ---- the versions of one key
-
-one-archived : (mark low upto : ℕ) (floors : ℕ → ℕ) (key : Key) (t : ℕ) (vs : List (Version Value)) → mark ≤ low → floors key.relation ≤ low → FollowOneAnotherFrom t vs
-    → AllByRecursion (IsArchived mark floors upto) (map (archive_record key) (filter (ends_by upto) (filter (ends_after low) vs)))
-one-archived mark low upto floors key t [] by also apart = tt
-one-archived mark low upto floors key t (v ∷ vs) by also apart =
-    let Is = IsArchived mark floors upto in
-    let more = filter (ends_by upto) (filter (ends_after low) vs) in
-    let rest = one-archived mark low upto floors key v.to vs by also apart.2 in
-    let Goal : Bool → Bool → Type 0 = λ a b. ends_after low v ≡ a → ends_by upto v ≡ b → AllByRecursion Is (map (archive_record key) (filter (ends_by upto) (cond a (v ∷ filter (ends_after low) vs) (filter (ends_after low) vs)))) in
-    let all : (a b : Bool) → Goal a b = λ a b. elim a as (λ a. Goal a b) [
-      | true ↦ elim b as (λ b. Goal true b) [
-        | true ↦ λ e k. rw k (record { lasts = apart.1; after_mark = grind (arith, nat_tests); after_floor = grind (arith, nat_tests); by_upto = grind (arith, nat_tests) }, rest)
-        | false ↦ λ e k. rw k rest
-      ]
-      | false ↦ λ e k. rest
-    ] in
-    all (ends_after low v) (ends_by upto v) refl refl
-
-one-anchor : (k : Key) (m t : ℕ) (vs : List (Version Value)) → 0 < t → FollowOneAnotherFrom t vs → AllByRecursion (IsAnchorUpto m) (map (old_record k) (filter (stands_at m) vs))
-one-anchor k m t [] some apart = tt
-one-anchor k m t (v ∷ vs) some apart =
-    let rest = one-anchor k m v.to vs (omega (arith, apart.0, apart.1)) apart.2 in
-    let Goal : Bool → Type 0 = λ b. stands_at m v ≡ b → AllByRecursion (IsAnchorUpto m) (map (old_record k) (cond b (v ∷ filter (stands_at m) vs) (filter (stands_at m) vs))) in
-    let all : (b : Bool) → Goal b = λ b. elim b as Goal [
-      | true ↦ λ e. ((omega (arith, apart.0), grind (arith, nat_tests)), rest)
-      | false ↦ λ e. rest
-    ] in
-    all (stands_at m v) refl
-
--- one version of a key at most stands at a time
-keep-sorted : (k : Key) (m t : ℕ) (vs : List (Version Value)) (rest : List Key) → FollowOneAnotherFrom t vs → IsStrictlySortedBy key_cmp rest → AllByRecursion (λ x. key_cmp k x ≡ Less) rest
-    → IsStrictlySortedBy key_cmp (map (λ old. old.key) (map (old_record k) (filter (stands_at m) vs)) ++ rest)
-unfolding IsStrictlySortedBy
-keep-sorted k m t [] rest apart sorted above = sorted
-keep-sorted k m t (v ∷ vs) rest apart sorted above =
-    let keys : List (Version Value) → List Key = λ l. map (λ (old : OldRecord). old.key) (map (old_record k) l) ++ rest in
-    let Goal : Bool → Type 0 = λ b. stands_at m v ≡ b → IsStrictlySortedBy key_cmp (keys (cond b (v ∷ filter (stands_at m) vs) (filter (stands_at m) vs))) in
-    let all : (b : Bool) → Goal b = λ b. elim b as Goal [
-      | true ↦ λ e.
-          let before : m < v.to = grind (arith, nat_tests) in
-          let none : filter (stands_at m) vs ≡ [] = filter-standing v.to m vs before apart.2 in
-          rw none (above, sorted)
-      | false ↦ λ e. keep-sorted k m v.to vs rest apart.2 sorted above
-    ] in
-    all (stands_at m v) refl
-
-keys-above : (vs : Key → List (Version Value)) (low : Key) (ks : List Key) → AllByRecursion (λ k. key_cmp low k ≡ Less) ks → AllByRecursion (λ k. key_cmp low k ≡ Less) (map (λ old. old.key) (old_records vs ks))
-keys-above vs low [] above = tt
-keys-above vs low (k ∷ ks) above =
-    subst (AllByRecursion (λ x. key_cmp low x ≡ Less)) (sym (map-append (λ (old : OldRecord). old.key) (map (old_record k) (vs k)) (old_records vs ks)))
-    (AllByRecursion-append (λ x. key_cmp low x ≡ Less) (map (λ old. old.key) (map (old_record k) (vs k))) (map (λ old. old.key) (old_records vs ks)) (own-above (vs k) low k above.0) (keys-above vs low ks above.1))
 
 -- ---- those of all keys
 

@@ -1,13 +1,11 @@
 -- What is left of a walk over archive records, key by key.
-use Rattle.std.proofs.Common.{◌≡◌, ℕ, ◌<◌, ◌+◌, Bool, true, false, List, [], ◌∷◌, ◌++◌, length, Option, Some, None, drop, refl, ap, sym, subst, ◌∙◌, arith}
+use Rattle.std.proofs.Common.{◌≡◌, ℕ, ◌<◌, true, false, List, [], ◌∷◌, ◌++◌, length, Option, Some, None, drop, refl, ap, sym, subst, ◌∙◌, arith}
 use Rattle.std.specs.Prelude.{find, option_map}
 use Rattle.std.specs.Option.{is_some}
 use Rattle.std.specs.List.{slice_get}
-use Rattle.chains.specs.declared.bound.Bound.{Bound}
 use Rattle.chains.specs.declared.bound.Bound.TheVariants.{From, After}
 use Rattle.chains.specs.Bounds.{is_in}
 use Rattle.chains.specs.KeyWrites.{KeyWrites, IsOrdered}
-use Rattle.image.specs.Reading.{ArchiveRecord}
 use Rattle.vacuum.specs.declared.archive_walk.Place.{Place}
 use Rattle.vacuum.specs.Archives.{keys_within, key_records, records_of, records_left, records_at, HasNext, IsSettled}
 use Rattle.vacuum.proofs.Keys.{keys-next, keys-none, keys-all}

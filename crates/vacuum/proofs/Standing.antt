@@ -1,5 +1,5 @@
 -- The version of a key that stands at a time is the first that ends after it, or there is none.
-use Rattle.std.proofs.Common.{◌≡◌, ℕ, ◌<◌, ◌≤◌, nat_le, nat_lt, Bool, true, false, cond, ◌&&◌, List, [], ◌∷◌, Option, Some, None, map, refl, ap, sym, subst, ◌∙◌, drop, ⊎_elim, arith}
+use Rattle.std.proofs.Common.{◌≡◌, ℕ, ◌<◌, ◌≤◌, Bool, true, false, cond, List, [], ◌∷◌, Option, Some, None, map, refl, ap, sym, subst, ◌∙◌, drop, ⊎_elim, arith}
 use Rattle.std.specs.Prelude.{find, filter}
 use Rattle.std.proofs.lemmas.Bool.{cases_lt}
 use Rattle.std.proofs.lemmas.Bool.Decides.{nat_tests}
@@ -7,7 +7,7 @@ use Rattle.history.specs.declared.time.Version.{Version}
 use Rattle.history.specs.Time.{IsRisingAfter}
 use Rattle.history.specs.Versions.{first_time, versions, ends_after, stands_at, FollowOneAnotherFrom}
 use Rattle.history.proofs.Values.{versions-apart, filter-standing}
-use Rattle.chains.specs.Writes.{Value, Write}
+use Rattle.chains.specs.Writes.{Value}
 use Rattle.chains.specs.KeyWrites.{KeyWrites}
 use Rattle.image.specs.PlansMade.{old_record}
 use Rattle.deltas.specs.Records.{old_record_of}

@@ -1,4 +1,4 @@
-use Rattle.std.proofs.Common.{◌≡◌, ◌∙◌, List, [], Some, ap, sym, drop}
+use Rattle.std.proofs.Common.{◌∙◌, List, Some, ap, sym}
 use Rattle.std.specs.List.{slice_get}
 use Rattle.deltas.specs.declared.«record».Record.{Record}
 use Rattle.deltas.specs.declared.«record».Content.TheVariants.{Old}

@@ -1,4 +1,4 @@
-use Rattle.std.proofs.Common.{◌≡◌, ◌∙◌, [], sym}
+use Rattle.std.proofs.Common.{◌∙◌, sym}
 use Rattle.deltas.specs.Loans.{record_of_loan}
 use Rattle.vacuum.specs.Anchors.{key_olds}
 use Rattle.vacuum.proofs.Records.{tested-none, tested-some}

@@ -1,4 +1,4 @@
-use Rattle.std.proofs.Common.{◌≡◌, ◌∙◌, ◌<◌, List, [], drop, length, ap, sym, arith}
+use Rattle.std.proofs.Common.{◌∙◌, List, drop, length, ap, sym, arith}
 use Rattle.image.specs.Reading.{ArchiveRecord}
 use Rattle.vacuum.specs.Archives.{key_records}
 use Rattle.vacuum.proofs.Records.{at-none, no-first, was-settled, step-is}

@@ -4,7 +4,6 @@ use Rattle.image.specs.Reading.{ArchiveRecord}
 use Rattle.image.specs.PlansMade.{archive_record}
 use Rattle.archive.specs.Answers.{record_of}
 use Rattle.chains.specs.Rows.{version_of_loan}
-use Rattle.vacuum.specs.Archives.{key_records}
 use Rattle.vacuum.proofs.Firsts.{records-none, records-late, records-next}
 use Rattle.vacuum.proofs.archive_walk.next_record.Goals as goal
 

@@ -1,4 +1,4 @@
-use Rattle.std.proofs.Common.{◌≡◌, ◌∙◌, [], sym}
+use Rattle.std.proofs.Common.{◌∙◌, sym}
 use Rattle.archive.specs.Answers.{record_of}
 use Rattle.vacuum.specs.Archives.{key_records}
 use Rattle.vacuum.proofs.Records.{tested-none, tested-some, settled-key, settled-none, past-key, fewer-keys}

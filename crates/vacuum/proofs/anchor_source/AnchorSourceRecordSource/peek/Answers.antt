@@ -1,4 +1,4 @@
-use Rattle.std.proofs.Common.{◌≡◌, ◌∙◌, List, None, ap, sym}
+use Rattle.std.proofs.Common.{◌∙◌, List, ap, sym}
 use Rattle.std.specs.List.{slice_get}
 use Rattle.deltas.specs.declared.«record».Record.{Record}
 use Rattle.vacuum.specs.Anchors.{Sourced}
