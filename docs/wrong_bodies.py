@@ -54,7 +54,9 @@ def changed(crate, path):
         function = found
     if function is None or (not function.group(1) and re.search(r"^\}", code[function.end():at], re.M)):
         return f"a constant in `{name}`"
-    head = code[function.end():code.find("\n" + function.group(1) + "{", function.end())]
+    head = code[function.end():code.index("{", function.end())]
+    if re.search(r"\b(requires|ensures)\b", head):
+        head = code[function.end():code.find("\n" + function.group(1) + "{", function.end())]
     clauses = re.findall(r"ensures (\w+) \{", head)
     kind, trait = owner(code, function.start()) if function.group(1) else ("", "")
     said = f"`{kind}::{function.group(2)}`" if kind else f"`{function.group(2)}`"

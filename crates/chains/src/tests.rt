@@ -177,6 +177,30 @@ fn a_long_chain_has_a_next_write(rt: HostRuntime) -> Result<(), Fail> {
     Ok(())
 }
 
+// From when and up to when the first version of record 7 stands that ends after a time.
+fn ending_after(frozen: &Frozen, time: u64) -> Option<(u64, u64)> {
+    let chain = frozen.least(Bound::From(SEVEN))?;
+    let version = chain.ending_after(time)?;
+    Some((version.from, version.to))
+}
+
+#[test]
+fn a_long_chain_has_a_first_version_that_ends_after_a_time(rt: HostRuntime) -> Result<(), Fail> {
+    let frozen = long_chain(rt.alloc())?;
+    assert_eq!(rt; ending_after(&frozen, 0), Some((10, 20)));
+    assert_eq!(rt; ending_after(&frozen, 19), Some((10, 20)));
+    assert_eq!(rt; ending_after(&frozen, 20), Some((20, 30)));
+    assert_eq!(rt; ending_after(&frozen, 49), Some((40, 50)));
+    assert_eq!(rt; ending_after(&frozen, 50), Some((60, 70)));
+    assert_eq!(rt; ending_after(&frozen, 989), Some((980, 990)));
+    assert_eq!(rt; ending_after(&frozen, 999), Some((990, 1000)));
+    assert_eq!(rt; ending_after(&frozen, 1000), None);
+    let standing = example(rt.alloc())?;
+    assert_eq!(rt; ending_after(&standing, 119), Some((110, 120)));
+    assert_eq!(rt; ending_after(&standing, 120), None);
+    Ok(())
+}
+
 #[test]
 fn a_long_chain_is_forgotten_up_to_a_mark(rt: HostRuntime) -> Result<(), Fail> {
     let whole = long_chain(rt.alloc())?;

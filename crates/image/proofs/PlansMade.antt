@@ -81,7 +81,7 @@ module _ {R Y : Type 0} (make : Key → Version Value → R) (read : Key → R �
       ∙ ap (λ l. l ++ filter_map (read key) (flat_map (λ k. map (make k) (vs k)) ks)) (made-foreign k key (vs k) others.0)
       ∙ all-foreign vs key ks others.1
 
-  each-key : (vs : Key → List (Version Value)) (key : Key) (ks : List Key) → IsStrictlySortedBy key_cmp ks → (AreOthers key ks → vs key ≡ []) → filter_map (read key) (flat_map (λ k. map (make k) (vs k)) ks) ≡ map is (vs key)
+  pub each-key : (vs : Key → List (Version Value)) (key : Key) (ks : List Key) → IsStrictlySortedBy key_cmp ks → (AreOthers key ks → vs key ≡ []) → filter_map (read key) (flat_map (λ k. map (make k) (vs k)) ks) ≡ map is (vs key)
   unfolding IsStrictlySortedBy
   each-key vs key [] sorted none = ap (map is) (sym (none tt))
   each-key vs key (k ∷ ks) sorted none =
@@ -101,11 +101,11 @@ module _ {R Y : Type 0} (make : Key → Version Value → R) (read : Key → R �
 
 -- ---- order
 
-map-same : {X : Type 0} (xs : List X) → map (λ x. x) xs ≡ xs
+pub map-same : {X : Type 0} (xs : List X) → map (λ x. x) xs ≡ xs
 map-same [] = refl
 map-same (x ∷ xs) = ap (λ l. x ∷ l) (map-same xs)
 
-apart-filter : (t : ℕ) (p : Version Value → Bool) (vs : List (Version Value)) → FollowOneAnotherFrom t vs → FollowOneAnotherFrom t (filter p vs)
+pub apart-filter : (t : ℕ) (p : Version Value → Bool) (vs : List (Version Value)) → FollowOneAnotherFrom t vs → FollowOneAnotherFrom t (filter p vs)
 apart-filter t p [] apart = tt
 apart-filter t p (v ∷ vs) apart =
     let rest = apart-filter v.to p vs apart.2 in
@@ -115,11 +115,11 @@ apart-filter t p (v ∷ vs) apart =
     ]
 
 -- each record comes before all behind it
-abbrev AreAllBefore : List ArchiveRecord → Type 0
+abbrev pub AreAllBefore : List ArchiveRecord → Type 0
 AreAllBefore [] = Unit {0}
 AreAllBefore (r ∷ rs) = AllByRecursion (IsBefore r) rs × AreAllBefore rs
 
-in_order : (rs : List ArchiveRecord) → AreAllBefore rs → AreInOrder rs
+pub in_order : (rs : List ArchiveRecord) → AreAllBefore rs → AreInOrder rs
 in_order [] all = tt
 in_order (r ∷ []) all = tt
 in_order (r ∷ s ∷ rest) all = (all.0.0, in_order (s ∷ rest) all.1)
@@ -148,13 +148,13 @@ before-keys : (vs : Key → List (Version Value)) (k : Key) (us : List (Version 
 before-keys vs k [] ks above = tt
 before-keys vs k (u ∷ us) ks above = (before-all vs k (archive_record k u) ks refl above, before-keys vs k us ks above)
 
-all-order : (vs : Key → List (Version Value)) (ks : List Key) → ((k : Key) → FollowOneAnotherFrom 0 (vs k)) → IsStrictlySortedBy key_cmp ks → AreAllBefore (archive_records vs ks)
+pub all-order : (vs : Key → List (Version Value)) (ks : List Key) → ((k : Key) → FollowOneAnotherFrom 0 (vs k)) → IsStrictlySortedBy key_cmp ks → AreAllBefore (archive_records vs ks)
 unfolding IsStrictlySortedBy
 all-order vs [] apart sorted = tt
 all-order vs (k ∷ ks) apart sorted =
     before-append (map (archive_record k) (vs k)) (archive_records vs ks) (own-order k 0 (vs k) (apart k)) (all-order vs ks apart sorted.1) (before-keys vs k (vs k) ks sorted.0)
 
-own-above : (us : List (Version Value)) (low k : Key) → key_cmp low k ≡ Less → AllByRecursion (λ x. key_cmp low x ≡ Less) (map (λ old. old.key) (map (old_record k) us))
+pub own-above : (us : List (Version Value)) (low k : Key) → key_cmp low k ≡ Less → AllByRecursion (λ x. key_cmp low x ≡ Less) (map (λ old. old.key) (map (old_record k) us))
 own-above [] low k less = tt
 own-above (u ∷ us) low k less = (less, own-above us low k less)
 

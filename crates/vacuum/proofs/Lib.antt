@@ -1,0 +1,6 @@
+pub mod Firsts
+pub mod Standing
+pub mod Keys
+pub mod Records
+pub mod Anchors
+pub mod Plans

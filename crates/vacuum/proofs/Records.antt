@@ -1,0 +1,86 @@
+-- What is left of a walk over archive records, key by key.
+use Rattle.std.proofs.Common.{◌≡◌, ℕ, ◌<◌, ◌+◌, Bool, true, false, List, [], ◌∷◌, ◌++◌, length, Option, Some, None, drop, refl, ap, sym, subst, ◌∙◌, arith}
+use Rattle.std.specs.Prelude.{find, option_map}
+use Rattle.std.specs.Option.{is_some}
+use Rattle.std.specs.List.{slice_get}
+use Rattle.chains.specs.declared.bound.Bound.{Bound}
+use Rattle.chains.specs.declared.bound.Bound.TheVariants.{From, After}
+use Rattle.chains.specs.Bounds.{is_in}
+use Rattle.chains.specs.KeyWrites.{KeyWrites, IsOrdered}
+use Rattle.image.specs.Reading.{ArchiveRecord}
+use Rattle.vacuum.specs.declared.archive_walk.Place.{Place}
+use Rattle.vacuum.specs.Archives.{keys_within, key_records, records_of, records_left, records_at, HasNext, IsSettled}
+use Rattle.vacuum.proofs.Keys.{keys-next, keys-none, keys-all}
+
+-- ---- lists by their first element
+
+pub get-front : {X : Type 0} (xs ys : List X) → 0 < length xs → slice_get (xs ++ ys) 0 ≡ slice_get xs 0
+get-front [] ys some = absurd (omega arith)
+get-front (x ∷ xs) ys some = refl
+
+pub drop-front : {X : Type 0} (xs ys : List X) → 0 < length xs → drop 1 (xs ++ ys) ≡ drop 1 xs ++ ys
+drop-front [] ys some = absurd (omega arith)
+drop-front (x ∷ xs) ys some = refl
+
+pub no-first : {X : Type 0} (xs : List X) → None ≡ slice_get xs 0 → xs ≡ []
+no-first [] e = refl
+no-first (x ∷ xs) e = absurd (cc)
+
+pub some-first : {X : Type 0} (xs : List X) (x : X) → Some x ≡ slice_get xs 0 → 0 < length xs
+some-first [] x e = absurd (cc)
+some-first (y ∷ ys) x e = omega arith
+
+-- a test of the first element, which is shown by f
+pub tested-none : {T X : Type 0} (f : T → X) (o : Option T) (xs : List X) → is_some o ≡ false → option_map f o ≡ slice_get xs 0 → xs ≡ []
+tested-none f None xs empty e = no-first xs e
+tested-none f (Some x) xs empty e = absurd (cc)
+
+pub tested-some : {T X : Type 0} (f : T → X) (o : Option T) (xs : List X) → is_some o ≡ true → option_map f o ≡ slice_get xs 0 → 0 < length xs
+tested-some f None xs full e = absurd (cc)
+tested-some f (Some x) xs full e = some-first xs (f x) e
+
+-- ---- a walk
+
+pub left-all : (after upto : ℕ) (m : List KeyWrites) → records_left after after upto m ≡ records_of after upto m
+left-all after upto [] = refl
+left-all after upto (c ∷ cs) = refl
+
+pub at-first : (after upto : ℕ) (m : List KeyWrites) → records_at after upto (record { bound = From (record { relation = 0; «record» = 0 }); passed = after }) m ≡ records_of after upto m
+at-first after upto m = ap (records_left after after upto) (keys-all m) ∙ left-all after upto m
+
+module _ (after upto : ℕ) (place : Place) (m : List KeyWrites) where
+  pub at-none : find (λ (c : KeyWrites). is_in place.bound c.key) m ≡ None → records_at after upto place m ≡ []
+  at-none e = ap (records_left place.passed after upto) (keys-none place.bound m e)
+
+  pub settled-none : find (λ (c : KeyWrites). is_in place.bound c.key) m ≡ None → IsSettled upto place m
+  settled-none e = subst (HasNext place.passed upto) (sym (keys-none place.bound m e)) tt
+
+  module _ (c : KeyWrites) (ordered : IsOrdered m) (first : find (λ (c : KeyWrites). is_in place.bound c.key) m ≡ Some c) where
+    pub at-key : records_at after upto place m ≡ key_records place.passed upto c ++ records_of after upto (keys_within (After c.key) m)
+    at-key = ap (records_left place.passed after upto) (keys-next place.bound m c ordered first)
+
+    pub settled-key : 0 < length (key_records place.passed upto c) → IsSettled upto place m
+    settled-key some = subst (HasNext place.passed upto) (sym (keys-next place.bound m c ordered first)) some
+
+    pub was-settled : IsSettled upto place m → 0 < length (key_records place.passed upto c)
+    was-settled settled = subst (HasNext place.passed upto) (keys-next place.bound m c ordered first) settled
+
+    -- a key that has no record is passed
+    pub past-key : key_records place.passed upto c ≡ [] → records_at after upto (record { bound = After c.key; passed = after }) m ≡ records_at after upto place m
+    past-key none =
+        left-all after upto (keys_within (After c.key) m)
+        ∙ sym (at-key ∙ ap (λ l. l ++ records_of after upto (keys_within (After c.key) m)) none)
+
+    pub fewer-keys : length (keys_within (After c.key) m) < length (keys_within place.bound m)
+    fewer-keys = omega (arith, ap length (keys-next place.bound m c ordered first))
+
+    pub next-is : IsSettled upto place m → slice_get (records_at after upto place m) 0 ≡ slice_get (key_records place.passed upto c) 0
+    next-is settled = ap (λ l. slice_get l 0) at-key ∙ get-front (key_records place.passed upto c) _ (was-settled settled)
+
+    -- behind the next record
+    pub step-is : (to : ℕ) → IsSettled upto place m → key_records to upto c ≡ drop 1 (key_records place.passed upto c)
+        → records_at after upto (record { bound = place.bound; passed = to }) m ≡ drop 1 (records_at after upto place m)
+    step-is to settled behind =
+        ap (records_left to after upto) (keys-next place.bound m c ordered first)
+        ∙ ap (λ l. l ++ records_of after upto (keys_within (After c.key) m)) behind
+        ∙ sym (ap (drop 1) at-key ∙ drop-front (key_records place.passed upto c) _ (was-settled settled))

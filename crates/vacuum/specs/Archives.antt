@@ -1,0 +1,61 @@
+-- The records of a run, as a walk over the versions in memory gives them.
+use Rattle.std.specs.Prelude.{ℕ, ◌<◌, List, [], ◌∷◌, ◌++◌, map, filter, length}
+use Rattle.std.specs.List.{flat_map}
+use Rattle.history.specs.Versions.{versions, ends_after, ends_by}
+use Rattle.chains.specs.declared.bound.Bound.{Bound}
+use Rattle.chains.specs.Bounds.{is_in}
+use Rattle.chains.specs.KeyWrites.{KeyWrites, IsOrdered, AreRising}
+use Rattle.image.specs.Reading.{ArchiveRecord}
+use Rattle.image.specs.PlansMade.{archive_record}
+use Rattle.wire.specs.declared.slot.Run.{Run}
+use Rattle.archive.specs.Runs.{run_bytes}
+use Rattle.archive.specs.Pieces.{InWriting}
+use Rattle.vacuum.specs.declared.archive_walk.Place.{Place}
+
+-- as versions stand in memory: the keys in order, and the writes of each rising
+pub record AreInMemory (frozen : List KeyWrites) : Type 0 where
+  pub ordered : IsOrdered frozen
+  pub rising : AreRising frozen
+
+-- the keys within a bound
+abbrev pub keys_within : Bound → List KeyWrites → List KeyWrites
+keys_within bound frozen = filter (λ (c : KeyWrites). is_in bound c.key) frozen
+
+-- a record for each version of a key that ends after one time and by another, by rising time
+abbrev pub key_records : ℕ → ℕ → KeyWrites → List ArchiveRecord
+key_records after upto c = map (archive_record c.key) (filter (ends_by upto) (filter (ends_after after) (versions c.writes)))
+
+-- those of all keys, in their order
+abbrev pub records_of : ℕ → ℕ → List KeyWrites → List ArchiveRecord
+records_of after upto frozen = flat_map (key_records after upto) frozen
+
+-- what is left of them, where of the first of these keys those that end by a time of its own are passed
+abbrev pub records_left : ℕ → ℕ → ℕ → List KeyWrites → List ArchiveRecord
+records_left passed after upto [] = []
+records_left passed after upto (c ∷ cs) = key_records passed upto c ++ records_of after upto cs
+
+-- the same, where the keys within a bound are left
+abbrev pub records_at : ℕ → ℕ → Place → List KeyWrites → List ArchiveRecord
+records_at after upto place frozen = records_left place.passed after upto (keys_within place.bound frozen)
+
+-- the first of these keys, if there is one, has a record
+abbrev pub HasNext : ℕ → ℕ → List KeyWrites → Type 0
+HasNext passed upto [] = Unit {0}
+HasNext passed upto (c ∷ cs) = 0 < length (key_records passed upto c)
+
+-- a record is next at this place, unless none is left
+abbrev pub IsSettled : ℕ → Place → List KeyWrites → Type 0
+IsSettled upto place frozen = HasNext place.passed upto (keys_within place.bound frozen)
+
+-- a walk over archive records: all of them, and those that are left
+pub record Walked : Type 0 where
+  pub all : List ArchiveRecord
+  pub left : List ArchiveRecord
+
+-- the run of these records, as its slot names it
+abbrev pub run_of : ℕ → ℕ → List ArchiveRecord → Run
+run_of upto start records = record { upto = upto; start = start; len = length (run_bytes records); «records» = length records }
+
+-- the run of which nothing is written yet
+abbrev pub unwritten : ℕ → List ArchiveRecord → InWriting
+unwritten start records = record { at = start; left = run_bytes records; records = length records }
