@@ -1,4 +1,4 @@
-pub mod OnlyCommits
+pub mod Unreclaimed
 pub mod Versions
 pub mod Fronts
 pub mod Opened

@@ -1,13 +1,12 @@
 -- The rules of a log, slot by slot and as a whole.
-use Rattle.std.proofs.Common.{◌≡◌, ℕ, zero, suc, ◌+◌, List, [], ◌∷◌, ◌++◌, take, Some, refl, sym, ap, subst, ◌∙◌, append_assoc, IsTrue}
+use Rattle.std.proofs.Common.{◌≡◌, ℕ, zero, suc, ◌+◌, List, [], ◌∷◌, ◌++◌, take, Some, refl, sym, subst, append_assoc, IsTrue}
 use Rattle.std.specs.Prelude.{slice_get}
-use Rattle.std.proofs.lemmas.List.{append-nil, map-append}
-use Rattle.std.proofs.lemmas.Grind.{flat_map-append}
+use Rattle.std.proofs.lemmas.List.{append-nil}
 use Rattle.wire.specs.Spelling.{kind_of}
 use Rattle.wire.specs.declared.slot.Run.{Run}
 use Rattle.wire.specs.declared.slot.Slot.{Slot}
 use Rattle.image.specs.Log.{MayAllCome}
-use Rattle.status.specs.Rules.{slot_of, log_of, runs_in, runs_of, row_end, AreInRow, is_built, MayFollow, KeepsRules}
+use Rattle.status.specs.Rules.{log_of, runs_in, runs_of, row_end, AreInRow, is_built, MayFollow, KeepsRules}
 use Rattle.status.proofs.Ends.{log-push, end-push}
 
 row_parts : (place : ℕ) (xs ys : List Run) → AreInRow place (xs ++ ys) → AreInRow place xs × AreInRow (row_end place xs) ys

@@ -53,7 +53,7 @@ IsStaged (Storing member extent) = Unit {0}
 IsStaged Stored = Unit {0}
 IsStaged Turning = Unit {0}
 
--- Nothing is archived or reclaimed: memory has all versions.
+-- Nothing is reclaimed: memory has all versions.
 pub record StandsInMemory (v : TransactionsValue) (m : Machine Value) : Type 0 where
   pub names : map name_at v.heads ≡ map name_of (commit_order m)
   pub rising : IsRisingAfter 0 v.heads

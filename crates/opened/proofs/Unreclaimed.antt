@@ -1,4 +1,4 @@
--- Where only commits are built, a log has no reclaim mark and no anchors.
+-- Where no reclaimed slot is built, a log has no reclaim mark and no anchors.
 use Rattle.std.proofs.Common.{◌≡◌, ℕ, suc, ◌==◌, ◌&&◌, Bool, true, false, IsTrue, List, [], ◌∷◌, Some, refl, arith, ◌∙◌}
 use Rattle.std.specs.Prelude.{slice_get}
 use Rattle.std.specs.List.{AllByRecursion}
