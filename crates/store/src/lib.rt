@@ -6,6 +6,7 @@ mod job_pump;
 mod opening;
 mod pump;
 mod queries;
+mod starting;
 mod store;
 
 pub use group::{BeginFault, Did, PumpFault, Redeemed, SubmitFault, Submitted, Ticket};
