@@ -6,9 +6,9 @@ use Rattle.status.specs.TurnState.{TurnState}
 use Rattle.group.specs.declared.answers.PumpFault.{PumpFault}
 use Rattle.group.specs.declared.answers.PumpFault.TheVariants as fault
 use Rattle.transactions.specs.Values.{is_turning}
-use Rattle.store.specs.Values.{StoreValue, IsInStep, TurnsOne, IsOnItsWay, turn_in}
+use Rattle.store.specs.Values.{StoreValue, IsInStep, IsOnItsWay, turn_in}
 use Rattle.store.specs.Parts.{IsInRange}
-use Rattle.store.specs.Jobs.{TakesJobStep, WritesOrSyncs, BeginsJobSlot, IsJobTurned, JobTurnFails, JobMoves, with_job, job_fails, job_done, slot_taken, first_turn, behind_piece}
+use Rattle.store.specs.Jobs.{TakesJobStep, WritesOrSyncs, BeginsJobSlot, IsJobTurned, JobTurnFails, JobMoves, with_job, job_fails, job_done, slot_taken}
 use Rattle.store.specs.declared.job.ArchiveJob.{ArchiveJob}
 use Rattle.store.specs.declared.job.JobStage.{JobStage}
 use Rattle.store.specs.declared.job.JobStage.TheVariants as stages

@@ -1,5 +1,5 @@
 -- A step of a job, over plain values.
-use Rattle.std.proofs.Common.{◌≡◌, ◌<◌, ℕ, ◌+◌, ◌||◌, Bool, true, false, is_some, List, [], ◌∷◌, length, Option, Some, None, Result, Ok, Err, MatchResult, refl, sym, ◌∙◌, ap, subst, arith}
+use Rattle.std.proofs.Common.{◌≡◌, ◌<◌, ℕ, Bool, true, false, is_some, List, [], ◌∷◌, length, Option, Some, Result, Ok, Err, MatchResult, subst, arith}
 use Rattle.disk.specs.Calls.{DiskState}
 use Rattle.archive.specs.Pieces.{InWriting}
 use Rattle.wire.specs.declared.slot.Run.{Run}

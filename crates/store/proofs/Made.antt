@@ -1,5 +1,5 @@
 -- Each step that does something makes one device call.
-use Rattle.std.proofs.Common.{◌≡◌, ◌≢◌, ℕ, ◌+◌, Bool, true, false, is_some, Option, Some, None, Result, Ok, Err, MatchBool, MatchOption}
+use Rattle.std.proofs.Common.{◌≡◌, ◌≢◌, Bool, true, false, is_some, Option, Some, None, Result, Ok, Err, MatchBool, MatchOption}
 use Rattle.disk.specs.Calls.{DiskState, Counts, counted, top}
 use Rattle.disk.specs.declared.area.DeviceFault.{DeviceFault}
 use Rattle.status.specs.TurnState.{TurnState}

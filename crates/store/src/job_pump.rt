@@ -28,7 +28,7 @@ impl<D: Disk> Store<D> {
         if self.transactions.has_failed() {
             return Err(PumpFault::Failed);
         }
-        let is_turning = self.turn.is_some();
+        let is_turning = self.is_group_turning();
         match mem::replace(&mut self.job, None) {
             None => Ok(JobDid::Idle),
             Some(job) => {
@@ -45,6 +45,13 @@ impl<D: Disk> Store<D> {
                 answer
             }
         }
+    }
+
+    // Whether a group's slot is in the writing.
+    fn is_group_turning(&self) -> bool
+        ensures { result ≡ is_some self.now.turn }
+    {
+        self.turn.is_some()
     }
 }
 

@@ -1,4 +1,4 @@
-use Rattle.std.proofs.Common.{◌≡◌, ◌<◌, ℕ, length, arith, ◌∙◌, sym}
+use Rattle.std.proofs.Common.{arith}
 use Rattle.store.proofs.JobSteps.{synced-all, wrote-some}
 use Rattle.store.proofs.job_pump.write_or_sync.Goals as goal
 
