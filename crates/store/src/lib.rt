@@ -15,3 +15,6 @@ pub use recovery::OpenFault;
 pub use snapshot::{Txn, TxnFault};
 pub use store::Store;
 pub use timequery::{QueryFault, View};
+
+#[cfg(test)]
+mod tests;
