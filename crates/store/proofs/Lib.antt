@@ -1,2 +1,4 @@
 pub mod Opened
 pub mod Made
+pub mod JobSteps
+pub mod InStep

@@ -5,3 +5,4 @@ pub mod Pumps
 pub mod Opens
 pub mod Archives
 pub mod Jobs
+pub mod Parts

@@ -1,7 +1,9 @@
 //! What a store does of a job.
+ghost use Rattle.std.specs.Prelude.{◌≡◌};
 
 use archive::RunWriter;
 use status::SlotTurn;
+use std::mem;
 use vacuum::ArchiveWalk;
 use wire::Run;
 
@@ -21,6 +23,30 @@ pub struct ArchiveJob {
     pub(crate) run: Run,
     pub(crate) writer: RunWriter<ArchiveWalk>,
     pub(crate) stage: JobStage,
+}
+
+impl ArchiveJob {
+    /// Gives the job up: what it has of a slot stays in the writing.
+    pub(crate) fn give_up(self) {
+        let ArchiveJob {
+            run: _,
+            writer: _,
+            stage,
+        } = self;
+        match stage {
+            JobStage::Writing | JobStage::Stored => {}
+            JobStage::Turning(turn) => turn.give_up(),
+        }
+    }
+}
+
+/// Puts a job into its place, and gives up the one that stood there.
+pub(crate) fn put_job(place: &mut Option<ArchiveJob>, job: Option<ArchiveJob>)
+    ensures { place.new ≡ job }
+{
+    if let Some(before) = mem::replace(place, job) {
+        before.give_up();
+    }
 }
 
 /// Why no job begins. Of several reasons the first is told; want of memory comes where it is met.

@@ -1,13 +1,20 @@
 //! A store of records that keeps every version. One event is one call; no call waits.
 #![tactic(auto)]
 
+mod job;
+mod job_pump;
 mod opening;
 mod pump;
 mod queries;
+mod starting;
 mod store;
 
 pub use group::{BeginFault, Did, PumpFault, Redeemed, SubmitFault, Submitted, Ticket};
+pub use job::{JobDid, StartFault};
 pub use recovery::OpenFault;
 pub use snapshot::{Txn, TxnFault};
 pub use store::Store;
 pub use timequery::{QueryFault, View};
+
+#[cfg(test)]
+mod tests;

@@ -1,5 +1,8 @@
 //! Opening a store.
 ghost use Rattle.std.specs.Prelude.{◌≡◌, IfOk, IfErr, map};
+ghost use Rattle.std.specs.List.{AllByRecursion};
+ghost use Rattle.wire.specs.Spelling.{IsRun};
+ghost use Rattle.status.specs.Rules.{row_end};
 ghost use Rattle.store.specs.Heads.{head_as};
 ghost use Rattle.store.specs.Opens.{Opens, OpenRefuses};
 
@@ -12,6 +15,7 @@ use recovery::{CommitName, OpenFault, Recovered, read_image};
 use status::StatusLog;
 use std::alloc::{AllocError, Global};
 use transactions::Transactions;
+use wire::Run;
 
 // The commits of the log as they stand in the commit order.
 fn heads_of(alloc: Global, commits: &[CommitName]) -> Result<Vec<CommitHead>, AllocError>
@@ -25,6 +29,20 @@ fn heads_of(alloc: Global, commits: &[CommitName]) -> Result<Vec<CommitHead>, Al
             awaited: false,
         })
         .collect(alloc)
+}
+
+// Where the last of these runs ends.
+fn end_of(runs: &[Run]) -> u64
+    requires { AllByRecursion IsRun runs.now }
+    ensures { result ≡ row_end 0 runs.now }
+{
+    let mut end = 0;
+    let mut rest = runs;
+    while let [run, after @ ..] = rest {
+        end = run.start + run.len;
+        rest = after;
+    }
+    end
 }
 
 impl<D: Disk> Store<D> {
@@ -51,9 +69,9 @@ impl<D: Disk> Store<D> {
             used,
             commits: _,
             floor,
-            archived: _,
+            archived,
             reclaimed: _,
-            runs: _,
+            runs,
             extents,
             live: _,
             chains,
@@ -72,6 +90,9 @@ impl<D: Disk> Store<D> {
             ),
             log,
             turn: None,
+            job: None,
+            archived,
+            runs_end: end_of(&runs),
             disk,
         })
     }

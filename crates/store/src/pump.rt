@@ -1,9 +1,11 @@
 //! The steps of a group to the disk.
-ghost use Rattle.std.specs.Prelude.{◌≡◌, ◌<◌, false, IsTrue, IsSome, None};
+ghost use Rattle.std.specs.Prelude.{◌≡◌, ◌<◌, false, is_some, IsTrue, IsSome, None};
+ghost use Rattle.store.specs.Values.{turn_of};
 ghost use Rattle.disk.specs.Areas.{AreSound};
 ghost use Rattle.transactions.specs.Steps.{due, next_extent};
 ghost use Rattle.store.specs.Pumps.{Pumps, TakesStep, SyncsHeap, BeginsSlot, TurnsSlot, store_of, did_at};
 
+use crate::job::JobStage;
 use crate::store::Store;
 use disk::{Area, DeviceFault, Disk};
 use group::{Did, PumpFault};
@@ -29,8 +31,26 @@ impl<D: Disk> Store<D> {
             NextStep::Idle => Ok(Did::Idle),
             NextStep::WriteExtent => self.write_extent(),
             NextStep::SyncHeap => self.sync_heap(),
-            NextStep::BeginSlot => self.begin_slot(),
+            NextStep::BeginSlot => {
+                if self.is_job_turning() {
+                    return Err(PumpFault::Busy);
+                }
+                self.begin_slot()
+            }
             NextStep::AdvanceSlot => self.advance_slot(),
+        }
+    }
+
+    // Whether the job's slot is in the writing.
+    fn is_job_turning(&self) -> bool
+        ensures { result ≡ is_some (turn_of self.now.job) }
+    {
+        match &self.job {
+            None => false,
+            Some(job) => match &job.stage {
+                JobStage::Writing | JobStage::Stored => false,
+                JobStage::Turning(_) => true,
+            },
         }
     }
 
@@ -79,6 +99,7 @@ impl<D: Disk> Store<D> {
         requires due { due self.old.transactions ≡ NextStep.BeginSlot }
         requires works { self.old.transactions.failed ≡ false }
         requires room { self.old.transactions.used < self.old.transactions.slots }
+        requires free { is_some (turn_of self.old.job) ≡ false }
         ensures is { BeginsSlot D.tells self.old result self.new }
         ensures sound { IsTrue D.tells → AreSound self.new.disk.areas }
     {

@@ -2,6 +2,7 @@
 ghost use Rattle.std.specs.Prelude.{◌≡◌, IfOk};
 ghost use Rattle.store.specs.Calls.{Begins, Aborts, Submits, Redeems, IsViewOf, IsTimesOf, last, floor};
 
+use crate::job::ArchiveJob;
 use disk::Disk;
 use group::{BeginFault, Redeemed, SubmitFault, Submitted, Ticket};
 use snapshot::Txn;
@@ -18,17 +19,23 @@ pub struct Store<D: Disk> {
     pub(crate) transactions: Transactions,
     pub(crate) log: StatusLog,
     pub(crate) turn: Option<SlotTurn>,
+    pub(crate) job: Option<ArchiveJob>,
+    // The archive mark, and where the last run of the log ends.
+    pub(crate) archived: u64,
+    pub(crate) runs_end: u64,
     pub(crate) disk: D,
 }
 
 impl<D: Disk> Model for Store<D> {
     ghost use Rattle.store.specs.Values.{StoreValue, IsInStep};
+    ghost use Rattle.store.specs.Parts.{parts_of, IsInRange};
 
     ghost Value = { StoreValue };
 
-    ghost view = { λ s. record { transactions = s.transactions; log = s.log; turn = s.turn; disk = D.state s.disk } };
+    ghost view = { λ s. parts_of s.transactions s.log s.turn s.job s.archived s.runs_end (D.state s.disk) };
 
-    ghost invariant = { λ s. IsInStep (record { transactions = s.transactions; log = s.log; turn = s.turn; disk = D.state s.disk }) };
+    ghost invariant = { λ s. IsInStep (parts_of s.transactions s.log s.turn s.job s.archived s.runs_end (D.state s.disk))
+        × IsInRange (parts_of s.transactions s.log s.turn s.job s.archived s.runs_end (D.state s.disk)) };
 }
 
 impl<D: Disk> Store<D> {
@@ -41,11 +48,17 @@ impl<D: Disk> Store<D> {
             transactions,
             log: _,
             turn,
+            job,
+            archived: _,
+            runs_end: _,
             disk,
         } = self;
         transactions.spend();
         if let Some(turn) = turn {
             turn.give_up();
+        }
+        if let Some(job) = job {
+            job.give_up();
         }
         disk
     }

@@ -244,7 +244,8 @@ impl Transactions {
 
     /// Whether the device refused a write or a sync: nothing is written any more.
     pub fn has_failed(&self) -> bool
-        ensures { result ≡ self.now.failed }
+        ensures is { result ≡ self.now.failed }
+        ensures room { self.now.used ≤ self.now.slots }
     {
         self.failed
     }

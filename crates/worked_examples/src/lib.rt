@@ -3,6 +3,8 @@
 #![tactic(auto)]
 
 #[cfg(test)]
+mod archived;
+#[cfg(test)]
 mod bad_input;
 #[cfg(test)]
 mod bytes;

@@ -1,0 +1,142 @@
+-- A store stays in step when its job goes on.
+use Rattle.std.proofs.Common.{◌≡◌, ◌<◌, ◌≤◌, ◌^◌, ℕ, ◌+◌, ◌||◌, Bool, true, false, is_some, List, [], ◌∷◌, Option, Some, None, Result, Ok, Err, MatchBool, MatchOption, MatchResult, refl, sym, ◌∙◌, ap, subst, arith}
+use Rattle.status.specs.SlotCalls.{SlotStage}
+use Rattle.status.specs.SlotCalls as slots
+use Rattle.status.specs.TurnState.{TurnState}
+use Rattle.group.specs.declared.answers.PumpFault.{PumpFault}
+use Rattle.group.specs.declared.answers.PumpFault.TheVariants as fault
+use Rattle.transactions.specs.Values.{is_turning}
+use Rattle.store.specs.Values.{StoreValue, IsInStep, IsOnItsWay, turn_in}
+use Rattle.store.specs.Parts.{IsInRange}
+use Rattle.store.specs.Jobs.{TakesJobStep, WritesOrSyncs, BeginsJobSlot, IsJobTurned, JobTurnFails, JobMoves, with_job, job_fails, job_done, slot_taken}
+use Rattle.store.specs.declared.job.ArchiveJob.{ArchiveJob}
+use Rattle.store.specs.declared.job.JobStage.{JobStage}
+use Rattle.store.specs.declared.job.JobStage.TheVariants as stages
+use Rattle.store.specs.declared.job.JobDid.{JobDid}
+
+-- what a store's own invariant says
+pub record Holds (v : StoreValue) : Type 0 where
+  pub in_step : IsInStep v
+  pub in_range : IsInRange v
+
+-- the same of its counts alone, while a job runs
+record Counts (v : StoreValue) (job : ArchiveJob) : Type 0 where
+  slots : v.log.slots ≡ v.transactions.slots + 1
+  used : v.log.used ≡ v.transactions.used
+  few : v.log.slots ≤ 65536
+  run : job.run.start + job.run.len < 2 ^ 63
+
+-- a store on which this job runs
+abbrev pub running : StoreValue → ArchiveJob → StoreValue
+running v job = record v { job = Some job }
+
+counts : (v : StoreValue) (job : ArchiveJob) → Holds (running v job) → Counts v job
+counts v job holds = record { slots = holds.in_step.slots; used = holds.in_step.used; few = holds.in_range.slots; run = holds.in_range.run }
+
+none-there : (o : Option TurnState) → is_some o ≡ false → o ≡ None
+none-there None out = refl
+none-there (Some turn) out = absurd (let is : true ≡ false = out in cc)
+
+-- ---- one step
+
+fails : (v : StoreValue) (job made : ArchiveJob) (new : StoreValue) → made.run ≡ job.run → Counts v job → Holds (job_fails (running v job) made new)
+fails v job made new run_is c = record {
+  in_step = record { slots = c.slots; used = c.used; turns = λ works. absurd (let is : true ≡ false = works in cc) };
+  in_range = record { slots = c.few; run = rw run_is c.run };
+}
+
+-- the job's slot is what it was
+goes-on : (v : StoreValue) (job made : ArchiveJob) (new : StoreValue) → made.run ≡ job.run → turn_in made.stage ≡ turn_in job.stage → Holds (running v job) → Holds (with_job (running v job) made new)
+goes-on v job made new run_is turn_is holds = record {
+  in_step = record {
+    slots = holds.in_step.slots;
+    used = holds.in_step.used;
+    turns = λ works. record {
+      turning = (holds.in_step.turns works).turning;
+      writing = rw turn_is (holds.in_step.turns works).writing;
+      turn = (holds.in_step.turns works).turn;
+      job = rw turn_is (holds.in_step.turns works).job;
+    };
+  };
+  in_range = record { slots = holds.in_range.slots; run = rw run_is holds.in_range.run };
+}
+
+-- the job's slot is in the writing
+turns : (v : StoreValue) (job : ArchiveJob) (next : TurnState) (new : StoreValue) → Counts v job → next.number ≡ v.log.used → IsOnItsWay next.stage → v.turn ≡ None → v.log.writing ≡ true → is_turning v.transactions.stage ≡ is_some v.turn
+    → Holds (with_job (running v job) (record job { stage = stages.Turning next }) new)
+turns v job next new c number way none writing turning = record {
+  in_step = record {
+    slots = c.slots;
+    used = c.used;
+    turns = λ works. record {
+      turning = turning;
+      writing = writing ∙ sym (ap (λ (o : Option TurnState). is_some o || true) none);
+      turn = subst (λ (o : Option TurnState). MatchOption o (Unit {0}) (λ t. (t.number ≡ v.log.used) × IsOnItsWay t.stage)) (sym none) tt;
+      job = (number, way, none);
+    };
+  };
+  in_range = record { slots = c.few; run = c.run };
+}
+
+-- the job is done
+ends : (v : StoreValue) (job : ArchiveJob) (turn : TurnState) (new : StoreValue) → Counts v job → turn.number ≡ v.log.used → v.turn ≡ None → is_turning v.transactions.stage ≡ is_some v.turn → Holds (job_done (running v job) job turn new)
+ends v job turn new c number none turning = record {
+  in_step = record {
+    slots = omega (arith, c.slots);
+    used = omega (arith, c.used, number);
+    turns = λ works. record {
+      turning = turning;
+      writing = sym (ap (λ (o : Option TurnState). is_some o || false) none);
+      turn = subst (λ (o : Option TurnState). MatchOption o (Unit {0}) (λ t. (t.number ≡ turn.number + 1) × IsOnItsWay t.stage)) (sym none) tt;
+      job = tt;
+    };
+  };
+  in_range = record { slots = c.few; run = tt };
+}
+
+-- ---- what becomes of it
+
+moves : (what : JobDid) (v : StoreValue) (job made refused : ArchiveJob) (result : Result JobDid PumpFault) (new : StoreValue) → made.run ≡ job.run → refused.run ≡ job.run → turn_in made.stage ≡ turn_in job.stage
+    → JobMoves what made refused (running v job) result new → Holds (running v job) → Holds new
+moves what v job made refused (Ok said) new run_is refused_is turn_is done holds = subst Holds (sym done.1) (goes-on v job made new run_is turn_is holds)
+moves what v job made refused (Err why) new run_is refused_is turn_is done holds = subst Holds (sym done.1) (fails v job refused new refused_is (counts v job holds))
+
+runs : (tells : Bool) (left : List ℕ) (v : StoreValue) (job : ArchiveJob) (result : Result JobDid PumpFault) (new : StoreValue) → job.stage ≡ stages.Writing → WritesOrSyncs tells left job (running v job) result new → Holds (running v job) → Holds new
+runs tells [] v job result new is syncs holds = moves _ v job _ _ result new refl refl (sym (ap turn_in is)) syncs.moves holds
+runs tells (b ∷ bs) v job result new is writes holds = moves _ v job _ _ result new refl refl refl writes.moves holds
+
+turned : (stage : SlotStage) (own : TurnState) (v : StoreValue) (job : ArchiveJob) (what : JobDid) (new : StoreValue) → IsJobTurned stage own job (running v job) what new → IsOnItsWay stage
+    → Counts v job → own.number ≡ v.log.used → v.turn ≡ None → v.log.writing ≡ true → is_turning v.transactions.stage ≡ is_some v.turn → Holds new
+turned slots.Begun own v job what new is way c number none writing turning = absurd way
+turned slots.BodyWritten own v job what new is way c number none writing turning = subst Holds (sym is.1) (turns v job _ new c number tt none writing turning)
+turned slots.BodySynced own v job what new is way c number none writing turning = subst Holds (sym is.1) (turns v job _ new c number tt none writing turning)
+turned slots.GateWritten own v job what new is way c number none writing turning = subst Holds (sym is.1) (ends v job own new c number none turning)
+turned slots.Opened own v job what new is way c number none writing turning = absurd way
+
+advances : (own : TurnState) (v : StoreValue) (job : ArchiveJob) (result : Result JobDid PumpFault) (new : StoreValue) → job.stage ≡ stages.Turning own → v.transactions.failed ≡ false
+    → MatchResult result (λ what. IsJobTurned own.stage own job (running v job) what new) (λ why. JobTurnFails job (running v job) why new) → Holds (running v job) → Holds new
+advances own v job (Err why) new is works answer holds = subst Holds (sym answer.1) (fails v job _ new refl (counts v job holds))
+advances own v job (Ok what) new is works answer holds =
+    let turns = holds.in_step.turns works in
+    let turn_is : turn_in job.stage ≡ Some own = ap turn_in is in
+    let slot : (own.number ≡ v.log.used) × IsOnItsWay own.stage × (v.turn ≡ None) =
+    subst (λ (o : Option TurnState). MatchOption o (Unit {0}) (λ t. (t.number ≡ v.log.used) × IsOnItsWay t.stage × (v.turn ≡ None))) turn_is turns.job in
+    let writing : v.log.writing ≡ true = turns.writing ∙ ap (λ (o : Option TurnState). is_some v.turn || is_some o) turn_is ∙ ap (λ (o : Option TurnState). is_some o || true) slot.2 in
+    turned own.stage own v job what new answer slot.1 (counts v job holds) slot.0 slot.2 writing turns.turning
+
+begins : (tells b : Bool) (v : StoreValue) (job : ArchiveJob) (result : Result JobDid PumpFault) (new : StoreValue) → is_some v.turn ≡ b → v.transactions.failed ≡ false
+    → MatchBool b (Path (Result JobDid PumpFault) result (Err fault.Busy) × (new ≡ running v job)) (BeginsJobSlot tells job (running v job) result new) → Holds (running v job) → Holds new
+begins tells true v job result new is works takes holds = subst Holds (sym takes.1) holds
+begins tells false v job (Err why) new is works takes holds = subst Holds (sym takes.answer.1) (fails (slot_taken v) job _ new refl (let c = counts v job holds in record { slots = c.slots; used = c.used; few = c.few; run = c.run }))
+begins tells false v job (Ok what) new is works takes holds =
+    let c = counts v job holds in
+    subst Holds (sym takes.answer.1) (turns (slot_taken v) job _ new (record { slots = c.slots; used = c.used; few = c.few; run = c.run }) refl tt (none-there v.turn is) refl (holds.in_step.turns works).turning)
+
+takes-at : (tells : Bool) (stage : JobStage) (v : StoreValue) (job : ArchiveJob) (result : Result JobDid PumpFault) (new : StoreValue) → job.stage ≡ stage → v.transactions.failed ≡ false
+    → TakesJobStep tells stage job (running v job) result new → Holds (running v job) → Holds new
+takes-at tells stages.Writing v job result new is works takes holds = runs tells job.writer.left v job result new is takes holds
+takes-at tells stages.Stored v job result new is works takes holds = begins tells (is_some v.turn) v job result new refl works takes holds
+takes-at tells (stages.Turning own) v job result new is works takes holds = advances own v job result new is works takes.answer holds
+
+pub stays-in-step : (tells : Bool) (v : StoreValue) (job : ArchiveJob) (result : Result JobDid PumpFault) (new : StoreValue) → v.transactions.failed ≡ false → TakesJobStep tells job.stage job (running v job) result new → Holds (running v job) → Holds new
+stays-in-step tells v job result new works takes holds = takes-at tells job.stage v job result new refl works takes holds
