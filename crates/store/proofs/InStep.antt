@@ -110,7 +110,7 @@ turned : (stage : SlotStage) (own : TurnState) (v : StoreValue) (job : ArchiveJo
 turned slots.Begun own v job what new is way c number none writing turning = absurd way
 turned slots.BodyWritten own v job what new is way c number none writing turning = subst Holds (sym is.1) (turns v job _ new c number tt none writing turning)
 turned slots.BodySynced own v job what new is way c number none writing turning = subst Holds (sym is.1) (turns v job _ new c number tt none writing turning)
-turned slots.GateWritten own v job what new is way c number none writing turning = subst Holds (sym is.1) (ends v job own new c number none turning)
+turned slots.GateWritten own v job what new is way c number none writing turning = subst Holds (sym is.2) (ends v job own new c number none turning)
 turned slots.Opened own v job what new is way c number none writing turning = absurd way
 
 advances : (own : TurnState) (v : StoreValue) (job : ArchiveJob) (result : Result JobDid PumpFault) (new : StoreValue) → job.stage ≡ stages.Turning own → v.transactions.failed ≡ false

@@ -1,6 +1,7 @@
 -- The beginning of an archive.
 use Rattle.std.specs.Prelude.{ℕ, ◌≡◌, ◌+◌, ◌^◌, ◌<◌, ◌≤◌, ◌==◌, max, nat_le, nat_lt, is_some, List, length, Option, Some, None, Result, Ok, Err, MatchOption, if◌then◌else◌}
 use Rattle.image.specs.Reading.{ArchiveRecord}
+use Rattle.wire.specs.Spelling.{IsRun}
 use Rattle.archive.specs.Runs.{run_bytes}
 use Rattle.vacuum.specs.Archives.{records_of, run_of, unwritten}
 use Rattle.transactions.specs.Values.{spare, with_slot_lent}
@@ -44,7 +45,7 @@ IsRunRefusal v upto (fault.NotYet time) = ⊥
 IsRunRefusal v upto fault.StatusFull = ⊥
 
 abbrev pub BeginsRun : StoreValue → ℕ → Result (Unit {0}) StartFault → StoreValue → Type 0
-BeginsRun v upto (Ok done) new = (v.runs_end + length (run_bytes (archive_of v upto)) < 2 ^ 63) × (new ≡ with_archive v upto)
+BeginsRun v upto (Ok done) new = (v.runs_end + length (run_bytes (archive_of v upto)) < 2 ^ 63) × (upto < 2 ^ 63 → IsRun (run_of upto v.runs_end (archive_of v upto))) × (new ≡ with_archive v upto)
 BeginsRun v upto (Err why) new = IsRunRefusal v upto why × (new ≡ v)
 
 -- no device call is made

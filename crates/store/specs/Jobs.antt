@@ -1,5 +1,5 @@
 -- The steps of a job to the disk.
-use Rattle.std.specs.Prelude.{◌≡◌, ◌+◌, ℕ, Bool, true, false, List, [], ◌∷◌, length, take, drop, is_some, Some, None, Result, Ok, Err, MatchBool, MatchOption, MatchResult}
+use Rattle.std.specs.Prelude.{◌≡◌, ◌<◌, ◌+◌, ℕ, Bool, true, false, List, [], ◌∷◌, length, take, drop, is_some, Some, None, Result, Ok, Err, MatchBool, MatchOption, MatchResult}
 use Rattle.disk.specs.Calls.{Writes, Syncs}
 use Rattle.disk.specs.declared.area.Area.TheVariants.{Archive}
 use Rattle.wire.specs.declared.slot.Body.TheVariants.{Archived}
@@ -65,7 +65,7 @@ abbrev pub IsJobTurned : SlotStage → TurnState → ArchiveJob → StoreValue �
 IsJobTurned slots.Begun turn job old what new = (what ≡ did.BodyWritten) × (new ≡ with_job old (record job { stage = stages.Turning (record turn { stage = slots.BodyWritten }) }) new)
 IsJobTurned slots.BodyWritten turn job old what new = (what ≡ did.BodySynced) × (new ≡ with_job old (record job { stage = stages.Turning (record turn { stage = slots.BodySynced }) }) new)
 IsJobTurned slots.BodySynced turn job old what new = (what ≡ did.GateWritten) × (new ≡ with_job old (record job { stage = stages.Turning (record turn { stage = slots.GateWritten }) }) new)
-IsJobTurned slots.GateWritten turn job old what new = (what ≡ did.JobDone) × (new ≡ job_done old job turn new)
+IsJobTurned slots.GateWritten turn job old what new = (what ≡ did.JobDone) × (old.transactions.slots < 65536) × (new ≡ job_done old job turn new)
 IsJobTurned slots.Opened turn job old what new = ⊥
 
 -- a refused call spends the slot's turn, and the slot stays in the writing
