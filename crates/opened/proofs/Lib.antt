@@ -1,4 +1,3 @@
-pub mod Unreclaimed
 pub mod Versions
 pub mod Fronts
 pub mod Opened

@@ -46,7 +46,7 @@ use Rattle.store.proofs.Opened.{rising-opened, last-opened}
 use Rattle.standing.specs.Standing.{Name, name_of, name_at, StandsInMemory}
 use Rattle.standing.specs.OnDisk.{IsImageOf, Works, StandsOnDisk}
 use Rattle.standing.specs.Stands.{Stands}
-use Rattle.opened.proofs.Unreclaimed.{no_reclaim, no_anchor}
+use Rattle.standing.proofs.Unreclaimed.{no_reclaim, no_anchor}
 use Rattle.opened.proofs.Versions.{latest-history}
 
 -- ---- the disk, once it is synced

@@ -1,5 +1,5 @@
 -- An archive begins: its run is the plan of an archive that may come next.
-use Rattle.std.proofs.Common.{◌≡◌, ℕ, ◌+◌, ◌<◌, ◌≤◌, ◌^◌, ◌==◌, max, nat_lt, nat_le, Bool, true, false, cond, List, [], ◌∷◌, ◌++◌, length, map, Option, None, Some, is_some, ◌||◌, Result, Ok, Err, MatchBool, MatchOption, refl, arith, ap, sym, subst, ◌∙◌, inl, inr, append_assoc}
+use Rattle.std.proofs.Common.{◌≡◌, ℕ, ◌+◌, ◌-◌, ◌<◌, ◌≤◌, ◌^◌, ◌==◌, max, nat_lt, nat_le, Bool, true, false, cond, List, [], ◌∷◌, ◌++◌, length, map, take, drop, Option, None, Some, is_some, ◌||◌, Result, Ok, Err, MatchBool, MatchOption, refl, arith, ap, sym, subst, ◌∙◌, inl, inr, append_assoc}
 use Rattle.std.specs.Prelude.{IsTrue, filter, find, option_map, slice_range}
 use Rattle.std.specs.List.{AllByRecursion, flat_map, cons_option}
 use Rattle.std.proofs.lemmas.Bool.Decides.{nat_tests}
@@ -41,6 +41,9 @@ use Rattle.reading.specs.Runs.{StoredRun, run_bytes, index_from}
 use Rattle.reading.specs.Opening.{AreBuilt}
 use Rattle.reading.specs.Layouts.{Layout}
 use Rattle.reading.proofs.RunWays.{row-within}
+use Rattle.reading.proofs.Lists.{weaker}
+use Rattle.image.specs.Log.{reclaim_mark}
+use Rattle.status.specs.declared.header.Header.{Header}
 use Rattle.vacuum.specs.Archives.{AreInMemory, key_records, records_of, run_of, unwritten}
 use Rattle.vacuum.proofs.Plans.{archive_plan-is}
 use Rattle.transactions.specs.Order.{IsInOrder}
@@ -64,7 +67,7 @@ use Rattle.standing.proofs.Unreclaimed.{no_reclaim, no_anchor}
 -- ---- a run has one spelling
 
 record-same : (r : ArchiveRecord) → kept.record_bytes r ≡ archive_bytes r
-unfolding archive_bytes kept.head_bytes
+unfolding archive_bytes kept.head_bytes u16_bytes u64_bytes
 record-same r =
     let relation = u16_bytes r.key.relation in
     let number = u64_bytes r.key.record in
@@ -174,7 +177,7 @@ records-in-range after upto (c ∷ cs) low each =
 
 -- ---- nothing is reclaimed
 
-module _ (header : _) (m : Machine Value) (layout : Layout) (reading : Reading) (versions-in : List KeyWrites) (stands : StandsFor reading m.published m.floors) (none : reclaimed_upto reading ≡ 0) (has : HasWrites versions-in m.published) where
+module _ (header : Header) (m : Machine Value) (layout : Layout) (reading : Reading) (versions-in : List KeyWrites) (stands : StandsFor reading m.published m.floors) (none : reclaimed_upto reading ≡ 0) (has : HasWrites versions-in m.published) where
   no-anchors : reading.anchors ≡ []
   no-anchors = no_anchor reading.anchors (subst (λ (n : ℕ). AllByRecursion (IsAnchorUpto n) reading.anchors) none stands.opens.reads.anchor_times)
 
@@ -187,3 +190,175 @@ module _ (header : _) (m : Machine Value) (layout : Layout) (reading : Reading) 
       (ap (λ (olds : _). old_writes olds key ++ histories.writes_of (heap_commits reading) key) no-anchors
       ∙ ap (λ (h : History Value). histories.writes_of h key) all-commits
       ∙ sym (has.writes key))
+
+-- ---- the refusals
+
+-- what holds where no archive is refused before its run is counted
+record MayBegin (v : StoreValue) (upto : ℕ) : Type 0 where
+  pub free : v.job ≡ None
+  pub later : v.archived < upto
+  pub by_last : upto ≤ stores.last v
+  pub room : 0 < spare v.transactions
+
+none-there : {X : Type 0} (o : Option X) → is_some o ≡ false → o ≡ None
+none-there None nothing = refl
+none-there (Some x) nothing = absurd cc
+
+may-begin : (v : StoreValue) (upto : ℕ) → refusal_now v upto ≡ None → MayBegin v upto
+may-begin v upto none =
+    by-tests v.transactions.failed refl (is_some v.job) refl (nat_le upto v.archived) refl (nat_lt (stores.last v) upto) refl (spare v.transactions == 0) refl none
+  where
+    by-tests : (a : Bool) → v.transactions.failed ≡ a → (b : Bool) → is_some v.job ≡ b → (c : Bool) → nat_le upto v.archived ≡ c → (d : Bool) → nat_lt (stores.last v) upto ≡ d → (e : Bool) → (spare v.transactions == 0) ≡ e
+        → Path (Option StartFault) (cond a (Some fault.Failed) (cond b (Some fault.JobBusy) (cond c (Some fault.NothingToDo) (cond d (Some (fault.NotYet (stores.last v))) (cond e (Some fault.StatusFull) None))))) None → MayBegin v upto
+    by-tests true a b c d e f g h i is = absurd cc
+    by-tests false a true c d e f g h i is = absurd cc
+    by-tests false a false c true e f g h i is = absurd cc
+    by-tests false a false c false e true g h i is = absurd cc
+    by-tests false a false c false e false g true i is = absurd cc
+    by-tests false a false c false e false g false i is =
+        record { free = none-there v.job c; later = grind (arith, nat_tests); by_last = grind (arith, nat_tests); room = grind (arith, nat_tests) }
+
+-- ---- the archive begins
+
+lent-memory : (v : TransactionsValue) (m : Machine Value) → StandsInMemory v m → StandsInMemory (with_slot_lent v) m
+lent-memory v m stands = record {
+  names = stands.names;
+  rising = stands.rising;
+  published = stands.published;
+  versions = stands.versions;
+  queue = stands.queue;
+  group = stands.group;
+  staged = stands.staged;
+  snapshots = stands.snapshots;
+  floors = stands.floors;
+  raising = stands.raising;
+  failed = stands.failed;
+}
+
+lent-order : (v : TransactionsValue) → 0 < spare v → IsInOrder v → IsInOrder (with_slot_lent v)
+lent-order v room order = record {
+  split = order.split;
+  latest = order.latest;
+  group_within = order.group_within;
+  group_few = order.group_few;
+  stage_fits = order.stage_fits;
+  stored = order.stored;
+  out = order.out;
+  room = omega (arith, order.room, room);
+  slots_few = omega (arith, order.slots_few);
+}
+
+-- nothing is held at a place within the content
+none-held : (at : ℕ) (content : List ℕ) → at ≤ length content → HoldsPart at [] content
+none-held at content within = record { inside = omega (arith, within); is = empty }
+  where
+    empty : slice_range content at (at + 0) ≡ []
+    empty = (let none : at + 0 - at ≡ 0 = omega arith in ap (λ (n : ℕ). take n (drop at content)) none)
+
+module _ (header : Header) (v : StoreValue) (m : Machine Value) (memory : StandsInMemory v.transactions m) (machine : IsMachine IsValue m) (w : Works header v m)
+    (upto : ℕ) (may : MayBegin v upto) (range : upto < 2 ^ 63 → IsRun (run_of upto v.runs_end (archive_of v upto))) where
+  low : upto < 2 ^ 63
+  low = omega (arith, may.by_last, last-is v.transactions m memory, last-range w.reading m.published m.floors w.stands)
+
+  chains : AllByRecursion (λ (c : KeyWrites). IsRisingAfter 0 c.writes × AllByRecursion (IsInRange c.key) c.writes) v.transactions.versions
+  chains =
+      each-chain (λ key ws. IsRisingAfter 0 ws × AllByRecursion (IsInRange key) ws) (λ key. (tt, tt)) v.transactions.versions memory.versions.ordered (λ key.
+      subst (λ (ws : List Write). IsRisingAfter 0 ws × AllByRecursion (IsInRange key) ws) (sym (memory.versions.writes key))
+      (writes_of-rising 0 m.published key (rises w.reading m.published m.floors w.stands), writes-in-range [] m.published key w.stands.opens.history))
+
+  in-memory : AreInMemory v.transactions.versions
+  in-memory = record {
+    ordered = memory.versions.ordered;
+    rising = all-rising v.transactions.versions
+        (weaker (λ (c : KeyWrites). IsRisingAfter 0 c.writes × AllByRecursion (IsInRange c.key) c.writes) (λ (c : KeyWrites). IsRisingAfter 0 c.writes) v.transactions.versions (λ c both. both.0) chains);
+  }
+
+  none-reclaimed : reclaimed_upto w.reading ≡ 0
+  none-reclaimed = ap reclaim_mark (sym w.laid.heap.log_is) ∙ no_reclaim header.profile 0 w.layout.slots w.built
+
+  next-run : IsNextRun w.layout w.reading m.published (record { entry = run_of upto v.runs_end (archive_of v upto); records = archive_of v upto })
+  next-run = record {
+    plan = archive_plan-is w.reading v.transactions.versions in-memory (holds-heap header m w.layout w.reading v.transactions.versions w.stands none-reclaimed memory.versions)
+        v.archived (stores.floor v) upto (sym w.archived) (λ relation. w.stands.opens.floors_given relation ∙ sym (memory.floors relation));
+    later = omega (arith, w.archived, may.later);
+    by_last = omega (arith, may.by_last, last-is v.transactions m memory);
+    stored = record {
+      length_is = ap (λ (l : List ℕ). length l) (sym (run-same (archive_of v upto)));
+      records_are = refl;
+      each = records-in-range (max v.archived (stores.floor v)) upto v.transactions.versions low
+          (weaker (λ (c : KeyWrites). IsRisingAfter 0 c.writes × AllByRecursion (IsInRange c.key) c.writes) (λ (c : KeyWrites). AllByRecursion (IsInRange c.key) c.writes) v.transactions.versions (λ c both. both.1) chains);
+    };
+    behind = w.runs_end;
+    in_range = range low;
+  }
+
+  begun-works : Works header (with_archive v upto) m
+  begun-works = record {
+    layout = w.layout;
+    reading = w.reading;
+    laid = w.laid;
+    stands = w.stands;
+    built = w.built;
+    used = w.used;
+    kept = w.kept;
+    packed = w.packed;
+    archived = w.archived;
+    runs_end = w.runs_end;
+    rested = w.rested;
+    rests = subst (λ (o : Option ArchiveJob). IsRested header w.layout (turn_of o) w.rested v.disk.areas.status) may.free w.rests;
+    at = w.at;
+    job = record {
+      run = record { entry = run_of upto v.runs_end (archive_of v upto); records = archive_of v upto };
+      entry = refl;
+      next = next-run;
+      at = record {
+        front = [];
+        whole = run-same (archive_of v upto);
+        place = omega arith;
+        held = none-held v.runs_end v.disk.areas.archive.bytes
+            (let within = row-within header w.layout w.reading v.disk.areas w.laid w.sound (keeps-parts header v m w).runs in omega (arith, within, w.runs_end));
+      };
+    };
+    sound = w.sound;
+  }
+
+pub archive-start-stands : (tells : Bool) (old new : StoreValue) (upto : ℕ) (answer : Result (Unit {0}) StartFault) (m : Machine Value) → Stands tells old m → StartsArchive old upto answer new → Stands tells new m
+archive-start-stands tells old new upto answer m stands starts = by-refusal (refusal_now old upto) refl starts
+  where
+    begins : refusal_now old upto ≡ None → (answer : Result (Unit {0}) StartFault) → BeginsRun old upto answer new → Stands tells new m
+    begins none (Err why) is = subst (λ (x : StoreValue). Stands tells x m) (sym is.1) stands
+    begins none (Ok done) is =
+        let may = may-begin old upto none in
+        let memory = lent-memory old.transactions m stands.memory in
+        let order = lent-order old.transactions may.room stands.order in
+        let free : lent_to old.job ≡ 0 = ap lent_to may.free in
+        let in_step : IsInStep (with_archive old upto) = record {
+          slots = omega (arith, free, stands.in_step.slots, stands.order.room, may.room);
+          used = stands.in_step.used;
+          turns = λ on.
+              let was = stands.in_step.turns on in record {
+                turning = was.turning;
+                writing = was.writing ∙ ap (λ (o : Option ArchiveJob). is_some old.turn || is_some (turn_of o)) may.free;
+                turn = was.turn;
+                job = tt;
+              };
+        } in
+        subst (λ (x : StoreValue). Stands tells x m) (sym is.2) (record {
+          memory = memory;
+          machine = stands.machine;
+          order = order;
+          in_step = in_step;
+          disk = λ told.
+              let d = stands.disk told in record {
+                header = d.header;
+                profile = d.profile;
+                slots = d.slots;
+                profile_built = d.profile_built;
+                leaves = d.leaves;
+                works = λ works. begun-works d.header old m stands.memory stands.machine (d.works works) upto may is.1;
+              };
+        })
+
+    by-refusal : (o : Option StartFault) → refusal_now old upto ≡ o → MatchOption o (BeginsRun old upto answer new) (λ why. (answer ≡ Err why) × (new ≡ old)) → Stands tells new m
+    by-refusal None none is = begins none answer is
+    by-refusal (Some why) some is = subst (λ (x : StoreValue). Stands tells x m) (sym is.1) stands

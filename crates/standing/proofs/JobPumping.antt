@@ -150,22 +150,23 @@ fails tells v new m why log j parts works said profile many used lent is leaves 
 
 -- ---- the run is written
 
+-- the layout's parts are kept
+pub keeps-parts : (header : Header) (v : StoreValue) (m : Machine Value) (w : Works header v m) → KeepsParts w.layout v.disk.areas
+keeps-parts header v m w =
+    let k = parts-of header w.layout (group_of w.layout v.transactions m) v.transactions.queue v.transactions.stage v.turn (record v.disk.areas { status = w.rested }) w.at in
+    record { extents = k.extents; runs = k.runs }
+
 -- what a store keeps of the job that it has
 module _ (header : Header) (v : StoreValue) (m : Machine Value) (w : Works header v m) (j : ArchiveJob) (is : v.job ≡ Some j) where
   pub own : JobIsAt header w.layout w.reading m.published j v.disk.areas
   own = subst (λ (o : Option ArchiveJob). HasJob header w.layout w.reading m.published o v.disk.areas) is w.job
-
-  keeps : KeepsParts w.layout v.disk.areas
-  keeps =
-      let k = parts-of header w.layout (group_of w.layout v.transactions m) v.transactions.queue v.transactions.stage v.turn (record v.disk.areas { status = w.rested }) w.at in
-      record { extents = k.extents; runs = k.runs }
 
   still : (s : JobStage) → j.stage ≡ s → turn_in s ≡ None → turn_of v.job ≡ None
   still s at none = ap turn_of is ∙ ap turn_in at ∙ none
 
   -- the runs are kept, whatever is written behind them
   behind : (at n : ℕ) (archive : AreaState) → row_end 0 (runs_of w.layout.slots) ≤ at → IsLoosened at n v.disk.areas.archive archive → KeepsRuns w.layout.runs archive
-  behind at n archive past loose = (archive_beside header w.layout w.reading at n v.disk.areas archive w.laid w.sound past loose keeps).runs
+  behind at n archive past loose = (archive_beside header w.layout w.reading at n v.disk.areas archive w.laid w.sound past loose (keeps-parts header v m w)).runs
 
   -- the works of the store with another job, where no slot of a job is in the writing
   works-with : (new : StoreValue) (j' : ArchiveJob) → turn_of v.job ≡ None → turn_in j'.stage ≡ None → AreSound new.disk.areas → (archive : AreaState) → new.disk.areas ≡ record v.disk.areas { archive = archive }
@@ -301,7 +302,7 @@ module _ (tells : Bool) (v new : StoreValue) (m : Machine Value) (parts : Parts 
         let archive : AreaState = synced v.disk.areas.archive in
         let whole : at.front ≡ run_bytes has.run.records = sym (append-nil at.front) ∙ ap (λ (l : List ℕ). at.front ++ l) (sym all) ∙ at.whole in
         works-with d.header v m w j is new (record j { stage = job.Stored }) (ap turn_of is ∙ ap turn_in writing) refl (sound told) archive (takes.call.areas told).synced
-        (weaker (KeepsRun v.disk.areas.archive) (KeepsRun archive) w.layout.runs (λ s kept. kept_by_sync s.entry.start (run_bytes s.records) v.disk.areas.archive (w.sound Archive) kept) (keeps d.header v m w j is).runs)
+        (weaker (KeepsRun v.disk.areas.archive) (KeepsRun archive) w.layout.runs (λ s kept. kept_by_sync s.entry.start (run_bytes s.records) v.disk.areas.archive (w.sound Archive) kept) (keeps-parts d.header v m w).runs)
         (record {
           run = has.run;
           entry = has.entry;
@@ -342,7 +343,7 @@ module _ (header : Header) (v new : StoreValue) (m : Machine Value) (order : IsI
       let none : turn_of v.job ≡ None = ap turn_of is ∙ ap turn_in stored in
       let turning : is_turning v.transactions.stage ≡ false = (in_step.turns on).turning ∙ ap (λ (o : Option TurnState). is_some o) free in
       let at = now-at header v m w none in
-      let parts = keeps header v m w j is in
+      let parts = keeps-parts header v m w in
       let number = sym w.used in
       let entry = mine.entry in
       let same : spelling header.profile (slot_of_run (length w.layout.slots) run) ≡ spelling v.log.profile (record { number = v.log.used; body = ArchivedBody j.run }) =

@@ -13,7 +13,9 @@ pub mod Naming
 pub mod Places
 pub mod Usages
 pub mod Joining
+pub mod Unreclaimed
 pub mod Jobs
 pub mod Pumping
 pub mod JobPumping
+pub mod Archiving
 pub mod Calling
