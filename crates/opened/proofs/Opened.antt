@@ -25,6 +25,7 @@ use Rattle.extents.specs.Usages.{IsKept}
 use Rattle.group.specs.CommitOrder as orders
 use Rattle.status.specs.declared.header.Header.{Header}
 use Rattle.status.specs.Header.{total}
+use Rattle.status.specs.Rules.{row_end}
 use Rattle.reading.specs.Extents.{Extent}
 use Rattle.reading.specs.Layouts.{Layout, live}
 use Rattle.reading.specs.Keeping.{RestsAs}
@@ -164,7 +165,7 @@ module _ (old : DiskState) (mark : ℕ) (disk : DiskState) (r : Recovered) (head
   }
 
   in_step : IsInStep (opened_on mark r disk)
-  in_step = record { slots = refl; used = refl; turns = λ works. record { turning = refl; writing = refl; turn = tt } }
+  in_step = record { slots = omega arith; used = refl; turns = λ works. record { turning = refl; writing = refl; turn = tt; job = tt } }
 
   -- ---- the disk
 
@@ -181,7 +182,12 @@ module _ (old : DiskState) (mark : ℕ) (disk : DiskState) (r : Recovered) (head
     used = is.used;
     kept = kept-numbers r.extents (live image.layout) is.extents.kept;
     packed = tt;
+    archived = is.archived;
+    runs_end = ap (row_end 0) is.runs;
+    rested = disk.areas.status;
+    rests = refl;
     at = rests;
+    job = tt;
     sound = subst (λ (areas : Areas). AreSound areas) (sym settled) (settled-sound old.areas sound);
   }
 
