@@ -53,6 +53,8 @@ call-done w (call.Between i key a b) time next does = absurd does
 call-done w (call.ScanBetween i relation a b) time next does = absurd does
 call-done w (call.End i) time next does = absurd does
 call-done w (call.TimesOf label) time next does = absurd does
+call-done w (call.Archive upto) time next does = absurd does
+call-done w call.JobPump time next does = absurd does
 
 -- and stays so
 run-stays : (w : World) (cs : List Call) (said : List Answer) (end : World) (time : ℕ) → Run w cs said end → answers.redeemed_by w.machine time ≡ answers.Done time → answers.redeemed_by end.machine time ≡ answers.Done time
@@ -94,3 +96,5 @@ run-done w (c ∷ cs) (a ∷ said) end run = by-answer a run.1 (run-done run.0 c
     by-answer (answer.ScanBetween x) does all = all
     by-answer answer.End does all = all
     by-answer (answer.TimesOf x) does all = all
+    by-answer (answer.Archive x) does all = all
+    by-answer (answer.JobPump x) does all = all

@@ -4,6 +4,7 @@ pub mod Steps
 pub mod Reading
 pub mod Submitting
 pub mod Pumping
+pub mod Archiving
 pub mod Tickets
 pub mod Views
 pub mod Runs

@@ -1,6 +1,6 @@
 -- A step of a group.
-use Rattle.std.proofs.Common.{◌≡◌, ℕ, ◌+◌, ◌≤◌, ◌==◌, ◌&&◌, nat_lt, min, length, Bool, true, false, cond, List, [], ◌∷◌, ◌++◌, Some, None, Option, Result, Ok, Err, MatchBool, MatchOption, refl, sym, ◌∙◌, ap, subst, arith}
-use Rattle.std.specs.Prelude.{IsTrue, IfErr}
+use Rattle.std.proofs.Common.{◌≡◌, ℕ, ◌+◌, ◌≤◌, ◌==◌, ◌&&◌, nat_lt, min, length, Bool, true, false, cond, List, [], ◌∷◌, ◌++◌, Some, None, Option, Result, Ok, Err, MatchBool, MatchOption, refl, sym, ◌∙◌, ap, subst, inl, inr, arith}
+use Rattle.std.specs.Prelude.{IsTrue, IfErr, is_some}
 use Rattle.disk.specs.Areas.{AreSound}
 use Rattle.disk.specs.Calls.{counted}
 use Rattle.history.specs.Machine.{Machine}
@@ -23,8 +23,8 @@ use Rattle.transactions.specs.Steps as groups
 use Rattle.transactions.specs.declared.stage.GroupStage.TheVariants as stages
 use Rattle.transactions.specs.declared.stage.NextStep.{NextStep}
 use Rattle.transactions.specs.declared.stage.NextStep.TheVariants as next
-use Rattle.store.specs.Values.{StoreValue}
-use Rattle.store.specs.Pumps.{Pumps, TakesStep, WritesExtent, TurnsSlot, IsTurned, Steps, started, begun}
+use Rattle.store.specs.Values.{StoreValue, turn_of}
+use Rattle.store.specs.Pumps.{Pumps, TakesStep, WritesExtent, BeginsSlot, TurnsSlot, IsTurned, Steps, started, begun}
 use Rattle.standing.specs.Laws.{begins_in, ends_in}
 use Rattle.standing.specs.Stands.{Stands}
 use Rattle.standing.proofs.Pumping.{pump-stands}
@@ -34,18 +34,18 @@ use Rattle.run.specs.declared.held.Held.{Held}
 use Rattle.run.specs.declared.held.Held.TheVariants as held
 use Rattle.run.specs.Places.{Free, ArePlaces}
 use Rattle.run.specs.Worlds.{World, IsWorld, moved, same}
-use Rattle.run.specs.Runs.{Does, Goes, Follows}
+use Rattle.run.specs.Runs.{Does, Goes, Follows, IsStepFault}
 use Rattle.run.proofs.Runs.{no-step}
 use Rattle.run.proofs.Places.{push_nothing, move, GoesOn, goes_on-same, run-goes_on, Keeps, stays}
 
 -- what a step leaves alone
-record Leaves (old new : TransactionsValue) : Type 0 where
-  mark : new.mark ≡ old.mark
-  opened : new.opened ≡ old.opened
-  heads : new.heads ≡ old.heads
+pub record Leaves (old new : TransactionsValue) : Type 0 where
+  pub mark : new.mark ≡ old.mark
+  pub opened : new.opened ≡ old.opened
+  pub heads : new.heads ≡ old.heads
 
 -- the same transactions but for what it does not leave alone
-leaves-so : (old so new : TransactionsValue) → Leaves old so → new ≡ so → Leaves old new
+pub leaves-so : (old so new : TransactionsValue) → Leaves old so → new ≡ so → Leaves old new
 leaves-so old so new leaves is = subst (λ (v : TransactionsValue). Leaves old v) (sym is) leaves
 
 leaves-then : (old mid new : TransactionsValue) → Leaves old mid → Leaves mid new → Leaves old new
@@ -89,7 +89,11 @@ step-leaves : (tells : Bool) (s : NextStep) (old new : StoreValue) (r : Result D
 step-leaves tells next.Idle old new r takes = leaves-so old.transactions old.transactions new.transactions (record { mark = refl; opened = refl; heads = refl }) (ap (λ (v : StoreValue). v.transactions) takes.1)
 step-leaves tells next.WriteExtent old new r takes = wrote-leaves tells (groups.next_extent old.transactions) old new r takes
 step-leaves tells next.SyncHeap old new r takes = synced-leaves old new _ r takes.steps
-step-leaves tells next.BeginSlot old new r takes = leaves-then old.transactions (begun old).transactions new.transactions (record { mark = refl; opened = refl; heads = refl }) (slot-leaves tells _ (begun old) new r takes.turns)
+step-leaves tells next.BeginSlot old new r takes = by-job (is_some (turn_of old.job)) takes
+  where
+    by-job : (b : Bool) → MatchBool b ((r ≡ Err pump.Busy) × (new ≡ old)) (BeginsSlot tells old r new) → Leaves old.transactions new.transactions
+    by-job true is = leaves-so old.transactions old.transactions new.transactions (record { mark = refl; opened = refl; heads = refl }) (ap (λ (v : StoreValue). v.transactions) is.1)
+    by-job false first = leaves-then old.transactions (begun old).transactions new.transactions (record { mark = refl; opened = refl; heads = refl }) (slot-leaves tells _ (begun old) new r first.turns)
 step-leaves tells next.AdvanceSlot old new r takes = advance-leaves tells old.turn old new r takes
 
 pump-leaves : (tells : Bool) (old new : StoreValue) (r : Result Did PumpFault) → Pumps tells old r new → Leaves old.transactions new.transactions
@@ -109,24 +113,28 @@ advance-refused : (tells : Bool) (o : Option TurnState) (old new : StoreValue) (
 advance-refused tells None old new why takes = absurd takes
 advance-refused tells (Some turn) old new why takes = takes.answer.fault
 
-step-refused : (tells : Bool) (s : NextStep) (old new : StoreValue) (why : PumpFault) → TakesStep tells s old (Err why) new → why ≡ pump.Failed
+step-refused : (tells : Bool) (s : NextStep) (old new : StoreValue) (why : PumpFault) → TakesStep tells s old (Err why) new → IsStepFault why
 step-refused tells next.Idle old new why takes = let is : Path (Result Did PumpFault) (Err why) (Ok did.Idle) = takes.0 in absurd cc
-step-refused tells next.WriteExtent old new why takes = wrote-refused tells (groups.next_extent old.transactions) old new why takes
-step-refused tells next.SyncHeap old new why takes = takes.steps.answer.0
-step-refused tells next.BeginSlot old new why takes = takes.turns.answer.fault
-step-refused tells next.AdvanceSlot old new why takes = advance-refused tells old.turn old new why takes
+step-refused tells next.WriteExtent old new why takes = inl (wrote-refused tells (groups.next_extent old.transactions) old new why takes)
+step-refused tells next.SyncHeap old new why takes = inl takes.steps.answer.0
+step-refused tells next.BeginSlot old new why takes = by-job (is_some (turn_of old.job)) takes
+  where
+    by-job : (b : Bool) → MatchBool b (Path (Result Did PumpFault) (Err why) (Err pump.Busy) × (new ≡ old)) (BeginsSlot tells old (Err why) new) → IsStepFault why
+    by-job true is = let same = is.0 in inr cc
+    by-job false first = inl first.turns.answer.fault
+step-refused tells next.AdvanceSlot old new why takes = inl (advance-refused tells old.turn old new why takes)
 
-pump-refused : (tells : Bool) (old new : StoreValue) (r : Result Did PumpFault) → Pumps tells old r new → IfErr r (λ why. why ≡ pump.Failed)
+pump-refused : (tells : Bool) (old new : StoreValue) (r : Result Did PumpFault) → Pumps tells old r new → IfErr r IsStepFault
 pump-refused tells old new (Ok what) pumps = tt
 pump-refused tells old new (Err why) pumps = by-failure old.transactions.failed pumps
   where
-    by-failure : (b : Bool) → MatchBool b (Path (Result Did PumpFault) (Err why) (Err pump.Failed) × (new ≡ old)) (TakesStep tells (groups.next_step old.transactions) (started old) (Err why) new) → why ≡ pump.Failed
-    by-failure true is = let same = is.0 in cc
+    by-failure : (b : Bool) → MatchBool b (Path (Result Did PumpFault) (Err why) (Err pump.Failed) × (new ≡ old)) (TakesStep tells (groups.next_step old.transactions) (started old) (Err why) new) → IsStepFault why
+    by-failure true is = let same = is.0 in inl cc
     by-failure false takes = step-refused tells (groups.next_step old.transactions) (started old) new why takes
 
 -- ---- device calls
 
-counted-few : (n : ℕ) → counted n ≤ n + 1
+pub counted-few : (n : ℕ) → counted n ≤ n + 1
 counted-few n = omega arith
 
 wrote-few : (tells : Bool) (o : Option StoredExtent) (old new : StoreValue) (r : Result Did PumpFault) → MatchOption o ⊥ (λ stored. WritesExtent tells stored old r new) → new.disk.made ≤ old.disk.made + 1
@@ -141,7 +149,11 @@ step-few : (tells : Bool) (s : NextStep) (old new : StoreValue) (r : Result Did 
 step-few tells next.Idle old new r takes = let is = ap (λ (v : StoreValue). v.disk.made) takes.1 in omega (arith, is)
 step-few tells next.WriteExtent old new r takes = wrote-few tells (groups.next_extent old.transactions) old new r takes
 step-few tells next.SyncHeap old new r takes = omega (arith, takes.call.counts.made, counted-few old.disk.made)
-step-few tells next.BeginSlot old new r takes = omega (arith, takes.turns.call.counts.made, counted-few old.disk.made)
+step-few tells next.BeginSlot old new r takes = by-job (is_some (turn_of old.job)) takes
+  where
+    by-job : (b : Bool) → MatchBool b ((r ≡ Err pump.Busy) × (new ≡ old)) (BeginsSlot tells old r new) → new.disk.made ≤ old.disk.made + 1
+    by-job true is = let same = ap (λ (v : StoreValue). v.disk.made) is.1 in omega (arith, same)
+    by-job false first = omega (arith, first.turns.call.counts.made, counted-few old.disk.made)
 step-few tells next.AdvanceSlot old new r takes = advance-few tells old.turn old new r takes
 
 pub pump-few : (tells : Bool) (old new : StoreValue) (r : Result Did PumpFault) → Pumps tells old r new → new.disk.made ≤ old.disk.made + 1
@@ -151,7 +163,7 @@ pump-few tells old new r pumps = by-failure old.transactions.failed pumps
     by-failure true is = let same = ap (λ (v : StoreValue). v.disk.made) is.1 in omega (arith, same)
     by-failure false takes = step-few tells (groups.next_step old.transactions) (started old) new r takes
 
-pump-keeps : (v v' : TransactionsValue) (x : Held) → Leaves v v' → Keeps v v' x
+pub pump-keeps : (v v' : TransactionsValue) (x : Held) → Leaves v v' → Keeps v v' x
 pump-keeps v v' held.Nothing leaves = tt
 pump-keeps v v' (held.Transaction t) leaves = (leaves.mark, ap (λ (o : List (Option ℕ)). snapshot_of t.number o) leaves.opened)
 pump-keeps v v' (held.Ticket t) leaves = (leaves.mark, λ waits. subst (λ (heads : List CommitHead). is_awaited t.time heads ≡ true) (sym leaves.heads) waits)
@@ -165,17 +177,17 @@ pump-goes tells v v' xs r sound pumps w is =
     places h' goes = push_nothing v'.transactions h' xs w.places
         (move v.transactions v'.transactions w.machine.published h' xs w.places is.places (λ i x p at shows. stays v.transactions v'.transactions w.machine.published h' x p (pump-keeps v.transactions v'.transactions x (pump-leaves tells v v' r pumps)) goes shows))
 
-    by-failure : (b : Bool) → w.machine.failed ≡ b → IfErr r (λ why. why ≡ pump.Failed) → MatchBool b ((r ≡ Err pump.Failed) × Stands tells v' w.machine) ((after : Machine Value) × steps.Run IsValue w.machine (begins_in w.machine ++ ends_in r) after × Stands tells v' after)
+    by-failure : (b : Bool) → w.machine.failed ≡ b → IfErr r IsStepFault → MatchBool b ((r ≡ Err pump.Failed) × Stands tells v' w.machine) ((after : Machine Value) × steps.Run IsValue w.machine (begins_in w.machine ++ ends_in r) after × Stands tells v' after)
         → (next : World) × Does w call.Pump (answer.Pump r) next × Follows w.machine next.machine × IsWorld tells v' (xs ++ held.Nothing ∷ []) next
     by-failure true failed refused did = (
       same w,
-      subst (λ (b : Bool). MatchBool b ((r ≡ Err pump.Failed) × (same w ≡ same w)) ((after : Machine Value) × IfErr r (λ why. why ≡ pump.Failed) × steps.Run IsValue w.machine (begins_in w.machine ++ ends_in r) after × (same w ≡ same (moved w after)))) (sym failed) (did.0, refl),
+      subst (λ (b : Bool). MatchBool b ((r ≡ Err pump.Failed) × (same w ≡ same w)) ((after : Machine Value) × IfErr r IsStepFault × steps.Run IsValue w.machine (begins_in w.machine ++ ends_in r) after × (same w ≡ same (moved w after)))) (sym failed) (did.0, refl),
       no-step w.machine,
       record { stands = did.1; places = places w.machine.published (goes_on-same w.machine.published) },
     )
     by-failure false works refused did = (
       same (moved w did.0),
-      subst (λ (b : Bool). MatchBool b ((r ≡ Err pump.Failed) × (same (moved w did.0) ≡ same w)) ((after : Machine Value) × IfErr r (λ why. why ≡ pump.Failed) × steps.Run IsValue w.machine (begins_in w.machine ++ ends_in r) after × (same (moved w did.0) ≡ same (moved w after)))) (sym works) (did.0, refused, did.1, refl),
+      subst (λ (b : Bool). MatchBool b ((r ≡ Err pump.Failed) × (same (moved w did.0) ≡ same w)) ((after : Machine Value) × IfErr r IsStepFault × steps.Run IsValue w.machine (begins_in w.machine ++ ends_in r) after × (same (moved w did.0) ≡ same (moved w after)))) (sym works) (did.0, refused, did.1, refl),
       (begins_in w.machine ++ ends_in r, did.1),
       record { stands = did.2; places = places did.0.published (run-goes_on w.machine did.0 (begins_in w.machine ++ ends_in r) did.2.machine did.1) },
     )

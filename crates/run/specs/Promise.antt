@@ -53,6 +53,8 @@ acknowledged (answer.Between said ∷ answers) = acknowledged answers
 acknowledged (answer.ScanBetween said ∷ answers) = acknowledged answers
 acknowledged (answer.End ∷ answers) = acknowledged answers
 acknowledged (answer.TimesOf said ∷ answers) = acknowledged answers
+acknowledged (answer.Archive said ∷ answers) = acknowledged answers
+acknowledged (answer.JobPump said ∷ answers) = acknowledged answers
 
 -- a commit of this time stands in the history
 abbrev pub HasCommitAt : History Value → ℕ → Type 0

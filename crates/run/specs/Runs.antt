@@ -1,5 +1,5 @@
 -- What each call answers and does, and lists of calls.
-use Rattle.std.specs.Prelude.{ℕ, ◌≡◌, ◌≢◌, ◌≤◌, ◌+◌, ◌↔◌, ◌++◌, Bool, List, [], ◌∷◌, map, is_some, IsSome, Option, None, Some, Result, Ok, Err, IfOk, IfErr, OnOk, OnErr, MatchBool, Vec, if◌then◌else◌}
+use Rattle.std.specs.Prelude.{ℕ, ◌≡◌, ◌≢◌, ◌<◌, ◌≤◌, ◌⊎◌, ◌+◌, ◌↔◌, ◌++◌, Bool, true, false, List, [], ◌∷◌, map, is_some, IsSome, Option, None, Some, Result, Ok, Err, IfOk, IfErr, OnOk, OnErr, MatchBool, Vec, if◌then◌else◌}
 use Rattle.std.specs.declared.alloc.Global.{Global}
 use Rattle.std.specs.declared.alloc.AllocError.{AllocError}
 use Rattle.history.specs.declared.key.Key.{Key}
@@ -28,7 +28,10 @@ use Rattle.group.specs.declared.answers.SubmitFault.{SubmitFault}
 use Rattle.group.specs.declared.answers.SubmitFault.TheVariants as refused
 use Rattle.timequery.specs.declared.fault.QueryFault.{QueryFault}
 use Rattle.store.specs.Values.{StoreValue}
-use Rattle.standing.specs.Laws.{begins_in, ends_in, SaysAt, SaysScanAt, SaysBetween, SaysScanBetween}
+use Rattle.store.specs.declared.job.JobDid.{JobDid}
+use Rattle.store.specs.declared.job.StartFault.{StartFault}
+use Rattle.store.specs.declared.job.StartFault.TheVariants as start
+use Rattle.standing.specs.Laws.{begins_in, ends_in, job_ends_in, SaysAt, SaysScanAt, SaysBetween, SaysScanBetween}
 use Rattle.run.specs.declared.calls.Call.{Call}
 use Rattle.run.specs.declared.calls.Call.TheVariants as call
 use Rattle.run.specs.declared.calls.Answer.{Answer}
@@ -116,10 +119,14 @@ Aborts w i place next = ⊥
 
 -- ---- groups and tickets
 
--- a step of a group is a run of the machine, and nothing where the store has failed; it is refused only where a device call is
+-- a step is refused where a device call is, or where another slot is in the writing
+abbrev pub IsStepFault : PumpFault → Type 0
+IsStepFault why = (why ≡ pump.Failed) ⊎ (why ≡ pump.Busy)
+
+-- a step of a group is a run of the machine, and nothing where the store has failed
 abbrev pub Pumps : World → Result Did PumpFault → World → Type 0
 Pumps w said next = MatchBool w.machine.failed ((said ≡ Err pump.Failed) × (next ≡ same w))
-    ((after : Machine Value) × IfErr said (λ why. why ≡ pump.Failed) × steps.Run IsValue w.machine (begins_in w.machine ++ ends_in said) after × (next ≡ same (moved w after)))
+    ((after : Machine Value) × IfErr said IsStepFault × steps.Run IsValue w.machine (begins_in w.machine ++ ends_in said) after × (next ≡ same (moved w after)))
 
 -- a ticket is spent but by Waiting
 abbrev pub Redeems : World → ℕ → Place → RedeemOutcome → World → Type 0
@@ -164,6 +171,24 @@ Closes w i place next = ⊥
 abbrev pub ListsTimes : World → ℕ → Result (Vec ℕ Global) AllocError → World → Type 0
 ListsTimes w label said next = IfOk said (λ times. times.items ≡ answers.times_of w.machine.published label) × (next ≡ same w)
 
+-- ---- archives
+
+-- an archive begins up to a time that is published, and changes nothing of the machine's; which marks and slots there are the machine does not know
+abbrev pub Archives : World → ℕ → Result (Unit {0}) StartFault → World → Type 0
+Archives w upto (Ok u) next = (w.machine.failed ≡ false) × (upto ≤ last w.machine.published) × (next ≡ same w)
+Archives w upto (Err start.Failed) next = (w.machine.failed ≡ true) × (next ≡ same w)
+Archives w upto (Err start.JobBusy) next = next ≡ same w
+Archives w upto (Err start.NothingToDo) next = next ≡ same w
+Archives w upto (Err (start.NotYet time)) next = (time ≡ last w.machine.published) × (time < upto) × (next ≡ same w)
+Archives w upto (Err start.StatusFull) next = next ≡ same w
+Archives w upto (Err start.ArchiveFull) next = next ≡ same w
+Archives w upto (Err start.NoMemory) next = next ≡ same w
+
+-- nor does a step of it, but for one that the device refuses
+abbrev pub JobPumps : World → Result JobDid PumpFault → World → Type 0
+JobPumps w said next = MatchBool w.machine.failed ((said ≡ Err pump.Failed) × (next ≡ same w))
+    ((after : Machine Value) × IfErr said IsStepFault × steps.Run IsValue w.machine (job_ends_in said) after × (next ≡ same (moved w after)))
+
 -- ---- calls
 
 -- the place that the call names holds no such value
@@ -185,6 +210,8 @@ NamesNone w (call.Between i key a b) = IsNoView (place_at w.places i)
 NamesNone w (call.ScanBetween i relation a b) = IsNoView (place_at w.places i)
 NamesNone w (call.End i) = IsNoView (place_at w.places i)
 NamesNone w (call.TimesOf label) = ⊥
+NamesNone w (call.Archive upto) = ⊥
+NamesNone w call.JobPump = ⊥
 
 -- The call may have this answer, and then lead to this world. It is Unknown exactly where the place that it names holds no such value.
 abbrev pub Does : World → Call → Answer → World → Type 0
@@ -206,6 +233,8 @@ Does w (call.Between i key a b) (answer.Between said) next = AsksBetween w key a
 Does w (call.ScanBetween i relation a b) (answer.ScanBetween said) next = AsksScanBetween w relation a b (place_at w.places i) said next
 Does w (call.End i) answer.End next = Closes w i (place_at w.places i) next
 Does w (call.TimesOf label) (answer.TimesOf said) next = ListsTimes w label said next
+Does w (call.Archive upto) (answer.Archive said) next = Archives w upto said next
+Does w call.JobPump (answer.JobPump said) next = JobPumps w said next
 Does w c a next = ⊥
 
 -- a run of the machine leads from one state to the other

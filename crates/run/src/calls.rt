@@ -4,6 +4,7 @@ use group::{BeginFault, Did, PumpFault, SubmitFault};
 use history::{Key, Version};
 use snapshot::TxnFault;
 use std::alloc::AllocError;
+use store::{JobDid, StartFault};
 use timequery::QueryFault;
 
 /// A call of a store, or of a transaction, a ticket or a view that it gave out. Such a value is
@@ -76,6 +77,12 @@ pub enum Call<'a> {
     TimesOf {
         label: u64,
     },
+    /// Begins an archive of the versions that ended by `upto`.
+    Archive {
+        upto: u64,
+    },
+    /// The next step of the job that runs.
+    JobPump,
 }
 
 /// What a submit answers where it isn't refused. A ticket is in the place of its call.
@@ -122,4 +129,6 @@ pub enum Answer {
     ScanBetween(Result<Vec<(u64, Version<SharedValue>)>, QueryFault>),
     End,
     TimesOf(Result<Vec<u64>, AllocError>),
+    Archive(Result<(), StartFault>),
+    JobPump(Result<JobDid, PumpFault>),
 }

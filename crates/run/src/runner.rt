@@ -112,6 +112,8 @@ fn step<D: Disk>(
         ),
         Call::End { view: place } => (end(store, places, place), Held::Nothing),
         Call::TimesOf { label } => (times_of(store, places, label), Held::Nothing),
+        Call::Archive { upto } => (archive(store, places, upto), Held::Nothing),
+        Call::JobPump => (job_pump(store, places), Held::Nothing),
     }
 }
 
@@ -121,4 +123,20 @@ fn pump<D: Disk>(store: &mut Store<D>, places: &[Held]) -> Answer
 {
     let _ = places;
     Answer::Pump(store.pump())
+}
+
+fn archive<D: Disk>(store: &mut Store<D>, places: &[Held], upto: u64) -> Answer
+    ensures goes { Goes D.tells store.old places.now (Call.Archive upto) result store.new (places.now ++ Held.Nothing ∷ []) }
+    ensures made { MakesFew store.old store.new }
+{
+    let _ = places;
+    Answer::Archive(store.archive_start(upto))
+}
+
+fn job_pump<D: Disk>(store: &mut Store<D>, places: &[Held]) -> Answer
+    ensures goes { Goes D.tells store.old places.now Call.JobPump result store.new (places.now ++ Held.Nothing ∷ []) }
+    ensures made { MakesFew store.old store.new }
+{
+    let _ = places;
+    Answer::JobPump(store.job_pump())
 }

@@ -1,0 +1,252 @@
+-- The beginning of an archive, and the steps of a job.
+use Rattle.std.proofs.Common.{◌≡◌, ℕ, ◌+◌, ◌<◌, ◌≤◌, ◌==◌, nat_lt, nat_le, Bool, true, false, cond, List, [], ◌∷◌, ◌++◌, Some, None, Option, is_some, Result, Ok, Err, MatchBool, MatchOption, refl, sym, ◌∙◌, ap, subst, inl, inr, arith}
+use Rattle.std.specs.Prelude.{IsTrue, IfErr}
+use Rattle.std.proofs.lemmas.Bool.Decides.{nat_tests}
+use Rattle.disk.specs.Areas.{AreSound}
+use Rattle.history.specs.Histories.{History, last}
+use Rattle.history.specs.Machine.{Machine}
+use Rattle.history.specs.Steps as steps
+use Rattle.image.specs.Values.{Value, IsValue}
+use Rattle.status.specs.SlotCalls.{SlotStage}
+use Rattle.status.specs.SlotCalls as slots
+use Rattle.status.specs.TurnState.{TurnState}
+use Rattle.group.specs.declared.answers.PumpFault.{PumpFault}
+use Rattle.group.specs.declared.answers.PumpFault.TheVariants as pump
+use Rattle.transactions.specs.Values.{TransactionsValue, spare, with_slot_lent, with_slot_used}
+use Rattle.transactions.specs.Steps as groups
+use Rattle.store.specs.Values.{StoreValue}
+use Rattle.store.specs.Calls as stores
+use Rattle.store.specs.Archives.{refusal_now, BeginsRun, StartsArchive, IsRunRefusal}
+use Rattle.store.specs.Jobs.{PumpsJob, TakesJobStep, WritesOrSyncs, TurnsJob, IsJobTurned, JobMoves, first_turn, slot_taken}
+use Rattle.store.specs.declared.job.ArchiveJob.{ArchiveJob}
+use Rattle.store.specs.declared.job.JobStage.{JobStage}
+use Rattle.store.specs.declared.job.JobStage.TheVariants as stages
+use Rattle.store.specs.declared.job.JobDid.{JobDid}
+use Rattle.store.specs.declared.job.JobDid.TheVariants as did
+use Rattle.store.specs.declared.job.StartFault.{StartFault}
+use Rattle.store.specs.declared.job.StartFault.TheVariants as start
+use Rattle.standing.specs.Laws.{job_ends_in}
+use Rattle.standing.specs.Stands.{Stands}
+use Rattle.standing.proofs.Archiving.{archive-start-stands}
+use Rattle.standing.proofs.JobPumping.{job-pump-stands}
+use Rattle.standing.proofs.Memory.{last-is}
+use Rattle.run.specs.declared.calls.Call.TheVariants as call
+use Rattle.run.specs.declared.calls.Answer.TheVariants as answer
+use Rattle.run.specs.declared.held.Held.{Held}
+use Rattle.run.specs.declared.held.Held.TheVariants as held
+use Rattle.run.specs.Places.{Free, ArePlaces}
+use Rattle.run.specs.Worlds.{World, IsWorld, moved, same}
+use Rattle.run.specs.Runs.{Does, Goes, Follows, IsStepFault, Archives}
+use Rattle.run.proofs.Runs.{no-step}
+use Rattle.run.proofs.Places.{push_nothing, move, GoesOn, goes_on-same, run-goes_on, stays}
+use Rattle.run.proofs.Pumping.{Leaves, leaves-so, counted-few, pump-keeps}
+
+-- what is left alone is left alone by a store that is the same but for its transactions
+same-leaves : (old : TransactionsValue) (so new : StoreValue) → Leaves old so.transactions → new ≡ so → Leaves old new.transactions
+same-leaves old so new leaves is = leaves-so old so.transactions new.transactions leaves (ap (λ (v : StoreValue). v.transactions) is)
+
+nothing-left : (old : StoreValue) (new : StoreValue) → new ≡ old → Leaves old.transactions new.transactions
+nothing-left old new is = same-leaves old.transactions old new (record { mark = refl; opened = refl; heads = refl }) is
+
+-- ---- the beginning
+
+start-leaves : (old new : StoreValue) (upto : ℕ) (r : Result (Unit {0}) StartFault) → StartsArchive old upto r new → Leaves old.transactions new.transactions
+start-leaves old new upto r starts = by-refusal (refusal_now old upto) starts
+  where
+    begins : (r : Result (Unit {0}) StartFault) → BeginsRun old upto r new → Leaves old.transactions new.transactions
+    begins (Ok done) is = same-leaves old.transactions _ new (record { mark = refl; opened = refl; heads = refl }) is.2
+    begins (Err why) is = nothing-left old new is.1
+
+    by-refusal : (o : Option StartFault) → MatchOption o (BeginsRun old upto r new) (λ why. (r ≡ Err why) × (new ≡ old)) → Leaves old.transactions new.transactions
+    by-refusal None is = begins r is
+    by-refusal (Some why) is = nothing-left old new is.1
+
+pub start-few : (old new : StoreValue) (upto : ℕ) (r : Result (Unit {0}) StartFault) → StartsArchive old upto r new → new.disk.made ≤ old.disk.made + 1
+start-few old new upto r starts = by-refusal (refusal_now old upto) starts
+  where
+    at-rest : {so : StoreValue} → so.disk.made ≡ old.disk.made → new ≡ so → new.disk.made ≤ old.disk.made + 1
+    at-rest few is = let made = ap (λ (v : StoreValue). v.disk.made) is in omega (arith, made, few)
+
+    begins : (r : Result (Unit {0}) StartFault) → BeginsRun old upto r new → new.disk.made ≤ old.disk.made + 1
+    begins (Ok done) is = at-rest refl is.2
+    begins (Err why) is = at-rest refl is.1
+
+    by-refusal : (o : Option StartFault) → MatchOption o (BeginsRun old upto r new) (λ why. (r ≡ Err why) × (new ≡ old)) → new.disk.made ≤ old.disk.made + 1
+    by-refusal None is = begins r is
+    by-refusal (Some why) is = at-rest refl is.1
+
+-- what an archive's start says of the machine
+start-says : (tells : Bool) (v v' : StoreValue) (w : World) (upto : ℕ) (r : Result (Unit {0}) StartFault) → Stands tells v w.machine → StartsArchive v upto r v' → Archives w upto r (same w)
+start-says tells v v' w upto r stands starts =
+    by-tests v.transactions.failed refl (is_some v.job) (nat_le upto v.archived) (nat_lt (stores.last v) upto) refl (spare v.transactions == 0) starts
+  where
+    at-last : stores.last v ≡ last w.machine.published
+    at-last = last-is v.transactions w.machine stands.memory
+
+    says : (x : Result (Unit {0}) StartFault) → r ≡ x → Archives w upto x (same w) → Archives w upto r (same w)
+    says x is so = subst (λ (y : Result (Unit {0}) StartFault). Archives w upto y (same w)) (sym is) so
+
+    begins : v.transactions.failed ≡ false → nat_lt (stores.last v) upto ≡ false → (x : Result (Unit {0}) StartFault) → BeginsRun v upto x v' → Archives w upto x (same w)
+    begins on early (Ok done) is = (sym stands.memory.failed ∙ on, (let low : upto ≤ stores.last v = grind (arith, nat_tests) in omega (arith, low, at-last)), refl)
+    begins on early (Err start.ArchiveFull) is = refl
+    begins on early (Err start.NoMemory) is = refl
+    begins on early (Err start.Failed) is = absurd is.0
+    begins on early (Err start.JobBusy) is = absurd is.0
+    begins on early (Err start.NothingToDo) is = absurd is.0
+    begins on early (Err (start.NotYet time)) is = absurd is.0
+    begins on early (Err start.StatusFull) is = absurd is.0
+
+    by-tests : (a : Bool) → v.transactions.failed ≡ a → (b c d : Bool) → nat_lt (stores.last v) upto ≡ d → (e : Bool)
+        → MatchOption (cond a (Some start.Failed) (cond b (Some start.JobBusy) (cond c (Some start.NothingToDo) (cond d (Some (start.NotYet (stores.last v))) (cond e (Some start.StatusFull) None))))) (BeginsRun v upto r v') (λ why. (r ≡ Err why) × (v' ≡ v))
+        → Archives w upto r (same w)
+    by-tests true on b c d late e is = says (Err start.Failed) is.0 (sym stands.memory.failed ∙ on, refl)
+    by-tests false on true c d late e is = says (Err start.JobBusy) is.0 refl
+    by-tests false on false true d late e is = says (Err start.NothingToDo) is.0 refl
+    by-tests false on false false true late e is = says (Err (start.NotYet (stores.last v))) is.0 (at-last, (let low : stores.last v < upto = grind (arith, nat_tests) in omega (arith, low)), refl)
+    by-tests false on false false false late true is = says (Err start.StatusFull) is.0 refl
+    by-tests false on false false false late false is = begins on late r is
+
+pub start-goes : (tells : Bool) (v v' : StoreValue) (xs : List Held) (upto : ℕ) (r : Result (Unit {0}) StartFault) → StartsArchive v upto r v' → Goes tells v xs (call.Archive upto) (answer.Archive r) v' (xs ++ held.Nothing ∷ [])
+start-goes tells v v' xs upto r starts w is = (
+  same w,
+  start-says tells v v' w upto r is.stands starts,
+  no-step w.machine,
+  record {
+    stands = archive-start-stands tells v v' upto r w.machine is.stands starts;
+    places = push_nothing v'.transactions w.machine.published xs w.places
+        (move v.transactions v'.transactions w.machine.published w.machine.published xs w.places is.places
+        (λ i x p at shows. stays v.transactions v'.transactions w.machine.published w.machine.published x p (pump-keeps v.transactions v'.transactions x (start-leaves v v' upto r starts)) (goes_on-same w.machine.published) shows));
+  },
+)
+
+-- ---- a step
+
+moves-leave : (what : JobDid) (made refused : ArchiveJob) (old new : StoreValue) (r : Result JobDid PumpFault) → JobMoves what made refused old r new → Leaves old.transactions new.transactions
+moves-leave what made refused old new (Ok said) is = same-leaves old.transactions _ new (record { mark = refl; opened = refl; heads = refl }) is.1
+moves-leave what made refused old new (Err why) is = same-leaves old.transactions _ new (record { mark = refl; opened = refl; heads = refl }) is.1
+
+turned-leave : (stage : SlotStage) (turn : TurnState) (j : ArchiveJob) (old new : StoreValue) (what : JobDid) → IsJobTurned stage turn j old what new → Leaves old.transactions new.transactions
+turned-leave slots.Begun turn j old new what is = same-leaves old.transactions _ new (record { mark = refl; opened = refl; heads = refl }) is.1
+turned-leave slots.BodyWritten turn j old new what is = same-leaves old.transactions _ new (record { mark = refl; opened = refl; heads = refl }) is.1
+turned-leave slots.BodySynced turn j old new what is = same-leaves old.transactions _ new (record { mark = refl; opened = refl; heads = refl }) is.1
+turned-leave slots.GateWritten turn j old new what is = same-leaves old.transactions _ new (record { mark = refl; opened = refl; heads = refl }) is.2
+turned-leave slots.Opened turn j old new what is = absurd is
+
+turn-leaves : (tells : Bool) (j : ArchiveJob) (turn : TurnState) (old new : StoreValue) (r : Result JobDid PumpFault) → TurnsJob tells j turn old r new → Leaves old.transactions new.transactions
+turn-leaves tells j turn old new (Ok what) is = turned-leave turn.stage turn j old new what is.answer
+turn-leaves tells j turn old new (Err why) is = same-leaves old.transactions _ new (record { mark = refl; opened = refl; heads = refl }) is.answer.1
+
+write-leaves : (tells : Bool) (left : List ℕ) (j : ArchiveJob) (old new : StoreValue) (r : Result JobDid PumpFault) → WritesOrSyncs tells left j old r new → Leaves old.transactions new.transactions
+write-leaves tells [] j old new r is = moves-leave _ _ _ old new r is.moves
+write-leaves tells (b ∷ bs) j old new r is = moves-leave _ _ _ old new r is.moves
+
+job-leaves : (tells : Bool) (s : JobStage) (j : ArchiveJob) (old new : StoreValue) (r : Result JobDid PumpFault) → TakesJobStep tells s j old r new → Leaves old.transactions new.transactions
+job-leaves tells stages.Writing j old new r is = write-leaves tells j.writer.left j old new r is
+job-leaves tells stages.Stored j old new r is = by-turn (is_some old.turn) is
+  where
+    by-turn : (b : Bool) → MatchBool b ((r ≡ Err pump.Busy) × (new ≡ old)) (TurnsJob tells j (first_turn old j) (slot_taken old) r new) → Leaves old.transactions new.transactions
+    by-turn true busy = nothing-left old new busy.1
+    by-turn false first = turn-leaves tells j (first_turn old j) (slot_taken old) new r first
+job-leaves tells (stages.Turning turn) j old new r is = turn-leaves tells j turn old new r is
+
+pumped-leaves : (tells : Bool) (old new : StoreValue) (r : Result JobDid PumpFault) → PumpsJob tells old r new → Leaves old.transactions new.transactions
+pumped-leaves tells old new r pumps = by-failure old.transactions.failed pumps
+  where
+    by-job : (o : Option ArchiveJob) → MatchOption o ((r ≡ Ok did.Idle) × (new ≡ old)) (λ j. TakesJobStep tells j.stage j old r new) → Leaves old.transactions new.transactions
+    by-job None is = nothing-left old new is.1
+    by-job (Some j) is = job-leaves tells j.stage j old new r is
+
+    by-failure : (b : Bool) → MatchBool b ((r ≡ Err pump.Failed) × (new ≡ old)) (MatchOption old.job ((r ≡ Ok did.Idle) × (new ≡ old)) (λ j. TakesJobStep tells j.stage j old r new)) → Leaves old.transactions new.transactions
+    by-failure true is = nothing-left old new is.1
+    by-failure false is = by-job old.job is
+
+-- ---- refusals
+
+refused-so : (r : Result JobDid PumpFault) (why : PumpFault) → r ≡ Err why → IsStepFault why → IfErr r IsStepFault
+refused-so r why is fault = subst (λ (x : Result JobDid PumpFault). IfErr x IsStepFault) (sym is) fault
+
+moves-refused : (what : JobDid) (made refused : ArchiveJob) (old new : StoreValue) (r : Result JobDid PumpFault) → JobMoves what made refused old r new → IfErr r IsStepFault
+moves-refused what made refused old new (Ok said) is = tt
+moves-refused what made refused old new (Err why) is = inl is.0
+
+turn-refused : (tells : Bool) (j : ArchiveJob) (turn : TurnState) (old new : StoreValue) (r : Result JobDid PumpFault) → TurnsJob tells j turn old r new → IfErr r IsStepFault
+turn-refused tells j turn old new (Ok what) is = tt
+turn-refused tells j turn old new (Err why) is = inl is.answer.0
+
+job-refused : (tells : Bool) (s : JobStage) (j : ArchiveJob) (old new : StoreValue) (r : Result JobDid PumpFault) → TakesJobStep tells s j old r new → IfErr r IsStepFault
+job-refused tells stages.Writing j old new r is = by-left j.writer.left is
+  where
+    by-left : (left : List ℕ) → WritesOrSyncs tells left j old r new → IfErr r IsStepFault
+    by-left [] syncs = moves-refused _ _ _ old new r syncs.moves
+    by-left (b ∷ bs) writes = moves-refused _ _ _ old new r writes.moves
+job-refused tells stages.Stored j old new r is = by-turn (is_some old.turn) is
+  where
+    by-turn : (b : Bool) → MatchBool b ((r ≡ Err pump.Busy) × (new ≡ old)) (TurnsJob tells j (first_turn old j) (slot_taken old) r new) → IfErr r IsStepFault
+    by-turn true busy = refused-so r pump.Busy busy.0 (inr refl)
+    by-turn false first = turn-refused tells j (first_turn old j) (slot_taken old) new r first
+job-refused tells (stages.Turning turn) j old new r is = turn-refused tells j turn old new r is
+
+pumped-refused : (tells : Bool) (old new : StoreValue) (r : Result JobDid PumpFault) → PumpsJob tells old r new → IfErr r IsStepFault
+pumped-refused tells old new r pumps = by-failure old.transactions.failed pumps
+  where
+    by-job : (o : Option ArchiveJob) → MatchOption o ((r ≡ Ok did.Idle) × (new ≡ old)) (λ j. TakesJobStep tells j.stage j old r new) → IfErr r IsStepFault
+    by-job None is = subst (λ (x : Result JobDid PumpFault). IfErr x IsStepFault) (sym is.0) tt
+    by-job (Some j) is = job-refused tells j.stage j old new r is
+
+    by-failure : (b : Bool) → MatchBool b ((r ≡ Err pump.Failed) × (new ≡ old)) (MatchOption old.job ((r ≡ Ok did.Idle) × (new ≡ old)) (λ j. TakesJobStep tells j.stage j old r new)) → IfErr r IsStepFault
+    by-failure true is = refused-so r pump.Failed is.0 (inl refl)
+    by-failure false is = by-job old.job is
+
+-- ---- device calls
+
+job-few : (tells : Bool) (s : JobStage) (j : ArchiveJob) (old new : StoreValue) (r : Result JobDid PumpFault) → TakesJobStep tells s j old r new → new.disk.made ≤ old.disk.made + 1
+job-few tells stages.Writing j old new r is = by-left j.writer.left is
+  where
+    by-left : (left : List ℕ) → WritesOrSyncs tells left j old r new → new.disk.made ≤ old.disk.made + 1
+    by-left [] syncs = omega (arith, syncs.call.counts.made, counted-few old.disk.made)
+    by-left (b ∷ bs) writes = omega (arith, writes.call.counts.made, counted-few old.disk.made)
+job-few tells stages.Stored j old new r is = by-turn (is_some old.turn) is
+  where
+    by-turn : (b : Bool) → MatchBool b ((r ≡ Err pump.Busy) × (new ≡ old)) (TurnsJob tells j (first_turn old j) (slot_taken old) r new) → new.disk.made ≤ old.disk.made + 1
+    by-turn true busy = let same = ap (λ (v : StoreValue). v.disk.made) busy.1 in omega (arith, same)
+    by-turn false first = omega (arith, first.call.counts.made, counted-few old.disk.made)
+job-few tells (stages.Turning turn) j old new r is = omega (arith, is.call.counts.made, counted-few old.disk.made)
+
+pub pumped-few : (tells : Bool) (old new : StoreValue) (r : Result JobDid PumpFault) → PumpsJob tells old r new → new.disk.made ≤ old.disk.made + 1
+pumped-few tells old new r pumps = by-failure old.transactions.failed pumps
+  where
+    at-rest : new ≡ old → new.disk.made ≤ old.disk.made + 1
+    at-rest is = let same = ap (λ (v : StoreValue). v.disk.made) is in omega (arith, same)
+
+    by-job : (o : Option ArchiveJob) → MatchOption o ((r ≡ Ok did.Idle) × (new ≡ old)) (λ j. TakesJobStep tells j.stage j old r new) → new.disk.made ≤ old.disk.made + 1
+    by-job None is = at-rest is.1
+    by-job (Some j) is = job-few tells j.stage j old new r is
+
+    by-failure : (b : Bool) → MatchBool b ((r ≡ Err pump.Failed) × (new ≡ old)) (MatchOption old.job ((r ≡ Ok did.Idle) × (new ≡ old)) (λ j. TakesJobStep tells j.stage j old r new)) → new.disk.made ≤ old.disk.made + 1
+    by-failure true is = at-rest is.1
+    by-failure false is = by-job old.job is
+
+-- ---- the call
+
+pub pumped-goes : (tells : Bool) (v v' : StoreValue) (xs : List Held) (r : Result JobDid PumpFault) → (IsTrue tells → AreSound v'.disk.areas) → PumpsJob tells v r v' → Goes tells v xs call.JobPump (answer.JobPump r) v' (xs ++ held.Nothing ∷ [])
+pumped-goes tells v v' xs r sound pumps w is =
+    by-failure w.machine.failed refl (pumped-refused tells v v' r pumps) (job-pump-stands tells v v' r w.machine is.stands sound pumps)
+  where
+    places : (h' : History Value) → GoesOn w.machine.published h' → ArePlaces v'.transactions h' (xs ++ held.Nothing ∷ []) (w.places ++ Free ∷ [])
+    places h' goes = push_nothing v'.transactions h' xs w.places
+        (move v.transactions v'.transactions w.machine.published h' xs w.places is.places (λ i x p at shows. stays v.transactions v'.transactions w.machine.published h' x p (pump-keeps v.transactions v'.transactions x (pumped-leaves tells v v' r pumps)) goes shows))
+
+    by-failure : (b : Bool) → w.machine.failed ≡ b → IfErr r IsStepFault → MatchBool b ((r ≡ Err pump.Failed) × Stands tells v' w.machine) ((after : Machine Value) × steps.Run IsValue w.machine (job_ends_in r) after × Stands tells v' after)
+        → (next : World) × Does w call.JobPump (answer.JobPump r) next × Follows w.machine next.machine × IsWorld tells v' (xs ++ held.Nothing ∷ []) next
+    by-failure true failed refused done = (
+      same w,
+      subst (λ (b : Bool). MatchBool b ((r ≡ Err pump.Failed) × (same w ≡ same w)) ((after : Machine Value) × IfErr r IsStepFault × steps.Run IsValue w.machine (job_ends_in r) after × (same w ≡ same (moved w after)))) (sym failed) (done.0, refl),
+      no-step w.machine,
+      record { stands = done.1; places = places w.machine.published (goes_on-same w.machine.published) },
+    )
+    by-failure false works refused done = (
+      same (moved w done.0),
+      subst (λ (b : Bool). MatchBool b ((r ≡ Err pump.Failed) × (same (moved w done.0) ≡ same w)) ((after : Machine Value) × IfErr r IsStepFault × steps.Run IsValue w.machine (job_ends_in r) after × (same (moved w done.0) ≡ same (moved w after)))) (sym works) (done.0, refused, done.1, refl),
+      (job_ends_in r, done.1),
+      record { stands = done.2; places = places done.0.published (run-goes_on w.machine done.0 (job_ends_in r) done.2.machine done.1) },
+    )
