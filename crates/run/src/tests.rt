@@ -2,11 +2,11 @@
 use super::*;
 use crate::held::discard;
 use disk::MemDisk;
-use group::Did;
+use group::{Did, PumpFault};
 use history::Key;
 use std::alloc::Global;
 use std::test::Fail;
-use store::Store;
+use store::{JobDid, StartFault, Store};
 
 const SEVEN: Key = Key {
     relation: 1,
@@ -268,5 +268,80 @@ fn a_view_is_asked_of_intervals(rt: HostRuntime) -> Result<(), Fail> {
         )
     );
     assert!(rt; matches!(answers[14], Answer::Unknown));
+    Ok(())
+}
+
+/// A commit of one record, in the first nine calls of a list.
+fn committed<'a>(fields: &'a [&'a [u8]]) -> [Call<'a>; 9] {
+    [
+        Call::Begin,
+        Call::Put {
+            transaction: 0,
+            key: SEVEN,
+            fields,
+        },
+        Call::Submit {
+            transaction: 0,
+            label: 9,
+            now: 100,
+        },
+        Call::Pump,
+        Call::Pump,
+        Call::Pump,
+        Call::Pump,
+        Call::Pump,
+        Call::Pump,
+    ]
+}
+
+#[test]
+fn an_archive_beside_a_commit(rt: HostRuntime) -> Result<(), Fail> {
+    let fields = [b"a".as_slice()];
+    let mut calls = Vec::new(rt.alloc());
+    calls.extend_from_slice(&committed(&fields))?;
+    let rest = [
+        Call::Archive { upto: 101 },
+        Call::Archive { upto: 100 },
+        Call::Archive { upto: 100 },
+        Call::JobPump,
+        Call::JobPump,
+        Call::Begin,
+        Call::Put {
+            transaction: 14,
+            key: SEVEN,
+            fields: &fields,
+        },
+        Call::Submit {
+            transaction: 14,
+            label: 9,
+            now: 100,
+        },
+        Call::Pump,
+        Call::Pump,
+        Call::Pump,
+        Call::JobPump,
+        Call::JobPump,
+        Call::JobPump,
+        Call::JobPump,
+        Call::Pump,
+        Call::Archive { upto: 100 },
+    ];
+    calls.extend_from_slice(&rest)?;
+    let (answers, left) = answers_to(rt.alloc(), &calls)?;
+    assert_eq!(rt; (answers.len(), left), (26, 2));
+    assert!(rt; matches!(answers[9], Answer::Archive(Err(StartFault::NotYet(100)))));
+    assert!(rt; matches!(answers[10], Answer::Archive(Ok(()))));
+    assert!(rt; matches!(answers[11], Answer::Archive(Err(StartFault::JobBusy))));
+    assert!(rt; matches!(answers[12], Answer::JobPump(Ok(JobDid::RunSynced))));
+    assert!(rt; matches!(answers[13], Answer::JobPump(Ok(JobDid::BodyWritten))));
+    assert!(rt; matches!(answers[17], Answer::Pump(Ok(Did::WroteExtent))));
+    assert!(rt; matches!(answers[18], Answer::Pump(Ok(Did::HeapSynced))));
+    assert!(rt; matches!(answers[19], Answer::Pump(Err(PumpFault::Busy))));
+    assert!(rt; matches!(answers[20], Answer::JobPump(Ok(JobDid::BodySynced))));
+    assert!(rt; matches!(answers[21], Answer::JobPump(Ok(JobDid::GateWritten))));
+    assert!(rt; matches!(answers[22], Answer::JobPump(Ok(JobDid::JobDone))));
+    assert!(rt; matches!(answers[23], Answer::JobPump(Ok(JobDid::Idle))));
+    assert!(rt; matches!(answers[24], Answer::Pump(Ok(Did::BodyWritten))));
+    assert!(rt; matches!(answers[25], Answer::Archive(Err(StartFault::NothingToDo))));
     Ok(())
 }
