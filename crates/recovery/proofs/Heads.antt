@@ -1,13 +1,13 @@
 -- The times of a log's commits.
-use Rattle.std.proofs.Common.{◌≡◌, ℕ, List, [], ◌∷◌, ◌++◌, map, refl, sym, ap, subst, ◌∙◌}
+use Rattle.std.proofs.Common.{◌≡◌, ◌≤◌, ℕ, List, [], ◌∷◌, ◌++◌, map, refl, sym, ap, subst, ◌∙◌}
 use Rattle.std.proofs.lemmas.List.{append-nil, map-append}
 use Rattle.wire.specs.declared.slot.Member.{Member}
 use Rattle.wire.specs.declared.slot.Body.{Body}
 use Rattle.wire.specs.declared.slot.Body.TheVariants as bodies
 use Rattle.wire.specs.declared.slot.Slot.{Slot as Wired}
 use Rattle.image.specs.Reading.{Head, Slot, Commits, Archived, Reclaimed, Floor}
-use Rattle.image.specs.Log.{heads_of, last_time_after, last_time, AreRisingAfter, MayAllCome}
-use Rattle.image.proofs.Logs.{heads_of-append, last_time_after-append}
+use Rattle.image.specs.Log.{heads_of, last_time_after, last_time, archive_mark, AreRisingAfter, MayAllCome}
+use Rattle.image.proofs.Logs.{heads_of-append, last_time_after-append, marked-all, marked-none}
 use Rattle.status.specs.Rules.{head_of, slot_of, log_of, KeepsRules}
 use Rattle.reading.specs.Layouts.{entries_in, entries_of}
 use Rattle.reading.proofs.Rules.{rules_say}
@@ -54,3 +54,9 @@ entries_rise profile slots rules = subst (AreRisingAfter 0) (sym (entry_heads sl
 pub named_heads : (entries : List Member) → map head_named (map name_of entries) ≡ map head_of entries
 named_heads [] = refl
 named_heads (entry ∷ entries) = ap (λ l. head_of entry ∷ l) (named_heads entries)
+
+-- the archive mark is not later than the last commit that the slots name
+pub archived_upto_last : (profile : ℕ) (slots : List Wired) → KeepsRules profile slots → archive_mark (log_of slots) ≤ last_time_after 0 (map head_of (entries_of slots))
+archived_upto_last profile slots rules =
+    subst (λ (heads : List Head). archive_mark (log_of slots) ≤ last_time_after 0 heads) (sym (entry_heads slots))
+    (marked-all profile [] (log_of slots) marked-none (rules_say profile slots rules).0).archived

@@ -6,7 +6,7 @@ ghost use Rattle.disk.specs.Areas.{image_of, settled_on, LeavesNoMore};
 ghost use Rattle.disk.specs.Calls.{refusals};
 ghost use Rattle.image.specs.Log.{AreRisingAfter, last_time_after, archive_mark};
 ghost use Rattle.status.specs.Header.{total};
-ghost use Rattle.status.specs.Rules.{head_of, log_of, runs_of, KeepsRules};
+ghost use Rattle.status.specs.Rules.{head_of, log_of, runs_of, AreInRow, KeepsRules};
 ghost use Rattle.wire.specs.Spelling.{IsRun};
 ghost use Rattle.image.specs.Reading.{Reading};
 ghost use Rattle.reading.specs.Layouts.{Layout, entries_of};
@@ -157,7 +157,8 @@ fn read_settled<D: Disk>(alloc: Global, disk: &mut D) -> Result<Recovered, OpenF
     ensures rising { IfOk result (λ r. AreRisingAfter 0 (map head_named r.commits.items)) }
     ensures last { IfOk result (λ r. r.last ≡ last_time_after 0 (map head_named r.commits.items)) }
     ensures latest { IfOk result (λ r. latest r.chains ≤ r.last) }
-    ensures runs { IfOk result (λ r. AllByRecursion IsRun r.runs.items) }
+    ensures archived { IfOk result (λ r. r.archived ≤ r.last) }
+    ensures runs { IfOk result (λ r. AllByRecursion IsRun r.runs.items × AreInRow 0 r.runs.items) }
     ensures found { IsTrue D.tells → IfOk result (IsReadFrom (image_of (D.state disk.old).areas)) }
     ensures fault { IsTrue D.tells → IfErr result (IsImageFault (image_of (D.state disk.old).areas)) }
     ensures reads { D.state disk.new ≡ after_reads result (D.state disk.old) }
@@ -199,7 +200,8 @@ pub fn read_image<D: Disk>(alloc: Global, disk: &mut D) -> Result<Recovered, Ope
     ensures rising { IfOk result (λ r. AreRisingAfter 0 (map head_named r.commits.items)) }
     ensures last { IfOk result (λ r. r.last ≡ last_time_after 0 (map head_named r.commits.items)) }
     ensures latest { IfOk result (λ r. latest r.chains ≤ r.last) }
-    ensures runs { IfOk result (λ r. AllByRecursion IsRun r.runs.items) }
+    ensures archived { IfOk result (λ r. r.archived ≤ r.last) }
+    ensures runs { IfOk result (λ r. AllByRecursion IsRun r.runs.items × AreInRow 0 r.runs.items) }
 
     ensures found { IsTrue D.tells → IfOk result (IsReadFrom (image_of (D.state disk.old).areas)) }
     ensures fault { IsTrue D.tells → IfErr result (IsImageFault (image_of (D.state disk.old).areas)) }

@@ -1,8 +1,8 @@
 //! A store with an archived slot: it opens, all versions are answered, and commits go on behind the
 //! slot.
-use crate::bytes::{change, cut, spelled, spells};
+use crate::bytes::{bytes_of, change, cut, spelled, spells};
 use crate::dialogue::{FOUR_COMMITS, answers, converses, stored};
-use disk::{Area, Disk, MemDisk};
+use disk::{Area, MemDisk};
 use std::alloc::Global;
 use std::process::Abort;
 use std::test::Fail;
@@ -12,18 +12,18 @@ const RUN: &str = "0100 0700000000000000 6400000000000000 6e00000000000000 01 01
     0100 0700000000000000 6e00000000000000 7800000000000000 01 01 62
     0000000000000000 1d00000000000000";
 
-/// The slot behind those of the four commits.
+/// The slot behind those of the four commits, and then zeros to the end of the area.
 const SLOT: &str = "c7 02 00 00 04000000
-    7800000000000000 0000000000000000 4a00000000000000 0200000000000000";
+    7800000000000000 0000000000000000 4a00000000000000 0200000000000000 ..z 6104";
 
 /// The four commits, and then a slot and a run of what ended by 120.
 fn archived_store(rt: &impl Abort, alloc: Global) -> Result<MemDisk, Fail> {
     let mut disk = stored(rt, alloc, FOUR_COMMITS)?;
-    disk.write_at(Area::Archive, 0, &spelled(alloc, RUN)?)?;
-    disk.sync(Area::Archive)?;
-    disk.write_at(Area::Status, 2560, &spelled(alloc, SLOT)?)?;
-    disk.sync(Area::Status)?;
-    Ok(disk)
+    let mut status = bytes_of(alloc, &mut disk, Area::Status)?;
+    let heap = bytes_of(alloc, &mut disk, Area::Heap)?;
+    status.truncate(2560);
+    status.extend_from_slice(&spelled(alloc, SLOT)?)?;
+    Ok(MemDisk::with_bytes(status, heap, spelled(alloc, RUN)?))
 }
 
 #[test]

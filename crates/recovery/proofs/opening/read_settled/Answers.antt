@@ -15,7 +15,8 @@ use Rattle.reading.specs.Opening.{EndsWithin}
 use Rattle.recovery.specs.declared.fault.OpenFault.{OpenFault}
 use Rattle.recovery.specs.Faults.{IsRunsFault}
 use Rattle.recovery.specs.HeapReads.{HoldsEntries, IsMembersFault}
-use Rattle.recovery.proofs.Heads.{entries_rise}
+use Rattle.reading.proofs.Rules.{rules_say}
+use Rattle.recovery.proofs.Heads.{entries_rise, archived_upto_last}
 use Rattle.recovery.proofs.OpenedHeap.{entries_in_range, runs_in_range, image_read, members_fail, runs_fail}
 use Rattle.recovery.proofs.opening.read_settled.Goals as goal
 
@@ -34,10 +35,18 @@ returns-clause-rising g c =
     let entries : c.deref-3.result.now ≡ entries_of c.in_ok-slots.slots.items = c.deref-3.ensures.value ∙ c.in_ok-entries.ensures ∙ ap entries_of c.deref.ensures.value in
     rw c.in_ok-commits.ensures (subst (λ (l : List Member). AreRisingAfter 0 (map head_of l)) (sym entries) (entries_rise _ _ c.in_ok-slots.ensures.slots.rules))
 
+pub returns-clause-archived : goal.returns-clause-archived
+returns-clause-archived g c =
+    let slots : List Slot = c.in_ok-slots.slots.items in
+    let again : c.deref-2.result.now ≡ entries_of slots = c.deref-2.ensures.value ∙ c.in_ok-entries.ensures ∙ ap entries_of c.deref.ensures.value in
+    let mark = c.archive_mark.ensures ∙ ap (λ (l : List Slot). archive_mark (log_of l)) c.deref-6.ensures.value in
+    let last = c.in-Ok.ensures.last ∙ ap (λ (l : List Member). last_time_after 0 (map head_of l)) again in
+    omega (arith, mark, last, archived_upto_last _ slots c.in_ok-slots.ensures.slots.rules)
+
 pub returns-clause-runs : goal.returns-clause-runs
 returns-clause-runs g c =
-    let runs : c.in_ok-runs.runs.items ≡ runs_of c.in_ok-slots.slots.items = c.in_ok-runs.ensures ∙ ap runs_of c.deref-4.ensures.value in
-    subst (AllByRecursion IsRun) (sym runs) (runs_in_range _ _ c.in_ok-slots.ensures.slots.in_range)
+    let runs = c.in_ok-runs.ensures ∙ ap runs_of c.deref-4.ensures.value in
+    rw runs (runs_in_range _ _ c.in_ok-slots.ensures.slots.in_range, (rules_say _ _ c.in_ok-slots.ensures.slots.rules).1)
 
 pub returns-clause-found : goal.returns-clause-found
 returns-clause-found g c = λ told.
