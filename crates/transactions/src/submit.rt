@@ -9,7 +9,6 @@ ghost use Rattle.group.specs.Sealing.{first_number};
 ghost use Rattle.transactions.specs.Values.{is_of_value, spare, KeepsSlots};
 ghost use Rattle.transactions.specs.Submits.{Submits, verdict_on_writes, Queues, bodies_for, bodies_over, JoinsQueue, IsRefusalOf, IsStored};
 
-use crate::stage::GroupStage;
 use crate::transactions::Transactions;
 use chains::{Frozen, SharedValue};
 use deltas::{Body, pack};
