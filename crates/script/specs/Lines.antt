@@ -65,6 +65,11 @@ abbrev pub times_of : List Text → Option Line
 times_of (label ∷ []) = option_map (λ l. line.Times l) (number_in most label)
 times_of _ = None
 
+-- a time up to which versions are archived
+abbrev pub archive_of : List Text → Option Line
+archive_of (time ∷ []) = option_map (λ t. line.Archive t) (time_in time)
+archive_of _ = None
+
 -- a line of its command alone
 abbrev pub alone : Line → List Text → Option Line
 alone found [] = Some found
@@ -86,8 +91,11 @@ line_of (command ∷ rest) =
     else (if bytes_eq command (codes "between") then between_of rest
     else (if bytes_eq command (codes "scan") then scan_of rest
     else (if bytes_eq command (codes "times") then times_of rest
+    else (if bytes_eq command (codes "archive") then archive_of rest
+    else (if bytes_eq command (codes "job") then alone line.Job rest
+    else (if bytes_eq command (codes "finish") then alone line.Finish rest
     else (if bytes_eq command (codes "reopen") then alone line.Reopen rest
-    else None)))))))))))))
+    else None))))))))))))))))
 
 -- what a line of the script asks for, if it has such a form
 abbrev pub said : Text → Option Line

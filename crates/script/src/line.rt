@@ -39,6 +39,12 @@ pub enum Line<'a> {
     Scan(u16, u64),
     /// Asks for the times of the commits with a label.
     Times(u64),
+    /// Begins an archive of what ended by a time.
+    Archive(u64),
+    /// Takes one step of the archive that is being made.
+    Job,
+    /// Takes steps of it until nothing is left to do, or one is refused.
+    Finish,
     /// Closes the store and opens it again.
     Reopen,
 }
@@ -154,6 +160,16 @@ fn times<'a>(mut words: Words<'a>) -> Option<Line<'a>>
     Some(Line::Times(number(label)?))
 }
 
+fn archive<'a>(mut words: Words<'a>) -> Option<Line<'a>>
+    ensures { result ≡ told.archive_of words.entry }
+{
+    let upto = words.next()?;
+    if !words.is_empty() {
+        return None;
+    }
+    Some(Line::Archive(read_time(upto)?))
+}
+
 /// A line of its command alone.
 fn alone<'a>(found: Line<'a>, words: Words<'_>) -> Option<Line<'a>>
     ensures { result ≡ told.alone found.entry words.entry }
@@ -193,6 +209,12 @@ fn read<'a>(command: &[u8], words: Words<'a>) -> Option<Line<'a>>
         scan(words)
     } else if is(command, "times") {
         times(words)
+    } else if is(command, "archive") {
+        archive(words)
+    } else if is(command, "job") {
+        alone(Line::Job, words)
+    } else if is(command, "finish") {
+        alone(Line::Finish, words)
     } else if is(command, "reopen") {
         alone(Line::Reopen, words)
     } else {

@@ -98,6 +98,25 @@ fn intervals_and_scans_name_times(rt: HostRuntime) {
     assert!(rt; matches!(parse(b"scan 1 115".as_slice()), Some(Line::Scan(1, 115))));
 }
 
+#[test]
+fn an_archive_names_its_time(rt: HostRuntime) {
+    assert!(rt; matches!(parse(b"archive 120".as_slice()), Some(Line::Archive(120))));
+    assert!(rt;
+        matches!(
+            parse(b"archive 1970-01-01T00:00:01Z".as_slice()),
+            Some(Line::Archive(1_000_000))
+        )
+    );
+    assert!(rt;
+        matches!(
+            parse(b"archive 18446744073709551615".as_slice()),
+            Some(Line::Archive(u64::MAX))
+        )
+    );
+    assert!(rt; matches!(parse(b"job".as_slice()), Some(Line::Job)));
+    assert!(rt; matches!(parse(b"finish".as_slice()), Some(Line::Finish)));
+}
+
 fn is_bad(rt: &impl Abort, line: &str) {
     assert!(rt; parse(line.as_bytes()).is_none(), "{line}");
 }
@@ -145,8 +164,14 @@ fn a_line_of_no_form_is_none(rt: HostRuntime) {
         "scan 1",
         "scan 65536 100",
         "scan 1 100 7",
-        "archive 100",
-        "job",
+        "archive",
+        "archive ",
+        "archive soon",
+        "archive 18446744073709551616",
+        "archive 100 7",
+        "ARCHIVE 100",
+        "job 1",
+        "finish 100",
     ];
     for line in lines {
         is_bad(&rt, line);

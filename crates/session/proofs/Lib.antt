@@ -1,3 +1,4 @@
+mod JobLemmas
 mod LineLemmas
 mod RunLemmas
 mod TextLemmas

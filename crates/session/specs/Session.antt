@@ -26,6 +26,11 @@ use Rattle.timequery.specs.declared.fault.QueryFault.TheVariants as query
 use Rattle.recovery.specs.declared.fault.OpenFault.{OpenFault}
 use Rattle.store.specs.Values.{StoreValue}
 use Rattle.store.specs.Pumps.{Pumps}
+use Rattle.store.specs.Archives.{StartsArchive}
+use Rattle.store.specs.Jobs.{PumpsJob}
+use Rattle.store.specs.declared.job.StartFault.{StartFault}
+use Rattle.store.specs.declared.job.JobDid.{JobDid}
+use Rattle.store.specs.declared.job.JobDid.TheVariants as job_did
 use Rattle.store.specs.Opens.{Opens, OpenRefuses}
 use Rattle.store.specs.Calls as store
 use Rattle.script.specs.declared.line.Line.{Line}
@@ -195,6 +200,40 @@ pub record Flushes (tells : Bool) (old : StoreValue) (r : Reply) (new : StoreVal
   pub ends : EndsFlush answer
   pub reply : r ≡ pumped answer
 
+abbrev pub started : Result (Unit {0}) StartFault → Reply
+started (Ok _) = reply.Started
+started (Err f) = reply.Refused (fault.Start f)
+
+abbrev pub ArchiveStep : StoreValue → ℕ → Reply → StoreValue → Type 0
+ArchiveStep old upto r new = (answer : Result (Unit {0}) StartFault) × StartsArchive old upto answer new × (r ≡ started answer)
+
+abbrev pub worked : Result JobDid PumpFault → Reply
+worked (Ok step) = reply.JobDid step
+worked (Err f) = reply.Refused (fault.Pump f)
+
+abbrev pub JobStep : Bool → StoreValue → Reply → StoreValue → Type 0
+JobStep tells old r new = (answer : Result JobDid PumpFault) × PumpsJob tells old answer new × (r ≡ worked answer)
+
+-- no job is left, or its step was refused
+abbrev pub EndsFinish : Result JobDid PumpFault → Type 0
+EndsFinish (Ok step) = step ≡ job_did.Idle
+EndsFinish (Err f) = Unit {0}
+
+-- these steps of a job are taken, and none of them ends the finish
+abbrev pub TakesJobSteps : Bool → StoreValue → List JobDid → StoreValue → Type 0
+TakesJobSteps tells old [] new = new ≡ old
+TakesJobSteps tells old (step ∷ steps) new = (mid : StoreValue) × PumpsJob tells old (Ok step) mid × (step ≢ job_did.Idle) × TakesJobSteps tells mid steps new
+
+-- steps of a job are taken until one ends the finish, which alone is answered
+pub record Finishes (tells : Bool) (old : StoreValue) (r : Reply) (new : StoreValue) : Type 0 where
+  pub steps : List JobDid
+  pub mid : StoreValue
+  pub before : TakesJobSteps tells old steps mid
+  pub answer : Result JobDid PumpFault
+  pub last : PumpsJob tells mid answer new
+  pub ends : EndsFinish answer
+  pub reply : r ≡ worked answer
+
 -- a view is taken, asked and ended; without memory for the view nothing is asked
 abbrev pub Asks : StoreValue → Key → ℕ → Result (Option (List Text)) QueryFault → StoreValue → Type 0
 Asks old key time answer new = (taken : Option ViewValue) × MatchOption taken ((answer ≡ Err query.NoMemory) × (new ≡ old))
@@ -284,4 +323,7 @@ Step tells old (line.At key time) r new = AtStep old.store key time r new.store 
 Step tells old (line.Between key a b) r new = BetweenStep old.store key a b r new.store × KeepsNames old new
 Step tells old (line.Scan relation time) r new = ScanStep old.store relation time r new.store × KeepsNames old new
 Step tells old (line.Times label) r new = TimesStep old.store label r × (new ≡ old)
+Step tells old (line.Archive upto) r new = ArchiveStep old.store upto r new.store × KeepsNames old new
+Step tells old line.Job r new = JobStep tells old.store r new.store × KeepsNames old new
+Step tells old line.Finish r new = Finishes tells old.store r new.store × KeepsNames old new
 Step tells old line.Reopen r new = Reopens tells old r new

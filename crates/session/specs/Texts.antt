@@ -17,6 +17,10 @@ use Rattle.snapshot.specs.declared.txn.TxnFault.{TxnFault}
 use Rattle.snapshot.specs.declared.txn.TxnFault.TheVariants as txn
 use Rattle.timequery.specs.declared.fault.QueryFault.{QueryFault}
 use Rattle.timequery.specs.declared.fault.QueryFault.TheVariants as query
+use Rattle.store.specs.declared.job.JobDid.{JobDid}
+use Rattle.store.specs.declared.job.JobDid.TheVariants as job
+use Rattle.store.specs.declared.job.StartFault.{StartFault}
+use Rattle.store.specs.declared.job.StartFault.TheVariants as start
 use Rattle.recovery.specs.declared.fault.OpenFault.{OpenFault}
 use Rattle.recovery.specs.declared.fault.OpenFault.TheVariants as opening
 use Rattle.recovery.specs.declared.fault.FormatFault.{FormatFault}
@@ -84,6 +88,15 @@ step_text did.BodySynced = codes "body synced\n"
 step_text did.GateWritten = codes "gate written\n"
 step_text (did.Published count) = codes "published " ++ decimal count ++ codes "\n"
 
+abbrev pub job_step_text : JobDid → Text
+job_step_text job.Idle = codes "idle\n"
+job_step_text job.WroteRun = codes "wrote run\n"
+job_step_text job.RunSynced = codes "run synced\n"
+job_step_text job.BodyWritten = codes "body written\n"
+job_step_text job.BodySynced = codes "body synced\n"
+job_step_text job.GateWritten = codes "gate written\n"
+job_step_text job.JobDone = codes "job done\n"
+
 abbrev pub begin_text : BeginFault → Text
 begin_text begin.NoMemory = codes "no memory"
 begin_text begin.Failed = codes "failed"
@@ -122,6 +135,15 @@ submit_line submit.NoMemory = codes "refused: no memory\n"
 submit_line submit.Failed = codes "refused: failed\n"
 submit_line submit.Stranger = codes "refused: stranger\n"
 
+abbrev pub start_line : StartFault → Text
+start_line start.Failed = codes "refused: failed\n"
+start_line start.JobBusy = codes "refused: job busy\n"
+start_line start.NothingToDo = codes "refused: nothing to do\n"
+start_line (start.NotYet last) = codes "refused: not yet " ++ decimal last ++ codes "\n"
+start_line start.StatusFull = codes "refused: status full\n"
+start_line start.ArchiveFull = codes "refused: archive full\n"
+start_line start.NoMemory = codes "refused: no memory\n"
+
 abbrev pub query_line : QueryFault → Text
 query_line (query.BeforeKept floor) = codes "refused: before kept " ++ decimal floor ++ codes "\n"
 query_line (query.NotYet last) = codes "refused: not yet " ++ decimal last ++ codes "\n"
@@ -147,6 +169,7 @@ refusal_line (fault.Begin f) = refused (begin_text f)
 refusal_line (fault.Txn f) = refused (txn_text f)
 refusal_line (fault.Submit f) = submit_line f
 refusal_line (fault.Pump f) = refused (pump_text f)
+refusal_line (fault.Start f) = start_line f
 refusal_line (fault.Query f) = query_line f
 refusal_line (fault.Open f) = open_line f
 refusal_line (fault.Format f) = refused (format_text f)
@@ -163,6 +186,8 @@ text_of (reply.Done t) = codes "done " ++ decimal t ++ codes "\n"
 text_of reply.Waiting = codes "waiting\n"
 text_of reply.InDoubt = codes "in doubt\n"
 text_of (reply.Did step) = step_text step
+text_of reply.Started = codes "started\n"
+text_of (reply.JobDid step) = job_step_text step
 text_of (reply.Times times) = times_text times.items
 text_of (reply.Rows rows) = rows_text rows.items
 text_of (reply.Records found) = records_text found.items

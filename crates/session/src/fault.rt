@@ -2,6 +2,7 @@
 use group::{BeginFault, PumpFault, SubmitFault};
 use recovery::{FormatFault, OpenFault};
 use snapshot::TxnFault;
+use store::StartFault;
 use thiserror::Error;
 use timequery::QueryFault;
 
@@ -25,6 +26,8 @@ pub enum Fault {
     Submit(#[from] SubmitFault),
     #[error("the step is refused: {0:?}")]
     Pump(#[from] PumpFault),
+    #[error("no archive begins: {0:?}")]
+    Start(#[from] StartFault),
     #[error("the query is refused: {0:?}")]
     Query(#[from] QueryFault),
     #[error("the store does not open: {0:?}")]

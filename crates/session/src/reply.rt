@@ -4,12 +4,15 @@ ghost use Rattle.std.specs.Io.KnownBytes.{Appends};
 ghost use Rattle.session.specs.Texts as told;
 
 use crate::fault::Fault;
-use crate::text::{write_records, write_refusal, write_rows, write_step, write_times, write_value};
+use crate::text::{
+    write_job_step, write_records, write_refusal, write_rows, write_step, write_times, write_value,
+};
 use chains::SharedValue;
 use group::Did;
 use history::Version;
 use std::io;
 use std::io::Write;
+use store::JobDid;
 
 /// The answer to a line. Times are microseconds since 1970.
 #[derive(Drop)]
@@ -28,6 +31,10 @@ pub enum Reply {
     InDoubt,
     /// What a step of the commits that are queued did.
     Did(Did),
+    /// An archive began.
+    Started,
+    /// What a step of the archive that is being made did.
+    JobDid(JobDid),
     /// The times of the commits with a label.
     Times(Vec<u64>),
     /// The rows of a key: each value with the times from which and up to which it stood.
@@ -58,6 +65,8 @@ pub fn write_reply<W: Write>(output: &mut W, reply: &Reply) -> io::Result<()>
         Reply::Waiting => writeln!(output, "waiting"),
         Reply::InDoubt => writeln!(output, "in doubt"),
         Reply::Did(step) => write_step(output, *step),
+        Reply::Started => writeln!(output, "started"),
+        Reply::JobDid(step) => write_job_step(output, *step),
         Reply::Times(times) => write_times(output, times),
         Reply::Rows(rows) => write_rows(output, rows),
         Reply::Records(found) => write_records(output, found),

@@ -17,7 +17,7 @@ use script::{Fields, Line, Name};
 use snapshot::{Txn, TxnFault};
 use std::alloc::{AllocError, Global};
 use std::marker::Model;
-use store::Store;
+use store::{JobDid, Store};
 use timequery::QueryFault;
 
 /// At most so many names are in use.
@@ -105,6 +105,29 @@ fn flush<D: Disk>(store: &mut Store<D>) -> Reply
             Ok(step) => {
                 if is_idle(step) {
                     return Reply::Did(step);
+                }
+            }
+            Err(fault) => return Reply::Refused(Fault::Pump(fault)),
+        }
+    }
+}
+
+/// Whether a step found no archive to go on with.
+fn is_job_idle(step: JobDid) -> bool
+    ensures { IsTrue result ↔ (step ≡ JobDid.Idle) }
+{
+    matches!(step, JobDid::Idle)
+}
+
+/// Takes steps of the archive that is being made until nothing is left to do, or one is refused.
+fn finish<D: Disk>(store: &mut Store<D>) -> Reply
+    ensures { told.Finishes D.tells store.old result store.new }
+{
+    loop {
+        match store.job_pump() {
+            Ok(step) => {
+                if is_job_idle(step) {
+                    return Reply::JobDid(step);
                 }
             }
             Err(fault) => return Reply::Refused(Fault::Pump(fault)),
@@ -497,6 +520,33 @@ impl<D: Disk> Session<D> {
         flush(&mut self.store)
     }
 
+    fn archive(&mut self, upto: u64) -> Reply
+        ensures steps { told.ArchiveStep self.old.store upto result self.new.store }
+        ensures names { told.KeepsNames self.old self.new }
+    {
+        match self.store.archive_start(upto) {
+            Ok(()) => Reply::Started,
+            Err(fault) => Reply::Refused(Fault::Start(fault)),
+        }
+    }
+
+    fn job(&mut self) -> Reply
+        ensures steps { told.JobStep D.tells self.old.store result self.new.store }
+        ensures names { told.KeepsNames self.old self.new }
+    {
+        match self.store.job_pump() {
+            Ok(step) => Reply::JobDid(step),
+            Err(fault) => Reply::Refused(Fault::Pump(fault)),
+        }
+    }
+
+    fn finish(&mut self) -> Reply
+        ensures steps { told.Finishes D.tells self.old.store result self.new.store }
+        ensures names { told.KeepsNames self.old self.new }
+    {
+        finish(&mut self.store)
+    }
+
     /// Answers a line.
     ///
     /// # Errors
@@ -560,6 +610,18 @@ impl<D: Disk> Session<D> {
             }
             Line::Times(label) => {
                 let reply = self.times(label);
+                Ok((self, reply))
+            }
+            Line::Archive(upto) => {
+                let reply = self.archive(upto);
+                Ok((self, reply))
+            }
+            Line::Job => {
+                let reply = self.job();
+                Ok((self, reply))
+            }
+            Line::Finish => {
+                let reply = self.finish();
                 Ok((self, reply))
             }
             Line::Reopen => reopened(self.reopen(alloc)),

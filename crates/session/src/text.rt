@@ -13,6 +13,7 @@ use recovery::{FormatFault, OpenFault};
 use snapshot::TxnFault;
 use std::io;
 use std::io::Write;
+use store::{JobDid, StartFault};
 use timequery::QueryFault;
 
 /// The lower-case hexadecimal digit of a number below 16.
@@ -154,6 +155,21 @@ pub fn write_step<W: Write>(output: &mut W, step: Did) -> io::Result<()>
     }
 }
 
+/// Writes the line of a step of an archive.
+pub fn write_job_step<W: Write>(output: &mut W, step: JobDid) -> io::Result<()>
+    ensures { OnOk result (Appends (W.contents output.old) (W.contents output.new) (told.job_step_text step)) }
+{
+    match step {
+        JobDid::Idle => writeln!(output, "idle"),
+        JobDid::WroteRun => writeln!(output, "wrote run"),
+        JobDid::RunSynced => writeln!(output, "run synced"),
+        JobDid::BodyWritten => writeln!(output, "body written"),
+        JobDid::BodySynced => writeln!(output, "body synced"),
+        JobDid::GateWritten => writeln!(output, "gate written"),
+        JobDid::JobDone => writeln!(output, "job done"),
+    }
+}
+
 fn begin_text(fault: BeginFault) -> &'static str
     ensures { result.now ≡ told.begin_text fault }
 {
@@ -221,6 +237,20 @@ fn write_submit_fault<W: Write>(output: &mut W, fault: SubmitFault) -> io::Resul
     }
 }
 
+fn write_start_fault<W: Write>(output: &mut W, fault: StartFault) -> io::Result<()>
+    ensures { OnOk result (Appends (W.contents output.old) (W.contents output.new) (told.start_line fault)) }
+{
+    match fault {
+        StartFault::Failed => writeln!(output, "refused: failed"),
+        StartFault::JobBusy => writeln!(output, "refused: job busy"),
+        StartFault::NothingToDo => writeln!(output, "refused: nothing to do"),
+        StartFault::NotYet(last) => writeln!(output, "refused: not yet {last}"),
+        StartFault::StatusFull => writeln!(output, "refused: status full"),
+        StartFault::ArchiveFull => writeln!(output, "refused: archive full"),
+        StartFault::NoMemory => writeln!(output, "refused: no memory"),
+    }
+}
+
 fn write_query_fault<W: Write>(output: &mut W, fault: QueryFault) -> io::Result<()>
     ensures { OnOk result (Appends (W.contents output.old) (W.contents output.new) (told.query_line fault)) }
 {
@@ -260,6 +290,7 @@ pub fn write_refusal<W: Write>(output: &mut W, fault: Fault) -> io::Result<()>
         Fault::Txn(fault) => writeln!(output, "refused: {}", txn_text(fault)),
         Fault::Submit(fault) => write_submit_fault(output, fault),
         Fault::Pump(fault) => writeln!(output, "refused: {}", pump_text(fault)),
+        Fault::Start(fault) => write_start_fault(output, fault),
         Fault::Query(fault) => write_query_fault(output, fault),
         Fault::Open(fault) => write_open_fault(output, fault),
         Fault::Format(fault) => writeln!(output, "refused: {}", format_text(fault)),

@@ -1,0 +1,56 @@
+-- Each step of a job makes one device call, and the calls that are left grow fewer.
+use Rattle.std.proofs.Common.{◌≡◌, ◌≢◌, ◌<◌, ◌+◌, ◌-◌, ℕ, Bool, true, false, List, [], ◌∷◌, is_some, Option, Some, None, Result, Ok, Err, MatchBool, MatchOption, nat_lt, if◌then◌else◌, arith}
+use Rattle.std.proofs.lemmas.Bool.Decides.{nat_tests}
+use Rattle.std.specs.Prelude.{min}
+use Rattle.disk.specs.Calls.{DiskState, Counts, top}
+use Rattle.disk.specs.declared.area.DeviceFault.{DeviceFault}
+use Rattle.group.specs.declared.answers.PumpFault.{PumpFault}
+use Rattle.group.specs.declared.answers.PumpFault.TheVariants as fault
+use Rattle.store.specs.Values.{StoreValue}
+use Rattle.store.specs.Jobs.{PumpsJob, TakesJobStep, WritesOrSyncs, BeginsJobSlot}
+use Rattle.store.specs.declared.job.ArchiveJob.{ArchiveJob}
+use Rattle.store.specs.declared.job.JobStage.{JobStage}
+use Rattle.store.specs.declared.job.JobStage.TheVariants as stages
+use Rattle.store.specs.declared.job.JobDid.{JobDid}
+use Rattle.store.specs.declared.job.JobDid.TheVariants as did
+
+abbrev left_of : ℕ → ℕ → ℕ
+left_of t made = if nat_lt t made then t + 1 else t - made
+
+fewer : (t a b : ℕ) → b ≡ min (a + 1) t → a ≢ t → left_of t b < left_of t a
+fewer t a b next room = grind (arith, nat_tests)
+
+abbrev IsFewer : DiskState → DiskState → Type 0
+IsFewer old new = left_of top new.made < left_of top old.made
+
+counted-fewer : (old new : DiskState) → Counts {T = Unit {0}} {E = DeviceFault} (Ok tt) old new → IsFewer old new
+counted-fewer old new counts = fewer top old.made new.made counts.made (λ full. let no = (counts.full full).0 in cc)
+
+run-fewer : (tells : Bool) (left : List ℕ) (job : ArchiveJob) (old new : StoreValue) (what : JobDid) → WritesOrSyncs tells left job old (Ok what) new → IsFewer old.disk new.disk
+run-fewer tells [] job old new what takes = counted-fewer old.disk new.disk takes.call.counts
+run-fewer tells (b ∷ bs) job old new what takes = counted-fewer old.disk new.disk takes.call.counts
+
+begun-fewer : (tells b : Bool) (job : ArchiveJob) (old new : StoreValue) (what : JobDid) → MatchBool b (Path (Result JobDid PumpFault) (Ok what) (Err fault.Busy) × (new ≡ old)) (BeginsJobSlot tells job old (Ok what) new) → IsFewer old.disk new.disk
+begun-fewer tells true job old new what takes = absurd (let is = takes.0 in cc)
+begun-fewer tells false job old new what takes = counted-fewer old.disk new.disk takes.call.counts
+
+step-fewer : (tells : Bool) (stage : JobStage) (job : ArchiveJob) (old new : StoreValue) (what : JobDid) → TakesJobStep tells stage job old (Ok what) new → IsFewer old.disk new.disk
+step-fewer tells stages.Writing job old new what takes = run-fewer tells job.writer.left job old new what takes
+step-fewer tells stages.Stored job old new what takes = begun-fewer tells (is_some old.turn) job old new what takes
+step-fewer tells (stages.Turning turn) job old new what takes = counted-fewer old.disk new.disk takes.call.counts
+
+job-fewer : (tells : Bool) (o : Option ArchiveJob) (old new : StoreValue) (what : JobDid)
+    → MatchOption o (Path (Result JobDid PumpFault) (Ok what) (Ok did.Idle) × (new ≡ old)) (λ job. TakesJobStep tells job.stage job old (Ok what) new) → what ≢ did.Idle → IsFewer old.disk new.disk
+job-fewer tells None old new what takes some = absurd (some (let is = takes.0 in cc))
+job-fewer tells (Some job) old new what takes some = step-fewer tells job.stage job old new what takes
+
+works-fewer : (tells b : Bool) (old new : StoreValue) (what : JobDid)
+    → MatchBool b (Path (Result JobDid PumpFault) (Ok what) (Err fault.Failed) × (new ≡ old))
+    (MatchOption old.job (Path (Result JobDid PumpFault) (Ok what) (Ok did.Idle) × (new ≡ old)) (λ job. TakesJobStep tells job.stage job old (Ok what) new))
+    → what ≢ did.Idle → IsFewer old.disk new.disk
+works-fewer tells true old new what pumps some = absurd (let is = pumps.0 in cc)
+works-fewer tells false old new what pumps some = job-fewer tells old.job old new what pumps some
+
+pub pump-fewer : (tells : Bool) (old new : StoreValue) (what : JobDid) → PumpsJob tells old (Ok what) new → what ≢ did.Idle
+    → (if nat_lt top new.disk.made then top + 1 else top - new.disk.made) < (if nat_lt top old.disk.made then top + 1 else top - old.disk.made)
+pump-fewer tells old new what pumps some = works-fewer tells old.transactions.failed old new what pumps some
