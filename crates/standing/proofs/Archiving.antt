@@ -164,9 +164,9 @@ filtered-in-range key after upto (v ∷ vs) low each =
     let rest = filtered-in-range key after upto vs low each.1 in
     elim (nat_lt after v.to) as (λ (b : Bool). AllByRecursion IsArchiveRecord (map (archive_record key) (filter (ends_by upto) (cond b (v ∷ filter (ends_after after) vs) (filter (ends_after after) vs))))) [
       | true ↦ elim (nat_le v.to upto) as (λ (b : Bool). nat_le v.to upto ≡ b → AllByRecursion IsArchiveRecord (map (archive_record key) (cond b (v ∷ filter (ends_by upto) (filter (ends_after after) vs)) (filter (ends_by upto) (filter (ends_after after) vs))))) [
-            | true ↦ λ by. (record { key = (each.0).0; to = (let at : v.to ≤ upto = grind (arith, nat_tests) in omega (arith, at, low)); value = (each.0).1 }, rest)
-            | false ↦ λ by. rest
-          ] refl
+        | true ↦ λ by. (record { key = (each.0).0; to = (let at : v.to ≤ upto = grind (arith, nat_tests) in omega (arith, at, low)); value = (each.0).1 }, rest)
+        | false ↦ λ by. rest
+      ] refl
       | false ↦ rest
     ]
 

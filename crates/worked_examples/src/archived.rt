@@ -8,12 +8,12 @@ use std::process::Abort;
 use std::test::Fail;
 
 /// What ended by 120: 61 from 100 to 110, and 62 from 110 to 120.
-const RUN: &str = "0100 0700000000000000 6400000000000000 6e00000000000000 01 01 61
+pub const RUN: &str = "0100 0700000000000000 6400000000000000 6e00000000000000 01 01 61
     0100 0700000000000000 6e00000000000000 7800000000000000 01 01 62
     0000000000000000 1d00000000000000";
 
 /// The slot behind those of the four commits, and then zeros to the end of the area.
-const SLOT: &str = "c7 02 00 00 04000000
+pub const SLOT: &str = "c7 02 00 00 04000000
     7800000000000000 0000000000000000 4a00000000000000 0200000000000000 ..z 6104";
 
 /// The four commits, and then a slot and a run of what ended by 120.

@@ -8,7 +8,7 @@ use session::{MARK, Reply, Session};
 use std::alloc::Global;
 use std::process::Abort;
 use std::test::Fail;
-use store::{Did, QueryFault, Redeemed, Store, SubmitFault, Submitted, Ticket, Txn};
+use store::{Did, JobDid, QueryFault, Redeemed, Store, SubmitFault, Submitted, Ticket, Txn};
 
 /// An empty store with this mark, opened.
 fn opened(rt: &impl Abort, alloc: Global, mark: u64) -> Result<Store<MemDisk>, Fail> {
@@ -245,17 +245,22 @@ fn answered(
     }
 }
 
+/// A session on an empty store.
+fn new_session(rt: &impl Abort, alloc: Global) -> Result<Session<MemDisk>, Fail> {
+    let store = opened(rt, alloc, MARK)?;
+    match Session::new(alloc, store) {
+        Ok(session) => Ok(session),
+        Err(store) => {
+            let _disk = store.close();
+            Err(Fail::from("no session"))
+        }
+    }
+}
+
 #[test]
 fn a_session_answers_line_by_line(rt: HostRuntime) -> Result<(), Fail> {
     let alloc = rt.alloc();
-    let store = opened(&rt, alloc, MARK)?;
-    let session = match Session::new(alloc, store) {
-        Ok(session) => session,
-        Err(store) => {
-            let _disk = store.close();
-            return Err(Fail::from("no session"));
-        }
-    };
+    let session = new_session(&rt, alloc)?;
     let (session, reply) = answered(&rt, alloc, session, "begin t");
     assert!(rt; matches!(reply, Reply::Snapshot(0)));
     let (session, reply) = answered(&rt, alloc, session, "put t 1 7 61");
@@ -265,6 +270,12 @@ fn a_session_answers_line_by_line(rt: HostRuntime) -> Result<(), Fail> {
     let (session, reply) = answered(&rt, alloc, session, "flush");
     assert!(rt; matches!(reply, Reply::Did(Did::Idle)));
     assert_eq!(rt; session.ends(), (100, 0));
+    let (session, reply) = answered(&rt, alloc, session, "archive 100");
+    assert!(rt; matches!(reply, Reply::Started));
+    let (session, reply) = answered(&rt, alloc, session, "job");
+    assert!(rt; matches!(reply, Reply::JobDid(JobDid::RunSynced)));
+    let (session, reply) = answered(&rt, alloc, session, "finish");
+    assert!(rt; matches!(reply, Reply::JobDid(JobDid::Idle)));
     let _disk = session.close();
     Ok(())
 }

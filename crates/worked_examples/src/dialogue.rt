@@ -92,7 +92,7 @@ pub fn answers<D: Disk + Drop>(
 }
 
 /// The lines of a script, and their answers: each line of a dialogue is a line of the script, a bar
-/// and its answer.
+/// and its answer. Behind a bar alone stands a further line of the answer.
 fn parted(alloc: Global, dialogue: &str) -> Result<(String, String), AllocError> {
     let mut script = String::new(alloc);
     let mut answers = String::new(alloc);
@@ -100,6 +100,9 @@ fn parted(alloc: Global, dialogue: &str) -> Result<(String, String), AllocError>
         if let Some((said, answer)) = line.split_once(" | ") {
             script.push_str(said)?;
             script.push('\n')?;
+            answers.push_str(answer)?;
+            answers.push('\n')?;
+        } else if let Some(answer) = line.strip_prefix("| ") {
             answers.push_str(answer)?;
             answers.push('\n')?;
         }
@@ -167,7 +170,7 @@ fn push_part(text: &mut String, part: &str, number: u32) -> Result<(), AllocErro
 /// A dialogue of parts, each repeated so many times. In a part `#` stands for the repetition's number
 /// from 0, `+` for one more, `@` for 100 more; `A` for 16 fields of 255 bytes, `B` for 17 of one, and
 /// `C` for one of 256.
-fn repeated(alloc: Global, parts: &[(&str, u32)]) -> Result<String, AllocError> {
+pub fn repeated(alloc: Global, parts: &[(&str, u32)]) -> Result<String, AllocError> {
     let mut text = String::new(alloc);
     for (part, count) in parts {
         for number in 0..*count {

@@ -5,6 +5,8 @@
 #[cfg(test)]
 mod archived;
 #[cfg(test)]
+mod archiving;
+#[cfg(test)]
 mod bad_input;
 #[cfg(test)]
 mod bytes;
