@@ -158,6 +158,31 @@ def conflict_time(program, base, keys, count, rounds):
     row(f"conflict test of 1,024 keys at {keys:,} keys", 1e6 * (submits - aborts) / count, "us")
 
 
+def archive_time(program, base, keys):
+    """An archive of so many versions, each replaced once: its beginning, which counts them, and its steps."""
+    folder = os.path.join(base, f"archive-{keys}")
+    last = store_of(program, folder, keys)
+    script = ""
+    for first in range(0, keys, 1024):
+        puts = "".join(f"put t 1 {n} 62\n" for n in range(first, min(first + 1024, keys)))
+        script += f"begin t\n{puts}submit t 2 0\nflush\nredeem t\n"
+    status, out = run(program, ["run", folder], script)
+    assert status == 0 and out.endswith(f"done {2 * last}\n"), (status, out[-200:])
+    session = Session(program, folder)
+    assert session.answers(["times 2"])[0].startswith("times ")
+    begun, found = timed(lambda: session.answers([f"archive {2 * last}"]))
+    assert found == ["started"], found
+    made, found = timed(lambda: session.answers(["finish"]))
+    assert found == ["idle"], found
+    assert session.answers([f"at 1 {keys - 1} {last}", f"archive {2 * last}"]) == ["value 61", "refused: nothing to do"]
+    assert session.end() == 0
+    # A record of one field of one byte has 29 bytes, and its entry of the index 8.
+    length = os.path.getsize(os.path.join(folder, "archive"))
+    assert length == 37 * keys, length
+    row(f"archive of {keys:,} versions begun", 1e6 * begun, "us")
+    row(f"and made, written and synced, {length:,} bytes", 1e6 * made, "us")
+
+
 def main():
     program = os.path.abspath(sys.argv[1])
     with tempfile.TemporaryDirectory(dir=sys.argv[2] if len(sys.argv) > 2 else None) as base:
@@ -171,6 +196,8 @@ def main():
             begin_and_view_time(program, base, keys, 20_000)
         for keys in (1_024, 100_000):
             conflict_time(program, base, keys, 60, 5)
+        for keys in (1_024, 100_000):
+            archive_time(program, base, keys)
 
 
 if __name__ == "__main__":
