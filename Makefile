@@ -1,16 +1,28 @@
-# The two commands of the README: `make demo` builds the program and shows it; `make test` is the gate.
+# `make try` shows the program before any proof, `make demo` builds it and shows it; `make test` is the gate.
+# `make more-edits` tries the edits that the gate leaves out, all or (`make more-edits CRATES="wire disk"`) those of some crates.
 PROGRAM = crates/timestore/out/timestore
 LEAVES = crates/leaves_bench/out/leaves_bench
+STORE = crates/store_bench/out/store_bench
+# The most processor minutes that the gate may take.
+BUDGET = 450
 
-.PHONY: demo test build bench
+.PHONY: demo test more-edits build try examples bench trials rates
 
 test:
 	@command -v rt >/dev/null || { echo "the Rattle kit's command rt is not on PATH" >&2; exit 1; }
-	rt ci
+	bench/gate_cost.py --limit $(BUDGET) rt ci
+
+more-edits:
+	bench/more_edits.py $(CRATES)
 
 build:
 	@command -v rt >/dev/null || { echo "the Rattle kit's command rt is not on PATH" >&2; exit 1; }
 	cd crates/timestore && rt run < stdin > /dev/null
+
+try:
+	@command -v rt >/dev/null || { echo "the Rattle kit's command rt is not on PATH" >&2; exit 1; }
+	@echo "The example script on a store in memory. Nothing is proved here: make demo proves it first."
+	cd crates/timestore && rt try < stdin
 
 demo: build
 	@dir=$$(mktemp -d) && set -x && \
@@ -21,7 +33,23 @@ demo: build
 	$(PROGRAM) between $$dir 1 7 0 101 && \
 	rm -r $$dir
 
+# The program as its users meet it: fed line by line, two at once, and its calls of the system.
+trials: build
+	bench/answers_at_once.py $(PROGRAM)
+	bench/two_processes.py $(PROGRAM)
+	bench/system_calls.py $(PROGRAM)
+
+rates: build
+	bench/rates.py $(PROGRAM)
+
+# Every example of the documents, its answers compared.
+examples: build
+	bench/using_test.py $(PROGRAM) README.md docs/USING.md
+
+# FOLDER=DIR measures the disk of DIR.
 bench: build
 	cd crates/leaves_bench && rt run > /dev/null
-	bench/bench.py $(PROGRAM)
+	cd crates/store_bench && rt run > /dev/null
+	bench/store_bench.py $(STORE) --program $(PROGRAM) $(if $(FOLDER),--folder $(FOLDER))
+	bench/bench.py $(PROGRAM) $(FOLDER)
 	$(LEAVES) times

@@ -6,7 +6,8 @@ root = os.path.join(os.path.dirname(os.path.abspath(__file__)), "..")
 below = {}
 for line in open(os.path.join(root, "crates.txt"), encoding="utf-8"):
     name, _, uses = line.partition(":")
-    below[name.strip()] = uses.split()
+    if name.split():
+        below[name.split()[0]] = uses.split()
 
 
 def count(folder, ends, leaves_out=()):
@@ -27,7 +28,7 @@ totals = [0, 0, 0, 0]
 print(f"{'crate':16}{'code':>8}{'specs':>8}{'proofs':>8}{'tests':>8}")
 for name in sorted(below):
     at = os.path.join(root, "crates", name)
-    tests = count(f"{at}/src", "tests.rt") if name != "worked_examples" else count(f"{at}/src", ".rt")
+    tests = count(f"{at}/src", ".rt" if name.endswith("_examples") else "tests.rt")
     code = count(f"{at}/src", ".rt") - tests
     row = [code, count(f"{at}/specs", ".antt"), count(f"{at}/proofs", ".antt"), tests]
     totals = [a + b for a, b in zip(totals, row)]

@@ -1,33 +1,28 @@
 #!/usr/bin/env python3
-"""Writes docs/WRONG_BODIES.md: each wrong body of crates/*/must-fail, the function that it changes and that function's clauses."""
+"""Prints each wrong body of the crates, the function that it changes and that function's clauses: those that the gate tries
+(crates/NAME/must-fail), and those that it leaves out (crates/NAME/more-edits).
+
+usage: docs/wrong_bodies.py [NAME ..]      (no name: all crates)
+"""
 import os
 import re
+import sys
 
 root = os.path.join(os.path.dirname(os.path.abspath(__file__)), "..")
-HEAD = """# Wrong bodies
-
-Each wrong body is an edit of code that the prover refuses in the edit's own crate; the gate tries every one of them (`crates/NAME/must-fail/`). The name of a file says what the body does wrong. Beside it stand the function that is changed and its clauses: they refuse the edit, or, where the function has no clause that speaks of it, those of the function that calls it.
-
-`docs/wrong_bodies.py` writes this list.
-"""
 FUNCTION = re.compile(r"^( *)(?:pub(?:\([a-z]+\))? )?(?:const )?fn (\w+)", re.M)
 BLOCK = re.compile(r"^(?:impl|pub trait|trait|pub\(crate\) trait)\b(.*)$", re.M)
 
 
-def parts(path):
-    """The file that an edit changes, and the text that it takes away."""
-    name, old, reading = "", [], False
+def places(path):
+    """The files that an edit changes, each with a text that it takes away."""
+    found, name = [], ""
     for line in open(path, encoding="utf-8"):
         word, _, rest = line.rstrip("\n").partition(": ")
         if word == "file":
             name = rest
-        elif line.startswith("old:"):
-            old, reading = [line.rstrip("\n")[5:]], True
-        elif line.startswith("new:"):
-            reading = False
-        elif reading:
-            old.append(line.rstrip("\n"))
-    return name, "\n".join(old)
+        elif word == "old" and not rest.startswith("use "):
+            found.append((name, rest))
+    return found
 
 
 def owner(code, at):
@@ -43,12 +38,12 @@ def owner(code, at):
     return (words[0] if words else ""), ""
 
 
-def changed(crate, path):
-    name, old = parts(path)
+def function_at(crate, path, name, old):
+    """The function that holds the text, with its clauses."""
     code = open(os.path.join(root, "crates", crate, name), encoding="utf-8").read()
     at = code.find(old)
     assert at >= 0, f"{path}: {name} has no such text"
-    end = code.find("\n", at + len(old.split("\n")[0]))
+    end = code.find("\n", at + len(old))
     function = None
     for found in FUNCTION.finditer(code, 0, end):
         function = found
@@ -68,12 +63,20 @@ def changed(crate, path):
     return said
 
 
-out = [HEAD]
-for crate in sorted(os.listdir(os.path.join(root, "crates"))):
-    folder = os.path.join(root, "crates", crate, "must-fail")
-    edits = sorted(it for it in os.listdir(folder) if it.endswith(".edit")) if os.path.isdir(folder) else []
-    if edits:
-        out.append(f"## {crate}\n")
-        out.append("\n".join(f"- {it[:-5].replace('_', ' ')} (`{it}`): {changed(crate, os.path.join(folder, it))}" for it in edits) + "\n")
-with open(os.path.join(root, "docs", "WRONG_BODIES.md"), "w", encoding="utf-8") as file:
-    file.write("\n".join(out))
+def changed(crate, path):
+    """The functions that an edit changes."""
+    return "; ".join(dict.fromkeys(function_at(crate, path, name, old) for name, old in places(path)))
+
+
+def edits(crate, folder):
+    folder = os.path.join(root, "crates", crate, folder)
+    names = sorted(os.listdir(folder)) if os.path.isdir(folder) else []
+    return [(it[:-5].replace("_", " "), os.path.join(folder, it)) for it in names if it.endswith(".edit")]
+
+
+for crate in sys.argv[1:] or sorted(os.listdir(os.path.join(root, "crates"))):
+    for folder, title in (("must-fail", crate), ("more-edits", f"{crate}, not in the gate")):
+        found = edits(crate, folder)
+        if found:
+            print(f"## {title}: {len(found)}\n")
+            print("\n".join(f"- {name}: {changed(crate, path)}" for name, path in found) + "\n")

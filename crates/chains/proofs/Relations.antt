@@ -1,33 +1,21 @@
--- A walk from the first record of a relation on shows all that the chains show of the relation.
-use Rattle.std.proofs.Common.{◌≡◌, ◌≢◌, ℕ, ◌<◌, ◌==◌, true, false, Bool, cond, List, [], ◌∷◌, ◌++◌, Some, drop, refl, ap, sym, ◌∙◌, arith, append_assoc}
-use Rattle.std.specs.Prelude.{not}
-use Rattle.std.specs.List.{slice_get}
+-- What a tree of chains shows of a relation, on the two sides of a chain.
+use Rattle.std.proofs.Common.{◌≡◌, ◌≢◌, ℕ, ◌<◌, ◌==◌, true, false, cond, List, [], ◌∷◌, ◌++◌, refl, ap, sym, ◌∙◌, arith, append_assoc, append-nil}
 use Rattle.std.proofs.lemmas.Bool.Decides.{nat_tests}
 use Rattle.history.specs.declared.key.Key.{Key}
 use Rattle.history.specs.Key.{key_lt}
 use Rattle.chains.specs.KeyWrites.{KeyWrites, AllAbove, IsOrdered}
+use Rattle.chains.specs.declared.tree.Node.{Node}
+use Rattle.chains.specs.Nodes.{pieces_of}
 use Rattle.chains.specs.Rows.{of_relation}
-use Rattle.chains.proofs.Scans.{AreFrom, start_of, walk_from, before-start, above-relation}
+use Rattle.chains.specs.Scans.{shown, scanned, shown_value}
+use Rattle.chains.specs.Writes.{Value}
+use Rattle.chains.proofs.Order.{above-back, ordered-back}
+use Rattle.chains.proofs.Scans.{above-relation}
 
 other-part : {X : Type 0} (relation : ℕ) (shown : KeyWrites → List X) (c : KeyWrites) → c.key.relation ≢ relation → cond (c.key.relation == relation) (shown c) [] ≡ []
 other-part relation shown c other =
     let differs : (c.key.relation == relation) ≡ false = grind (arith, nat_tests) in
     rw differs refl
-
-pub relation-from : {X : Type 0} (relation : ℕ) (shown : KeyWrites → List X) (m : List KeyWrites) → of_relation relation shown (walk_from relation m) ≡ of_relation relation shown m
-relation-from relation shown [] = refl
-relation-from {X} relation shown (c ∷ cs) =
-    let rest = relation-from relation shown cs in
-    let here : List X = cond (c.key.relation == relation) (shown c) [] in
-    let Goal : Bool → Type 0 = λ b. key_lt c.key (start_of relation) ≡ b → of_relation relation shown (cond (not b) (c ∷ walk_from relation cs) (walk_from relation cs)) ≡ here ++ of_relation relation shown cs in
-    let all : (b : Bool) → Goal b = λ b. elim b as Goal [
-      | true ↦ λ h.
-          let before = before-start relation c.key h in
-          let other : c.key.relation ≢ relation = omega arith in
-          rest ∙ ap (λ l. l ++ of_relation relation shown cs) (sym (other-part relation shown c other))
-      | false ↦ λ h. ap (λ l. here ++ l) rest
-    ] in
-    all (key_lt c.key (start_of relation)) refl
 
 relation-above : {X : Type 0} (relation : ℕ) (shown : KeyWrites → List X) (k : Key) (m : List KeyWrites) → relation < k.relation → AllAbove k m → of_relation relation shown m ≡ []
 relation-above relation shown k [] h up = refl
@@ -36,29 +24,58 @@ relation-above relation shown k (c ∷ cs) h up =
     let other : c.key.relation ≢ relation = omega arith in
     rw (other-part relation shown c other) (relation-above relation shown k cs h up.1)
 
--- once the next chain is of another relation, nothing is left to show
-pub relation-past : {X : Type 0} (relation : ℕ) (shown : KeyWrites → List X) (m : List KeyWrites) (c : KeyWrites) → Some c ≡ slice_get m 0 → IsOrdered m → AreFrom relation m → c.key.relation ≢ relation → of_relation relation shown m ≡ []
-relation-past relation shown [] c e o from other = refl
-relation-past relation shown (d ∷ ds) c e o from other =
-    let same : c ≡ d = cc in
-    let differs : d.key.relation ≢ relation = rw same at other in
-    let later : relation < d.key.relation = let first = from.0 in omega arith in
-    rw (other-part relation shown d differs) (relation-above relation shown d.key ds later o.0)
+relation-append : {X : Type 0} (relation : ℕ) (shown : KeyWrites → List X) (l : List KeyWrites) (r : List KeyWrites) → of_relation relation shown (l ++ r) ≡ of_relation relation shown l ++ of_relation relation shown r
+relation-append relation shown [] r = refl
+relation-append {X} relation shown (d ∷ ds) r =
+    let here : List X = cond (d.key.relation == relation) (shown d) [] in
+    ap (λ (x : List X). here ++ x) (relation-append relation shown ds r) ∙ sym (append_assoc here (of_relation relation shown ds) (of_relation relation shown r))
 
--- the next chain's part, and then what is left
-pub relation-next : {X : Type 0} (relation : ℕ) (shown : KeyWrites → List X) (m : List KeyWrites) (c : KeyWrites) → Some c ≡ slice_get m 0 → c.key.relation ≡ relation
-    → of_relation relation shown m ≡ shown c ++ of_relation relation shown (drop 1 m)
-relation-next relation shown [] c e is = absurd cc
-relation-next relation shown (d ∷ ds) c e is =
-    let same : c ≡ d = cc in
-    let here : (d.key.relation == relation) ≡ true = let of : d.key.relation ≡ relation = rw same at is in grind (arith, nat_tests) in
-    rw (here, same) refl
+-- chains before one of an earlier relation
+relation-below : {X : Type 0} (relation : ℕ) (shown : KeyWrites → List X) (l : List KeyWrites) (c : KeyWrites) (r : List KeyWrites) → c.key.relation < relation → IsOrdered (l ++ c ∷ r) → of_relation relation shown l ≡ []
+relation-below relation shown [] c r h o = refl
+relation-below relation shown (d ∷ ds) c r h o =
+    let below : key_lt d.key c.key ≡ true = (above-back d.key ds (c ∷ r) o.0).0 in
+    let upto = above-relation d.key c.key below in
+    let other : d.key.relation ≢ relation = omega arith in
+    rw (other-part relation shown d other) (relation-below relation shown ds c r h o.1)
 
--- what was found goes on with the next chain's part
-pub found-next : {X : Type 0} (relation : ℕ) (shown : KeyWrites → List X) (found more whole : List X) (m : List KeyWrites) (c : KeyWrites) → Some c ≡ slice_get m 0 → c.key.relation ≡ relation
-    → more ≡ found ++ shown c → found ++ of_relation relation shown m ≡ whole → more ++ of_relation relation shown (drop 1 m) ≡ whole
-found-next {X} relation shown found more whole m c e is added same =
-    ap (λ (l : List X). l ++ of_relation relation shown (drop 1 m)) added
-    ∙ append_assoc found (shown c) (of_relation relation shown (drop 1 m))
-    ∙ ap (λ (l : List X). found ++ l) (sym (relation-next relation shown m c e is))
-    ∙ same
+module _ {X : Type 0} (relation : ℕ) (shown : KeyWrites → List X) {m : List KeyWrites} (node : Node KeyWrites) {here : Key} (is : m ≡ pieces_of node) (place : here ≡ node.piece.key) where
+  parts : of_relation relation shown m ≡ of_relation relation shown node.left.pieces ++ of_relation relation shown (node.piece ∷ node.right.pieces)
+  parts = rw is (relation-append relation shown node.left.pieces (node.piece ∷ node.right.pieces))
+
+  -- of an earlier relation than that of the chain
+  pub relation_left : IsOrdered m → relation < here.relation → of_relation relation shown m ≡ of_relation relation shown node.left.pieces
+  relation_left ordered h =
+      let later : relation < node.piece.key.relation = rw place at h in
+      let behind = ordered-back node.left.pieces (node.piece ∷ node.right.pieces) (rw is at ordered) in
+      let other : node.piece.key.relation ≢ relation = omega arith in
+      let none : of_relation relation shown (node.piece ∷ node.right.pieces) ≡ [] = rw (other-part relation shown node.piece other) (relation-above relation shown node.piece.key node.right.pieces later behind.0) in
+      parts ∙ rw none (append-nil (of_relation relation shown node.left.pieces))
+
+  -- of a later one
+  pub relation_right : IsOrdered m → here.relation < relation → of_relation relation shown m ≡ of_relation relation shown node.right.pieces
+  relation_right ordered h =
+      let earlier : node.piece.key.relation < relation = rw place at h in
+      let other : node.piece.key.relation ≢ relation = omega arith in
+      parts ∙ rw (relation-below relation shown node.left.pieces node.piece node.right.pieces earlier (rw is at ordered), other-part relation shown node.piece other) refl
+
+  -- of the same: what was found goes on with what is left of it, with its own, and with what is right of it
+  pub relation_both : (old left mid new : List X) → here.relation ≡ relation
+      → left ≡ old ++ of_relation relation shown node.left.pieces → mid ≡ left ++ shown node.piece → new ≡ mid ++ of_relation relation shown node.right.pieces → new ≡ old ++ of_relation relation shown m
+  relation_both old left mid new same first second third =
+      let of_it : node.piece.key.relation ≡ relation = rw place at same in
+      let test : (node.piece.key.relation == relation) ≡ true = grind (arith, nat_tests) in
+      let whole : of_relation relation shown m ≡ of_relation relation shown node.left.pieces ++ (shown node.piece ++ of_relation relation shown node.right.pieces) = parts ∙ rw test refl in
+      third
+      ∙ ap (λ (l : List X). l ++ of_relation relation shown node.right.pieces) (second ∙ ap (λ (l : List X). l ++ shown node.piece) first)
+      ∙ append_assoc (old ++ of_relation relation shown node.left.pieces) (shown node.piece) (of_relation relation shown node.right.pieces)
+      ∙ append_assoc old (of_relation relation shown node.left.pieces) (shown node.piece ++ of_relation relation shown node.right.pieces)
+      ∙ ap (λ (l : List X). old ++ l) (sym whole)
+
+-- what is shown of a relation at a time, as what its chains show
+pub scanned-is : (relation time : ℕ) (m : List KeyWrites) → of_relation relation (shown_value time) m ≡ scanned relation time m
+scanned-is relation time [] = refl
+scanned-is relation time (c ∷ cs) = ap (λ (l : List (ℕ × Value)). shown relation time c ++ l) (scanned-is relation time cs)
+
+pub found-same : {X : Type 0} (new old a b : List X) → a ≡ b → new ≡ old ++ a → new ≡ old ++ b
+found-same {X} new old a b same is = is ∙ ap (λ (l : List X). old ++ l) same

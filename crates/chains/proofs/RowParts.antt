@@ -1,5 +1,5 @@
 -- The rows of one key's writes as those of two lists, one behind the other, and where there are none.
-use Rattle.std.proofs.Common.{◌≡◌, ℕ, ◌≤◌, Bool, true, false, cond, List, [], ◌∷◌, ◌++◌, Option, None, Some, refl, ap, sym, ◌∙◌, arith, append_assoc}
+use Rattle.std.proofs.Common.{◌≡◌, ℕ, ◌^◌, ◌<◌, ◌≤◌, Bool, true, false, cond, List, [], ◌∷◌, ◌++◌, length, Option, None, Some, refl, ap, sym, ◌∙◌, arith, append_assoc}
 use Rattle.std.specs.Prelude.{Result, Ok, Err, OnOk}
 use Rattle.std.proofs.lemmas.Bool.Decides.{nat_tests}
 use Rattle.history.specs.declared.time.Version.{Version}
@@ -20,24 +20,29 @@ rows-append {V} a b (x ∷ xs) ys =
 
 -- ---- versions of two lists
 
-first-behind : (end : ℕ) (xs : List Write) (w : Write) (ys : List Write) → first_time_or end (xs ++ w ∷ ys) ≡ first_time_or w.time xs
-first-behind end [] w ys = refl
-first-behind end (x ∷ xs) w ys = refl
+pub first-of : (end : ℕ) (xs ys : List Write) → first_time_or end (xs ++ ys) ≡ first_time_or (first_time_or end ys) xs
+first-of end [] ys = refl
+first-of end (x ∷ xs) ys = refl
 
-pub versions-split : (end : ℕ) (xs : List Write) (w : Write) (ys : List Write)
-    → versions_upto end (xs ++ w ∷ ys) ≡ versions_upto w.time xs ++ (version_of w.time (first_time_or end ys) w.write ++ versions_upto end ys)
-versions-split end [] w ys = refl
-versions-split end (x ∷ xs) w ys =
-    rw (first-behind end xs w ys, versions-split end xs w ys) (sym (append_assoc (version_of x.time (first_time_or w.time xs) x.write) (versions_upto w.time xs) _))
+pub versions-append : (end : ℕ) (xs ys : List Write) → versions_upto end (xs ++ ys) ≡ versions_upto (first_time_or end ys) xs ++ versions_upto end ys
+versions-append end [] ys = refl
+versions-append end (x ∷ xs) ys =
+    rw (first-of end xs ys, versions-append end xs ys) (sym (append_assoc (version_of x.time (first_time_or (first_time_or end ys) xs) x.write) (versions_upto (first_time_or end ys) xs) (versions_upto end ys)))
 
-first-last : (xs ys : List Write) → first_time (xs ++ ys) ≡ first_time_or (first_time ys) xs
-first-last [] ys = refl
-first-last (x ∷ xs) ys = refl
+pub first-endless : (ws : List Write) → first_time_or (2 ^ 63) ws ≡ first_time ws
+first-endless [] = refl
+first-endless (w ∷ ws) = refl
+
+-- a last version that nothing has replaced
+pub versions-endless : (ws : List Write) → versions_upto (2 ^ 63) ws ≡ versions ws
+versions-endless [] = refl
+versions-endless (w ∷ ws) = rw (first-endless ws, versions-endless ws) refl
 
 pub versions-parts : (xs ys : List Write) → versions (xs ++ ys) ≡ versions_upto (first_time ys) xs ++ versions ys
-versions-parts [] ys = refl
-versions-parts (x ∷ xs) ys =
-    rw (first-last xs ys, versions-parts xs ys) (sym (append_assoc (version_of x.time (first_time_or (first_time ys) xs) x.write) (versions_upto (first_time ys) xs) (versions ys)))
+versions-parts xs ys =
+    sym (versions-endless (xs ++ ys)) ∙ versions-append (2 ^ 63) xs ys
+    ∙ ap (λ (n : ℕ). versions_upto n xs ++ versions_upto (2 ^ 63) ys) (first-endless ys)
+    ∙ ap (λ (vs : List (Version Value)). versions_upto (first_time ys) xs ++ vs) (versions-endless ys)
 
 -- ---- where there are no rows
 
@@ -78,25 +83,38 @@ no-rows_from end a b s (y ∷ ys) up late =
     rows-append a b (version_of y.time (first_time_or end ys) y.write) (versions_upto end ys)
     ∙ rw (no-row_late y.time (first_time_or end ys) a b y.write late) (no-rows_after end a b y.time ys late up.2)
 
--- the rows of three parts
-pub rows-split : (end a b : ℕ) (xs : List Write) (w : Write) (ys : List Write)
-    → rows (versions_upto end (xs ++ w ∷ ys)) a b ≡ rows (versions_upto w.time xs) a b ++ (rows (version_of w.time (first_time_or end ys) w.write) a b ++ rows (versions_upto end ys) a b)
-rows-split end a b xs w ys =
-    ap (λ (vs : List (Version Value)). rows vs a b) (versions-split end xs w ys)
-    ∙ rows-append a b (versions_upto w.time xs) _
-    ∙ ap (λ (l : List (Version Value)). rows (versions_upto w.time xs) a b ++ l) (rows-append a b (version_of w.time (first_time_or end ys) w.write) (versions_upto end ys))
+-- ---- the rows of three parts
+
+-- the writes before a piece end where it begins
+pub first-piece : (end : ℕ) (ps ys : List Write) → 0 < length ps → first_time_or end (ps ++ ys) ≡ first_time ps
+first-piece end [] ys some = absurd (omega arith)
+first-piece end (p ∷ ps) ys some = refl
+
+rows-split : (end a b : ℕ) (xs ps ys : List Write) → 0 < length ps
+    → rows (versions_upto end (xs ++ (ps ++ ys))) a b ≡ rows (versions_upto (first_time ps) xs) a b ++ (rows (versions_upto (first_time_or end ys) ps) a b ++ rows (versions_upto end ys) a b)
+rows-split end a b xs ps ys some =
+    ap (λ (vs : List (Version Value)). rows vs a b) (versions-append end xs (ps ++ ys))
+    ∙ rows-append a b (versions_upto (first_time_or end (ps ++ ys)) xs) (versions_upto end (ps ++ ys))
+    ∙ ap (λ (n : ℕ). rows (versions_upto n xs) a b ++ rows (versions_upto end (ps ++ ys)) a b) (first-piece end ps ys some)
+    ∙ ap (λ (vs : List (Version Value)). rows (versions_upto (first_time ps) xs) a b ++ rows vs a b) (versions-append end ps ys)
+    ∙ ap (λ (l : List (Version Value)). rows (versions_upto (first_time ps) xs) a b ++ l) (rows-append a b (versions_upto (first_time_or end ys) ps) (versions_upto end ys))
 
 -- rows that were added one part after another
-pub added : (old mid here new : List (Version Value)) (end next a b : ℕ) (pieces xs : List Write) (w : Write) (ys : List Write) → pieces ≡ xs ++ w ∷ ys → next ≡ first_time_or end ys
-    → mid ≡ old ++ rows (versions_upto w.time xs) a b → here ≡ mid ++ rows (version_of w.time next w.write) a b → new ≡ here ++ rows (versions_upto end ys) a b
-    → new ≡ old ++ rows (versions_upto end pieces) a b
-added old mid here new end next a b pieces xs w ys is next_is first second third =
+pub added : (old mid here new : List (Version Value)) (end next a b : ℕ) (all xs ps ys : List Write) → 0 < length ps → all ≡ xs ++ (ps ++ ys) → next ≡ first_time_or end ys
+    → mid ≡ old ++ rows (versions_upto (first_time ps) xs) a b → here ≡ mid ++ rows (versions_upto next ps) a b → new ≡ here ++ rows (versions_upto end ys) a b
+    → new ≡ old ++ rows (versions_upto end all) a b
+added old mid here new end next a b all xs ps ys some is next_is first second third =
     third
-    ∙ ap (λ (l : List (Version Value)). l ++ rows (versions_upto end ys) a b) (second ∙ ap (λ (l : List (Version Value)). l ++ rows (version_of w.time next w.write) a b) first)
-    ∙ append_assoc (old ++ rows (versions_upto w.time xs) a b) (rows (version_of w.time next w.write) a b) (rows (versions_upto end ys) a b)
-    ∙ append_assoc old (rows (versions_upto w.time xs) a b) _
-    ∙ ap (λ (n : ℕ). old ++ (rows (versions_upto w.time xs) a b ++ (rows (version_of w.time n w.write) a b ++ rows (versions_upto end ys) a b))) next_is
-    ∙ ap (λ (l : List (Version Value)). old ++ l) (sym (ap (λ (ps : List Write). rows (versions_upto end ps) a b) is ∙ rows-split end a b xs w ys))
+    ∙ ap (λ (l : List (Version Value)). l ++ rows (versions_upto end ys) a b) (second ∙ ap (λ (l : List (Version Value)). l ++ rows (versions_upto next ps) a b) first)
+    ∙ append_assoc (old ++ rows (versions_upto (first_time ps) xs) a b) (rows (versions_upto next ps) a b) (rows (versions_upto end ys) a b)
+    ∙ append_assoc old (rows (versions_upto (first_time ps) xs) a b) _
+    ∙ ap (λ (n : ℕ). old ++ (rows (versions_upto (first_time ps) xs) a b ++ (rows (versions_upto n ps) a b ++ rows (versions_upto end ys) a b))) next_is
+    ∙ ap (λ (l : List (Version Value)). old ++ l) (sym (ap (λ (ws : List Write). rows (versions_upto end ws) a b) is ∙ rows-split end a b xs ps ys some))
+
+-- no version of the writes before a piece lasts beyond its beginning
+pub no-rows_piece : (a b : ℕ) (xs ps ys : List Write) → 0 < length ps → first_time ps ≤ a → IsRisingAfter 0 (xs ++ (ps ++ ys)) → rows (versions_upto (first_time ps) xs) a b ≡ []
+no-rows_piece a b xs [] ys some early up = absurd (omega arith)
+no-rows_piece a b xs (p ∷ ps) ys some early up = no-rows_before a b 0 xs p (ps ++ ys) up early
 
 pub on-ok : {A E : Type 0} {P Q : Type 0} (r : Result A E) → (P → Q) → OnOk r P → OnOk r Q
 on-ok (Ok x) f p = f p

@@ -6,6 +6,10 @@ use Rattle.history.specs.Time.{value_at}
 use Rattle.chains.specs.Writes.{Value}
 use Rattle.chains.specs.KeyWrites.{KeyWrites, writes_of}
 
+-- a chain's record and its value, if it has one at the time
+abbrev pub shown_value : ℕ → KeyWrites → List (ℕ × Value)
+shown_value time c = option_to_list (option_map (λ value. (c.key.record, value)) (value_at c.writes time))
+
 -- a chain's record and its value, if it is of the relation and has one at the time
 abbrev pub shown : ℕ → ℕ → KeyWrites → List (ℕ × Value)
 shown relation time c =

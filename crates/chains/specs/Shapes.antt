@@ -27,11 +27,6 @@ pub record IsJoined {E : Type 0} (left : Shape E) (piece : E) (right tree : Shap
   pub pieces : tree.pieces ≡ left.pieces ++ piece ∷ right.pieces
   pub height : Covers left.height right.height tree.height
 
--- a tree is as high as before, or higher by one
-pub record GrowsByOne (old new : ℕ) : Type 0 where
-  pub low : old ≤ new
-  pub high : new ≤ old + 1
-
 -- how many pieces a balanced tree of this height has at least
 abbrev pub fewest : ℕ → ℕ
 fewest zero = 0

@@ -1,16 +1,13 @@
 //! A tree of chains in the order of their keys.
-ghost use Rattle.std.specs.Prelude.{◌≡◌, ◌<◌, ◌^◌, IfOk, IsTrue, find};
+ghost use Rattle.std.specs.Prelude.{◌≡◌, IfOk, IsTrue, find};
 ghost use Rattle.std.specs.Option.{option_copied};
 ghost use Rattle.chains.specs.Bounds.{is_in};
-ghost use Rattle.chains.specs.KeyWrites.{is_of, writes_of, with_write, forgotten, IsOrdered};
-ghost use Rattle.chains.specs.Shapes.{GrowsByOne};
-ghost use Rattle.chains.specs.Writes.{last_time};
+ghost use Rattle.chains.specs.KeyWrites.{is_of, forgotten, IsOrdered};
 
 use crate::bound::Bound;
 use crate::chain::Chain;
-use crate::shared_value::SharedValue;
 use crate::tree::Tree;
-use history::{Key, TimedWrite};
+use history::Key;
 use std::alloc::{AllocError, Global};
 
 impl Tree<Chain> {
@@ -47,36 +44,6 @@ impl Tree<Chain> {
             }
         } else {
             node.right.least(bound)
-        }
-    }
-
-    /// The tree with one more write.
-    pub(crate) fn with_write(
-        &self,
-        alloc: Global,
-        key: Key,
-        write: TimedWrite<SharedValue>,
-    ) -> Result<Self, AllocError>
-        requires ordered { IsOrdered self.now.pieces }
-        requires later { last_time (writes_of self.now.pieces key) < write.time }
-        requires in_range { write.time < 2 ^ 63 }
-        ensures pieces { IfOk result (λ t. t.pieces ≡ with_write self.now.pieces key write) }
-        ensures height { IfOk result (λ t. GrowsByOne self.now.height t.height) }
-    {
-        let Some(node) = self.top() else {
-            let chain = Chain::new(alloc, key, write)?;
-            return Tree::node(alloc, Tree::new(), chain, Tree::new());
-        };
-        let here = node.piece.key();
-        if key.is_before(here) {
-            let left = node.left.with_write(alloc, key, write)?;
-            Tree::with_left(alloc, left, node)
-        } else if here.is_before(key) {
-            let right = node.right.with_write(alloc, key, write)?;
-            Tree::with_right(alloc, node, right)
-        } else {
-            let chain = node.piece.with_write(alloc, write)?;
-            Tree::with_piece(alloc, node, chain)
         }
     }
 

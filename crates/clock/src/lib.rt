@@ -7,6 +7,3 @@ pub mod laws;
 
 pub use commit::{ClockEnd, CommitClock, LAST_TIME};
 pub use instant::{BadInstant, Moment, read_instant, read_instant_bytes, show_instant};
-
-#[cfg(test)]
-mod tests;

@@ -1,4 +1,5 @@
 pub mod Fillings
 pub mod Stops
+pub mod Within
 pub mod Overwrite
 pub mod Parts

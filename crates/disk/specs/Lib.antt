@@ -5,4 +5,5 @@ pub mod Memory
 pub mod MemorySound
 pub mod Torn
 pub mod Parts
+pub mod Within
 pub mod Laws

@@ -13,6 +13,3 @@ pub use area::{Area, DeviceFault};
 pub use device::Disk;
 pub use fault_disk::{Fault, FaultDisk};
 pub use mem_disk::MemDisk;
-
-#[cfg(test)]
-mod tests;

@@ -18,6 +18,3 @@ pub use records::records_of;
 pub use sealing::seal_all;
 pub use taking::{give_back_all, keep_all, take_extents};
 pub use ticket::Ticket;
-
-#[cfg(test)]
-mod tests;

@@ -6,9 +6,9 @@ use Rattle.std.proofs.lemmas.List.{append-nil}
 use Rattle.std.proofs.lemmas.List.Sorted.{IsPermutation-sym, Contains-permutation}
 use Rattle.history.specs.Floors.{Raising, covers, raised}
 use Rattle.history.specs.Histories.{History, last_after, last, IsHistory, HasRisingTimes}
-use Rattle.history.specs.Machine.{Machine, commit_order, opened, IsRaisable, MayRaise, IsKeptSnapshot, IsMachine}
+use Rattle.history.specs.Machine.{Machine, Gate, Due, MayBeOpen, commit_order, opened, IsRaisable, MayRaise, IsKeptSnapshot, IsMachine}
 use Rattle.history.specs.Submissions.{Decision, Reads, Conflicts, Ends, Queues}
-use Rattle.history.specs.Steps.{Event, Began, BeginRefused, Aborted, Decided, Refused, GroupBegan, Published, FloorStarted, FloorRefused, FloorPublished, Broke, begun, decided, grouped, group_published, floor_started, floor_published, broken, GivesUp, Step, Run}
+use Rattle.history.specs.Steps.{Event, Began, BeginRefused, Aborted, Decided, Refused, GroupBegan, Published, FloorStarted, FloorRefused, FloorPublished, GateDue, GateWritten, Broke, begun, decided, grouped, group_published, floor_started, floor_published, gated, broken, GivesUp, Step, Run}
 use Rattle.history.proofs.Members.{Contains-cons_cases, Contains-head, Contains-tail, Contains-nil}
 use Rattle.history.proofs.Histories.{last_after-append, rising-from_following}
 use Rattle.history.proofs.Runs.{last-later, step-history}
@@ -162,6 +162,16 @@ module _ {V : Type 0} (IsValue : V → Type 0) (old : Machine V) (is : IsMachine
     raising = tt;
   }
 
+  after-gated : (gate : Gate) → IsMachine IsValue (gated old gate)
+  after-gated gate = record {
+    history = is.history;
+    group_few = is.group_few;
+    group_queued = is.group_queued;
+    floors_reached = is.floors_reached;
+    snapshots = is.snapshots;
+    raising = is.raising;
+  }
+
   after-broken : IsMachine IsValue (broken old)
   after-broken = record {
     history = is.history;
@@ -193,11 +203,13 @@ step-machine {V} IsValue old new (Decided s answer) is step =
 step-machine IsValue old new (Refused s why) is step = subst (IsMachine IsValue) (sym step.1.2) (after-given_up IsValue old is old.queue s.snapshot step.1.0 (omega arith) step.1.1 is.history)
 step-machine IsValue old new GroupBegan is step = subst (IsMachine IsValue) (sym step.3) (after-grouped IsValue old is)
 step-machine {V} IsValue old new (Published size) is step =
-    let history : IsHistory IsValue (commit_order (group_published old)) = subst (λ (m : Machine V). IsHistory IsValue (commit_order m)) step.3 (step-history IsValue old new (Published size) is.history step) in
-    subst (IsMachine IsValue) (sym step.3) (after-published IsValue old is history)
+    let history : IsHistory IsValue (commit_order (group_published old)) = subst (λ (m : Machine V). IsHistory IsValue (commit_order m)) step.4 (step-history IsValue old new (Published size) is.history step) in
+    subst (IsMachine IsValue) (sym step.4) (after-published IsValue old is history)
 step-machine IsValue old new (FloorStarted r) is step = subst (IsMachine IsValue) (sym step.3) (after-started IsValue old is r step.2)
 step-machine IsValue old new (FloorRefused r why) is step = subst (IsMachine IsValue) (sym step.2) is
-step-machine IsValue old new (FloorPublished r) is step = subst (IsMachine IsValue) (sym step.2) (after-raised IsValue old is r (in-the-making IsValue old is r step.1))
+step-machine IsValue old new (FloorPublished r) is step = subst (IsMachine IsValue) (sym step.3) (after-raised IsValue old is r (in-the-making IsValue old is r step.1))
+step-machine IsValue old new (GateDue change) is step = subst (IsMachine IsValue) (sym step.3) (after-gated IsValue old is (Due change))
+step-machine IsValue old new (GateWritten change) is step = subst (IsMachine IsValue) (sym step.2) (after-gated IsValue old is (MayBeOpen change))
 step-machine IsValue old new Broke is step = subst (IsMachine IsValue) (sym step.1) (after-broken IsValue old is)
 
 pub run-machine : {V : Type 0} (IsValue : V → Type 0) (old new : Machine V) (events : List (Event V)) → IsMachine IsValue old → Run IsValue old events new → IsMachine IsValue new
@@ -222,11 +234,13 @@ step-floors IsValue old new (Aborted snapshot) relation is step = same-floors ol
 step-floors IsValue old new (Decided s answer) relation is step = same-floors old (record (decided old answer) { snapshots = step.3.0 }) new relation (floors-decided old answer relation) step.3.2
 step-floors IsValue old new (Refused s why) relation is step = same-floors old (record old { snapshots = step.1.0 }) new relation refl step.1.2
 step-floors IsValue old new GroupBegan relation is step = same-floors old (grouped old) new relation refl step.3
-step-floors IsValue old new (Published size) relation is step = same-floors old (group_published old) new relation refl step.3
+step-floors IsValue old new (Published size) relation is step = same-floors old (group_published old) new relation refl step.4
 step-floors IsValue old new (FloorStarted r) relation is step = same-floors old (floor_started old r) new relation refl step.3
 step-floors IsValue old new (FloorRefused r why) relation is step = same-floors old old new relation refl step.2
 step-floors {V} IsValue old new (FloorPublished r) relation is step =
-    omega (arith, raised-over IsValue old is r relation (in-the-making IsValue old is r step.1), ap (λ (x : Machine V). x.floors relation) step.2)
+    omega (arith, raised-over IsValue old is r relation (in-the-making IsValue old is r step.1), ap (λ (x : Machine V). x.floors relation) step.3)
+step-floors IsValue old new (GateDue change) relation is step = same-floors old (gated old (Due change)) new relation refl step.3
+step-floors IsValue old new (GateWritten change) relation is step = same-floors old (gated old (MayBeOpen change)) new relation refl step.2
 step-floors IsValue old new Broke relation is step = same-floors old (broken old) new relation refl step.1
 
 pub run-floors : {V : Type 0} (IsValue : V → Type 0) (old new : Machine V) (events : List (Event V)) (relation : ℕ) → IsMachine IsValue old → Run IsValue old events new → old.floors relation ≤ new.floors relation
@@ -255,6 +269,8 @@ refused-failed old new (Published size) IsValue failed step = absurd (not_both o
 refused-failed old new (FloorStarted r) IsValue failed step = absurd (not_both old.failed failed step.0)
 refused-failed old new (FloorRefused r why) IsValue failed step = absurd (not_both old.failed failed step.0)
 refused-failed old new (FloorPublished r) IsValue failed step = absurd (not_both old.failed failed step.0)
+refused-failed old new (GateDue change) IsValue failed step = absurd (not_both old.failed failed step.0)
+refused-failed old new (GateWritten change) IsValue failed step = absurd (not_both old.failed failed step.0)
 refused-failed old new Broke IsValue failed step = absurd (not_both old.failed failed step.0)
 
 pub run-failed : {V : Type 0} (IsValue : V → Type 0) (old new : Machine V) (events : List (Event V)) → old.failed ≡ true → Run IsValue old events new → new ≡ record old { snapshots = new.snapshots }

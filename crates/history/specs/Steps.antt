@@ -1,8 +1,8 @@
 -- The steps of the machine: calls with their answers, and steps of the store's own.
-use Rattle.std.specs.Prelude.{ℕ, ◌≡◌, ◌≢◌, ◌<◌, min, List, [], ◌∷◌, ◌++◌, length, take, drop, true, false, IsPermutation, None, Some}
+use Rattle.std.specs.Prelude.{ℕ, ◌≡◌, ◌≢◌, ◌<◌, min, List, [], ◌∷◌, ◌++◌, length, take, drop, true, false, IsPermutation, IsSome, None, Some}
 use Rattle.history.specs.Floors.{Raising, raised}
 use Rattle.history.specs.Histories.{last}
-use Rattle.history.specs.Machine.{Machine, commit_order, MayRaise}
+use Rattle.history.specs.Machine.{Machine, commit_order, Change, OfGroup, OfFloor, Gate, Shut, Due, MayBeOpen, MayRaise}
 use Rattle.history.specs.Submissions.{Submission, IsSubmitted, Decision, Reads, Conflicts, Ends, Queues, decision, conflict_of}
 use Rattle.history.specs.FloorStarts.{FloorRefusal, floor_refusal}
 
@@ -30,6 +30,9 @@ pub data Event (V : Type 0) : Type 0 where
   FloorStarted : Raising → Event V
   FloorRefused : Raising → FloorRefusal → Event V
   FloorPublished : Raising → Event V
+  -- the next call of this change writes its gate, and the write of the gate begins
+  GateDue : Change → Event V
+  GateWritten : Change → Event V
   -- a write or a sync is refused
   Broke : Event V
 
@@ -49,13 +52,16 @@ abbrev pub grouped : {V : Type 0} → Machine V → Machine V
 grouped m = record m { group = min 16 (length m.queue) }
 
 abbrev pub group_published : {V : Type 0} → Machine V → Machine V
-group_published m = record m { published = m.published ++ take m.group m.queue; queue = drop m.group m.queue; group = 0 }
+group_published m = record m { published = m.published ++ take m.group m.queue; queue = drop m.group m.queue; group = 0; gate = Shut }
 
 abbrev pub floor_started : {V : Type 0} → Machine V → Raising → Machine V
 floor_started m r = record m { raising = Some r }
 
 abbrev pub floor_published : {V : Type 0} → Machine V → Raising → Machine V
-floor_published m r = record m { floors = raised r.scope r.floor m.floors; raising = None }
+floor_published m r = record m { floors = raised r.scope r.floor m.floors; raising = None; gate = Shut }
+
+abbrev pub gated : {V : Type 0} → Machine V → Gate → Machine V
+gated m gate = record m { gate = gate }
 
 abbrev pub broken : {V : Type 0} → Machine V → Machine V
 broken m = record m { failed = true }
@@ -78,6 +84,11 @@ IsRefusal m s Failed = m.failed ≡ true
 IsRefusal m s NoMemory = (m.failed ≡ false) × (s.writes ≢ [])
 IsRefusal m s NoRoom = (m.failed ≡ false) × (s.writes ≢ []) × (conflict_of m s ≡ None)
 
+-- what the change is of is in the making
+abbrev pub IsInTheMaking : {V : Type 0} → Machine V → Change → Type 0
+IsInTheMaking m OfGroup = 0 < m.group
+IsInTheMaking m OfFloor = IsSome m.raising
+
 -- The machine may go from old to new by this event. Where it has failed, transactions are still given up.
 abbrev pub Step : {V : Type 0} → (V → Type 0) → Machine V → Event V → Machine V → Type 0
 Step IsValue old (Began snapshot) new = (old.failed ≡ false) × (snapshot ≡ last old.published) × (new ≡ begun old)
@@ -86,10 +97,12 @@ Step IsValue old (Aborted snapshot) new = GivesUp old snapshot new
 Step IsValue old (Decided s answer) new = (old.failed ≡ false) × IsSubmitted IsValue (commit_order old) s × (answer ≡ decision old s) × GivesUp (decided old answer) s.snapshot new
 Step IsValue old (Refused s why) new = IsRefusal old s why × GivesUp old s.snapshot new
 Step IsValue old GroupBegan new = (old.failed ≡ false) × (old.group ≡ 0) × (old.queue ≢ []) × (new ≡ grouped old)
-Step IsValue old (Published size) new = (old.failed ≡ false) × (0 < size) × (size ≡ old.group) × (new ≡ group_published old)
+Step IsValue old (Published size) new = (old.failed ≡ false) × (0 < size) × (size ≡ old.group) × (old.gate ≡ MayBeOpen OfGroup) × (new ≡ group_published old)
 Step IsValue old (FloorStarted r) new = (old.failed ≡ false) × (old.raising ≡ None) × MayRaise old r × (new ≡ floor_started old r)
 Step IsValue old (FloorRefused r why) new = (old.failed ≡ false) × (floor_refusal old r ≡ Some why) × (new ≡ old)
-Step IsValue old (FloorPublished r) new = (old.failed ≡ false) × (old.raising ≡ Some r) × (new ≡ floor_published old r)
+Step IsValue old (FloorPublished r) new = (old.failed ≡ false) × (old.raising ≡ Some r) × (old.gate ≡ MayBeOpen OfFloor) × (new ≡ floor_published old r)
+Step IsValue old (GateDue change) new = (old.failed ≡ false) × IsInTheMaking old change × (old.gate ≡ Shut) × (new ≡ gated old (Due change))
+Step IsValue old (GateWritten change) new = (old.failed ≡ false) × (old.gate ≡ Due change) × (new ≡ gated old (MayBeOpen change))
 Step IsValue old Broke new = (old.failed ≡ false) × (new ≡ broken old)
 
 -- one event after another

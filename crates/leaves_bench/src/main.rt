@@ -6,6 +6,7 @@
 //! the lines with no number, which are the same at each run.
 #![tactic(auto)]
 
+mod asking;
 mod finding;
 mod handing_out;
 mod packing;
@@ -26,5 +27,6 @@ fn main(rt: HostRuntime) -> io::Result<()> {
     handing_out::measure(&rt, alloc, scale)?;
     packing::measure(&rt, alloc, scale)?;
     finding::measure(&rt, alloc, scale)?;
-    publishing::measure(&rt, alloc, scale)
+    publishing::measure(&rt, alloc, scale)?;
+    asking::measure(&rt, alloc, scale)
 }

@@ -27,7 +27,7 @@ const LAST_TIME: u64 = (1 << 63) - 1;
 
 /// A map of versions, and the time of its last commit.
 #[derive(Drop)]
-struct Published {
+pub(crate) struct Published {
     map: ChainMap,
     last: u64,
 }
@@ -81,6 +81,16 @@ impl Published {
         Ok(())
     }
 
+    /// The map as it is now.
+    pub(crate) fn freeze(&self) -> Result<Frozen, AllocError> {
+        self.map.freeze()
+    }
+
+    /// The time of the last commit, in microseconds since 1970.
+    pub(crate) fn last(&self) -> u64 {
+        self.last
+    }
+
     /// Freezes the map this often.
     fn freeze_often(&self, rounds: u64) -> Result<(), AllocError> {
         for _ in 0..rounds {
@@ -90,13 +100,14 @@ impl Published {
     }
 }
 
-/// Writes of this many keys, at most 1,024, each `step` records behind the one before. A value has
-/// one byte.
+/// Writes of this many keys, at most 1,024, each `step` records behind the one before, of a value
+/// with these fields.
 fn writes(
     alloc: Global,
     first: u64,
     step: u64,
     count: u64,
+    fields: &[&[u8]],
 ) -> Result<Vec<KeyWrite<SharedValue>>, AllocError>
     ensures { IfOk result (λ writes. IsStrictlySortedBy key_cmp (map (λ w. w.key) writes.items)) }
 {
@@ -107,7 +118,7 @@ fn writes(
             relation: 1,
             record: first.wrapping_add(number.wrapping_mul(step)),
         };
-        whole = whole && txn.put(alloc, key, &[b"a"]).is_ok();
+        whole = whole && txn.put(alloc, key, fields).is_ok();
     }
     let parts = txn.spend();
     if whole {
@@ -123,7 +134,7 @@ fn with_keys(alloc: Global, keys: u64) -> Result<Published, AllocError> {
     for part in 0..keys / MOST + 1 {
         let first = part.saturating_mul(MOST);
         let count = keys.saturating_sub(first).min(MOST);
-        let writes = writes(alloc, first, 1, count)?;
+        let writes = writes(alloc, first, 1, count, &[b"a"])?;
         published.publish(alloc, &writes)?;
     }
     Ok(published)
@@ -139,6 +150,27 @@ fn with_versions(
 {
     let mut published = Published::new();
     published.publish_often(alloc, writes, versions)?;
+    Ok(published)
+}
+
+/// A map of this many keys, at most 1,024, each of this many versions: each version a value of its
+/// own, of four fields of 16 bytes.
+pub(crate) fn with_history(
+    alloc: Global,
+    keys: u64,
+    versions: u64,
+) -> Result<Published, AllocError> {
+    let fields: [&[u8]; 4] = [
+        b"0123456789abcdef",
+        b"ghijklmnopqrstuv",
+        b"wxyz0123456789ab",
+        b"cdefghijklmnopqr",
+    ];
+    let mut published = Published::new();
+    for _ in 0..versions {
+        let writes = writes(alloc, 0, 1, keys, &fields)?;
+        published.publish(alloc, &writes)?;
+    }
     Ok(published)
 }
 
@@ -165,7 +197,7 @@ fn measure_keys<R: Print + Clock>(
     keys: u64,
     maps: u64,
 ) -> io::Result<()> {
-    let writes = writes(alloc, 0, keys / KEYS, KEYS)?;
+    let writes = writes(alloc, 0, keys / KEYS, KEYS, &[b"a"])?;
     let maps = scale.rounds(maps);
     let mut time = 0u128;
     for _ in 0..maps {
@@ -205,7 +237,7 @@ fn measure_versions<R: Print + Clock>(
     versions: u64,
     maps: u64,
 ) -> io::Result<()> {
-    let writes = writes(alloc, 7, 1, 1)?;
+    let writes = writes(alloc, 7, 1, 1, &[b"a"])?;
     let maps = scale.rounds(maps);
     let mut time = 0u128;
     for _ in 0..maps {

@@ -25,7 +25,7 @@ use Rattle.standing.specs.Stands.{Stands}
 use Rattle.standing.proofs.Answering.{view-stands, at-answered, times-of_label}
 use Rattle.standing.proofs.Queries.{scan_at-answered, between-answered, scan_between-answered}
 use Rattle.opened.specs.Laws.{OpensAgain, AnswersBy}
-use Rattle.opened.proofs.Fronts.{front-says}
+use Rattle.opened.proofs.Fronts.{front-says, group-front}
 use Rattle.opened.proofs.Reopened.{reopen-stands}
 
 -- ---- a store's own views
@@ -81,10 +81,6 @@ answer-append h more floors key time up early =
     let after : nat_lt (last (h ++ more)) time ≡ false = let upto : time ≤ last (h ++ more) = omega (arith, later, early) in grind (arith, nat_tests) in
     rw (before, after, state-append h more time key (times-earlier time (last h) more early up)) refl
 
-no_raise : (P : History Value → (ℕ → ℕ) → Type 0) (m : Machine Value) (o : Option Raising) → o ≡ None → OnRaised P m o → ⊥
-no_raise P m None none on = on
-no_raise P m (Some r) none on = absurd cc
-
 pub answers-stay : (tells : Bool) (v : StoreValue) (m : Machine Value) (disk : DiskState) (mark : ℕ) (again asked : StoreValue) (view : ViewValue) (key : Key) (time : ℕ) (answer : Result (Option Value) QueryFault)
     → Stands tells v m → IsTrue tells → OpensAgain tells v disk mark again → IsViewOf again view → asked.transactions.mark ≡ again.transactions.mark → AnswersAtView asked view key time answer
     → time ≤ last m.published → SaysAt (at_answer m.published m.floors key time) answer
@@ -92,11 +88,11 @@ answers-stay tells v m disk mark again asked view key time answer stands told op
   where
     by-front : OnFront (AnswersBy again) m → SaysAt (at_answer m.published m.floors key time) answer
     by-front (inl by) = by.at view asked key time answer is own answers
-    by-front (inr (inl by)) =
+    by-front (inr opened) =
+        let by : AnswersBy again (m.published ++ take m.group m.queue) m.floors = (group-front (AnswersBy again) m m.gate stands.memory.raising opened).1 in
         let up : HasRisingTimes (last m.published) (take m.group m.queue) =
         rising-take (last m.published) m.group m.queue (rising-from_following IsValue m.published m.queue (may_follow-behind IsValue [] m.published m.queue stands.machine.history)) in
         subst (λ said. SaysAt said answer) (answer-append m.published (take m.group m.queue) m.floors key time up early) (by.at view asked key time answer is own answers)
-    by-front (inr (inr by)) = absurd (no_raise (AnswersBy again) m m.raising stands.memory.raising by)
 
 -- ---- labels
 
@@ -114,11 +110,11 @@ labels-stay tells v m disk mark again label stands told opens = by-front (reopen
 
     by-front : OnFront (λ h floors. Stands tells again (opened h floors)) m → (more : List ℕ) × (orders.times_of label (order_of again.transactions) ≡ orders.times_of label (order_of v.transactions) ++ more)
     by-front (inl now) = ([], times-of_label again.transactions (opened m.published m.floors) label now.memory ∙ sym before ∙ sym (append-nil (orders.times_of label (order_of v.transactions))))
-    by-front (inr (inl now)) =
+    by-front (inr behind) =
+        let now : Stands tells again (opened (m.published ++ take m.group m.queue) m.floors) = (group-front (λ h floors. Stands tells again (opened h floors)) m m.gate stands.memory.raising behind).1 in
         let group : History Value = take m.group m.queue in (
           times_of group label,
           times-of_label again.transactions (opened (m.published ++ group) m.floors) label now.memory
               ∙ times-append label m.published group
               ∙ ap (λ (ts : List ℕ). ts ++ times_of group label) (sym before),
         )
-    by-front (inr (inr now)) = absurd (no_raise (λ h floors. Stands tells again (opened h floors)) m m.raising stands.memory.raising now)

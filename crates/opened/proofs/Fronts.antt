@@ -1,25 +1,46 @@
 -- What is said of a front, for what is said of another.
-use Rattle.std.proofs.Common.{ℕ, inl, inr, Option, None, Some}
+use Rattle.std.proofs.Common.{◌≡◌, ℕ, inl, inr, refl, Option, None, Some}
 use Rattle.history.specs.Floors.{Raising, raised}
 use Rattle.history.specs.Histories.{History}
-use Rattle.history.specs.Fronts.{OnRaised, OnFront}
-use Rattle.history.specs.Machine.{Machine}
+use Rattle.history.specs.Fronts.{OnRaised, OnOpened, OnFront, with_group}
+use Rattle.history.specs.Machine.{Machine, Gate, Shut, Due, MayBeOpen, OfGroup, OfFloor}
 
 raised-front : {V : Type 0} (P Q : History V → (ℕ → ℕ) → Type 0) (m : Machine V) (o : Option Raising) → ((h : History V) (floors : ℕ → ℕ) → P h floors → Q h floors) → OnRaised P m o → OnRaised Q m o
 raised-front P Q m None say on = on
 raised-front P Q m (Some r) say on = say m.published (raised r.scope r.floor m.floors) on
 
+opened-front : {V : Type 0} (P Q : History V → (ℕ → ℕ) → Type 0) (m : Machine V) (gate : Gate) → ((h : History V) (floors : ℕ → ℕ) → P h floors → Q h floors) → OnOpened P m gate → OnOpened Q m gate
+opened-front P Q m Shut say on = on
+opened-front P Q m (Due change) say on = on
+opened-front P Q m (MayBeOpen OfGroup) say on = say (with_group m) m.floors on
+opened-front P Q m (MayBeOpen OfFloor) say on = raised-front P Q m m.raising say on
+
 pub front-says : {V : Type 0} (P Q : History V → (ℕ → ℕ) → Type 0) (m : Machine V) → ((h : History V) (floors : ℕ → ℕ) → P h floors → Q h floors) → OnFront P m → OnFront Q m
 front-says P Q m say (inl on) = inl (say m.published m.floors on)
-front-says {V} P Q m say (inr (inl on)) = inr (inl (say _ m.floors on))
-front-says P Q m say (inr (inr on)) = inr (inr (raised-front P Q m m.raising say on))
+front-says P Q m say (inr on) = inr (opened-front P Q m m.gate say on)
 
 -- what is said of every front
 raised-is : {V X : Type 0} (P : History V → (ℕ → ℕ) → Type 0) (m : Machine V) (o : Option Raising) → ((h : History V) (floors : ℕ → ℕ) → P h floors → X) → OnRaised P m o → X
 raised-is P m None say on = absurd on
 raised-is P m (Some r) say on = say m.published (raised r.scope r.floor m.floors) on
 
+opened-is : {V X : Type 0} (P : History V → (ℕ → ℕ) → Type 0) (m : Machine V) (gate : Gate) → ((h : History V) (floors : ℕ → ℕ) → P h floors → X) → OnOpened P m gate → X
+opened-is P m Shut say on = absurd on
+opened-is P m (Due change) say on = absurd on
+opened-is P m (MayBeOpen OfGroup) say on = say (with_group m) m.floors on
+opened-is P m (MayBeOpen OfFloor) say on = raised-is P m m.raising say on
+
 pub front-is : {V X : Type 0} (P : History V → (ℕ → ℕ) → Type 0) (m : Machine V) → ((h : History V) (floors : ℕ → ℕ) → P h floors → X) → OnFront P m → X
 front-is P m say (inl on) = say m.published m.floors on
-front-is P m say (inr (inl on)) = say _ m.floors on
-front-is P m say (inr (inr on)) = raised-is P m m.raising say on
+front-is P m say (inr on) = opened-is P m m.gate say on
+
+-- where no floor is in the making, what stands behind a gate is the whole group
+no-raise : {V : Type 0} (P : History V → (ℕ → ℕ) → Type 0) (m : Machine V) (o : Option Raising) → o ≡ None → OnRaised P m o → ⊥
+no-raise P m None none on = on
+no-raise P m (Some r) none on = absurd cc
+
+pub group-front : {V : Type 0} (P : History V → (ℕ → ℕ) → Type 0) (m : Machine V) (gate : Gate) → m.raising ≡ None → OnOpened P m gate → (gate ≡ MayBeOpen OfGroup) × P (with_group m) m.floors
+group-front P m Shut none on = absurd on
+group-front P m (Due change) none on = absurd on
+group-front P m (MayBeOpen OfGroup) none on = (refl, on)
+group-front P m (MayBeOpen OfFloor) none on = absurd (no-raise P m m.raising none on)

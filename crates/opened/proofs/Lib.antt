@@ -4,3 +4,4 @@ pub mod Opened
 pub mod Formatted
 pub mod Reopened
 pub mod Answering
+mod Witness

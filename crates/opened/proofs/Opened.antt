@@ -212,6 +212,7 @@ module _ (old : DiskState) (mark : ℕ) (disk : DiskState) (r : Recovered) (head
     machine = opened-machine IsValue h floors image.stands.opens.history (floor-range image.reading h floors image.stands);
     order = order;
     in_step = in_step;
+    gate = λ works. refl;
     disk = λ tells_so. on_disk;
   }
 

@@ -1,6 +1,7 @@
 -- A store that is opened again.
-use Rattle.std.proofs.Common.{◌≡◌, ℕ, Bool, IsTrue, subst}
-use Rattle.disk.specs.Areas.{Areas, Image, AreSound, LeavesImage, LeavesNoMore, image_of}
+use Rattle.std.proofs.Common.{◌≡◌, ℕ, Bool, IsTrue, List, [], ◌∷◌, subst}
+use Rattle.std.specs.List.{AllByRecursion}
+use Rattle.disk.specs.Areas.{Areas, AreSound, LeavesImage, LeavesNoMore, image_of}
 use Rattle.disk.specs.Calls.{DiskState}
 use Rattle.disk.proofs.Stops.{LeavesImage-read}
 use Rattle.history.specs.Histories.{History}
@@ -10,6 +11,7 @@ use Rattle.image.specs.Values.{Value}
 use Rattle.status.specs.declared.header.Header.{Header}
 use Rattle.reading.specs.Opening.{unread, unread_layout}
 use Rattle.recovery.specs.Faults.{IsReadFault}
+use Rattle.recovery.specs.Settling.{Settles}
 use Rattle.recovery.specs.declared.fault.OpenFault.{OpenFault}
 use Rattle.recovery.proofs.OneAnswer.{opening_only}
 use Rattle.recovery.proofs.HistoryRead.{stands_opening}
@@ -72,3 +74,10 @@ opening-stops tells v m disk new why stands told first refuses = leaves-fronts t
 pub second-stops : (tells : Bool) (v : StoreValue) (m : Machine Value) (disk : DiskState) (mark : ℕ) (again : StoreValue)
     → Stands tells v m → IsTrue tells → LeavesNoMore v.disk.areas disk.areas → Opens tells disk mark again → LeavesNoMore v.disk.areas again.disk.areas × LeavesFronts again.disk.areas m
 second-stops tells v m disk mark again stands told first opens = leaves-fronts tells v m disk.areas again.disk.areas stands told first (opens.left told)
+
+pub opening-moments : (tells : Bool) (v : StoreValue) (m : Machine Value) (disk new : DiskState) → Stands tells v m → IsTrue tells → LeavesNoMore v.disk.areas disk.areas → (settles : Settles tells disk new)
+    → AllByRecursion (λ moment. LeavesNoMore v.disk.areas moment.areas × LeavesFronts moment.areas m) settles.moments
+opening-moments tells v m disk new stands told first settles = at_each settles.moments (settles.left told) where
+  at_each : (moments : List DiskState) → AllByRecursion (λ moment. LeavesNoMore disk.areas moment.areas) moments → AllByRecursion (λ moment. LeavesNoMore v.disk.areas moment.areas × LeavesFronts moment.areas m) moments
+  at_each [] left = tt
+  at_each (moment ∷ moments) left = (leaves-fronts tells v m disk.areas moment.areas stands told first left.0, at_each moments left.1)

@@ -1,7 +1,8 @@
 -- What opening a store, formatting a disk and closing a store stand for.
-use Rattle.std.specs.Prelude.{ℕ, ◌≡◌, ◌≤◌, ◌++◌, Bool, IsTrue, List, [], Option, Result}
+use Rattle.std.specs.Prelude.{ℕ, ◌≡◌, ◌+◌, ◌≤◌, ◌++◌, Bool, IsTrue, List, [], Option, Result}
 use Rattle.disk.specs.Areas.{Areas, Image, AreSound, LeavesImage, LeavesNoMore, image_of}
-use Rattle.disk.specs.Calls.{DiskState}
+use Rattle.disk.specs.Calls.{DiskState, top}
+use Rattle.std.specs.List.{AllByRecursion}
 use Rattle.std.specs.declared.alloc.Global.{Global}
 use Rattle.std.specs.declared.vec.Vec.{Vec}
 use Rattle.history.specs.declared.key.Key.{Key}
@@ -16,6 +17,7 @@ use Rattle.status.specs.Header.{new_header, total}
 use Rattle.status.specs.Reading.{ReadsHeader}
 use Rattle.recovery.specs.Format.{IsFormatted, LeavesShut}
 use Rattle.recovery.specs.Faults.{IsReadFault}
+use Rattle.recovery.specs.Settling.{Settles}
 use Rattle.recovery.specs.declared.fault.OpenFault.{OpenFault}
 use Rattle.group.specs.CommitOrder.{times_of}
 use Rattle.timequery.specs.View.{ViewValue}
@@ -34,6 +36,11 @@ use Rattle.standing.specs.Stands.{Stands}
 abbrev pub OpenStands : Type 0
 OpenStands = (tells : Bool) (old : DiskState) (mark : ℕ) (v : StoreValue) (header : Header) (h : History Value) (floors : ℕ → ℕ)
     → Opens tells old mark v → IsTrue tells → AreSound old.areas → IsImageOf header (image_of old.areas) h floors → Stands tells v (opened h floors)
+
+-- There is a store that opening such an image answers, at all counts of calls but the last three.
+abbrev pub OpenAnswers : Type 0
+OpenAnswers = (alloc : Global) (tells : Bool) (old : DiskState) (mark : ℕ) (header : Header) (h : History Value) (floors : ℕ → ℕ)
+    → AreSound old.areas → old.made + 3 ≤ top → IsImageOf header (image_of old.areas) h floors → (v : StoreValue) × Opens tells old mark v
 
 -- Where opening such an image is refused, the device or memory gave out, and the disk still holds the image. A stop then leaves nothing that it might not have left before.
 abbrev pub OpenRefusesFor : Type 0
@@ -92,6 +99,11 @@ OpeningStops = (tells : Bool) (v : StoreValue) (m : Machine Value) (disk new : D
 abbrev pub SecondStops : Type 0
 SecondStops = (tells : Bool) (v : StoreValue) (m : Machine Value) (disk : DiskState) (mark : ℕ) (again : StoreValue)
     → Stands tells v m → IsTrue tells → LeavesNoMore v.disk.areas disk.areas → Opens tells disk mark again → LeavesNoMore v.disk.areas again.disk.areas × LeavesFronts again.disk.areas m
+
+-- At every moment while it is opened again, and whether that is refused or not, a stop leaves nothing that the first might not have left, so a front of the commit order too.
+abbrev pub OpeningMoments : Type 0
+OpeningMoments = (tells : Bool) (v : StoreValue) (m : Machine Value) (disk new : DiskState) → Stands tells v m → IsTrue tells → LeavesNoMore v.disk.areas disk.areas → (settles : Settles tells disk new)
+    → AllByRecursion (λ moment. LeavesNoMore v.disk.areas moment.areas × LeavesFronts moment.areas m) settles.moments
 
 -- the disk that a closed store hands back holds what a stop may have left, so it may be opened again
 abbrev pub ClosedIsLeft : Type 0

@@ -1,5 +1,7 @@
 pub mod Zeroing
 pub mod Formatted
+pub mod Settling
+pub mod Counting
 pub mod Walking
 pub mod Heads
 pub mod Stored

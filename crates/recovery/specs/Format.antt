@@ -1,8 +1,8 @@
 -- What formatting makes of the status area.
-use Rattle.std.specs.Prelude.{◌≡◌, ◌⊎◌, ℕ, ◌+◌, ◌<◌, ◌≤◌, List, [], length, slice_index, Result, Ok, Err}
+use Rattle.std.specs.Prelude.{◌≡◌, ◌⊎◌, ℕ, ◌+◌, ◌<◌, ◌≤◌, List, [], length, slice_index, Bool, IsTrue, Result, Ok, Err}
 use Rattle.disk.specs.Areas.{AreaState, Areas, MayLeave, IsUntouched}
 use Rattle.disk.specs.Parts.{IsSettled}
-use Rattle.disk.specs.Calls.{counted}
+use Rattle.disk.specs.Calls.{DiskState, counted, top}
 use Rattle.status.specs.Header.{new_header}
 use Rattle.status.specs.Log.{slot_start, IsOpen, IsLog}
 use Rattle.status.specs.Reading.{ReadsHeader}
@@ -72,10 +72,22 @@ IsTakenAnswer (Err faults.Occupied) = Unit {0}
 IsTakenAnswer (Err faults.Device) = Unit {0}
 IsTakenAnswer (Err faults.NoMemory) = ⊥
 
--- the answers that come before any write
-abbrev pub IsEarly : {T : Type 0} → Result T FormatFault → Type 0
-IsEarly (Ok x) = ⊥
-IsEarly (Err faults.BadSlots) = Unit {0}
-IsEarly (Err faults.Occupied) = Unit {0}
-IsEarly (Err faults.Device) = ⊥
-IsEarly (Err faults.NoMemory) = Unit {0}
+-- As long as no write or sync is counted, nothing has changed. No disk counts beyond the top.
+pub record CountsFirst (old new : DiskState) : Type 0 where
+  pub high : old.made ≤ top → new.made ≤ top
+  pub no_fewer : old.made ≤ top → old.made ≤ new.made
+  pub same : old.made ≤ top → new.made ≡ old.made → new.areas ≡ old.areas
+
+-- What the device's refusal leaves: before the first write nothing has changed. From then on the heap and the archive are as they were, and the front of the status area too, or all slots are closed. A later call goes by what the status area holds.
+pub record LeavesOff (tells : Bool) (slots : ℕ) (old new : DiskState) : Type 0 where
+  pub first : CountsFirst old new
+  pub refused : new.refused ≡ counted old.refused
+  pub others : IsTrue tells → new.areas ≡ record old.areas { status = new.areas.status }
+  pub stop : IsTrue tells → StopsShut slots old.areas.status new.areas.status
+
+-- what a refused format leaves; all other refusals come before the first write
+abbrev pub FormatRefuses : Bool → ℕ → DiskState → FormatFault → DiskState → Type 0
+FormatRefuses tells slots old faults.BadSlots new = new ≡ old
+FormatRefuses tells slots old faults.Occupied new = new ≡ old
+FormatRefuses tells slots old faults.Device new = LeavesOff tells slots old new
+FormatRefuses tells slots old faults.NoMemory new = new ≡ old

@@ -1,10 +1,10 @@
 //! Making the image of a new store.
 
-ghost use Rattle.std.specs.Prelude.{◌≡◌, ◌↔◌, ℕ, ◌+◌, ◌^◌, ◌<◌, ◌≤◌, IsTrue, IfOk, OnOk, OnErr, Ok, Err, length, slice_index};
+ghost use Rattle.std.specs.Prelude.{◌≡◌, ◌↔◌, ℕ, ◌+◌, ◌^◌, ◌<◌, ◌≤◌, IsTrue, IfOk, IfErr, OnOk, OnErr, Ok, Err, length, slice_index};
 ghost use Rattle.disk.specs.Calls.{refusals, looked};
 ghost use Rattle.status.specs.Header.{new_header, IsFront};
 ghost use Rattle.status.specs.Log.{slot_start};
-ghost use Rattle.recovery.specs.Format.{IsSlotCount, refusals_after, IsZeroed, KeepsFront, LeavesShut, HasZeroSlots, StopsShut, IsFormatted, IsOccupied, IsTakenAnswer, IsEarly};
+ghost use Rattle.recovery.specs.Format.{IsSlotCount, refusals_after, IsZeroed, KeepsFront, LeavesShut, HasZeroSlots, StopsShut, IsFormatted, IsOccupied, IsTakenAnswer, CountsFirst, FormatRefuses};
 
 use crate::fault::FormatFault;
 use disk::{Area, DeviceFault, Disk};
@@ -29,6 +29,7 @@ fn zero_slots<D: Disk>(disk: &mut D, zeros: &[u8], end: u64) -> Result<(), Devic
     ensures zeroed { IsTrue D.tells → OnOk result (IsZeroed 512 end (D.state disk.old).areas.status (D.state disk.new).areas.status) }
     ensures others { IsTrue D.tells → (D.state disk.new).areas ≡ record (D.state disk.old).areas { status = (D.state disk.new).areas.status } }
     ensures stop { IsTrue D.tells → KeepsFront (D.state disk.old).areas.status (D.state disk.new).areas.status }
+    ensures first { CountsFirst (D.state disk.old) (D.state disk.new) }
     ensures refused { (D.state disk.new).refused ≡ refusals result (D.state disk.old).refused }
 {
     let mut at = FRONT_LEN;
@@ -55,6 +56,8 @@ fn close_slots<D: Disk>(disk: &mut D, zeros: &[u8], slots: u32) -> Result<(), De
     requires slots { IsSlotCount slots }
     ensures closed { IsTrue D.tells → OnOk result (HasZeroSlots slots (D.state disk.old).areas (D.state disk.new).areas) }
     ensures stop { IsTrue D.tells → OnErr result (KeepsFront (D.state disk.old).areas.status (D.state disk.new).areas.status) }
+    ensures others { IsTrue D.tells → (D.state disk.new).areas ≡ record (D.state disk.old).areas { status = (D.state disk.new).areas.status } }
+    ensures first { CountsFirst (D.state disk.old) (D.state disk.new) }
     ensures refused { (D.state disk.new).refused ≡ refusals result (D.state disk.old).refused }
 {
     zero_slots(disk, zeros, status_len(slots))?;
@@ -70,6 +73,8 @@ fn put_front<D: Disk>(disk: &mut D, slots: u32, front: &[u8]) -> Result<(), Devi
     requires behind { (k : ℕ) → 16 ≤ k → slice_index front.now k ≡ 0 }
     ensures formatted { IsTrue D.tells → (before : _) → HasZeroSlots slots before (D.state disk.old).areas → OnOk result (IsFormatted slots before (D.state disk.new).areas) }
     ensures stop { IsTrue D.tells → (before : _) → HasZeroSlots slots before (D.state disk.old).areas → LeavesShut slots (D.state disk.new).areas.status }
+    ensures others { IsTrue D.tells → (D.state disk.new).areas ≡ record (D.state disk.old).areas { status = (D.state disk.new).areas.status } }
+    ensures first { CountsFirst (D.state disk.old) (D.state disk.new) }
     ensures refused { (D.state disk.new).refused ≡ refusals result (D.state disk.old).refused }
 {
     disk.write_at(Area::Status, 0, front)?;
@@ -83,6 +88,8 @@ fn write_front<D: Disk>(disk: &mut D, slots: u32) -> Result<(), DeviceFault>
     requires slots { IsSlotCount slots }
     ensures formatted { IsTrue D.tells → (before : _) → HasZeroSlots slots before (D.state disk.old).areas → OnOk result (IsFormatted slots before (D.state disk.new).areas) }
     ensures stop { IsTrue D.tells → (before : _) → HasZeroSlots slots before (D.state disk.old).areas → LeavesShut slots (D.state disk.new).areas.status }
+    ensures others { IsTrue D.tells → (D.state disk.new).areas ≡ record (D.state disk.old).areas { status = (D.state disk.new).areas.status } }
+    ensures first { CountsFirst (D.state disk.old) (D.state disk.new) }
     ensures refused { (D.state disk.new).refused ≡ refusals result (D.state disk.old).refused }
 {
     put_front(disk, slots, &encode_header(PROFILE, slots))?;
@@ -115,6 +122,8 @@ fn write_store<D: Disk>(disk: &mut D, zeros: &[u8], slots: u32) -> Result<(), De
     requires slots { IsSlotCount slots }
     ensures formatted { IsTrue D.tells → OnOk result (IsFormatted slots (D.state disk.old).areas (D.state disk.new).areas) }
     ensures stop { IsTrue D.tells → StopsShut slots (D.state disk.old).areas.status (D.state disk.new).areas.status }
+    ensures others { IsTrue D.tells → (D.state disk.new).areas ≡ record (D.state disk.old).areas { status = (D.state disk.new).areas.status } }
+    ensures first { CountsFirst (D.state disk.old) (D.state disk.new) }
     ensures refused { (D.state disk.new).refused ≡ refusals result (D.state disk.old).refused }
 {
     close_slots(disk, zeros, slots)?;
@@ -124,7 +133,9 @@ fn write_store<D: Disk>(disk: &mut D, zeros: &[u8], slots: u32) -> Result<(), De
 
 /// Makes the status area that of a new store with this many slots. The other areas stay as they are.
 ///
-/// A stop within a format leaves the first 512 bytes as they were, or all slots closed.
+/// A stop within a format leaves the first 512 bytes as they were, or all slots closed. Where it is
+/// refused before its first write, nothing has changed; later, a next call goes by what the status
+/// area then holds.
 ///
 /// # Errors
 ///
@@ -136,7 +147,7 @@ pub fn format<D: Disk>(alloc: Global, disk: &mut D, slots: u32) -> Result<(), Fo
 
     ensures formatted { IsTrue D.tells → OnOk result (IsFormatted slots (D.state disk.old).areas (D.state disk.new).areas) }
     ensures stop { IsTrue D.tells → StopsShut slots (D.state disk.old).areas.status (D.state disk.new).areas.status }
-    ensures unchanged { IsEarly result → D.state disk.new ≡ D.state disk.old }
+    ensures refuses { IfErr result (λ fault. FormatRefuses D.tells slots (D.state disk.old) fault (D.state disk.new)) }
     ensures refused { (D.state disk.new).refused ≡ refusals_after result (D.state disk.old).refused }
 {
     if slots < 16 || slots > 65_536 {

@@ -15,6 +15,3 @@ pub use fault::{FormatFault, OpenFault};
 pub use formatting::format;
 pub use opening::read_image;
 pub use recovered::{CommitName, LiveChain, Recovered};
-
-#[cfg(test)]
-mod tests;

@@ -18,6 +18,7 @@ ghost use Rattle.recovery.specs.Answers.{after_reads};
 ghost use Rattle.recovery.specs.Faults.{IsReadFault, IsHeaderFault, IsRunsFault, IsImageFault};
 ghost use Rattle.recovery.specs.ReadsImage.{IsOpening, IsReadFrom};
 ghost use Rattle.recovery.specs.Names.{head_named, name_of, refusals_at_opening};
+ghost use Rattle.recovery.specs.Settling.{Settles, CountsMore, CountsAtMost};
 
 use crate::fault::OpenFault;
 use crate::members::read_members;
@@ -99,6 +100,9 @@ fn settle<D: Disk>(disk: &mut D) -> Result<(), DeviceFault>
     ensures settled { IsTrue D.tells → OnOk result ((D.state disk.new).areas ≡ settled_on (image_of (D.state disk.old).areas)) }
     ensures read { IsTrue D.tells → image_of (D.state disk.new).areas ≡ image_of (D.state disk.old).areas }
     ensures left { IsTrue D.tells → LeavesNoMore (D.state disk.old).areas (D.state disk.new).areas }
+    ensures moments { Settles D.tells (D.state disk.old) (D.state disk.new) }
+    ensures made { OnOk result (CountsMore 3 (D.state disk.old) (D.state disk.new)) }
+    ensures most { CountsAtMost 3 (D.state disk.old) (D.state disk.new) }
     ensures refused { (D.state disk.new).refused ≡ refusals result (D.state disk.old).refused }
 {
     disk.sync(Area::Status)?;
@@ -210,6 +214,10 @@ pub fn read_image<D: Disk>(alloc: Global, disk: &mut D) -> Result<Recovered, Ope
     ensures settled { IsTrue D.tells → OnOk result ((D.state disk.new).areas ≡ settled_on (image_of (D.state disk.old).areas)) }
     ensures read { IsTrue D.tells → image_of (D.state disk.new).areas ≡ image_of (D.state disk.old).areas }
     ensures left { IsTrue D.tells → LeavesNoMore (D.state disk.old).areas (D.state disk.new).areas }
+    // Three syncs and no write: at each moment a stop leaves nothing that it might not have left before.
+    ensures moments { Settles D.tells (D.state disk.old) (D.state disk.new) }
+    ensures made { OnOk result (CountsMore 3 (D.state disk.old) (D.state disk.new)) }
+    ensures most { CountsAtMost 3 (D.state disk.old) (D.state disk.new) }
     ensures refused { (D.state disk.new).refused ≡ refusals_at_opening result (D.state disk.old).refused }
 {
     settle(disk)?;

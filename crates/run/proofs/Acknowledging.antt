@@ -1,9 +1,12 @@
--- What was acknowledged stays published.
-use Rattle.std.proofs.Common.{◌≡◌, ℕ, Bool, true, false, cond, List, [], ◌∷◌, sym, subst}
+-- What was acknowledged is published, and stays so.
+use Rattle.std.proofs.Common.{◌≡◌, ℕ, Bool, true, false, cond, List, [], ◌∷◌, ◌++◌, sym, subst}
+use Rattle.std.specs.Prelude.{Contains}
 use Rattle.std.specs.List.{AllByRecursion}
+use Rattle.std.proofs.lemmas.List.Elements.{Contains-append_left}
 use Rattle.history.specs.Answers as answers
-use Rattle.history.specs.Machine.{Machine}
-use Rattle.history.proofs.Tickets.{done-stays}
+use Rattle.history.specs.Histories.{Commit, History}
+use Rattle.history.proofs.Runs.{run-shows}
+use Rattle.history.proofs.Tickets.{done-published}
 use Rattle.image.specs.Values.{Value, IsValue}
 use Rattle.run.specs.declared.calls.Call.{Call}
 use Rattle.run.specs.declared.calls.Call.TheVariants as call
@@ -13,12 +16,16 @@ use Rattle.run.specs.declared.calls.RedeemOutcome.{RedeemOutcome}
 use Rattle.run.specs.declared.calls.RedeemOutcome.TheVariants as told
 use Rattle.run.specs.Places.{Place, Free, Running, Waits, Views, place_at}
 use Rattle.run.specs.Worlds.{World}
-use Rattle.run.specs.Runs.{Does, Follows, Redeems, Run}
-use Rattle.run.specs.Promise.{with_done, acknowledged}
+use Rattle.run.specs.Runs.{Does, Follows, Redeems}
+use Rattle.run.specs.Moments.{with_done, with_answer, HasCommitAt}
 
--- these are published in the machine
-abbrev AreDone : Machine Value → List ℕ → Type 0
-AreDone m times = AllByRecursion (λ (t : ℕ). answers.redeemed_by m t ≡ answers.Done t) times
+abbrev AreIn : History Value → List ℕ → Type 0
+AreIn h times = AllByRecursion (HasCommitAt h) times
+
+-- what a history has, each that goes on from it has too
+pub more-have : (h more : History Value) (times : List ℕ) → AreIn h times → AreIn (h ++ more) times
+more-have h more [] all = tt
+more-have h more (t ∷ ts) all = let first = all.0 in ((first.0, Contains-append_left h more first.0 first.1, first.2), more-have h more ts all.1)
 
 -- Done names the ticket's own time
 done-time : (t time : ℕ) (published failed : Bool) → Path answers.Redeemed (cond published (answers.Done t) (cond failed answers.InDoubt answers.Waiting)) (answers.Done time) → t ≡ time
@@ -56,45 +63,39 @@ call-done w (call.TimesOf label) time next does = absurd does
 call-done w (call.Archive upto) time next does = absurd does
 call-done w call.JobPump time next does = absurd does
 
--- and stays so
-run-stays : (w : World) (cs : List Call) (said : List Answer) (end : World) (time : ℕ) → Run w cs said end → answers.redeemed_by w.machine time ≡ answers.Done time → answers.redeemed_by end.machine time ≡ answers.Done time
-run-stays w [] [] end time run done = subst (λ (x : World). answers.redeemed_by x.machine time ≡ answers.Done time) (sym run) done
-run-stays w [] (a ∷ said) end time run done = absurd run
-run-stays w (c ∷ cs) [] end time run done = absurd run
-run-stays w (c ∷ cs) (a ∷ said) end time run done = run-stays run.0 cs said end time run.3 (done-stays IsValue w.machine run.0.machine run.2.0 time run.2.1 done)
+-- what is published stays so
+pub follows-have : (w next : World) (times : List ℕ) → Follows w.machine next.machine → AreIn w.machine.published times → AreIn next.machine.published times
+follows-have w next times follows all =
+    let more = run-shows IsValue w.machine next.machine follows.0 follows.1 in
+    subst (λ (h : History Value). AreIn h times) (sym more.1) (more-have w.machine.published more.0 times all)
 
-more-done : (w : World) (c : Call) (o : RedeemOutcome) (cs : List Call) (said : List Answer) (next end : World) (times : List ℕ) → Does w c (answer.Redeem o) next → Follows w.machine next.machine → Run next cs said end → AreDone end.machine times
-    → AreDone end.machine (with_done o times)
-more-done w c (told.Done time) cs said next end times does follows run all =
-    (run-stays next cs said end time run (done-stays IsValue w.machine next.machine follows.0 time follows.1 (call-done w c time next does)), all)
-more-done w c told.Waiting cs said next end times does follows run all = all
-more-done w c told.InDoubt cs said next end times does follows run all = all
-more-done w c told.Stranger cs said next end times does follows run all = all
+with-redeemed : (w : World) (c : Call) (o : RedeemOutcome) (next : World) (times : List ℕ) → Does w c (answer.Redeem o) next → Follows w.machine next.machine → AreIn w.machine.published times → AreIn next.machine.published (with_done o times)
+with-redeemed w c (told.Done time) next times does follows all =
+    let found = (done-published w.machine time).0 (call-done w c time next does) in
+    follows-have w next (time ∷ times) follows (found, all)
+with-redeemed w c told.Waiting next times does follows all = follows-have w next times follows all
+with-redeemed w c told.InDoubt next times does follows all = follows-have w next times follows all
+with-redeemed w c told.Stranger next times does follows all = follows-have w next times follows all
 
-pub run-done : (w : World) (cs : List Call) (said : List Answer) (end : World) → Run w cs said end → AreDone end.machine (acknowledged said)
-run-done w [] [] end run = tt
-run-done w [] (a ∷ said) end run = absurd run
-run-done w (c ∷ cs) [] end run = absurd run
-run-done w (c ∷ cs) (a ∷ said) end run = by-answer a run.1 (run-done run.0 cs said end run.3)
-  where
-    by-answer : (b : Answer) → Does w c b run.0 → AreDone end.machine (acknowledged said) → AreDone end.machine (acknowledged (b ∷ said))
-    by-answer (answer.Redeem o) does all = more-done w c o cs said run.0 end (acknowledged said) does run.2 run.3 all
-    by-answer answer.Unknown does all = all
-    by-answer (answer.Begin x) does all = all
-    by-answer (answer.Put x) does all = all
-    by-answer (answer.Delete x) does all = all
-    by-answer (answer.Get x) does all = all
-    by-answer (answer.Scan x) does all = all
-    by-answer (answer.Submit x) does all = all
-    by-answer answer.Abort does all = all
-    by-answer (answer.Pump x) does all = all
-    by-answer answer.GiveUp does all = all
-    by-answer (answer.View x) does all = all
-    by-answer (answer.At x) does all = all
-    by-answer (answer.ScanAt x) does all = all
-    by-answer (answer.Between x) does all = all
-    by-answer (answer.ScanBetween x) does all = all
-    by-answer answer.End does all = all
-    by-answer (answer.TimesOf x) does all = all
-    by-answer (answer.Archive x) does all = all
-    by-answer (answer.JobPump x) does all = all
+-- so is what a call acknowledges
+pub call-acknowledges : (w : World) (c : Call) (a : Answer) (next : World) (times : List ℕ) → Does w c a next → Follows w.machine next.machine → AreIn w.machine.published times → AreIn next.machine.published (with_answer a times)
+call-acknowledges w c (answer.Redeem o) next times does follows all = with-redeemed w c o next times does follows all
+call-acknowledges w c answer.Unknown next times does follows all = follows-have w next times follows all
+call-acknowledges w c (answer.Begin x) next times does follows all = follows-have w next times follows all
+call-acknowledges w c (answer.Put x) next times does follows all = follows-have w next times follows all
+call-acknowledges w c (answer.Delete x) next times does follows all = follows-have w next times follows all
+call-acknowledges w c (answer.Get x) next times does follows all = follows-have w next times follows all
+call-acknowledges w c (answer.Scan x) next times does follows all = follows-have w next times follows all
+call-acknowledges w c (answer.Submit x) next times does follows all = follows-have w next times follows all
+call-acknowledges w c answer.Abort next times does follows all = follows-have w next times follows all
+call-acknowledges w c (answer.Pump x) next times does follows all = follows-have w next times follows all
+call-acknowledges w c answer.GiveUp next times does follows all = follows-have w next times follows all
+call-acknowledges w c (answer.View x) next times does follows all = follows-have w next times follows all
+call-acknowledges w c (answer.At x) next times does follows all = follows-have w next times follows all
+call-acknowledges w c (answer.ScanAt x) next times does follows all = follows-have w next times follows all
+call-acknowledges w c (answer.Between x) next times does follows all = follows-have w next times follows all
+call-acknowledges w c (answer.ScanBetween x) next times does follows all = follows-have w next times follows all
+call-acknowledges w c answer.End next times does follows all = follows-have w next times follows all
+call-acknowledges w c (answer.TimesOf x) next times does follows all = follows-have w next times follows all
+call-acknowledges w c (answer.Archive x) next times does follows all = follows-have w next times follows all
+call-acknowledges w c (answer.JobPump x) next times does follows all = follows-have w next times follows all

@@ -10,3 +10,4 @@ pub mod Views
 pub mod Runs
 pub mod Acknowledging
 pub mod Survival
+pub mod Linking

@@ -177,17 +177,17 @@ pump-goes tells v v' xs r sound pumps w is =
     places h' goes = push_nothing v'.transactions h' xs w.places
         (move v.transactions v'.transactions w.machine.published h' xs w.places is.places (λ i x p at shows. stays v.transactions v'.transactions w.machine.published h' x p (pump-keeps v.transactions v'.transactions x (pump-leaves tells v v' r pumps)) goes shows))
 
-    by-failure : (b : Bool) → w.machine.failed ≡ b → IfErr r IsStepFault → MatchBool b ((r ≡ Err pump.Failed) × Stands tells v' w.machine) ((after : Machine Value) × steps.Run IsValue w.machine (begins_in w.machine ++ ends_in r) after × Stands tells v' after)
+    by-failure : (b : Bool) → w.machine.failed ≡ b → IfErr r IsStepFault → MatchBool b ((r ≡ Err pump.Failed) × Stands tells v' w.machine) ((after : Machine Value) × steps.Run IsValue w.machine (begins_in w.machine ++ ends_in w.machine.gate r) after × Stands tells v' after)
         → (next : World) × Does w call.Pump (answer.Pump r) next × Follows w.machine next.machine × IsWorld tells v' (xs ++ held.Nothing ∷ []) next
     by-failure true failed refused did = (
       same w,
-      subst (λ (b : Bool). MatchBool b ((r ≡ Err pump.Failed) × (same w ≡ same w)) ((after : Machine Value) × IfErr r IsStepFault × steps.Run IsValue w.machine (begins_in w.machine ++ ends_in r) after × (same w ≡ same (moved w after)))) (sym failed) (did.0, refl),
+      subst (λ (b : Bool). MatchBool b ((r ≡ Err pump.Failed) × (same w ≡ same w)) ((after : Machine Value) × IfErr r IsStepFault × steps.Run IsValue w.machine (begins_in w.machine ++ ends_in w.machine.gate r) after × (same w ≡ same (moved w after)))) (sym failed) (did.0, refl),
       no-step w.machine,
       record { stands = did.1; places = places w.machine.published (goes_on-same w.machine.published) },
     )
     by-failure false works refused did = (
       same (moved w did.0),
-      subst (λ (b : Bool). MatchBool b ((r ≡ Err pump.Failed) × (same (moved w did.0) ≡ same w)) ((after : Machine Value) × IfErr r IsStepFault × steps.Run IsValue w.machine (begins_in w.machine ++ ends_in r) after × (same (moved w did.0) ≡ same (moved w after)))) (sym works) (did.0, refused, did.1, refl),
-      (begins_in w.machine ++ ends_in r, did.1),
-      record { stands = did.2; places = places did.0.published (run-goes_on w.machine did.0 (begins_in w.machine ++ ends_in r) did.2.machine did.1) },
+      subst (λ (b : Bool). MatchBool b ((r ≡ Err pump.Failed) × (same (moved w did.0) ≡ same w)) ((after : Machine Value) × IfErr r IsStepFault × steps.Run IsValue w.machine (begins_in w.machine ++ ends_in w.machine.gate r) after × (same (moved w did.0) ≡ same (moved w after)))) (sym works) (did.0, refused, did.1, refl),
+      (begins_in w.machine ++ ends_in w.machine.gate r, did.1),
+      record { stands = did.2; places = places did.0.published (run-goes_on w.machine did.0 (begins_in w.machine ++ ends_in w.machine.gate r) did.2.machine did.1) },
     )

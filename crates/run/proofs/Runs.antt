@@ -1,4 +1,4 @@
--- A run goes on by one call.
+-- Worlds before any call, and after one that leaves the machine as it is.
 use Rattle.std.proofs.Common.{Bool, List, [], ◌∷◌, ◌++◌, refl, subst}
 use Rattle.history.specs.Machine.{Machine}
 use Rattle.image.specs.Values.{Value}
@@ -7,13 +7,7 @@ use Rattle.store.specs.Values.{StoreValue}
 use Rattle.run.specs.declared.calls.Answer.{Answer}
 use Rattle.run.specs.declared.calls.Call.{Call}
 use Rattle.run.specs.Worlds.{World, IsWorld, started}
-use Rattle.run.specs.Runs.{Does, Follows, Run}
-
-pub run-push : (w : World) (calls : List Call) (answers : List Answer) (mid : World) (c : Call) (a : Answer) (end : World) → Run w calls answers mid → Does mid c a end → Follows mid.machine end.machine → Run w (calls ++ c ∷ []) (answers ++ a ∷ []) end
-run-push w [] [] mid c a end run does follows = (end, subst (λ (x : World). Does x c a end) run does, subst (λ (x : World). Follows x.machine end.machine) run follows, refl)
-run-push w (x ∷ xs) (y ∷ ys) mid c a end run does follows = (run.0, run.1, run.2, run-push run.0 xs ys mid c a end run.3 does follows)
-run-push w [] (y ∷ ys) mid c a end run does follows = absurd run
-run-push w (x ∷ xs) [] mid c a end run does follows = absurd run
+use Rattle.run.specs.Runs.{Follows}
 
 -- a call that leaves the machine as it is
 pub no-step : (m : Machine Value) → Follows m m

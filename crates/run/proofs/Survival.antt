@@ -1,31 +1,24 @@
 -- Whatever a stop may leave of a store survives, with all that was acknowledged.
-use Rattle.std.proofs.Common.{◌≡◌, ℕ, Bool, List, [], ◌∷◌, ◌++◌, take, drop, Option, None, refl, ap, sym, subst, ◌∙◌, inl, inr, append_assoc, append-nil}
-use Rattle.std.specs.Prelude.{IsTrue, Contains}
+use Rattle.std.proofs.Common.{◌≡◌, ℕ, Bool, List, [], ◌∷◌, ◌++◌, take, Option, None, Some, ap, sym, subst, inl, inr}
+use Rattle.std.specs.Prelude.{IsTrue}
 use Rattle.std.specs.List.{AllByRecursion}
-use Rattle.std.proofs.lemmas.List.{take-append-drop}
-use Rattle.std.proofs.lemmas.List.Elements.{Contains-append_left}
 use Rattle.disk.specs.Areas.{Image, LeavesImage}
-use Rattle.history.specs.Answers as answers
 use Rattle.history.specs.Floors.{Raising}
-use Rattle.history.specs.Fronts.{OnFront, OnRaised}
-use Rattle.history.specs.Histories.{Commit, History}
-use Rattle.history.specs.Machine.{Machine, commit_order, opened}
-use Rattle.history.proofs.Tickets.{done-published}
+use Rattle.history.specs.Fronts.{OnFront, OnOpened, OnRaised}
+use Rattle.history.specs.Histories.{History}
+use Rattle.history.specs.Machine.{Machine, Gate, Shut, Due, MayBeOpen, OfGroup, OfFloor, opened}
 use Rattle.image.specs.Values.{Value}
 use Rattle.status.specs.declared.header.Header.{Header}
 use Rattle.store.specs.Values.{StoreValue}
-use Rattle.standing.specs.OnDisk.{IsImageOf, StandsOnDisk}
+use Rattle.standing.specs.OnDisk.{IsImageOf}
 use Rattle.standing.specs.Stands.{Stands}
 use Rattle.opened.proofs.Opened.{open-stands}
 use Rattle.opened.proofs.Reopened.{open-refuses}
 use Rattle.opened.proofs.Answering.{stands-answers}
-use Rattle.run.specs.declared.calls.Call.{Call}
-use Rattle.run.specs.declared.calls.Answer.{Answer}
 use Rattle.run.specs.declared.held.Held.{Held}
-use Rattle.run.specs.Worlds.{World, IsWorld, started}
-use Rattle.run.specs.Runs.{Run}
-use Rattle.run.specs.Promise.{acknowledged, HasCommitAt, IsKeptAs, Survives, Promises, Promise}
-use Rattle.run.proofs.Acknowledging.{run-done}
+use Rattle.run.specs.Moments.{Moment, HasCommitAt, IsAtMoment}
+use Rattle.run.specs.Promise.{IsKeptAs, IsKeptWith, Leaves}
+use Rattle.run.proofs.Acknowledging.{more-have}
 
 -- an image that stands for a history is kept as it
 kept-as : (tells : Bool) (header : Header) (image : Image) (h : History Value) (floors : ℕ → ℕ) → IsTrue tells → IsImageOf header image h floors → IsKeptAs tells image h floors
@@ -40,48 +33,25 @@ kept-as tells header image h floors told is = record {
       (stands, stands-answers tells again (opened h floors) stands);
 }
 
--- what is acknowledged is published, so it is in each front
-all-published : (m : Machine Value) (front : History Value) (times : List ℕ) → ((c : Commit Value) → Contains m.published c → Contains front c) → AllByRecursion (λ (t : ℕ). answers.redeemed_by m t ≡ answers.Done t) times → AllByRecursion (HasCommitAt front) times
-all-published m front [] within all = tt
-all-published m front (t ∷ ts) within all =
-    let found = (done-published m t).0 all.0 in
-    ((found.0, within found.0 found.1, found.2), all-published m front ts within all.1)
+-- ---- fronts
 
-pub survives : (tells : Bool) (v : StoreValue) (m : Machine Value) (times : List ℕ) → Stands tells v m → IsTrue tells → AllByRecursion (λ (t : ℕ). answers.redeemed_by m t ≡ answers.Done t) times → (image : Image) → LeavesImage v.disk.areas image
-    → Survives tells m times image
-survives tells v m times stands told all image left =
-    let d = stands.disk told in
-    by-front d (d.leaves image left)
-  where
-    no-raise : (o : Option Raising) → o ≡ None → (P : History Value → (ℕ → ℕ) → Type 0) → OnRaised P m o → ⊥
-    no-raise o none P raised = subst (λ (r : Option Raising). OnRaised P m r) none raised
+module _ (tells : Bool) (header : Header) (image : Image) (m : Machine Value) (done : List ℕ) (told : IsTrue tells) (published : AllByRecursion (HasCommitAt m.published) done) where
+  on-raised : (o : Option Raising) → OnRaised (IsImageOf header image) m o → OnRaised (IsKeptWith tells image done) m o
+  on-raised None on = on
+  on-raised (Some r) on = record { kept = kept-as tells header image _ _ told on; acknowledged = published }
 
-    by-front : (d : StandsOnDisk v m) → OnFront (IsImageOf d.header image) m → Survives tells m times image
-    by-front d (inl is) = record {
-      front = m.published;
-      prefix = (m.queue, refl);
-      published = ([], sym (append-nil m.published));
-      acknowledged = all-published m m.published times (λ c has. has) all;
-      kept = kept-as tells d.header image m.published m.floors told is;
-    }
-    by-front d (inr (inl is)) = record {
-      front = m.published ++ take m.group m.queue;
-      prefix = (drop m.group m.queue, sym (append_assoc m.published (take m.group m.queue) (drop m.group m.queue) ∙ ap (λ (l : History Value). m.published ++ l) (take-append-drop m.group m.queue)));
-      published = (take m.group m.queue, refl);
-      acknowledged = all-published m (m.published ++ take m.group m.queue) times (λ c has. Contains-append_left m.published (take m.group m.queue) c has) all;
-      kept = kept-as tells d.header image (m.published ++ take m.group m.queue) m.floors told is;
-    }
-    by-front d (inr (inr raised)) = absurd (no-raise m.raising stands.memory.raising (IsImageOf d.header image) raised)
+  on-opened : (gate : Gate) → OnOpened (IsImageOf header image) m gate → OnOpened (IsKeptWith tells image done) m gate
+  on-opened Shut on = on
+  on-opened (Due change) on = on
+  on-opened (MayBeOpen OfGroup) on = record { kept = kept-as tells header image _ _ told on; acknowledged = more-have m.published (take m.group m.queue) done published }
+  on-opened (MayBeOpen OfFloor) on = on-raised m.raising on
 
--- ---- lists of calls
+  on-front : OnFront (IsImageOf header image) m → OnFront (IsKeptWith tells image done) m
+  on-front (inl on) = inl (record { kept = kept-as tells header image _ _ told on; acknowledged = published })
+  on-front (inr on) = inr (on-opened m.gate on)
 
--- after every list of calls whatever a stop may leave survives
-pub list-promises : (tells : Bool) (old : StoreValue) (m : Machine Value) (calls : List Call) (said : List Answer) (new : StoreValue) (held : List Held)
-    → (w : World) × Run (started m) calls said w × IsWorld tells new held w → Promises tells old m calls said new held
-list-promises tells old m calls said new held ran =
-    (ran.0, ran.1, ran.2, λ told image left. survives tells new ran.0.machine (acknowledged said) ran.2.stands told (run-done (started m) calls said ran.0 ran.1) image left)
-
-pub promise : Promise
-promise tells disk mark v new header h floors calls said held told sound is opens promised =
-    let ran = promised (opened h floors) (open-stands tells disk mark v header h floors opens told sound is) in
-    (ran.0, ran.1, λ image left. ran.3 told image left)
+-- whatever a stop may leave at a moment of a store survives
+pub moment-leaves : (tells : Bool) (v : StoreValue) (held : List Held) (at : Moment) → IsAtMoment tells v held at → Leaves tells at
+moment-leaves tells v held at is told image left =
+    let d = is.world.stands.disk told in
+    on-front tells d.header image at.world.machine at.done told is.published (d.leaves image (subst (λ (x : StoreValue). LeavesImage x.disk.areas image) is.store left))

@@ -1,4 +1,5 @@
 pub mod Places
 pub mod Worlds
 pub mod Runs
+pub mod Moments
 pub mod Promise

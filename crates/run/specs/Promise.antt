@@ -1,10 +1,12 @@
 -- What a store promises of each moment at which its machine may stop, in the words of its users.
-use Rattle.std.specs.Prelude.{ℕ, ◌≡◌, ◌++◌, Bool, IsTrue, List, [], ◌∷◌, Contains}
+use Rattle.std.specs.Prelude.{ℕ, ◌≡◌, ◌≤◌, ◌+◌, ◌⊎◌, Bool, IsTrue, List, [], ◌∷◌}
 use Rattle.std.specs.List.{AllByRecursion}
 use Rattle.disk.specs.Areas.{Image, AreSound, LeavesImage, LeavesNoMore, image_of}
 use Rattle.disk.specs.Calls.{DiskState}
-use Rattle.history.specs.Histories.{Commit, History}
-use Rattle.history.specs.Machine.{Machine, commit_order, opened}
+use Rattle.disk.specs.Within.{LeavesWithin}
+use Rattle.history.specs.Fronts.{OnFront}
+use Rattle.history.specs.Histories.{History}
+use Rattle.history.specs.Machine.{opened}
 use Rattle.image.specs.Values.{Value}
 use Rattle.status.specs.declared.header.Header.{Header}
 use Rattle.recovery.specs.Faults.{IsReadFault}
@@ -16,54 +18,11 @@ use Rattle.standing.specs.Stands.{Stands}
 use Rattle.opened.specs.Laws.{AnswersBy}
 use Rattle.run.specs.declared.calls.Call.{Call}
 use Rattle.run.specs.declared.calls.Answer.{Answer}
-use Rattle.run.specs.declared.calls.Answer.TheVariants as answer
-use Rattle.run.specs.declared.calls.RedeemOutcome.{RedeemOutcome}
-use Rattle.run.specs.declared.calls.RedeemOutcome.TheVariants as told
 use Rattle.run.specs.declared.held.Held.{Held}
-use Rattle.run.specs.Worlds.{World, IsWorld, started}
-use Rattle.run.specs.Runs.{Run}
-
--- ---- what was acknowledged
-
--- a commit is acknowledged by Done, which names its time
-abbrev pub with_done : RedeemOutcome → List ℕ → List ℕ
-with_done (told.Done time) times = time ∷ times
-with_done told.Waiting times = times
-with_done told.InDoubt times = times
-with_done told.Stranger times = times
-
--- the times of the commits that these answers acknowledge
-abbrev pub acknowledged : List Answer → List ℕ
-acknowledged [] = []
-acknowledged (answer.Redeem outcome ∷ answers) = with_done outcome (acknowledged answers)
-acknowledged (answer.Unknown ∷ answers) = acknowledged answers
-acknowledged (answer.Begin said ∷ answers) = acknowledged answers
-acknowledged (answer.Put said ∷ answers) = acknowledged answers
-acknowledged (answer.Delete said ∷ answers) = acknowledged answers
-acknowledged (answer.Get said ∷ answers) = acknowledged answers
-acknowledged (answer.Scan said ∷ answers) = acknowledged answers
-acknowledged (answer.Submit said ∷ answers) = acknowledged answers
-acknowledged (answer.Abort ∷ answers) = acknowledged answers
-acknowledged (answer.Pump said ∷ answers) = acknowledged answers
-acknowledged (answer.GiveUp ∷ answers) = acknowledged answers
-acknowledged (answer.View said ∷ answers) = acknowledged answers
-acknowledged (answer.At said ∷ answers) = acknowledged answers
-acknowledged (answer.ScanAt said ∷ answers) = acknowledged answers
-acknowledged (answer.Between said ∷ answers) = acknowledged answers
-acknowledged (answer.ScanBetween said ∷ answers) = acknowledged answers
-acknowledged (answer.End ∷ answers) = acknowledged answers
-acknowledged (answer.TimesOf said ∷ answers) = acknowledged answers
-acknowledged (answer.Archive said ∷ answers) = acknowledged answers
-acknowledged (answer.JobPump said ∷ answers) = acknowledged answers
-
--- a commit of this time stands in the history
-abbrev pub HasCommitAt : History Value → ℕ → Type 0
-HasCommitAt h time = (c : Commit Value) × Contains h c × (c.time ≡ time)
+use Rattle.run.specs.Moments.{Moment, first_moment, with_answer, HasCommitAt, IsAtMoment}
+use Rattle.run.specs.Runs.{Does, Follows}
 
 -- ---- what a stop leaves
-
-abbrev pub IsPrefixOf : History Value → History Value → Type 0
-IsPrefixOf front whole = (rest : History Value) × (whole ≡ front ++ rest)
 
 -- An image is kept as this history: it stands for it, it opens unless the device or memory gives out, and all that the store which opens it answers is what the history's write sets say. A stop while it is opened leaves nothing that the disk might not have left before.
 pub record IsKeptAs (tells : Bool) (image : Image) (h : History Value) (floors : ℕ → ℕ) : Type 0 where
@@ -72,24 +31,55 @@ pub record IsKeptAs (tells : Bool) (image : Image) (h : History Value) (floors :
   pub opens : (disk new : DiskState) (why : OpenFault) → image_of disk.areas ≡ image → OpenRefuses tells disk why new → IsReadFault why × LeavesNoMore disk.areas new.areas
   pub answers : (disk : DiskState) (mark : ℕ) (again : StoreValue) → image_of disk.areas ≡ image → AreSound disk.areas → Opens tells disk mark again → Stands tells again (opened h floors) × AnswersBy again h floors
 
--- An image that a stop leaves is kept as a prefix of the commit order that has all that is published, and so every acknowledged commit.
-pub record Survives (tells : Bool) (m : Machine Value) (done : List ℕ) (image : Image) : Type 0 where
-  pub front : History Value
-  pub prefix : IsPrefixOf front (commit_order m)
-  pub published : IsPrefixOf m.published front
-  pub acknowledged : AllByRecursion (HasCommitAt front) done
-  pub kept : IsKeptAs tells image front m.floors
+-- An image is kept as this history, which has every commit that was acknowledged.
+pub record IsKeptWith (tells : Bool) (image : Image) (done : List ℕ) (h : History Value) (floors : ℕ → ℕ) : Type 0 where
+  pub kept : IsKeptAs tells image h floors
+  pub acknowledged : AllByRecursion (HasCommitAt h) done
 
--- whatever a stop may now leave survives
-abbrev pub Leaves : Bool → StoreValue → List Answer → World → Type 0
-Leaves tells v answers w = IsTrue tells → (image : Image) → LeavesImage v.disk.areas image → Survives tells w.machine (acknowledged answers) image
+-- It survives: it is kept as what is published at this moment or, once the gate of the group may be open, as that with the whole group.
+abbrev pub Survives : Bool → Moment → Image → Type 0
+Survives tells at image = OnFront (IsKeptWith tells image at.done) at.world.machine
 
--- What a list of calls does to a store that stands for this state of the machine: the answers are those of a run of the machine, with what the places hold, and whatever a stop may leave after it survives.
-abbrev pub Promises : Bool → StoreValue → Machine Value → List Call → List Answer → StoreValue → List Held → Type 0
-Promises tells old m calls answers new held = (w : World) × Run (started m) calls answers w × IsWorld tells new held w × Leaves tells new answers w
+-- whatever a stop may leave at this moment survives
+abbrev pub Leaves : Bool → Moment → Type 0
+Leaves tells at = IsTrue tells → (image : Image) → LeavesImage at.store.disk.areas image → Survives tells at image
+
+-- and so does whatever it may leave within the call between two moments
+abbrev pub LeavesBetween : Bool → Moment → Moment → Type 0
+LeavesBetween tells before after = IsTrue tells → (image : Image) → LeavesWithin before.store.disk.areas after.store.disk.areas image → Survives tells before image ⊎ Survives tells after image
+
+-- ---- lists of calls
+
+-- A call leads from one moment to the next by its answer, with at most one write or sync of the disk.
+pub record Link (tells : Bool) (call : Call) (answer : Answer) (before after : Moment) : Type 0 where
+  pub does : Does before.world call answer after.world
+  pub follows : Follows before.world.machine after.world.machine
+  pub acknowledges : after.done ≡ with_answer answer before.done
+  pub makes_few : after.store.disk.made ≤ before.store.disk.made + 1
+  pub leaves_within : LeavesBetween tells before after
+  pub leaves : Leaves tells after
+
+-- from each moment of the store and the places, the call leads by this answer to one of theirs after it
+abbrev pub LinksOne : Bool → StoreValue → List Held → Call → Answer → StoreValue → List Held → Type 0
+LinksOne tells old before c a new after = (start : Moment) → IsAtMoment tells old before start → (next : Moment) × Link tells c a start next × IsAtMoment tells new after next
+
+-- one call after another
+abbrev pub Chain : Bool → List Call → List Answer → Moment → Moment → Type 0
+Chain tells [] [] start end = end ≡ start
+Chain tells (c ∷ cs) (a ∷ said) start end = (next : Moment) × Link tells c a start next × Chain tells cs said next end
+Chain tells cs said start end = ⊥
+
+-- A list of calls, from this moment to that one: the answers are those of a run of the machine, and whatever a stop may leave before, within or after any call survives.
+pub record Promises (tells : Bool) (calls : List Call) (answers : List Answer) (start end : Moment) : Type 0 where
+  pub first : Leaves tells start
+  pub chain : Chain tells calls answers start end
+
+-- from each moment of the store and the places, the calls lead by these answers to one of theirs after it
+abbrev pub KeepsPromise : Bool → StoreValue → List Held → List Call → List Answer → StoreValue → List Held → Type 0
+KeepsPromise tells old before calls answers new after = (start : Moment) → IsAtMoment tells old before start → (end : Moment) × Promises tells calls answers start end × IsAtMoment tells new after end
 
 -- The whole promise: for every list of calls, by any number of callers in turn, on a store opened on an image that stands for some history.
 abbrev pub Promise : Type 0
 Promise = (tells : Bool) (disk : DiskState) (mark : ℕ) (v new : StoreValue) (header : Header) (h : History Value) (floors : ℕ → ℕ) (calls : List Call) (answers : List Answer) (held : List Held)
-    → IsTrue tells → AreSound disk.areas → IsImageOf header (image_of disk.areas) h floors → Opens tells disk mark v → ((m : Machine Value) → Stands tells v m → Promises tells v m calls answers new held)
-    → (w : World) × Run (started (opened h floors)) calls answers w × ((image : Image) → LeavesImage new.disk.areas image → Survives tells w.machine (acknowledged answers) image)
+    → IsTrue tells → AreSound disk.areas → IsImageOf header (image_of disk.areas) h floors → Opens tells disk mark v → KeepsPromise tells v [] calls answers new held
+    → (end : Moment) × Promises tells calls answers (first_moment v (opened h floors)) end × IsAtMoment tells new held end

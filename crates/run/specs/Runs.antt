@@ -126,7 +126,7 @@ IsStepFault why = (why ≡ pump.Failed) ⊎ (why ≡ pump.Busy)
 -- a step of a group is a run of the machine, and nothing where the store has failed
 abbrev pub Pumps : World → Result Did PumpFault → World → Type 0
 Pumps w said next = MatchBool w.machine.failed ((said ≡ Err pump.Failed) × (next ≡ same w))
-    ((after : Machine Value) × IfErr said IsStepFault × steps.Run IsValue w.machine (begins_in w.machine ++ ends_in said) after × (next ≡ same (moved w after)))
+    ((after : Machine Value) × IfErr said IsStepFault × steps.Run IsValue w.machine (begins_in w.machine ++ ends_in w.machine.gate said) after × (next ≡ same (moved w after)))
 
 -- a ticket is spent but by Waiting
 abbrev pub Redeems : World → ℕ → Place → RedeemOutcome → World → Type 0
@@ -240,12 +240,6 @@ Does w c a next = ⊥
 -- a run of the machine leads from one state to the other
 abbrev pub Follows : Machine Value → Machine Value → Type 0
 Follows m after = (events : List (Event Value)) × steps.Run IsValue m events after
-
--- one call after another: what a call does to the machine is a run of it
-abbrev pub Run : World → List Call → List Answer → World → Type 0
-Run w [] [] end = end ≡ w
-Run w (c ∷ cs) (a ∷ said) end = (next : World) × Does w c a next × Follows w.machine next.machine × Run next cs said end
-Run w cs said end = ⊥
 
 -- from each world of the store and the places the call leads by this answer to one of theirs after it
 abbrev pub Goes : Bool → StoreValue → List Held → Call → Answer → StoreValue → List Held → Type 0

@@ -12,7 +12,4 @@ mod viewing;
 pub use calls::{Answer, Call, RedeemOutcome, SubmitOutcome};
 pub use held::Held;
 pub use opening::{close, format, open, whatever_a_stop_leaves};
-pub use runner::run;
-
-#[cfg(test)]
-mod tests;
+pub use runner::{give_back, run, run_on, step};

@@ -1,5 +1,5 @@
 //! Formatting, opening and closing, with what they stand for.
-ghost use Rattle.std.specs.Prelude.{ℕ, ◌≡◌, [], IsTrue, IfOk, IfErr, OnOk, MatchResult};
+ghost use Rattle.std.specs.Prelude.{ℕ, ◌≡◌, ◌↔◌, [], IsTrue, IfOk, IfErr, OnOk, MatchResult, Err};
 ghost use Rattle.disk.specs.Areas.{Image, LeavesImage, LeavesNoMore, image_of};
 ghost use Rattle.history.specs.Fronts.{OnFront};
 ghost use Rattle.history.specs.Histories.{History};
@@ -8,6 +8,8 @@ ghost use Rattle.image.specs.Values.{Value};
 ghost use Rattle.status.specs.declared.header.Header.{Header};
 ghost use Rattle.status.specs.Header.{new_header};
 ghost use Rattle.recovery.specs.Faults.{IsReadFault};
+ghost use Rattle.recovery.specs.Format.{IsSlotCount, IsOccupied, IsTakenAnswer, FormatRefuses};
+ghost use Rattle.recovery.specs.Settling.{Settles, CountsMore, CountsAtMost};
 ghost use Rattle.store.specs.Opens.{Opens, OpenRefuses};
 ghost use Rattle.standing.specs.OnDisk.{IsImageOf};
 ghost use Rattle.standing.specs.Stands.{Stands};
@@ -26,6 +28,11 @@ use store::{OpenFault, Store};
 pub fn format<D: Disk>(alloc: Global, disk: &mut D, slots: u32) -> Result<(), FormatFault>
     // Whatever a stop may leave of a formatted disk is an image of the empty history.
     ensures stands { IsTrue D.tells → OnOk result ((image : Image) → LeavesImage (D.state disk.new).areas image → IsImageOf (new_header 1 slots) image [] (λ relation. 0)) }
+    ensures bad_slots { (result ≡ Err FormatFault.BadSlots) ↔ ¬ IsSlotCount slots }
+    ensures occupied { IsTrue D.tells → result ≡ Err FormatFault.Occupied → IsOccupied (D.state disk.old).areas.status.bytes }
+    ensures free { IsTrue D.tells → IsOccupied (D.state disk.old).areas.status.bytes → IsTakenAnswer result }
+    // Before its first write a refused format has changed nothing; later, a next call goes by what the status area holds.
+    ensures refuses { IfErr result (λ fault. FormatRefuses D.tells slots (D.state disk.old) fault (D.state disk.new)) }
 {
     recovery::format(alloc, disk, slots)
 }
@@ -40,8 +47,12 @@ pub fn open<D: Disk>(alloc: Global, disk: D, mark: u64) -> Result<Store<D>, (Ope
     ensures err { IfErr result (λ e. OpenRefuses D.tells (D.state disk) e.0 (D.state e.1)) }
     // On an image that stands for a history the store stands for it. Nothing but the device or memory refuses it, and then the disk still holds the image.
     ensures stands { (header : Header) (h : History Value) (floors : ℕ → ℕ) → IsTrue D.tells → IsImageOf header (image_of (D.state disk).areas) h floors → MatchResult result (λ s. Stands D.tells s (opened h floors)) (λ e. IsReadFault e.0 × (image_of (D.state e.1).areas ≡ image_of (D.state disk).areas)) }
+    // It makes three syncs and no write, or, where it is refused, at most three.
+    ensures made { MatchResult result (λ s. CountsMore 3 (D.state disk) s.disk) (λ e. CountsAtMost 3 (D.state disk) (D.state e.1)) }
     // A stop while it opens, refused or not, leaves nothing that it might not have left before.
     ensures stops { IsTrue D.tells → MatchResult result (λ s. LeavesNoMore (D.state disk).areas s.disk.areas) (λ e. LeavesNoMore (D.state disk).areas (D.state e.1).areas) }
+    // So it does at each moment of it.
+    ensures moments { MatchResult result (λ s. Settles D.tells (D.state disk) s.disk) (λ e. Settles D.tells (D.state disk) (D.state e.1)) }
 {
     Store::open(alloc, disk, mark)
 }

@@ -1,13 +1,10 @@
 //! Lists of calls.
 ghost use Rattle.std.specs.Prelude.{◌≡◌, ◌≤◌, ◌+◌, ◌++◌, ◌∷◌, [], length, IfOk, OnErr};
-ghost use Rattle.history.specs.Machine.{Machine};
-ghost use Rattle.image.specs.Values.{Value};
-ghost use Rattle.standing.specs.Stands.{Stands};
 ghost use Rattle.run.specs.Runs.{Goes, MakesFew};
-ghost use Rattle.run.specs.Promise.{Promises};
+ghost use Rattle.run.specs.Promise.{KeepsPromise, LinksOne};
 
 use crate::calls::{Answer, Call};
-use crate::held::Held;
+use crate::held::{Held, discard};
 use crate::redeeming::{give_up, redeem};
 use crate::transacting::{abort, begin, delete, get, put, scan, submit};
 use crate::viewing::{at, between, end, scan_at, scan_between, times_of, view};
@@ -18,7 +15,7 @@ use store::Store;
 /// Makes the calls in turn, and gives the answer to each and what its place holds at the end. A call
 /// names a transaction, a ticket or a view by the place in the list of the call that gave it. Where
 /// that call gave none, or its value is spent, the answer is `Unknown` and nothing changes. What is
-/// left over at the end is given back unspent.
+/// left over at the end is the caller's: `give_back` gives it back unspent, `run_on` goes on with it.
 ///
 /// # Errors
 ///
@@ -28,24 +25,73 @@ pub fn run<D: Disk>(
     store: &mut Store<D>,
     calls: &[Call<'_>],
 ) -> Result<(Vec<Answer>, Vec<Held>), AllocError>
-    // For each state of the machine that the store stands for: the answers are those of a run of the machine with what the places hold, the store stands for the state after it, and whatever a stop may now leave is kept as a prefix of the commit order that has every commit of which Done was answered.
-    ensures run { IfOk result (λ (answers, places). (m : Machine Value) → Stands D.tells store.old m → Promises D.tells store.old m calls.now answers.items store.new places.items) }
+    // From each moment of the store: the answers are those of a run of the machine, and whatever a stop may leave before, within or after any of the calls is kept as what is published then or, once the gate of the group may be open, as that with the whole group; it has every commit of which Done was answered.
+    ensures run { IfOk result (λ (answers, places). KeepsPromise D.tells store.old [] calls.now answers.items store.new places.items) }
     // Each call makes at most one write or sync of the disk.
     ensures made { store.new.disk.made ≤ store.old.disk.made + length calls.now }
     ensures err { OnErr result (store.new ≡ store.old) }
 {
+    let mut places = Vec::new(alloc);
+    match run_on(alloc, store, &mut places, calls) {
+        Ok(answers) => Ok((answers, places)),
+        Err(why) => {
+            give_back(places);
+            Err(why)
+        }
+    }
+}
+
+/// Goes on with the places of earlier lists, in which a call may name what an earlier list left.
+///
+/// # Errors
+///
+/// Where there is no memory for the answers and the places. Then no call is made.
+pub fn run_on<D: Disk>(
+    alloc: Global,
+    store: &mut Store<D>,
+    places: &mut Vec<Held>,
+    calls: &[Call<'_>],
+) -> Result<Vec<Answer>, AllocError>
+    ensures run { IfOk result (λ answers. KeepsPromise D.tells store.old places.old.items calls.now answers.items store.new places.new.items) }
+    ensures made { store.new.disk.made ≤ store.old.disk.made + length calls.now }
+    ensures err { OnErr result (store.new ≡ store.old) }
+    ensures left { OnErr result (places.new.items ≡ places.old.items) }
+{
     let mut answers = Vec::with_capacity(alloc, calls.len())?;
-    let mut places = Vec::with_capacity(alloc, calls.len())?;
+    places.reserve(calls.len())?;
     for call in calls {
-        let (answer, held) = step(alloc, store, &mut places, *call);
+        let (answer, held) = step(alloc, store, places, *call);
         answers.push_reserved(answer);
         places.push_reserved(held);
     }
-    Ok((answers, places))
+    Ok(answers)
+}
+
+/// Gives back what calls left in their places. No store is asked, and none changes.
+pub fn give_back(mut places: Vec<Held>) {
+    while let Some(held) = places.pop() {
+        discard(held);
+    }
+    places.destroy_empty();
+}
+
+/// One call: its answer, and what its place holds from then on, which is the next one behind the
+/// places that the call may name.
+pub fn step<D: Disk>(
+    alloc: Global,
+    store: &mut Store<D>,
+    places: &mut [Held],
+    call: Call<'_>,
+) -> (Answer, Held)
+    // From each moment of the store and the places the call leads to one of theirs after it.
+    ensures links { LinksOne D.tells store.old places.old call.entry result.0 store.new (places.new ++ result.1 ∷ []) }
+    ensures made { MakesFew store.old store.new }
+{
+    answer_call(alloc, store, places, call)
 }
 
 // One call: its answer, and what its place holds from then on.
-fn step<D: Disk>(
+fn answer_call<D: Disk>(
     alloc: Global,
     store: &mut Store<D>,
     places: &mut [Held],

@@ -12,6 +12,3 @@ pub use fields::Fields;
 pub use line::{Line, parse};
 pub use name::Name;
 pub use times::read_time;
-
-#[cfg(test)]
-mod tests;

@@ -1,8 +1,8 @@
 -- A run goes on by one line.
 use Rattle.std.proofs.Common.{subst, ◌≡◌, ℕ, ◌+◌, Bool, true, false, [], ◌∷◌, ◌++◌, refl, Option, Some, None, Ok, Err, append_assoc, append-nil}
 use Rattle.std.specs.Prelude.{IfSome, ⊤}
-use Rattle.std.specs.Io.KnownBytes.{Appends}
-use Rattle.std.proofs.KnownBytes.{Appends-nil, Appends-trans}
+use Rattle.std.specs.Io.KnownBytes.{Appends, Keeps}
+use Rattle.std.proofs.KnownBytes.{Appends-kept, Appends-nil, Appends-trans}
 use Rattle.session.specs.Session.{State, Closes}
 use Rattle.session.specs.Texts.{Text}
 use Rattle.session.specs.Run.{End, Reads, Run, Turn, lines_of}
@@ -22,6 +22,12 @@ Known tells input first written w end = IfSome input (λ text. (out : Text) × R
 pub so_far_start : (tells : Bool) (i w : Option Text) (s : State) → SoFar tells i i 1 s s w w
 so_far_start tells None w s = tt
 so_far_start tells (Some text) w s = ([], Appends-nil w, λ more end r. r)
+
+-- giving out what was written changes nothing of that
+pub so_far_kept : (tells : Bool) (i0 i w0 w v : Option Text) (n : ℕ) (s0 s : State) → SoFar tells i0 i n s0 s w0 w → Keeps w v → SoFar tells i0 i n s0 s w0 v
+so_far_kept tells None i w0 w v n s0 s so kept = tt
+so_far_kept tells (Some text) None w0 w v n s0 s so kept = absurd so
+so_far_kept tells (Some text) (Some xs) w0 w v n s0 s so kept = (so.0, Appends-kept w0 w v so.0 so.1 kept, so.2)
 
 pub so_far_next : (tells : Bool) (i0 i j w0 w v : Option Text) (n : ℕ) (s0 s t : State) (line slice : Text) (some : Bool) → SoFar tells i0 i n s0 s w0 w
     → Reads i j some line → some ≡ true → slice ≡ line → ((out : Text) × Turn tells n s slice out (Ok t) × Appends w v out)

@@ -1,9 +1,10 @@
 -- One line of the script, on a store and the names in use.
-use Rattle.std.specs.Prelude.{◌≡◌, ◌≢◌, ℕ, ◌+◌, ◌↔◌, Bool, true, false, not, ◌||◌, nat_lt, List, [], ◌∷◌, ◌++◌, length, Option, Some, None, Result, Ok, Err, IfOk, OnOk, OnErr, IsSome, is_some, position, MatchOption, slice_get, remove}
+use Rattle.std.specs.Prelude.{◌≡◌, ◌≢◌, ℕ, ◌+◌, ◌↔◌, Bool, true, false, not, ◌||◌, ◌⊎◌, ◌<◌, ◌^◌, nat_lt, List, [], ◌∷◌, ◌++◌, length, Option, Some, None, Result, Ok, Err, IfOk, OnOk, OnErr, IsSome, IsTrue, is_some, position, MatchOption, slice_get, remove}
 use Rattle.std.specs.Str.{bytes_eq}
 use Rattle.std.specs.declared.alloc.AllocError.{AllocError}
 use Rattle.std.specs.declared.alloc.Global.{Global}
 use Rattle.std.specs.declared.vec.Vec.{Vec}
+use Rattle.disk.specs.Areas.{AreSound}
 use Rattle.disk.specs.Calls.{DiskState}
 use Rattle.history.specs.declared.key.Key.{Key}
 use Rattle.history.specs.declared.time.Version.{Version}
@@ -16,7 +17,7 @@ use Rattle.group.specs.declared.answers.Did.TheVariants as did
 use Rattle.group.specs.declared.answers.PumpFault.{PumpFault}
 use Rattle.group.specs.declared.answers.Redeemed.{Redeemed}
 use Rattle.group.specs.declared.answers.Redeemed.TheVariants as redeemed_as
-use Rattle.snapshot.specs.Txn.{TxnValue, seen_by, with_put, with_delete, IsFullFor}
+use Rattle.snapshot.specs.Txn.{TxnValue, AreTxnWrites, seen_by, with_put, with_delete, IsFullFor}
 use Rattle.snapshot.specs.declared.txn.TxnFault.{TxnFault}
 use Rattle.wire.specs.Values.{HasSizes}
 use Rattle.snapshot.specs.declared.txn.TxnFault.TheVariants as refuses
@@ -94,13 +95,21 @@ abbrev pub BeginStep : State → Text → Reply → State → Type 0
 BeginStep old name r new = (answer : Result TxnValue BeginFault) × store.Begins old.store answer new.store × (r ≡ begun answer)
     × (new.opened ≡ with_begun name old.opened answer) × (new.tickets ≡ old.tickets)
 
--- what a put answers
-pub record Puts (old : TxnValue) (key : Key) (fields : List Text) (answer : Result (Unit {0}) TxnFault) (new : TxnValue) : Type 0 where
+-- what a transaction answers to a put
+pub record AnswersPut (old : TxnValue) (key : Key) (fields : List Text) (answer : Result (Unit {0}) TxnFault) (new : TxnValue) : Type 0 where
   pub ok : OnOk answer (new ≡ with_put old key fields)
   pub missing : answer ≢ Err refuses.Missing
-  pub too_many : answer ≡ Err refuses.TooManyKeys → IsFullFor old.writes key
-  pub bad : answer ≡ Err refuses.BadValue → ¬ HasSizes fields
+  pub too_many : (answer ≡ Err refuses.TooManyKeys) ↔ IsFullFor old.writes key
+  pub bad : (answer ≡ Err refuses.BadValue) ↔ ((¬ IsFullFor old.writes key) × (¬ HasSizes fields))
   pub err : OnErr answer (new ≡ old)
+
+-- there is no memory for the fields, and the transaction is not asked
+abbrev pub LacksMemory : TxnValue → Result (Unit {0}) TxnFault → TxnValue → Type 0
+LacksMemory old answer new = (answer ≡ Err refuses.NoMemory) × (new ≡ old)
+
+-- what a put answers
+abbrev pub Puts : TxnValue → Key → List Text → Result (Unit {0}) TxnFault → TxnValue → Type 0
+Puts old key fields answer new = LacksMemory old answer new ⊎ AnswersPut old key fields answer new
 
 -- what a delete answers
 pub record Deletes (old : TxnValue) (key : Key) (answer : Result (Unit {0}) TxnFault) (new : TxnValue) : Type 0 where
@@ -113,6 +122,10 @@ pub record Deletes (old : TxnValue) (key : Key) (answer : Result (Unit {0}) TxnF
 abbrev pub done : Result (Unit {0}) TxnFault → Reply
 done (Ok _) = reply.Ok
 done (Err f) = reply.Refused (fault.Txn f)
+
+-- the writes of a transaction are as a transaction's are
+abbrev pub IsTxn : TxnValue → Type 0
+IsTxn t = AreTxnWrites t.state t.snapshot t.writes
 
 -- the transaction of a name becomes another, and the name goes to the end of the list
 abbrev pub WithTxn : State → ℕ → OpenName → TxnValue → State → Type 0
@@ -136,7 +149,7 @@ GetStep old i key r new = (e : OpenName) × (answer : Result (Option (List Text)
     × IfOk answer (λ value. value ≡ seen_by e.txn key) × (r ≡ seen answer) × (new ≡ old)
 
 abbrev pub AbortStep : State → ℕ → Reply → State → Type 0
-AbortStep old i r new = (e : OpenName) × (slice_get old.opened i ≡ Some e) × store.Aborts old.store e.txn new.store × (r ≡ reply.Ok)
+AbortStep old i r new = (e : OpenName) × (slice_get old.opened i ≡ Some e) × IsTxn e.txn × store.Aborts old.store e.txn new.store × (r ≡ reply.Ok)
     × (new.opened ≡ remove old.opened i) × (new.tickets ≡ old.tickets)
 
 abbrev pub submitted : Result Submitted SubmitFault → Reply
@@ -151,7 +164,7 @@ with_submitted name tickets (Ok (submitted_as.Queued ticket)) = tickets ++ recor
 with_submitted name tickets (Err f) = tickets
 
 abbrev pub SubmitStep : State → ℕ → ℕ → ℕ → Reply → State → Type 0
-SubmitStep old i label now r new = (e : OpenName) × (answer : Result Submitted SubmitFault) × (slice_get old.opened i ≡ Some e)
+SubmitStep old i label now r new = (e : OpenName) × (answer : Result Submitted SubmitFault) × (slice_get old.opened i ≡ Some e) × IsTxn e.txn × (label < 2 ^ 64)
     × store.Submits old.store e.txn label now answer new.store × (r ≡ submitted answer)
     × (new.opened ≡ remove old.opened i) × (new.tickets ≡ with_submitted e.name old.tickets answer)
 
@@ -177,8 +190,13 @@ abbrev pub pumped : Result Did PumpFault → Reply
 pumped (Ok step) = reply.Did step
 pumped (Err f) = reply.Refused (fault.Pump f)
 
+-- the store takes a step of the commits that are queued, and a disk that tells its bytes is sound after it
+pub record StepsGroup (tells : Bool) (old : StoreValue) (answer : Result Did PumpFault) (new : StoreValue) : Type 0 where
+  pub is : Pumps tells old answer new
+  pub sound : IsTrue tells → AreSound new.disk.areas
+
 abbrev pub PumpStep : Bool → StoreValue → Reply → StoreValue → Type 0
-PumpStep tells old r new = (answer : Result Did PumpFault) × Pumps tells old answer new × (r ≡ pumped answer)
+PumpStep tells old r new = (answer : Result Did PumpFault) × StepsGroup tells old answer new × (r ≡ pumped answer)
 
 -- nothing is left to do, or the step was refused
 abbrev pub EndsFlush : Result Did PumpFault → Type 0
@@ -188,7 +206,7 @@ EndsFlush (Err f) = Unit {0}
 -- these steps are taken, and none of them ends the flush
 abbrev pub TakesSteps : Bool → StoreValue → List Did → StoreValue → Type 0
 TakesSteps tells old [] new = new ≡ old
-TakesSteps tells old (step ∷ steps) new = (mid : StoreValue) × Pumps tells old (Ok step) mid × (step ≢ did.Idle) × TakesSteps tells mid steps new
+TakesSteps tells old (step ∷ steps) new = (mid : StoreValue) × StepsGroup tells old (Ok step) mid × (step ≢ did.Idle) × TakesSteps tells mid steps new
 
 -- steps are taken until one ends the flush, which alone is answered
 pub record Flushes (tells : Bool) (old : StoreValue) (r : Reply) (new : StoreValue) : Type 0 where
@@ -196,7 +214,7 @@ pub record Flushes (tells : Bool) (old : StoreValue) (r : Reply) (new : StoreVal
   pub mid : StoreValue
   pub before : TakesSteps tells old steps mid
   pub answer : Result Did PumpFault
-  pub last : Pumps tells mid answer new
+  pub last : StepsGroup tells mid answer new
   pub ends : EndsFlush answer
   pub reply : r ≡ pumped answer
 
@@ -211,8 +229,13 @@ abbrev pub worked : Result JobDid PumpFault → Reply
 worked (Ok step) = reply.JobDid step
 worked (Err f) = reply.Refused (fault.Pump f)
 
+-- the store takes a step of its job, and a disk that tells its bytes is sound after it
+pub record StepsJob (tells : Bool) (old : StoreValue) (answer : Result JobDid PumpFault) (new : StoreValue) : Type 0 where
+  pub is : PumpsJob tells old answer new
+  pub sound : IsTrue tells → AreSound new.disk.areas
+
 abbrev pub JobStep : Bool → StoreValue → Reply → StoreValue → Type 0
-JobStep tells old r new = (answer : Result JobDid PumpFault) × PumpsJob tells old answer new × (r ≡ worked answer)
+JobStep tells old r new = (answer : Result JobDid PumpFault) × StepsJob tells old answer new × (r ≡ worked answer)
 
 -- no job is left, or its step was refused
 abbrev pub EndsFinish : Result JobDid PumpFault → Type 0
@@ -222,7 +245,7 @@ EndsFinish (Err f) = Unit {0}
 -- these steps of a job are taken, and none of them ends the finish
 abbrev pub TakesJobSteps : Bool → StoreValue → List JobDid → StoreValue → Type 0
 TakesJobSteps tells old [] new = new ≡ old
-TakesJobSteps tells old (step ∷ steps) new = (mid : StoreValue) × PumpsJob tells old (Ok step) mid × (step ≢ job_did.Idle) × TakesJobSteps tells mid steps new
+TakesJobSteps tells old (step ∷ steps) new = (mid : StoreValue) × StepsJob tells old (Ok step) mid × (step ≢ job_did.Idle) × TakesJobSteps tells mid steps new
 
 -- steps of a job are taken until one ends the finish, which alone is answered
 pub record Finishes (tells : Bool) (old : StoreValue) (r : Reply) (new : StoreValue) : Type 0 where
@@ -230,7 +253,7 @@ pub record Finishes (tells : Bool) (old : StoreValue) (r : Reply) (new : StoreVa
   pub mid : StoreValue
   pub before : TakesJobSteps tells old steps mid
   pub answer : Result JobDid PumpFault
-  pub last : PumpsJob tells mid answer new
+  pub last : StepsJob tells mid answer new
   pub ends : EndsFinish answer
   pub reply : r ≡ worked answer
 
@@ -282,7 +305,7 @@ KeepsNames old new = (new.opened ≡ old.opened) × (new.tickets ≡ old.tickets
 -- each open transaction is aborted, in the order of the list
 abbrev pub AbortsAll : StoreValue → List OpenName → StoreValue → Type 0
 AbortsAll old [] new = new ≡ old
-AbortsAll old (e ∷ rest) new = (mid : StoreValue) × store.Aborts old e.txn mid × AbortsAll mid rest new
+AbortsAll old (e ∷ rest) new = (mid : StoreValue) × IsTxn e.txn × store.Aborts old e.txn mid × AbortsAll mid rest new
 
 -- what is open is aborted, tickets are given up, and the store is closed
 abbrev pub Closes : State → DiskState → Type 0
@@ -292,6 +315,8 @@ Closes old given = (end : StoreValue) × AbortsAll old.store old.opened end × (
 pub record Reopens (tells : Bool) (old : State) (r : Reply) (new : State) : Type 0 where
   pub given : DiskState
   pub closes : Closes old given
+  -- a disk that tells its bytes is sound
+  pub sound : IsTrue tells → AreSound given.areas
   pub opened : StoreValue
   pub opens : Opens tells given 1 opened
   pub reply : r ≡ reply.Opened (store.last opened) (store.floor opened)
@@ -301,6 +326,7 @@ pub record Reopens (tells : Bool) (old : State) (r : Reply) (new : State) : Type
 pub record DoesNotReopen (tells : Bool) (old : State) (f : OpenFault) (disk : DiskState) : Type 0 where
   pub given : DiskState
   pub closes : Closes old given
+  pub sound : IsTrue tells → AreSound given.areas
   pub refuses : OpenRefuses tells given f disk
 
 -- a line that ends the run: a `reopen` that is refused

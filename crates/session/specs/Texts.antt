@@ -1,7 +1,8 @@
 -- The texts of answers.
-use Rattle.std.specs.Prelude.{ℕ, ◌+◌, ◌/◌, ◌%◌, List, [], ◌∷◌, ◌++◌, length, Some, None, codes, nat_lt, if◌then◌else◌}
+use Rattle.std.specs.Prelude.{ℕ, List, [], ◌∷◌, ◌++◌, length, Some, None, codes}
 use Rattle.std.specs.List.{flat_map}
 use Rattle.std.specs.Fmt.{decimal}
+use Rattle.hex.specs.Hex.{encode_lower}
 use Rattle.history.specs.declared.time.Version.{Version}
 use Rattle.disk.specs.declared.area.Area.{Area}
 use Rattle.disk.specs.declared.area.Area.TheVariants as area
@@ -33,15 +34,9 @@ use Rattle.session.specs.declared.reply.Reply.TheVariants as reply
 abbrev pub Text : Type 0
 Text = List ℕ
 
-abbrev pub hex_digit : ℕ → ℕ
-hex_digit n = if nat_lt n 10 then 48 + n else 87 + n
-
-abbrev pub byte_text : ℕ → Text
-byte_text b = hex_digit (b / 16) ∷ hex_digit (b % 16) ∷ []
-
--- two digits a byte
+-- two lower-case digits a byte
 abbrev pub hex_text : Text → Text
-hex_text bytes = flat_map byte_text bytes
+hex_text bytes = encode_lower bytes
 
 abbrev pub field_text : Text → Text
 field_text [] = codes "-"

@@ -1,12 +1,13 @@
 //! The script engine of `run`.
-ghost use Rattle.std.specs.Prelude.{◌≡◌, IfOk, IfSome, MatchResult, Ok, Err};
-ghost use Rattle.std.specs.Io.KnownBytes.{Appends};
+ghost use Rattle.std.specs.Prelude.{◌≡◌, IfOk, IfErr, IfSome, MatchResult, Ok, Err};
+ghost use Rattle.std.specs.Io.KnownBytes.{Appends, Keeps};
 ghost use Rattle.std.specs.Io.BufRead.{strip_last};
 ghost use Rattle.session.specs.Texts.{Text};
 ghost use Rattle.session.specs.Run as told;
 
 use crate::ending::Ending;
 use crate::fault::Fault;
+use crate::input::LineInput;
 use crate::reply::{Reply, write_reply};
 use crate::session::Session;
 use disk::Disk;
@@ -80,8 +81,39 @@ fn read_line<R: BufRead>(input: &mut R, line: &mut Vec<u8>) -> io::Result<bool>
     Ok(true)
 }
 
-/// Runs the script that a reader gives, and gives the store's disk back.
-pub fn run<D: Disk, R: BufRead, W: Write>(
+/// Gives out what was written, where the input may wait for it.
+fn give_out<R: LineInput, W: Write>(input: &R, output: &mut W) -> io::Result<()>
+    ensures { Keeps (W.contents output.old) (W.contents output.new) }
+{
+    if input.may_wait() {
+        output.flush()
+    } else {
+        Ok(())
+    }
+}
+
+/// Reads the next line as `read_line` does, once whoever may give it has the answers so far.
+fn next_line<R: LineInput, W: Write>(
+    input: &mut R,
+    output: &mut W,
+    line: &mut Vec<u8>,
+) -> Result<bool, Ending>
+    ensures read { IfOk result (λ some. told.Reads (R.remaining input.old) (R.remaining input.new) some line.new.items) }
+    ensures refused { IfErr result (λ ending. ¬ told.IsTold ending) }
+    ensures kept { Keeps (W.contents output.old) (W.contents output.new) }
+{
+    match give_out(input, output) {
+        Ok(()) => match read_line(input, line) {
+            Ok(some) => Ok(some),
+            Err(_) => Err(Ending::InputRefused),
+        },
+        Err(_) => Err(Ending::OutputRefused),
+    }
+}
+
+/// Runs the script that a reader gives, and gives the store's disk back. Where the reader may wait,
+/// the answers so far are given out first; the last ones may still be in the writer at the end.
+pub fn run<D: Disk, R: LineInput, W: Write>(
     session: Session<D>,
     alloc: Global,
     input: &mut R,
@@ -94,10 +126,10 @@ pub fn run<D: Disk, R: BufRead, W: Write>(
     let mut session = session;
     let mut line = Vec::new(alloc);
     for number in 1..u64::MAX {
-        match read_line(input, &mut line) {
+        match next_line(input, output, &mut line) {
             Ok(true) => {}
             Ok(false) => return (Ending::Whole, session.close()),
-            Err(_) => return (Ending::InputRefused, session.close()),
+            Err(ending) => return (ending, session.close()),
         }
         match turn(session, alloc, number, line.as_slice(), output) {
             Ok(next) => session = next,

@@ -192,6 +192,8 @@ fn abort_all<D: Disk>(store: &mut Store<D>, opened: &mut Vec<OpenName>)
 {
     while !opened.is_empty() {
         let OpenName { name: _, txn } = opened.remove(0);
+        // A transaction's writes are in range.
+        let _count = txn.writes().len();
         store.abort(txn);
     }
 }
@@ -418,6 +420,8 @@ impl<D: Disk> Session<D> {
         match self.txn_place(name) {
             Some(at) => {
                 let OpenName { name: _, txn } = self.take_opened(at);
+                // A transaction's writes are in range.
+                let _count = txn.writes().len();
                 self.store.abort(txn);
                 Reply::Ok
             }
@@ -431,6 +435,8 @@ impl<D: Disk> Session<D> {
         match self.txn_place(name) {
             Some(at) => {
                 let OpenName { name, txn } = self.take_opened(at);
+                // A transaction's writes are in range.
+                let _count = txn.writes().len();
                 match self.store.submit(txn, label, now) {
                     Ok(Submitted::ReadOnly(time)) => Reply::ReadOnly(time),
                     Ok(Submitted::Queued(ticket)) => {

@@ -1,5 +1,5 @@
 //! The texts of answers.
-ghost use Rattle.std.specs.Prelude.{◌≡◌, ◌<◌, OnOk};
+ghost use Rattle.std.specs.Prelude.{◌≡◌, ◌≤◌, length, OnOk};
 ghost use Rattle.std.specs.Io.KnownBytes.{Appends};
 ghost use Rattle.std.specs.List.{flat_map};
 ghost use Rattle.session.specs.Texts as told;
@@ -8,6 +8,7 @@ use crate::fault::Fault;
 use chains::SharedValue;
 use disk::Area;
 use group::{BeginFault, Did, PumpFault, SubmitFault};
+use hex::encode_to_slice;
 use history::Version;
 use recovery::{FormatFault, OpenFault};
 use snapshot::TxnFault;
@@ -16,34 +17,29 @@ use std::io::Write;
 use store::{JobDid, StartFault};
 use timequery::QueryFault;
 
-/// The lower-case hexadecimal digit of a number below 16.
-fn hex_digit(value: u8) -> u8
-    requires { value < 16 }
-    ensures { result ≡ told.hex_digit value }
-{
-    if value < 10 {
-        b'0' + value
-    } else {
-        b'a' - 10 + value
-    }
-}
+/// A field has at most so many bytes.
+const MAX_FIELD: usize = 255;
 
-/// Writes bytes in hexadecimal, two digits a byte.
+/// Writes the bytes of a field in hexadecimal, two digits a byte, by one call.
 fn write_hex<W: Write>(output: &mut W, bytes: &[u8]) -> io::Result<()>
+    requires { length bytes.now ≤ 255 }
     ensures { OnOk result (Appends (W.contents output.old) (W.contents output.new) (told.hex_text bytes.now)) }
 {
-    for byte in bytes {
-        output.write_all(&[hex_digit(*byte / 16), hex_digit(*byte % 16)])?;
+    let mut digits = [0; 2 * MAX_FIELD];
+    let text = &mut digits[..2 * bytes.len()];
+    match encode_to_slice(bytes, text) {
+        Ok(()) => output.write_all(text),
+        Err(_) => unreachable!(),
     }
-    Ok(())
 }
 
 /// Writes a field: its bytes in hexadecimal, the empty field as `-`.
 fn write_field<W: Write>(output: &mut W, field: &[u8]) -> io::Result<()>
+    requires { length field.now ≤ 255 }
     ensures { OnOk result (Appends (W.contents output.old) (W.contents output.new) (told.field_text field.now)) }
 {
     if field.is_empty() {
-        return write!(output, "-");
+        return output.write_all(b"-");
     }
     write_hex(output, field)
 }
@@ -54,7 +50,7 @@ fn write_fields<W: Write>(output: &mut W, value: &SharedValue) -> io::Result<()>
 {
     let mut left = value.value().iter();
     while let Some(field) = left.take_field() {
-        write!(output, " ")?;
+        output.write_all(b" ")?;
         write_field(output, field)?;
     }
     Ok(())

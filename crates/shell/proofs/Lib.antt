@@ -1,1 +1,4 @@
 pub mod Done
+pub mod DumpLemmas
+pub mod Kept
+pub mod Keeping

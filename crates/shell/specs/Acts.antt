@@ -1,9 +1,18 @@
 -- What an action does to the disk and writes, where the program's status is 0.
-use Rattle.std.specs.Prelude.{ℕ, ◌++◌, Bool, IsTrue, IfSome, Option, codes, MatchOption}
+use Rattle.std.specs.Prelude.{◌≡◌, ℕ, ◌++◌, Bool, IsTrue, IfSome, List, Option, codes, MatchOption}
 use Rattle.std.specs.Fmt.{decimal}
 use Rattle.std.specs.Io.KnownBytes.{Appends}
+use Rattle.disk.specs.Areas.{AreSound}
 use Rattle.disk.specs.Calls.{DiskState}
+use Rattle.disk.specs.declared.area.Area.TheVariants as area
 use Rattle.recovery.specs.Format.{IsSlotCount, IsFormatted}
+use Rattle.recovery.specs.declared.fault.OpenFault.{OpenFault}
+use Rattle.recovery.specs.declared.fault.OpenFault.TheVariants as opening
+use Rattle.status.specs.Reading.{HoldsLog, ReadsHeader}
+use Rattle.status.specs.declared.fault.LogFault.{LogFault}
+use Rattle.status.specs.declared.fault.LogFault.TheVariants as log
+use Rattle.status.specs.declared.header.Header.{Header}
+use Rattle.wire.specs.declared.slot.Slot.{Slot}
 use Rattle.store.specs.Values.{StoreValue}
 use Rattle.store.specs.Opens.{Opens}
 use Rattle.script.specs.Lines.{time_in}
@@ -15,6 +24,7 @@ use Rattle.session.specs.Run.{Run, lines_of}
 use Rattle.session.specs.declared.ending.Ending.TheVariants.{Whole}
 use Rattle.session.specs.declared.reply.Reply.{Reply}
 use Rattle.session.specs.declared.reply.Reply.TheVariants as reply
+use Rattle.shell.specs.Dump.{IsDump}
 use Rattle.words.specs.declared.action.Action.{Action}
 use Rattle.words.specs.declared.action.Action.TheVariants as action
 
@@ -42,6 +52,8 @@ pub record Runs (tells : Bool) (old : DiskState) (input : Option Text) (output :
 pub record RunsOnNew (tells : Bool) (old : DiskState) (input : Option Text) (output : Output) (new : DiskState) : Type 0 where
   pub made : DiskState
   pub formatted : IsTrue tells → IsFormatted 16 old.areas made.areas
+  -- a disk that tells its bytes is sound
+  pub sound : IsTrue tells → AreSound made.areas
   pub runs : Runs tells made input output new
 
 abbrev pub IsAnswered : Reply → Type 0
@@ -59,9 +71,28 @@ pub record Asks (tells : Bool) (old : DiskState) (asks : Line) (output : Output)
   pub said : Says output (text_of answer)
   pub closes : Closes asked new
 
+-- what a fault of the log is called where a store is opened
+abbrev pub open_fault_of : LogFault → OpenFault
+open_fault_of log.NotAStore = opening.NotAStore
+open_fault_of (log.Damaged slot) = opening.Damaged area.Status slot
+open_fault_of log.Device = opening.Device
+open_fault_of log.NoMemory = opening.NoMemory
+
+-- the log that stands on the disk is said, and the disk is as it was
+pub record Dumps (tells : Bool) (old : DiskState) (output : Output) (new : DiskState) : Type 0 where
+  pub header : Header
+  pub slots : List Slot
+  pub reads : IsTrue tells → ReadsHeader old.areas.status.bytes header
+  pub log : IsTrue tells → HoldsLog header old.areas.status.bytes slots
+  pub text : Text
+  pub dump : IsDump header slots text
+  pub said : Says output text
+  pub same : new ≡ old
+
 abbrev pub Acts : Bool → Action → DiskState → Option Text → Output → DiskState → Type 0
 Acts tells action.Example old input output new = RunsOnNew tells old input output new
 Acts tells (action.Format dir slots) old input output new = Makes tells old slots output new
 Acts tells (action.Run dir) old input output new = Runs tells old input output new
 Acts tells (action.At dir key time) old input output new = MatchOption (time_in time.now) ⊥ (λ t. Asks tells old (line.At key t) output new)
 Acts tells (action.Between dir key from to) old input output new = MatchOption (time_in from.now) ⊥ (λ a. MatchOption (time_in to.now) ⊥ (λ b. Asks tells old (line.Between key a b) output new))
+Acts tells (action.Dump dir) old input output new = Dumps tells old output new

@@ -1,1 +1,4 @@
 pub mod Acts
+pub mod Dump
+pub mod Needs
+pub mod Keeps

@@ -1,13 +1,17 @@
 //! What an action does.
-ghost use Rattle.std.specs.Prelude.{◌≡◌, ◌≤◌, OnOk, IsOk};
-ghost use Rattle.shell.specs.Acts.{Acts, Makes, Runs, RunsOnNew, Asks, IsAnswered};
+ghost use Rattle.std.specs.Prelude.{◌≡◌, ◌≤◌, OnOk, IsOk, IsTrue};
+ghost use Rattle.std.specs.Io.KnownBytes.{Keeps};
+ghost use Rattle.shell.specs.Acts.{Acts, Makes, Runs, RunsOnNew, Asks, Dumps, IsAnswered, open_fault_of};
+ghost use Rattle.shell.specs.Keeps.{KeepsPromise};
 
-use disk::Disk;
-use recovery::format;
+use crate::dump::{DumpFault, write_dump};
+use disk::{Area, Disk};
+use recovery::{OpenFault, format};
 use script::{Line, read_time};
-use session::{Ending, Fault, MARK, Reply, Session, run, write_reply};
+use session::{Ending, Fault, LineInput, MARK, Reply, Session, run, write_reply};
+use status::{LogFault, read_header, read_log};
 use std::alloc::Global;
-use std::io::{BufRead, Write};
+use std::io::Write;
 use store::Store;
 use words::Action;
 
@@ -29,7 +33,7 @@ fn refuse<W: Write>(output: &mut W, fault: Fault) -> u8
 }
 
 /// Opens the store and runs the script on it.
-fn run_script<D: Disk, R: BufRead, W: Write>(
+fn run_script<D: Disk, R: LineInput, W: Write>(
     alloc: Global,
     disk: D,
     input: &mut R,
@@ -78,7 +82,7 @@ fn make<D: Disk, W: Write>(alloc: Global, disk: D, slots: u32, output: &mut W) -
 }
 
 /// Makes a small store and runs the script on it.
-fn run_example<D: Disk, R: BufRead, W: Write>(
+fn run_example<D: Disk, R: LineInput, W: Write>(
     alloc: Global,
     disk: D,
     input: &mut R,
@@ -127,9 +131,57 @@ fn ask<D: Disk, W: Write>(alloc: Global, disk: D, line: Line<'_>, output: &mut W
     }
 }
 
-/// Does what the words asked for, on a disk, and gives the disk back with the status of the program:
-/// 0, or 1 where something was refused, the store, the input or the output.
-pub fn act<D: Disk, R: BufRead, W: Write>(
+/// What a fault of the log is called where a store is opened.
+fn open_fault(fault: LogFault) -> OpenFault
+    ensures { result ≡ open_fault_of fault }
+{
+    match fault {
+        LogFault::NotAStore => OpenFault::NotAStore,
+        LogFault::Damaged(slot) => OpenFault::Damaged(Area::Status, u64::from(slot)),
+        LogFault::Device => OpenFault::Device,
+        LogFault::NoMemory => OpenFault::NoMemory,
+    }
+}
+
+/// Says that a log is not to be had.
+fn refuse_log<W: Write>(output: &mut W, fault: LogFault) -> u8
+    ensures { result ≡ 1 }
+{
+    refuse(output, Fault::Open(open_fault(fault)))
+}
+
+/// The status of a log that was written as text.
+fn status_of_dump<W: Write>(output: &mut W, said: Result<(), DumpFault>) -> u8
+    ensures done { result ≡ 0 → IsOk said × Keeps (W.contents output.old) (W.contents output.new) }
+    ensures status { result ≤ 1 }
+{
+    match said {
+        Ok(()) => DONE,
+        Err(DumpFault::NoMemory) => refuse(output, Fault::NoMemory),
+        Err(DumpFault::OutputRefused) => REFUSED,
+    }
+}
+
+/// Writes the log of a store, which is not opened for it.
+fn dump<D: Disk, W: Write>(alloc: Global, disk: D, output: &mut W) -> (u8, D)
+    ensures done { result.0 ≡ 0 → Dumps D.tells (D.state disk) (record { before = W.contents output.old; after = W.contents output.new }) (D.state result.1) }
+    ensures status { result.0 ≤ 1 }
+{
+    let mut disk = disk;
+    let header = match read_header(&mut disk) {
+        Ok(header) => header,
+        Err(fault) => return (refuse_log(output, fault), disk),
+    };
+    let slots = match read_log(alloc, &mut disk, &header) {
+        Ok(slots) => slots,
+        Err(fault) => return (refuse_log(output, fault), disk),
+    };
+    let said = write_dump(alloc, output, &header, slots.as_slice());
+    (status_of_dump(output, said), disk)
+}
+
+/// Does what the words asked for. What was said may still be in the writer.
+fn perform<D: Disk, R: LineInput, W: Write>(
     alloc: Global,
     action: Action<'_>,
     disk: D,
@@ -156,5 +208,46 @@ pub fn act<D: Disk, R: BufRead, W: Write>(
             (Some(a), Some(b)) => ask(alloc, disk, Line::Between(key, a, b), output),
             _ => (refuse(output, Fault::Time), disk),
         },
+        Action::Dump { dir: _ } => dump(alloc, disk, output),
     }
+}
+
+/// Gives out what was said. What was not given out was not said.
+fn give_out<W: Write>(output: &mut W, status: u8) -> u8
+    requires { status ≤ 1 }
+    ensures done { result ≡ 0 → status ≡ 0 }
+    ensures status { result ≤ 1 }
+    ensures kept { Keeps (W.contents output.old) (W.contents output.new) }
+{
+    match output.flush() {
+        Ok(()) => status,
+        Err(_) => REFUSED,
+    }
+}
+
+/// Does what the words asked for, on a disk, and gives the disk back with the status of the program:
+/// 0, or 1 where something was refused, the store, the input or the output. A writer that gathers
+/// what is written has given it out.
+pub fn act<D: Disk, R: LineInput, W: Write>(
+    alloc: Global,
+    action: Action<'_>,
+    disk: D,
+    input: &mut R,
+    output: &mut W,
+) -> (u8, D)
+    ensures done { result.0 ≡ 0 → Acts D.tells action.entry (D.state disk) (R.remaining input.old) (record { before = W.contents output.old; after = W.contents output.new }) (D.state result.1) }
+    // Of a script, on a disk that tells its bytes: at every moment of its run whatever a stop may leave survives, with every commit of which a line `done` was written, and what is written is what a run of the machine answers.
+    ensures promise { IsTrue D.tells → result.0 ≡ 0 → KeepsPromise D.tells action.entry (D.state disk) (R.remaining input.old) (record { before = W.contents output.old; after = W.contents output.new }) (D.state result.1) }
+    ensures status { result.0 ≤ 1 }
+{
+    let (status, disk) = perform(alloc, action, disk, input, output);
+    (give_out(output, status), disk)
+}
+
+/// Says that a folder's store is not opened. The program's status is 1.
+pub fn refuse_folder<W: Write>(output: &mut W, fault: OpenFault) -> u8
+    ensures { result ≡ 1 }
+{
+    let status = refuse(output, Fault::Open(fault));
+    give_out(output, status)
 }

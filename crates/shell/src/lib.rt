@@ -2,7 +2,11 @@
 #![tactic(auto)]
 
 mod actions;
+mod dump;
+mod needs;
 
-pub use actions::act;
-pub use script::read_time;
+pub use actions::{act, refuse_folder};
+pub use dump::{DumpFault, write_dump};
+pub use needs::{Need, folder_need};
+pub use recovery::OpenFault;
 pub use words::{Action, WordsFault, read_words};

@@ -9,6 +9,3 @@ mod write_set;
 pub use open_table::OpenTable;
 pub use txn::{Txn, TxnFault, TxnParts};
 pub use write_set::MOST_KEYS;
-
-#[cfg(test)]
-mod tests;

@@ -348,6 +348,7 @@ archive-start-stands tells old new upto answer m stands starts = by-refusal (ref
           machine = stands.machine;
           order = order;
           in_step = in_step;
+          gate = stands.gate;
           disk = λ told.
               let d = stands.disk told in record {
                 header = d.header;

@@ -6,9 +6,10 @@ use Rattle.std.proofs.lemmas.Bool.Decides.{nat_tests}
 use Rattle.history.specs.declared.key.Key.{Key}
 use Rattle.history.specs.declared.key.KeyWrite.{KeyWrite}
 use Rattle.history.specs.Histories.{Commit, History}
-use Rattle.history.specs.Machine.{Machine, commit_order, IsMachine}
+use Rattle.history.specs.Floors.{Raising}
+use Rattle.history.specs.Machine.{Machine, Gate, Shut, Due, MayBeOpen, OfGroup, OfFloor, commit_order, IsMachine}
 use Rattle.history.specs.Submissions.{Submission, commit_made}
-use Rattle.history.specs.Fronts.{OnFront}
+use Rattle.history.specs.Fronts.{OnFront, OnOpened, OnRaised}
 use Rattle.history.specs.Steps.{Step, Began, Aborted, begun}
 use Rattle.history.specs.Answers as answers
 use Rattle.history.proofs.Machines.{step-machine}
@@ -124,6 +125,7 @@ opened-stands tells v m opened snapshots stands memory machine = record {
   machine = machine;
   order = opened-order v.transactions opened stands.order;
   in_step = record { slots = stands.in_step.slots; used = stands.in_step.used; turns = λ on. let was = stands.in_step.turns on in record { turning = was.turning; writing = was.writing; turn = was.turn; job = was.job } };
+  gate = stands.gate;
   disk = λ told. same-disk v m opened v.transactions.heads snapshots (stands.disk told);
 }
 
@@ -202,6 +204,7 @@ redeemed-stands tells v m time stands memory = record {
   machine = stands.machine;
   order = redeemed-order v.transactions time stands.order;
   in_step = record { slots = stands.in_step.slots; used = stands.in_step.used; turns = λ on. let was = stands.in_step.turns on in record { turning = was.turning; writing = was.writing; turn = was.turn; job = was.job } };
+  gate = stands.gate;
   disk = λ told. same-disk v m v.transactions.opened (orders.redeemed time v.transactions.heads) m.snapshots (stands.disk told);
 }
 
@@ -332,10 +335,19 @@ queued-disk v m label time numbers snapshots c order memory least many d =
       works = λ on. queued-works d.header v m label time numbers snapshots c order memory least many (d.works on);
     }
   where
+    by-gate : (image : Image) → take m.group m.queue ≡ take m.group (m.queue ++ c ∷ []) → (gate : Gate) → OnOpened (IsImageOf d.header image) m gate → OnOpened (IsImageOf d.header image) (record m { queue = m.queue ++ c ∷ []; snapshots = snapshots }) gate
+    by-gate image same Shut now = now
+    by-gate image same (Due change) now = now
+    by-gate image same (MayBeOpen OfGroup) now = subst (λ (l : History Value). IsImageOf d.header image (m.published ++ l) m.floors) same now
+    by-gate image same (MayBeOpen OfFloor) now = by-raised m.raising now
+      where
+        by-raised : (o : Option Raising) → OnRaised (IsImageOf d.header image) m o → OnRaised (IsImageOf d.header image) (record m { queue = m.queue ++ c ∷ []; snapshots = snapshots }) o
+        by-raised None none = none
+        by-raised (Some r) one = one
+
     by-front : (image : Image) → take m.group m.queue ≡ take m.group (m.queue ++ c ∷ []) → OnFront (IsImageOf d.header image) m → OnFront (IsImageOf d.header image) (record m { queue = m.queue ++ c ∷ []; snapshots = snapshots })
     by-front image same (inl old) = inl old
-    by-front image same (inr (inl new)) = inr (inl (subst (λ (l : History Value). IsImageOf d.header image (m.published ++ l) m.floors) same new))
-    by-front image same (inr (inr raised)) = inr (inr raised)
+    by-front image same (inr new) = inr (by-gate image same m.gate new)
 
 -- a commit is queued as its transaction ends
 queued-stands : (tells : Bool) (v : StoreValue) (m : Machine Value) (label time : ℕ) (numbers snapshots : List ℕ) (opened : List (Option ℕ)) (c : Commit Value) → Stands tells v m → MayQueue v.transactions c.writes time → AreLeastFree v.transactions.usages numbers
@@ -348,6 +360,7 @@ queued-stands tells v m label time numbers snapshots opened c stands may least m
   order = opened-order (with_queued v.transactions label time c.writes numbers) opened (keeps-queued v.transactions label time c.writes numbers stands.order least many may.some
       (latest-with_commit time (ordered v.transactions) c.writes (omega (arith, stands.order.latest, may.later))) may.room);
   in_step = record { slots = stands.in_step.slots; used = stands.in_step.used; turns = λ on. let was = stands.in_step.turns on in record { turning = was.turning; writing = was.writing; turn = was.turn; job = was.job } };
+  gate = stands.gate;
   disk = λ told.
       same-disk (with_transactions v (with_queued v.transactions label time c.writes numbers)) (record m { queue = m.queue ++ c ∷ [] }) opened (with_queued v.transactions label time c.writes numbers).heads snapshots
       (queued-disk v m label time numbers m.snapshots c stands.order stands.memory least many (stands.disk told));

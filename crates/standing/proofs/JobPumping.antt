@@ -136,6 +136,7 @@ fails tells v new m why log j parts works said profile many used lent is leaves 
         memory = breaks v.transactions m parts.memory;
         order = broken-order v.transactions parts.order;
         in_step = record { slots = omega (arith, many, parts.in_step.slots, lent); used = used ∙ parts.in_step.used; turns = λ no. absurd cc };
+        gate = λ no. absurd cc;
         disk = λ told.
             let d = parts.disk told in record {
               header = d.header;
@@ -213,7 +214,7 @@ module _ (tells : Bool) (v new : StoreValue) (m : Machine Value) (parts : Parts 
   same : (told : IsTrue tells) → new.disk.areas ≡ v.disk.areas → (image : Image) → LeavesImage new.disk.areas image → OnFront (IsImageOf (parts.disk told).header image) m
   same told is image left =
       let d = parts.disk told in
-      works-leave d.header v m parts.memory machine parts.order parts.in_step d.slots d.profile_built (archives-built d.header.profile d.profile_built) (d.works works) image (subst (λ (a : Areas). LeavesImage a image) is left)
+      works-leave d.header v m parts.memory machine parts.order parts.in_step d.slots d.profile_built (archives-built d.header.profile d.profile_built) (parts.gate works) (d.works works) image (subst (λ (a : Areas). LeavesImage a image) is left)
 
   -- what is left while the archive is written behind the runs
   torn-leaves : (told : IsTrue tells) → turn_of v.job ≡ None → (archive : AreaState) → KeepsRuns ((parts.disk told).works works).layout.runs archive → (image : Image) → LeavesImage (record v.disk.areas { archive = archive }) image
@@ -221,7 +222,7 @@ module _ (tells : Bool) (v new : StoreValue) (m : Machine Value) (parts : Parts 
   torn-leaves told none archive kept image left =
       let d = parts.disk told in
       let w = d.works works in
-      stage-leaves d.header v m parts.memory machine parts.order d.profile_built w (room-left d.header v m parts.order parts.in_step d.slots w) (record v.disk.areas { archive = archive }) v.transactions.stage v.turn parts.order.stage_fits
+      stage-leaves d.header v m parts.memory machine parts.order d.profile_built w (room-left d.header v m parts.order parts.in_step d.slots w) (record v.disk.areas { archive = archive }) v.transactions.stage v.turn (parts.gate works) parts.order.stage_fits
       (stage-beside d.header w.layout (group_of w.layout v.transactions m) v.transactions.queue v.transactions.stage v.turn v.disk.areas archive kept (now-at d.header v m w none)) image left
 
   -- the store with another job
@@ -232,9 +233,10 @@ module _ (tells : Bool) (v new : StoreValue) (m : Machine Value) (parts : Parts 
         memory = parts.memory;
         order = parts.order;
         in_step = in_step;
+        gate = parts.gate;
         disk = λ told.
             let d = parts.disk told in
-            on-disk d.header (with_job v j' new) m parts.memory machine parts.order in_step d.profile d.slots d.profile_built (working told);
+            on-disk d.header (with_job v j' new) m parts.memory machine parts.order in_step d.profile d.slots d.profile_built (parts.gate works) (working told);
       }
 
   module _ (writing : j.stage ≡ job.Writing) where
@@ -493,9 +495,10 @@ module _ (tells : Bool) (v new : StoreValue) (m : Machine Value) (parts : Parts 
         memory = parts.memory;
         order = parts.order;
         in_step = in_step;
+        gate = parts.gate;
         disk = λ told.
             let d = parts.disk told in
-            on-disk d.header (record v { log = log; job = Some (record j { stage = job.Turning (record t { stage = slots.slot_stage_after t.stage }) }); disk = new.disk }) m parts.memory machine parts.order in_step (profile ∙ d.profile) (many ∙ d.slots) d.profile_built (working told);
+            on-disk d.header (record v { log = log; job = Some (record j { stage = job.Turning (record t { stage = slots.slot_stage_after t.stage }) }); disk = new.disk }) m parts.memory machine parts.order in_step (profile ∙ d.profile) (many ∙ d.slots) d.profile_built (parts.gate works) (working told);
       }
 
   -- ---- the first call
@@ -570,10 +573,11 @@ module _ (tells : Bool) (v new : StoreValue) (m : Machine Value) (parts : Parts 
           memory = memory;
           order = order;
           in_step = in_step;
+          gate = parts.gate;
           disk = λ told.
               let d = parts.disk told in
               let w = d.works works in
-              on-disk d.header (job_done v j t new) m memory machine order in_step d.profile d.slots d.profile_built
+              on-disk d.header (job_done v j t new) m memory machine order in_step d.profile d.slots d.profile_built (parts.gate works)
               (done-works d.header v new m parts.order parts.in_step d.slots d.profile_built w j is t (at-turn told) last (sound told) (was.turning ∙ ap (λ (o : Option TurnState). is_some o) free) w.at (call told));
         })
 
@@ -617,7 +621,7 @@ job-pump-stands tells old new answer m stands sound pumps =
         → MatchBool b ((answer ≡ Err pump.Failed) × Stands tells new m) ((after : Machine Value) × steps.Run IsValue m (job_ends_in answer) after × Stands tells new after)
     by-failure true failed is = (is.0, subst (λ (x : StoreValue). Stands tells x m) (sym is.1) stands)
     by-failure false works takes =
-        let parts : Parts tells old m = record { memory = stands.memory; order = stands.order; in_step = stands.in_step; disk = stands.disk } in
+        let parts : Parts tells old m = record { memory = stands.memory; order = stands.order; in_step = stands.in_step; gate = stands.gate; disk = stands.disk } in
         let ends = step tells old new answer m parts stands.machine works sound old.job refl takes in (
           ends.0,
           ends.1,
@@ -626,6 +630,7 @@ job-pump-stands tells old new answer m stands sound pumps =
             machine = run-machine IsValue m ends.0 (job_ends_in answer) stands.machine ends.1;
             order = ends.2.order;
             in_step = ends.2.in_step;
+            gate = ends.2.gate;
             disk = ends.2.disk;
           },
         )

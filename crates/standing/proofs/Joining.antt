@@ -6,8 +6,9 @@ use Rattle.std.proofs.lemmas.List.Concat.{flat_map-append}
 use mathlib.Core.Path.{fun_ext}
 use Rattle.history.specs.declared.key.Key.{Key}
 use Rattle.history.specs.Histories.{History, MayAllFollow}
-use Rattle.history.specs.Machine.{Machine, IsMachine}
-use Rattle.history.specs.Fronts.{OnFront}
+use Rattle.history.specs.Machine.{Machine, Gate, MayBeOpen, OfGroup, IsMachine}
+use Rattle.history.specs.Fronts.{OnFront, OnOpened}
+use Rattle.history.specs.Steps.{gated}
 use Rattle.history.proofs.Histories.{may_follow-behind, may_follow-front}
 use Rattle.disk.specs.Areas.{Areas, Image, AreSound, LeavesImage, loosened}
 use Rattle.disk.specs.declared.area.DeviceFault.{DeviceFault}
@@ -99,6 +100,33 @@ built-more header [] s built new zero slot at = let same : s ≡ slot = cc in su
 built-more header [] s built new (suc n) slot at = absurd cc
 built-more header (x ∷ xs) s built new zero slot at = built zero slot at
 built-more header (x ∷ xs) s built new (suc n) slot at = built-more header xs s (λ k y is. built (suc k) y is) new n slot at
+
+-- ---- the gate
+
+-- a stage before whose call the gate may be open
+abbrev pub MayOpen : SlotStage → Type 0
+MayOpen slots.Begun = ⊥
+MayOpen slots.BodyWritten = ⊥
+MayOpen slots.BodySynced = ⊥
+MayOpen slots.GateWritten = Unit {0}
+MayOpen slots.Opened = Unit {0}
+
+-- and one within whose call it may be
+abbrev pub MayOpenWithin : SlotStage → Type 0
+MayOpenWithin slots.Begun = ⊥
+MayOpenWithin slots.BodyWritten = ⊥
+MayOpenWithin slots.BodySynced = Unit {0}
+MayOpenWithin slots.GateWritten = Unit {0}
+MayOpenWithin slots.Opened = Unit {0}
+
+-- so it is of a group
+abbrev pub MayOpenAt : Stage → Type 0
+MayOpenAt (turns.Storing done rest) = ⊥
+MayOpenAt (turns.Turning stage) = MayOpen stage
+
+abbrev pub MayOpenInCall : Stage → Type 0
+MayOpenInCall (turns.Storing done rest) = ⊥
+MayOpenInCall (turns.Turning stage) = MayOpenWithin stage
 
 -- ---- what the store keeps of its disk, apart from where the group is
 
@@ -198,27 +226,27 @@ module _ (header : Header) (v : TransactionsValue) (m : Machine Value) (layout :
   new_image image held =
       record { layout = laid_out layout group; reading = with_group reading (turns.members_of group); laid = laid_then; held = held; stands = stands_then; profile_built = profile_built; built = built_then }
 
-  -- a front of the commit order
-  on-front : (image : Image) → IsImageOf header image m.published m.floors ⊎ IsImageOf header image (m.published ++ next) m.floors → OnFront (IsImageOf header image) m
-  on-front image (inl old) = inl old
-  on-front image (inr new) = inr (inl (subst (λ (n : ℕ). IsImageOf header image (m.published ++ take n m.queue) m.floors) memory.group new))
+  -- what is published with the whole group is a front, where the gate may be open
+  opened-front : (gate : Gate) → gate ≡ MayBeOpen OfGroup → (image : Image) → IsImageOf header image (m.published ++ next) m.floors → OnFront (IsImageOf header image) (gated m gate)
+  opened-front gate is image new =
+      inr (subst (λ (g : Gate). OnOpened (IsImageOf header image) (gated m g) g) (sym is) (subst (λ (n : ℕ). IsImageOf header image (m.published ++ take n m.queue) m.floors) memory.group new))
 
-  by-slot : (stage : SlotStage) (image : Image) → MayAt stage (HoldsLayout header image layout) (HoldsLayout header image (laid_out layout group)) → OnFront (IsImageOf header image) m
-  by-slot slots.Begun image may_be = on-front image (inl (old_image image may_be))
-  by-slot slots.BodyWritten image may_be = on-front image (inl (old_image image may_be))
-  by-slot slots.BodySynced image may_be = on-front image (inl (old_image image may_be))
-  by-slot slots.GateWritten image (inl old) = on-front image (inl (old_image image old))
-  by-slot slots.GateWritten image (inr new) = on-front image (inr (new_image image new))
-  by-slot slots.Opened image may_be = on-front image (inr (new_image image may_be))
+  by-slot : (gate : Gate) (stage : SlotStage) (image : Image) → (MayOpen stage → gate ≡ MayBeOpen OfGroup) → MayAt stage (HoldsLayout header image layout) (HoldsLayout header image (laid_out layout group)) → OnFront (IsImageOf header image) (gated m gate)
+  by-slot gate slots.Begun image open-is may_be = inl (old_image image may_be)
+  by-slot gate slots.BodyWritten image open-is may_be = inl (old_image image may_be)
+  by-slot gate slots.BodySynced image open-is may_be = inl (old_image image may_be)
+  by-slot gate slots.GateWritten image open-is (inl old) = inl (old_image image old)
+  by-slot gate slots.GateWritten image open-is (inr new) = opened-front gate (open-is tt) image (new_image image new)
+  by-slot gate slots.Opened image open-is may_be = opened-front gate (open-is tt) image (new_image image may_be)
 
-  within-slot : (stage : SlotStage) (image : Image) → MayWithin stage (HoldsLayout header image layout) (HoldsLayout header image (laid_out layout group)) → OnFront (IsImageOf header image) m
-  within-slot slots.Begun image may_be = on-front image (inl (old_image image may_be))
-  within-slot slots.BodyWritten image may_be = on-front image (inl (old_image image may_be))
-  within-slot slots.BodySynced image (inl old) = on-front image (inl (old_image image old))
-  within-slot slots.BodySynced image (inr new) = on-front image (inr (new_image image new))
-  within-slot slots.GateWritten image (inl old) = on-front image (inl (old_image image old))
-  within-slot slots.GateWritten image (inr new) = on-front image (inr (new_image image new))
-  within-slot slots.Opened image may_be = on-front image (inr (new_image image may_be))
+  within-slot : (gate : Gate) (stage : SlotStage) (image : Image) → (MayOpenWithin stage → gate ≡ MayBeOpen OfGroup) → MayWithin stage (HoldsLayout header image layout) (HoldsLayout header image (laid_out layout group)) → OnFront (IsImageOf header image) (gated m gate)
+  within-slot gate slots.Begun image open-is may_be = inl (old_image image may_be)
+  within-slot gate slots.BodyWritten image open-is may_be = inl (old_image image may_be)
+  within-slot gate slots.BodySynced image open-is (inl old) = inl (old_image image old)
+  within-slot gate slots.BodySynced image open-is (inr new) = opened-front gate (open-is tt) image (new_image image new)
+  within-slot gate slots.GateWritten image open-is (inl old) = inl (old_image image old)
+  within-slot gate slots.GateWritten image open-is (inr new) = opened-front gate (open-is tt) image (new_image image new)
+  within-slot gate slots.Opened image open-is may_be = opened-front gate (open-is tt) image (new_image image may_be)
 
   live_are : AllByRecursion IsExtent (live layout)
   live_are = live_extents_are header layout reading laid
@@ -227,17 +255,17 @@ module _ (header : Header) (v : TransactionsValue) (m : Machine Value) (layout :
   group_are = group_extents_are group.members stored
 
   -- what a stop may leave before the next call of the group
-  pub leaves_at : (stage : Stage) (areas : Areas) (image : Image) → IsAt header layout group stage areas → LeavesImage areas image → OnFront (IsImageOf header image) m
-  leaves_at (turns.Storing done rest) areas image at left = on-front image (inl (old_image image (group_holds header layout group room live_are group_are free (turns.Storing done rest) areas image at left)))
-  leaves_at (turns.Turning stage) areas image at left = by-slot stage image (group_holds header layout group room live_are group_are free (turns.Turning stage) areas image at left)
+  pub leaves_at : (gate : Gate) (stage : Stage) (areas : Areas) (image : Image) → (MayOpenAt stage → gate ≡ MayBeOpen OfGroup) → IsAt header layout group stage areas → LeavesImage areas image → OnFront (IsImageOf header image) (gated m gate)
+  leaves_at gate (turns.Storing done rest) areas image open-is at left = inl (old_image image (group_holds header layout group room live_are group_are free (turns.Storing done rest) areas image at left))
+  leaves_at gate (turns.Turning stage) areas image open-is at left = by-slot gate stage image open-is (group_holds header layout group room live_are group_are free (turns.Turning stage) areas image at left)
 
   -- and within it and after it, also where it is refused
-  pub leaves_within : (bytes : List ℕ) → length bytes ≡ 511 → IsSpelled header.profile (length layout.slots) bytes group.slot → (stage : Stage) (result : Result (Unit {0}) DeviceFault) (old new : Areas) (image : Image) → IsAt header layout group stage old → AreSound old
-      → IsCallOf layout bytes stage result old new → LeavesImage new image → OnFront (IsImageOf header image) m
-  leaves_within bytes long spelled (turns.Storing done rest) result old new image at sound call left =
-      on-front image (inl (old_image image (group_call_holds header layout group room live_are group_are free bytes long spelled (turns.Storing done rest) result old new image at sound call left)))
-  leaves_within bytes long spelled (turns.Turning stage) result old new image at sound call left =
-      within-slot stage image (group_call_holds header layout group room live_are group_are free bytes long spelled (turns.Turning stage) result old new image at sound call left)
+  pub leaves_within : (bytes : List ℕ) → length bytes ≡ 511 → IsSpelled header.profile (length layout.slots) bytes group.slot → (gate : Gate) (stage : Stage) (result : Result (Unit {0}) DeviceFault) (old new : Areas) (image : Image)
+      → (MayOpenInCall stage → gate ≡ MayBeOpen OfGroup) → IsAt header layout group stage old → AreSound old → IsCallOf layout bytes stage result old new → LeavesImage new image → OnFront (IsImageOf header image) (gated m gate)
+  leaves_within bytes long spelled gate (turns.Storing done rest) result old new image open-is at sound call left =
+      inl (old_image image (group_call_holds header layout group room live_are group_are free bytes long spelled (turns.Storing done rest) result old new image at sound call left))
+  leaves_within bytes long spelled gate (turns.Turning stage) result old new image open-is at sound call left =
+      within-slot gate stage image open-is (group_call_holds header layout group room live_are group_are free bytes long spelled (turns.Turning stage) result old new image at sound call left)
 
   -- while an extent of the group is written, the live chains are kept
   pub torn_kept : (done : List Extent) (e : Extent) (rest : List Extent) (old : Areas) → IsStoring header layout group done (e ∷ rest) old → AreSound old

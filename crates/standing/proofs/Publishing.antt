@@ -2,7 +2,7 @@
 use Rattle.std.proofs.Common.{◌≡◌, ◌≢◌, ℕ, zero, suc, ◌+◌, ◌<◌, ◌≤◌, ◌==◌, nat_lt, min, Bool, true, false, List, [], ◌∷◌, ◌++◌, length, take, drop, map, refl, arith, ap, sym, subst, ◌∙◌, append_assoc, length-append}
 use Rattle.std.proofs.lemmas.Bool.Decides.{nat_tests}
 use Rattle.history.specs.Histories.{History}
-use Rattle.history.specs.Machine.{Machine, commit_order, IsMachine}
+use Rattle.history.specs.Machine.{Machine, Gate, commit_order, IsMachine}
 use Rattle.history.specs.Steps as steps
 use Rattle.history.specs.Steps.{Event, Step, Run}
 use Rattle.image.specs.Values.{Value, IsValue}
@@ -65,6 +65,22 @@ restaged v m stage stands staged = record {
   queue = stands.queue;
   group = stands.group;
   staged = staged;
+  snapshots = stands.snapshots;
+  floors = stands.floors;
+  raising = stands.raising;
+  failed = stands.failed;
+}
+
+-- nor is where the gate is
+pub regated : (v : TransactionsValue) (m : Machine Value) (gate : Gate) → StandsInMemory v m → StandsInMemory v (steps.gated m gate)
+regated v m gate stands = record {
+  names = stands.names;
+  rising = stands.rising;
+  published = stands.published;
+  versions = stands.versions;
+  queue = stands.queue;
+  group = stands.group;
+  staged = stands.staged;
   snapshots = stands.snapshots;
   floors = stands.floors;
   raising = stands.raising;
@@ -135,6 +151,7 @@ pub record Begins (v : TransactionsValue) (m : Machine Value) : Type 0 where
   pub run : (later : List (Event Value)) (after : Machine Value) → Run IsValue mid later after → Run IsValue m (begins_in m ++ later) after
   pub stands : StandsInMemory (groups.grouped v) mid
   pub works : mid.failed ≡ m.failed
+  pub gate : mid.gate ≡ m.gate
   pub few : mid.group ≤ length mid.queue
 
 pub begins : (v : TransactionsValue) (m : Machine Value) → StandsInMemory v m → IsMachine IsValue m → m.failed ≡ false → Begins v m
@@ -157,15 +174,16 @@ begins v m stands machine works =
           run = λ later after goes. rw (none, some) (steps.grouped m, (works, group, queued, refl), goes);
           stands = rw (here, there) (grouped-stands v m stands (omega (arith, many, waits)));
           works = refl;
+          gate = refl;
           few = omega arith;
         }
     by-tests true none false idle =
         let here : (v.group == 0) ≡ true = ap (λ (n : ℕ). n == 0) stands.group ∙ none in
         let there : nat_lt 0 (length v.queue) ≡ false = ap (λ (n : ℕ). nat_lt 0 n) many ∙ idle in
-        record { mid = m; is = refl; run = λ later after goes. rw (none, idle) goes; stands = rw (here, there) stands; works = refl; few = machine.group_queued }
+        record { mid = m; is = refl; run = λ later after goes. rw (none, idle) goes; stands = rw (here, there) stands; works = refl; gate = refl; few = machine.group_queued }
     by-tests false some b any =
         let here : (v.group == 0) ≡ false = ap (λ (n : ℕ). n == 0) stands.group ∙ some in
-        record { mid = m; is = refl; run = λ later after goes. rw some goes; stands = rw here stands; works = refl; few = machine.group_queued }
+        record { mid = m; is = refl; run = λ later after goes. rw some goes; stands = rw here stands; works = refl; gate = refl; few = machine.group_queued }
 
 -- ---- stages
 

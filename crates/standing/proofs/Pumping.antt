@@ -4,7 +4,7 @@ use Rattle.std.specs.Prelude.{IsTrue, min}
 use Rattle.std.specs.List.{flat_map}
 use Rattle.std.proofs.lemmas.Bool.{cases_lt}
 use Rattle.std.proofs.lemmas.Bool.Decides.{nat_tests}
-use Rattle.history.specs.Machine.{Machine, IsMachine}
+use Rattle.history.specs.Machine.{Machine, Gate, Shut, Due, MayBeOpen, OfGroup, OfFloor, IsMachine}
 use Rattle.history.specs.Fronts.{OnFront}
 use Rattle.history.specs.Steps as steps
 use Rattle.history.specs.Steps.{Event, Run}
@@ -69,14 +69,14 @@ use Rattle.store.specs.declared.job.JobStage.TheVariants as job
 use Rattle.store.specs.Pumps.{Pumps, TakesStep, WritesExtent, BeginsSlot, TurnsSlot, IsTurned, started, begun, SyncsHeap}
 use Rattle.standing.specs.Standing.{StandsInMemory}
 use Rattle.standing.specs.OnDisk.{IsImageOf, AllPacked, written_before, group_of, IsAtStage, IsTurnOf, IsNextRun, IsAtJob, HasJob, IsRested, Works, StandsOnDisk}
-use Rattle.standing.specs.Stands.{Stands}
-use Rattle.standing.specs.Laws.{begins_in, ends_in}
+use Rattle.standing.specs.Stands.{Stands, HasGate, gate_at, gate_of}
+use Rattle.standing.specs.Laws.{begins_in, breaks_in, ends_in}
 use Rattle.standing.proofs.Packed.{packed-rest, length-mapped}
 use Rattle.standing.proofs.Places.{IsNext, next-is, behind-is, take-next, drop-next, none-left}
 use Rattle.standing.proofs.Usages.{AllKept, all-published}
 use Rattle.standing.proofs.Joining as joining
 use Rattle.standing.proofs.Joining.{numbers-split}
-use Rattle.standing.proofs.Publishing.{restaged, breaks, publishes, begins}
+use Rattle.standing.proofs.Publishing.{restaged, regated, breaks, publishes, begins}
 use Rattle.standing.proofs.Jobs.{resting, rested-now, rested-sound, sound-at, job-beside-heap, job-beside-status, job-moves, run-leaves, archives-built, rested-write, rested-sync}
 
 -- ---- room in the log
@@ -92,20 +92,59 @@ room-left header v m order in_step slots_are w some =
     let claims = claims-some v.transactions.stage v.transactions.group (length v.transactions.queue) some order.group_within in
     omega (arith, claims, order.room, in_step.slots, in_step.used, slots_are, w.used)
 
+-- ---- the gate
+
+open-is : (s : SlotStage) → joining.MayOpen s → gate_at s ≡ MayBeOpen OfGroup
+open-is slots.Begun may = absurd may
+open-is slots.BodyWritten may = absurd may
+open-is slots.BodySynced may = absurd may
+open-is slots.GateWritten may = refl
+open-is slots.Opened may = refl
+
+-- the gate after a call that is refused
+abbrev pub gate_left : Gate → Gate
+gate_left Shut = Shut
+gate_left (Due OfGroup) = MayBeOpen OfGroup
+gate_left (Due OfFloor) = Due OfFloor
+gate_left (MayBeOpen change) = MayBeOpen change
+
+left-is : (s : SlotStage) → joining.MayOpenWithin s → gate_left (gate_at s) ≡ MayBeOpen OfGroup
+left-is slots.Begun may = absurd may
+left-is slots.BodyWritten may = absurd may
+left-is slots.BodySynced may = refl
+left-is slots.GateWritten may = refl
+left-is slots.Opened may = refl
+
+-- the machine breaks
+breaks-run : (m : Machine Value) → m.failed ≡ false → (gate : Gate) → m.gate ≡ gate → Run IsValue m (breaks_in gate) (steps.broken (steps.gated m (gate_left gate)))
+breaks-run m works Shut is = (steps.broken m, (works, refl), ap (λ (g : Gate). steps.broken (steps.gated m g)) (sym is))
+breaks-run m works (Due OfGroup) is = (steps.gated m (MayBeOpen OfGroup), (works, is, refl), (steps.broken (steps.gated m (MayBeOpen OfGroup)), (works, refl), refl))
+breaks-run m works (Due OfFloor) is = (steps.broken m, (works, refl), ap (λ (g : Gate). steps.broken (steps.gated m g)) (sym is))
+breaks-run m works (MayBeOpen change) is = (steps.broken m, (works, refl), ap (λ (g : Gate). steps.broken (steps.gated m g)) (sym is))
+
+-- where no slot of a group is in the writing, the gate is shut and stays so
+no-turn : (o : Option TurnState) → is_some o ≡ false → gate_of o ≡ Shut
+no-turn None none = refl
+no-turn (Some t) none = absurd cc
+
+gate-shut : (v : StoreValue) (m : Machine Value) → IsInStep v → v.transactions.failed ≡ m.failed → HasGate v m → m.failed ≡ false → is_turning v.transactions.stage ≡ false → m.gate ≡ Shut
+gate-shut v m in_step failed gate works still =
+    gate works ∙ no-turn v.turn (sym (in_step.turns (failed ∙ works)).turning ∙ still)
+
 -- ---- what a stop may leave
 
 pub stage-leaves : (header : Header) (v : StoreValue) (m : Machine Value) → StandsInMemory v.transactions m → IsMachine IsValue m → IsInOrder v.transactions → IsTrue (is_built header.profile 1)
-    → (w : Works header v m) → ((0 < v.transactions.group) → length w.layout.slots < total header) → (areas : Areas) (s : GroupStage) (o : Option TurnState) → StageFits s v.transactions.group v.transactions.queue
+    → (w : Works header v m) → ((0 < v.transactions.group) → length w.layout.slots < total header) → (areas : Areas) (s : GroupStage) (o : Option TurnState) → m.gate ≡ gate_of o → StageFits s v.transactions.group v.transactions.queue
     → IsAtStage header w.layout (group_of w.layout v.transactions m) v.transactions.queue s o areas → (image : Image) → LeavesImage areas image → OnFront (IsImageOf header image) m
-stage-leaves header v m memory machine order built w room areas NoGroup o fits at image left =
+stage-leaves header v m memory machine order built w room areas NoGroup o gate fits at image left =
     inl record { layout = w.layout; reading = w.reading; laid = w.laid; held = rests_hold header w.layout areas image at left; stands = w.stands; profile_built = built; built = w.built }
-stage-leaves header v m memory machine order built w room areas (Storing member extent) o fits at image left =
-    joining.leaves_at header v.transactions m w.layout w.reading memory machine order w.laid w.stands built w.built w.kept w.packed fits.0 (room fits.0) (turns.Storing _ _) areas image at left
-stage-leaves header v m memory machine order built w room areas Stored o fits at image left =
-    joining.leaves_at header v.transactions m w.layout w.reading memory machine order w.laid w.stands built w.built w.kept w.packed fits (room fits) (turns.Turning slots.Begun) areas image at left
-stage-leaves header v m memory machine order built w room areas Turning None fits at image left = absurd at
-stage-leaves header v m memory machine order built w room areas Turning (Some t) fits at image left =
-    joining.leaves_at header v.transactions m w.layout w.reading memory machine order w.laid w.stands built w.built w.kept w.packed fits (room fits) (turns.Turning t.stage) areas image at.at left
+stage-leaves header v m memory machine order built w room areas (Storing member extent) o gate fits at image left =
+    joining.leaves_at header v.transactions m w.layout w.reading memory machine order w.laid w.stands built w.built w.kept w.packed fits.0 (room fits.0) m.gate (turns.Storing _ _) areas image (λ no. absurd no) at left
+stage-leaves header v m memory machine order built w room areas Stored o gate fits at image left =
+    joining.leaves_at header v.transactions m w.layout w.reading memory machine order w.laid w.stands built w.built w.kept w.packed fits (room fits) m.gate (turns.Turning slots.Begun) areas image (λ no. absurd no) at left
+stage-leaves header v m memory machine order built w room areas Turning None gate fits at image left = absurd at
+stage-leaves header v m memory machine order built w room areas Turning (Some t) gate fits at image left =
+    joining.leaves_at header v.transactions m w.layout w.reading memory machine order w.laid w.stands built w.built w.kept w.packed fits (room fits) m.gate (turns.Turning t.stage) areas image (λ may. gate ∙ open-is t.stage may) at.at left
 
 -- the areas, with the status area as it would rest
 abbrev resting-areas : (header : Header) (v : StoreValue) (m : Machine Value) → Works header v m → Areas
@@ -139,19 +178,19 @@ by-job header v m order in_step slots_are built archives w areas image (Some j) 
         run-leaves header m w.layout w.reading w.laid w.stands built archives w.built (job-room header v m order in_step slots_are w (ap lent_to is)) has.run has.next t.stage areas image turn.at left
 
 pub works-leave : (header : Header) (v : StoreValue) (m : Machine Value) → StandsInMemory v.transactions m → IsMachine IsValue m → IsInOrder v.transactions → IsInStep v → v.log.slots ≡ total header
-    → IsTrue (is_built header.profile 1) → IsTrue (is_built header.profile 2) → (w : Works header v m) → (image : Image) → LeavesImage v.disk.areas image → OnFront (IsImageOf header image) m
-works-leave header v m memory machine order in_step slots_are built archives w image left =
+    → IsTrue (is_built header.profile 1) → IsTrue (is_built header.profile 2) → m.gate ≡ gate_of v.turn → (w : Works header v m) → (image : Image) → LeavesImage v.disk.areas image → OnFront (IsImageOf header image) m
+works-leave header v m memory machine order in_step slots_are built archives gate w image left =
     by-job header v m order in_step slots_are built archives w v.disk.areas image v.job refl w.job left
-    (λ still. stage-leaves header v m memory machine order built w (room-left header v m order in_step slots_are w) v.disk.areas v.transactions.stage v.turn order.stage_fits (now-at header v m w still) image left)
+    (λ still. stage-leaves header v m memory machine order built w (room-left header v m order in_step slots_are w) v.disk.areas v.transactions.stage v.turn gate order.stage_fits (now-at header v m w still) image left)
 
 pub on-disk : (header : Header) (v : StoreValue) (m : Machine Value) → StandsInMemory v.transactions m → IsMachine IsValue m → IsInOrder v.transactions → IsInStep v → v.log.profile ≡ header.profile → v.log.slots ≡ total header
-    → IsTrue (is_built header.profile 1) → Works header v m → StandsOnDisk v m
-on-disk header v m memory machine order in_step profile slots_are built w = record {
+    → IsTrue (is_built header.profile 1) → m.gate ≡ gate_of v.turn → Works header v m → StandsOnDisk v m
+on-disk header v m memory machine order in_step profile slots_are built gate w = record {
   header = header;
   profile = profile;
   slots = slots_are;
   profile_built = built;
-  leaves = works-leave header v m memory machine order in_step slots_are built (archives-built header.profile built) w;
+  leaves = works-leave header v m memory machine order in_step slots_are built (archives-built header.profile built) gate w;
   works = λ _. w;
 }
 
@@ -160,6 +199,7 @@ pub record Parts (tells : Bool) (v : StoreValue) (m : Machine Value) : Type 0 wh
   pub memory : StandsInMemory v.transactions m
   pub order : IsInOrder v.transactions
   pub in_step : IsInStep v
+  pub gate : HasGate v m
   pub disk : IsTrue tells → StandsOnDisk v m
 
 -- ---- a group begins
@@ -268,15 +308,15 @@ with_parts v new transactions log turn = record v { transactions = transactions;
 module _ (header : Header) (v new : StoreValue) (m : Machine Value) (memory : StandsInMemory v.transactions m) (machine : IsMachine IsValue m) (order : IsInOrder v.transactions) (in_step : IsInStep v)
     (profile : v.log.profile ≡ header.profile) (slots_are : v.log.slots ≡ total header) (built : IsTrue (is_built header.profile 1)) (w : Works header v m) where
   -- a refused call leaves what a stop within it leaves
-  goes-leaves : (fault : DeviceFault) (old new : Areas) → Goes header v m w (Err fault) old new → (image : Image) → LeavesImage new image → OnFront (IsImageOf header image) m
-  goes-leaves fault old new goes image left =
+  goes-leaves : (gate : Gate) (fault : DeviceFault) (old new : Areas) → (goes : Goes header v m w (Err fault) old new) → (joining.MayOpenInCall goes.stage → gate ≡ MayBeOpen OfGroup) → (image : Image) → LeavesImage new image → OnFront (IsImageOf header image) (steps.gated m gate)
+  goes-leaves gate fault old new goes opens image left =
       joining.leaves_within header v.transactions m w.layout w.reading memory machine order w.laid w.stands built w.built w.kept w.packed goes.some (room-left header v m order in_step slots_are w goes.some)
-      goes.bytes goes.long goes.spelled goes.stage (Err fault) old new image goes.at goes.sound goes.call left
+      goes.bytes goes.long goes.spelled gate goes.stage (Err fault) old new image opens goes.at goes.sound goes.call left
 
   -- and the store has failed
-  breaks-disk : (log : LogState) (turn : Option TurnState) → ((image : Image) → LeavesImage new.disk.areas image → OnFront (IsImageOf header image) m) → log.profile ≡ v.log.profile → log.slots ≡ v.log.slots
-      → StandsOnDisk (with_parts v new (groups.broken v.transactions) log turn) (steps.broken m)
-  breaks-disk log turn leaves same many = record {
+  breaks-disk : (gate : Gate) (log : LogState) (turn : Option TurnState) → ((image : Image) → LeavesImage new.disk.areas image → OnFront (IsImageOf header image) (steps.gated m gate)) → log.profile ≡ v.log.profile → log.slots ≡ v.log.slots
+      → StandsOnDisk (with_parts v new (groups.broken v.transactions) log turn) (steps.broken (steps.gated m gate))
+  breaks-disk gate log turn leaves same many = record {
     header = header;
     profile = same ∙ profile;
     slots = many ∙ slots_are;
@@ -423,13 +463,13 @@ module _ (header : Header) (v new : StoreValue) (m : Machine Value) (memory : St
       (joining.torn_kept header v.transactions m w.layout w.reading memory machine order w.laid w.stands built w.built w.kept w.packed some (room-left header v m order in_step slots_are w some) (take k all) found.extent found.rest base at (resting-sound header v m w))) in
       by-job header v m order in_step slots_are built (archives-built header.profile built) w (record v.disk.areas { heap = torn }) image v.job refl
       (job-beside-heap header w.layout w.reading m.published v.job v.disk.areas torn keeps w.job) before
-      (λ still. goes-leaves (record {}) v.disk.areas new.disk.areas
-      (wrote-goes (Err (record {})) member extent is low stored there v.disk.areas new.disk.areas w.sound (now-at header v m w still) call) image left)
+      (λ still. goes-leaves m.gate (record {}) v.disk.areas new.disk.areas
+      (wrote-goes (Err (record {})) member extent is low stored there v.disk.areas new.disk.areas w.sound (now-at header v m w still) call) (λ no. absurd no) image left)
 
   -- what is left by a call that changed nothing
-  same-leaves : new.disk.areas ≡ v.disk.areas → (image : Image) → LeavesImage new.disk.areas image → OnFront (IsImageOf header image) m
-  same-leaves same image left =
-      works-leave header v m memory machine order in_step slots_are built (archives-built header.profile built) w image (subst (λ (a : Areas). LeavesImage a image) same left)
+  same-leaves : m.gate ≡ gate_of v.turn → new.disk.areas ≡ v.disk.areas → (image : Image) → LeavesImage new.disk.areas image → OnFront (IsImageOf header image) m
+  same-leaves gate same image left =
+      works-leave header v m memory machine order in_step slots_are built (archives-built header.profile built) gate w image (subst (λ (a : Areas). LeavesImage a image) same left)
 
   -- the store after a call of the heap that was made
   heap-works : (s : GroupStage) → AreSound new.disk.areas → (heap : AreaState) → new.disk.areas ≡ record v.disk.areas { heap = heap } → KeepsExtents (live w.layout) heap
@@ -533,7 +573,7 @@ module _ (header : Header) (v new : StoreValue) (m : Machine Value) (memory : St
 -- ---- the store after a step
 
 abbrev Ends : Bool → Machine Value → Result Did PumpFault → StoreValue → Type 0
-Ends tells m answer v = (after : Machine Value) × Run IsValue m (ends_in answer) after × Parts tells v after
+Ends tells m answer v = (after : Machine Value) × Run IsValue m (ends_in m.gate answer) after × Parts tells v after
 
 same-store : (v new : StoreValue) (transactions : TransactionsValue) (log : LogState) (turn : Option TurnState) → KeepsJob v new → new.transactions ≡ transactions → new.log ≡ log → new.turn ≡ turn → with_parts v new transactions log turn ≡ new
 same-store v new transactions log turn keeps a b c =
@@ -553,27 +593,33 @@ broken-order v order = record {
   slots_few = order.slots_few;
 }
 
--- a refused call
-fails-parts : (tells : Bool) (v new : StoreValue) (m : Machine Value) → (parts : Parts tells v m) → IsMachine IsValue m → (works : m.failed ≡ false) → (log : LogState) (turn : Option TurnState) → log.profile ≡ v.log.profile → log.slots ≡ v.log.slots → log.used ≡ v.log.used
-    → ((told : IsTrue tells) (image : Image) → LeavesImage new.disk.areas image → OnFront (IsImageOf (parts.disk told).header image) m) → Parts tells (with_parts v new (groups.broken v.transactions) log turn) (steps.broken m)
-fails-parts tells v new m parts machine works log turn same many used leaves = record {
-  memory = breaks v.transactions m parts.memory;
+-- a refused call, which leaves the gate so
+fails-parts : (tells : Bool) (v new : StoreValue) (m : Machine Value) → (parts : Parts tells v m) → IsMachine IsValue m → (works : m.failed ≡ false) → (gate : Gate) (log : LogState) (turn : Option TurnState) → log.profile ≡ v.log.profile → log.slots ≡ v.log.slots → log.used ≡ v.log.used
+    → ((told : IsTrue tells) (image : Image) → LeavesImage new.disk.areas image → OnFront (IsImageOf (parts.disk told).header image) (steps.gated m gate)) → Parts tells (with_parts v new (groups.broken v.transactions) log turn) (steps.broken (steps.gated m gate))
+fails-parts tells v new m parts machine works gate log turn same many used leaves = record {
+  memory = breaks v.transactions (steps.gated m gate) (regated v.transactions m gate parts.memory);
   order = broken-order v.transactions parts.order;
   in_step = record { slots = many ∙ parts.in_step.slots; used = used ∙ parts.in_step.used; turns = λ no. absurd cc };
+  gate = λ no. absurd cc;
   disk = λ told.
       let d = parts.disk told in
-      breaks-disk d.header v new m parts.memory machine parts.order parts.in_step d.profile d.slots d.profile_built (d.works works) log turn (leaves told) same many;
+      breaks-disk d.header v new m parts.memory machine parts.order parts.in_step d.profile d.slots d.profile_built (d.works works) gate log turn (leaves told) same many;
 }
 
 fails-step : (tells : Bool) (v new : StoreValue) (m : Machine Value) (why : PumpFault) → why ≡ pump.Failed → KeepsJob v new → (parts : Parts tells v m) → IsMachine IsValue m → (works : m.failed ≡ false) → (log : LogState) (turn : Option TurnState) → log.profile ≡ v.log.profile → log.slots ≡ v.log.slots → log.used ≡ v.log.used
     → new.transactions ≡ groups.broken v.transactions → new.log ≡ log → new.turn ≡ turn
-    → ((told : IsTrue tells) (image : Image) → LeavesImage new.disk.areas image → OnFront (IsImageOf (parts.disk told).header image) m) → Ends tells m (Err why) new
+    → ((told : IsTrue tells) (image : Image) → LeavesImage new.disk.areas image → OnFront (IsImageOf (parts.disk told).header image) (steps.gated m (gate_left m.gate))) → Ends tells m (Err why) new
 fails-step tells v new m why is keeps parts machine works log turn same many used a b c leaves =
+    let after : Machine Value = steps.broken (steps.gated m (gate_left m.gate)) in
     subst (λ (e : PumpFault). Ends tells m (Err e) new) (sym is)
-    (steps.broken m, (steps.broken m, (works, refl), refl), subst (λ (x : StoreValue). Parts tells x (steps.broken m)) (same-store v new (groups.broken v.transactions) log turn keeps a b c) (fails-parts tells v new m parts machine works log turn same many used leaves))
+    (after, breaks-run m works m.gate refl, subst (λ (x : StoreValue). Parts tells x after) (same-store v new (groups.broken v.transactions) log turn keeps a b c) (fails-parts tells v new m parts machine works (gate_left m.gate) log turn same many used leaves))
+
+-- where the gate is shut, a refused call leaves it so
+left-shut : (P : Machine Value → Type 0) (m : Machine Value) → m.gate ≡ Shut → P m → P (steps.gated m (gate_left m.gate))
+left-shut P m shut p = subst (λ (g : Gate). P (steps.gated m g)) (shut ∙ sym (ap gate_left shut)) p
 
 -- a call that is made, and tells nothing of the machine
-stays-step : (tells : Bool) (v new : StoreValue) (m : Machine Value) (said what : Did) → KeepsJob v new → ends_in (Ok what) ≡ [] → said ≡ what → (transactions : TransactionsValue) (log : LogState) (turn : Option TurnState) → new.transactions ≡ transactions → new.log ≡ log → new.turn ≡ turn
+stays-step : (tells : Bool) (v new : StoreValue) (m : Machine Value) (said what : Did) → KeepsJob v new → ends_in m.gate (Ok what) ≡ [] → said ≡ what → (transactions : TransactionsValue) (log : LogState) (turn : Option TurnState) → new.transactions ≡ transactions → new.log ≡ log → new.turn ≡ turn
     → Parts tells (with_parts v new transactions log turn) m → Ends tells m (Ok said) new
 stays-step tells v new m said what keeps none is transactions log turn a b c parts =
     subst (λ (d : Did). Ends tells m (Ok d) new) (sym is)
@@ -626,7 +672,9 @@ wrote-step tells v new answer m parts machine works asks sound (Some stored) fou
     by-answer : (answer : Result Did PumpFault) (at : IsStoring v.transactions.stage v.transactions.group) → groups.extent_at (slice_get v.transactions.queue at.member) at.extent ≡ Some stored → WritesExtent tells stored v answer new → Ends tells m answer new
     by-answer (Err why) at there takes =
         fails-step tells v new m why takes.steps.answer.0 takes.steps.job parts machine works v.log v.turn refl refl refl takes.steps.answer.1 takes.steps.log takes.steps.turn
-        (λ told. let d = parts.disk told in wrote-leaves d.header v new m parts.memory machine parts.order parts.in_step d.profile d.slots d.profile_built (d.works works) at.member at.extent at.is at.low stored there (takes.call.areas told))
+        (λ told image left. let d = parts.disk told in
+        left-shut (λ (x : Machine Value). OnFront (IsImageOf d.header image) x) m (gate-shut v m parts.in_step parts.memory.failed parts.gate works (ap is_turning at.is))
+        (wrote-leaves d.header v new m parts.memory machine parts.order parts.in_step d.profile d.slots d.profile_built (d.works works) at.member at.extent at.is at.low stored there (takes.call.areas told) image left))
     by-answer (Ok said) at there takes =
         let stage = groups.stage_behind v.transactions.queue v.transactions.stage in
         let memory = restaged v.transactions m stage parts.memory (λ _. omega (arith, at.low)) in
@@ -642,6 +690,7 @@ wrote-step tells v new answer m parts machine works asks sound (Some stored) fou
           memory = memory;
           order = order;
           in_step = in_step;
+          gate = parts.gate;
           disk = λ told.
               let d = parts.disk told in
               let w = d.works works in
@@ -652,7 +701,7 @@ wrote-step tells v new answer m parts machine works asks sound (Some stored) fou
               let goes = wrote-goes d.header v new m parts.memory machine parts.order parts.in_step d.profile d.slots d.profile_built w (Ok tt) at.member at.extent at.is at.low stored there base then sound' w.at call in
               let on = goes-on d.header v new m parts.memory machine parts.order parts.in_step d.profile d.slots d.profile_built w base then goes in
               let is : new.disk.areas ≡ record v.disk.areas { heap = new.disk.areas.heap } = heap-alone v.disk.areas new.disk.areas _ (takes.call.areas told).written in
-              on-disk d.header (with_parts v new (groups.wrote_extent v.transactions) v.log v.turn) m memory machine order in_step d.profile d.slots d.profile_built
+              on-disk d.header (with_parts v new (groups.wrote_extent v.transactions) v.log v.turn) m memory machine order in_step d.profile d.slots d.profile_built (parts.gate works)
               (heap-works d.header v new m parts.memory machine parts.order parts.in_step d.profile d.slots d.profile_built w stage (sound told) new.disk.areas.heap is on.rests.parts.extents
               (wrote-at d.header v new m parts.memory machine parts.order parts.in_step d.profile d.slots d.profile_built w (Ok tt) at.member at.extent at.is at.low stored there base then sound' w.at call on));
         })
@@ -683,7 +732,9 @@ synced-step tells v new answer m parts machine works asks sound takes =
     by-answer : (answer : Result Did PumpFault) → IsAllStored v.transactions.stage v.transactions.group → SyncsHeap tells v answer new → Ends tells m answer new
     by-answer (Err why) at takes =
         fails-step tells v new m why takes.steps.answer.0 takes.steps.job parts machine works v.log v.turn refl refl refl takes.steps.answer.1 takes.steps.log takes.steps.turn
-        (λ told. let d = parts.disk told in same-leaves d.header v new m parts.memory machine parts.order parts.in_step d.profile d.slots d.profile_built (d.works works) (takes.call.areas told).same)
+        (λ told image left. let d = parts.disk told in
+        left-shut (λ (x : Machine Value). OnFront (IsImageOf d.header image) x) m (gate-shut v m parts.in_step parts.memory.failed parts.gate works (ap is_turning at.is))
+        (same-leaves d.header v new m parts.memory machine parts.order parts.in_step d.profile d.slots d.profile_built (d.works works) (parts.gate works) (takes.call.areas told).same image left))
     by-answer (Ok said) at takes =
         let memory = restaged v.transactions m Stored parts.memory (λ _. at.some) in
         let order = keeps-synced v.transactions parts.order asks in
@@ -696,6 +747,7 @@ synced-step tells v new answer m parts machine works asks sound takes =
           memory = memory;
           order = order;
           in_step = in_step;
+          gate = parts.gate;
           disk = λ told.
               let d = parts.disk told in
               let w = d.works works in
@@ -705,7 +757,7 @@ synced-step tells v new answer m parts machine works asks sound takes =
               (rested-sync w.rested v.disk.areas new.disk.areas (takes.call.areas told)) in
               let on = goes-on d.header v new m parts.memory machine parts.order parts.in_step d.profile d.slots d.profile_built w base then goes in
               let is : new.disk.areas ≡ record v.disk.areas { heap = new.disk.areas.heap } = heap-alone v.disk.areas new.disk.areas _ (takes.call.areas told).synced in
-              on-disk d.header (with_parts v new (groups.at_stage Stored v.transactions) v.log v.turn) m memory machine order in_step d.profile d.slots d.profile_built
+              on-disk d.header (with_parts v new (groups.at_stage Stored v.transactions) v.log v.turn) m memory machine order in_step d.profile d.slots d.profile_built (parts.gate works)
               (heap-works d.header v new m parts.memory machine parts.order parts.in_step d.profile d.slots d.profile_built w Stored (sound told) new.disk.areas.heap is on.old_parts.extents on);
         })
 
@@ -716,7 +768,7 @@ abbrev IsGroupTurn : (tells : Bool) (v : StoreValue) (m : Machine Value) → (Is
 IsGroupTurn tells v m disk works t = (told : IsTrue tells) → IsTurnOf (disk told).header ((disk told).works works).layout (group_of ((disk told).works works).layout v.transactions m) t v.disk.areas
 
 -- a slot on its way: the store has the stage and the turn of it
-module _ (tells : Bool) (v new : StoreValue) (m : Machine Value) (t : TurnState) (parts : Parts tells v m) (machine : IsMachine IsValue m) (works : m.failed ≡ false) (turning : v.transactions.stage ≡ Turning) (number : t.number ≡ v.log.used)
+module _ (tells : Bool) (v new : StoreValue) (m : Machine Value) (t : TurnState) (parts : Parts tells v m) (machine : IsMachine IsValue m) (works : m.failed ≡ false) (turning : v.transactions.stage ≡ Turning) (mine-is : v.turn ≡ Some t) (number : t.number ≡ v.log.used)
     (writing : v.log.writing ≡ true) (own : IsGroupTurn tells v m parts.disk works t) (sound : IsTrue tells → AreSound new.disk.areas) (still : turn_of v.job ≡ None) (keeps : KeepsJob v new) where
   group-some : 0 < v.transactions.group
   group-some = subst (λ (s : GroupStage). StageFits s v.transactions.group v.transactions.queue) turning parts.order.stage_fits
@@ -736,26 +788,38 @@ module _ (tells : Bool) (v new : StoreValue) (m : Machine Value) (t : TurnState)
   abbrev no-other : (n : ℕ) (turn : Option TurnState) → MatchOption (turn_of v.job) (Unit {0}) (λ u. (u.number ≡ n) × IsOnItsWay u.stage × (turn ≡ None))
   no-other n turn = subst (λ (o : Option TurnState). MatchOption o (Unit {0}) (λ u. (u.number ≡ n) × IsOnItsWay u.stage × (turn ≡ None))) (sym still) tt
 
+  group-in-making : steps.IsInTheMaking m OfGroup
+  group-in-making = omega (arith, group-some, parts.memory.group)
+
+  gate-now : m.gate ≡ gate_at t.stage
+  gate-now = parts.gate works ∙ ap gate_of mine-is
+
   -- what the store is then
-  between : (stage : SlotStage) → t.stage ≡ stage → IsOnItsWay (slots.slot_stage_after stage) → (IsTrue tells → IsSlotCall t.number t.body t.stage (Ok tt) v.disk.areas new.disk.areas) → (said what : Did) → ends_in (Ok what) ≡ [] → said ≡ what
+  between : (stage : SlotStage) → t.stage ≡ stage → IsOnItsWay (slots.slot_stage_after stage) → (IsTrue tells → IsSlotCall t.number t.body t.stage (Ok tt) v.disk.areas new.disk.areas) → (said what : Did)
+      → Run IsValue m (ends_in m.gate (Ok what)) (steps.gated m (gate_at (slots.slot_stage_after stage))) → said ≡ what
       → new.transactions ≡ v.transactions → new.log ≡ v.log → new.turn ≡ Some (record t { stage = slots.slot_stage_after stage }) → Ends tells m (Ok said) new
-  between stage is way call said what none same a b c =
+  between stage is way call said what run same a b c =
       let after : Option TurnState = Some (record t { stage = slots.slot_stage_after stage }) in
+      let gate : Gate = gate_at (slots.slot_stage_after stage) in
+      let to : Machine Value = steps.gated m gate in
+      let memory = regated v.transactions m gate parts.memory in
+      let machine' : IsMachine IsValue to = run-machine IsValue m to (ends_in m.gate (Ok what)) machine run in
       let in_step : IsInStep (with_parts v new v.transactions v.log after) = record {
         slots = parts.in_step.slots;
         used = parts.in_step.used;
         turns = λ on. record { turning = ap is_turning turning; writing = writing; turn = (number, way); job = no-other v.log.used after };
       } in
-      stays-step tells v new m said what keeps none same v.transactions v.log after a b c (record {
-        memory = parts.memory;
+      let then : Parts tells (with_parts v new v.transactions v.log after) to = record {
+        memory = memory;
         order = parts.order;
         in_step = in_step;
+        gate = λ on. refl;
         disk = λ told.
             let d = parts.disk told in
             let w = d.works works in
             let mine = own told in
             let at : IsAtStage d.header w.layout (group_of w.layout v.transactions m) v.transactions.queue Turning after new.disk.areas = record { number = mine.number; long = mine.long; spelled = mine.spelled; at = led stage is call told } in
-            on-disk d.header (with_parts v new v.transactions v.log after) m parts.memory machine parts.order in_step d.profile d.slots d.profile_built (record {
+            on-disk d.header (with_parts v new v.transactions v.log after) to memory machine' parts.order in_step d.profile d.slots d.profile_built refl (record {
               layout = w.layout;
               reading = w.reading;
               laid = w.laid;
@@ -773,7 +837,8 @@ module _ (tells : Bool) (v new : StoreValue) (m : Machine Value) (t : TurnState)
                   (job-beside-status d.header w.layout w.reading m.published v.job v.disk.areas new.disk.areas.status still w.job);
               sound = sound told;
             });
-      })
+      } in
+      subst (λ (e : Did). Ends tells m (Ok e) new) (sym same) (to, run, subst (λ (x : StoreValue). Parts tells x to) (same-store v new v.transactions v.log after keeps a b c) then)
 
   -- and where its gate is open
   opens : t.stage ≡ slots.GateWritten → (IsTrue tells → IsSlotCall t.number t.body t.stage (Ok tt) v.disk.areas new.disk.areas) → groups.due v.transactions ≡ next.AdvanceSlot → (said : Did) → said ≡ did.Published v.transactions.group
@@ -785,7 +850,7 @@ module _ (tells : Bool) (v new : StoreValue) (m : Machine Value) (t : TurnState)
       subst (λ (l : List ℕ). AreOut v.transactions.usages l) (numbers-split v.transactions.group v.transactions.queue) parts.order.out in
       let order = keeps-published v.transactions parts.order asks
       (out-rest v.transactions.usages (flat_map numbers_of (take v.transactions.group v.transactions.queue)) (flat_map numbers_of (drop v.transactions.group v.transactions.queue)) Kept rest) in
-      let step : steps.Step IsValue m (steps.Published v.transactions.group) (steps.group_published m) = (works, group-some, parts.memory.group, refl) in
+      let step : steps.Step IsValue m (steps.Published v.transactions.group) (steps.group_published m) = (works, group-some, parts.memory.group, gate-now ∙ ap gate_at is, refl) in
       let machine' : IsMachine IsValue (steps.group_published m) = run-machine IsValue m (steps.group_published m) (steps.Published v.transactions.group ∷ []) machine (steps.group_published m, step, refl) in
       let in_step : IsInStep (with_parts v new (groups.published v.transactions) log None) = record {
         slots = parts.in_step.slots;
@@ -796,10 +861,11 @@ module _ (tells : Bool) (v new : StoreValue) (m : Machine Value) (t : TurnState)
         memory = memory;
         order = order;
         in_step = in_step;
+        gate = λ on. refl;
         disk = λ told.
             let d = parts.disk told in
             let w = d.works works in
-            on-disk d.header (with_parts v new (groups.published v.transactions) log None) (steps.group_published m) memory machine' order in_step d.profile d.slots d.profile_built
+            on-disk d.header (with_parts v new (groups.published v.transactions) log None) (steps.group_published m) memory machine' order in_step d.profile d.slots d.profile_built refl
             (published-works d.header v new m parts.memory machine parts.order parts.in_step d.profile d.slots d.profile_built w group-some still t.number (own told).number (sound told) new.disk.areas.status
             (slot-alone t.stage t.number t.body v.disk.areas new.disk.areas (call told)) (led slots.GateWritten is call told));
       } in
@@ -807,9 +873,11 @@ module _ (tells : Bool) (v new : StoreValue) (m : Machine Value) (t : TurnState)
       (steps.group_published m, (steps.group_published m, step, refl), subst (λ (x : StoreValue). Parts tells x (steps.group_published m)) (same-store v new (groups.published v.transactions) log None keeps a b c) after)
 
   turned : (stage : SlotStage) → t.stage ≡ stage → (IsTrue tells → IsSlotCall t.number t.body t.stage (Ok tt) v.disk.areas new.disk.areas) → groups.due v.transactions ≡ next.AdvanceSlot → (what : Did) → IsTurned stage t v what new → Ends tells m (Ok what) new
-  turned slots.Begun is call asks what to = between slots.Begun is tt call what did.BodyWritten refl to.0 to.1 to.2 to.3
-  turned slots.BodyWritten is call asks what to = between slots.BodyWritten is tt call what did.BodySynced refl to.0 to.1 to.2 to.3
-  turned slots.BodySynced is call asks what to = between slots.BodySynced is tt call what did.GateWritten refl to.0 to.1 to.2 to.3
+  turned slots.Begun is call asks what to = between slots.Begun is tt call what did.BodyWritten (ap (steps.gated m) (sym (gate-now ∙ ap gate_at is))) to.0 to.1 to.2 to.3
+  turned slots.BodyWritten is call asks what to =
+      between slots.BodyWritten is tt call what did.BodySynced (steps.gated m (Due OfGroup), (works, group-in-making, gate-now ∙ ap gate_at is, refl), refl) to.0 to.1 to.2 to.3
+  turned slots.BodySynced is call asks what to =
+      between slots.BodySynced is tt call what did.GateWritten (steps.gated m (MayBeOpen OfGroup), (works, gate-now ∙ ap gate_at is, refl), refl) to.0 to.1 to.2 to.3
   turned slots.GateWritten is call asks what to = opens is call asks what to.0 to.1 to.2 to.3
   turned slots.Opened is call asks what to = absurd to
 
@@ -818,8 +886,9 @@ module _ (tells : Bool) (v new : StoreValue) (m : Machine Value) (t : TurnState)
   slot-step asks (Err why) turns =
       fails-step tells v new m why turns.answer.fault keeps parts machine works v.log None refl refl refl turns.answer.transactions turns.answer.log turns.answer.turn
       (λ told. let d = parts.disk told in
-      goes-leaves d.header v new m parts.memory machine parts.order parts.in_step d.profile d.slots d.profile_built (d.works works) (record {}) v.disk.areas new.disk.areas
-      (slot-goes d.header v new m parts.memory machine parts.order parts.in_step d.profile d.slots d.profile_built (d.works works) (Err (record {})) t (own told) group-some (turns.call.areas told)))
+      goes-leaves d.header v new m parts.memory machine parts.order parts.in_step d.profile d.slots d.profile_built (d.works works) (gate_left m.gate) (record {}) v.disk.areas new.disk.areas
+      (slot-goes d.header v new m parts.memory machine parts.order parts.in_step d.profile d.slots d.profile_built (d.works works) (Err (record {})) t (own told) group-some (turns.call.areas told))
+      (λ may. ap gate_left gate-now ∙ left-is t.stage may))
 
 -- ---- the slot is begun
 
@@ -838,6 +907,9 @@ module _ (tells : Bool) (v new : StoreValue) (m : Machine Value) (parts : Parts 
 
   some-stored : 0 < v.transactions.group
   some-stored = subst (λ (s : GroupStage). StageFits s v.transactions.group v.transactions.queue) stored parts.order.stage_fits
+
+  shut : m.gate ≡ Shut
+  shut = gate-shut v m parts.in_step parts.memory.failed parts.gate works (ap is_turning stored)
 
   first-turn : (told : IsTrue tells) → IsTurnOf (parts.disk told).header ((parts.disk told).works works).layout (group_of ((parts.disk told).works works).layout v.transactions m) first v.disk.areas
   first-turn told =
@@ -871,12 +943,13 @@ module _ (tells : Bool) (v new : StoreValue) (m : Machine Value) (parts : Parts 
         memory = memory;
         order = order;
         in_step = in_step;
+        gate = λ on. shut;
         disk = λ told.
             let d = parts.disk told in
             let w = d.works works in
             let mine = first-turn told in
             let on = goes-on d.header v new m parts.memory machine parts.order parts.in_step d.profile d.slots d.profile_built w v.disk.areas new.disk.areas (first-goes (Ok tt) told (to.call.areas told)) in
-            on-disk d.header (with_parts v new (groups.at_stage Turning v.transactions) log after) m memory machine order in_step d.profile d.slots d.profile_built
+            on-disk d.header (with_parts v new (groups.at_stage Turning v.transactions) log after) m memory machine order in_step d.profile d.slots d.profile_built shut
             (staged-works d.header v new m parts.memory machine parts.order parts.in_step d.profile d.slots d.profile_built w Turning log after refl (sound told) new.disk.areas.status
             (rested-now d.header w.layout (turn_of v.job) new.disk.areas.status still) (record { number = mine.number; long = mine.long; spelled = mine.spelled; at = on })
             (subst (λ (a : Areas). HasJob d.header w.layout w.reading m.published v.job a) (sym (slot-alone slots.Begun first.number first.body v.disk.areas new.disk.areas (to.call.areas told)))
@@ -884,18 +957,21 @@ module _ (tells : Bool) (v new : StoreValue) (m : Machine Value) (parts : Parts 
       })
   begun-step asks (Err why) to =
       let log : LogState = record v.log { writing = true } in
-      let parts' : Parts tells (with_parts v new (groups.broken v.transactions) log None) (steps.broken m) =
-      fails-parts tells v new m parts machine works log None refl refl refl
+      let after : Machine Value = steps.broken (steps.gated m (gate_left m.gate)) in
+      let parts' : Parts tells (with_parts v new (groups.broken v.transactions) log None) after =
+      fails-parts tells v new m parts machine works (gate_left m.gate) log None refl refl refl
       (λ told. let d = parts.disk told in
-      goes-leaves d.header v new m parts.memory machine parts.order parts.in_step d.profile d.slots d.profile_built (d.works works) (record {}) v.disk.areas new.disk.areas (first-goes (Err (record {})) told (to.call.areas told))) in
+      goes-leaves d.header v new m parts.memory machine parts.order parts.in_step d.profile d.slots d.profile_built (d.works works) (gate_left m.gate) (record {}) v.disk.areas new.disk.areas (first-goes (Err (record {})) told (to.call.areas told))
+      (λ no. absurd no)) in
       subst (λ (e : PumpFault). Ends tells m (Err e) new) (sym to.answer.fault) (
-        steps.broken m,
-        (steps.broken m, (works, refl), refl),
-        subst (λ (x : StoreValue). Parts tells x (steps.broken m))
+        after,
+        breaks-run m works m.gate refl,
+        subst (λ (x : StoreValue). Parts tells x after)
             (same-store v new (groups.at_stage Turning (groups.broken v.transactions)) log None keeps to.answer.transactions to.answer.log to.answer.turn) (record {
-              memory = restaged (groups.broken v.transactions) (steps.broken m) Turning parts'.memory (λ _. some-stored);
+              memory = restaged (groups.broken v.transactions) after Turning parts'.memory (λ _. some-stored);
               order = broken-order (groups.at_stage Turning v.transactions) (keeps-begun v.transactions parts.order asks);
               in_step = record { slots = parts'.in_step.slots; used = parts'.in_step.used; turns = λ no. absurd cc };
+              gate = λ no. absurd cc;
               disk = λ told.
                   let d = parts'.disk told in record { header = d.header; profile = d.profile; slots = d.slots; profile_built = d.profile_built; leaves = d.leaves; works = λ no. absurd cc };
             }),
@@ -925,7 +1001,7 @@ advance-step tells v new m parts machine works asks sound answer takes =
         let turns = parts.in_step.turns on in
         let still : turn_of v.job ≡ None = no-job-turn (turn_of v.job) v.turn t at v.log.used turns.job in
         let mine : MatchOption (Some t) (Unit {0}) (λ t. (t.number ≡ v.log.used) × IsOnItsWay t.stage) = subst (λ (o : Option TurnState). MatchOption o (Unit {0}) (λ t. (t.number ≡ v.log.used) × IsOnItsWay t.stage)) at turns.turn in
-        slot-step tells v new m t parts machine works is mine.0 (turns.writing ∙ ap (λ (o : Option TurnState). is_some o || is_some (turn_of v.job)) at)
+        slot-step tells v new m t parts machine works is at mine.0 (turns.writing ∙ ap (λ (o : Option TurnState). is_some o || is_some (turn_of v.job)) at)
         (λ told.
         let d = parts.disk told in
         let w = d.works works in
@@ -957,18 +1033,19 @@ started-parts tells v m size stands works memory machine =
       memory = memory;
       order = order;
       in_step = in_step;
+      gate = stands.gate;
       disk = λ told.
           let d = stands.disk told in
-          on-disk d.header (started v) (record m { group = size }) memory machine order in_step d.profile d.slots d.profile_built (begun-works d.header v m size stands.order (d.works works) memory);
+          on-disk d.header (started v) (record m { group = size }) memory machine order in_step d.profile d.slots d.profile_built (stands.gate works) (begun-works d.header v m size stands.order (d.works works) memory);
     }
 
 pub pump-stands : (tells : Bool) (old new : StoreValue) (answer : Result Did PumpFault) (m : Machine Value) → Stands tells old m → (IsTrue tells → AreSound new.disk.areas) → Pumps tells old answer new
-    → MatchBool m.failed ((answer ≡ Err pump.Failed) × Stands tells new m) ((after : Machine Value) × Run IsValue m (begins_in m ++ ends_in answer) after × Stands tells new after)
+    → MatchBool m.failed ((answer ≡ Err pump.Failed) × Stands tells new m) ((after : Machine Value) × Run IsValue m (begins_in m ++ ends_in m.gate answer) after × Stands tells new after)
 pump-stands tells old new answer m stands sound pumps =
     by-failure m.failed refl (subst (λ (b : Bool). MatchBool b ((answer ≡ Err pump.Failed) × (new ≡ old)) (TakesStep tells (groups.next_step old.transactions) (started old) answer new)) stands.memory.failed pumps)
   where
     by-failure : (b : Bool) → m.failed ≡ b → MatchBool b ((answer ≡ Err pump.Failed) × (new ≡ old)) (TakesStep tells (groups.next_step old.transactions) (started old) answer new)
-        → MatchBool b ((answer ≡ Err pump.Failed) × Stands tells new m) ((after : Machine Value) × Run IsValue m (begins_in m ++ ends_in answer) after × Stands tells new after)
+        → MatchBool b ((answer ≡ Err pump.Failed) × Stands tells new m) ((after : Machine Value) × Run IsValue m (begins_in m ++ ends_in m.gate answer) after × Stands tells new after)
     by-failure true failed is = (is.0, subst (λ (x : StoreValue). Stands tells x m) (sym is.1) stands)
     by-failure false works takes =
         let begun = begins old.transactions m stands.memory stands.machine works in
@@ -979,14 +1056,16 @@ pump-stands tells old new answer m stands sound pumps =
         let parts = subst (λ (x : Machine Value). Parts tells (started old) x) (sym is)
         (started-parts tells old m begun.mid.group stands works memory (subst (λ (x : Machine Value). IsMachine IsValue x) is machine)) in
         let ends = step tells (groups.next_step old.transactions) (started old) new answer begun.mid parts machine (begun.works ∙ works) refl sound takes in
-        let run : Run IsValue m (begins_in m ++ ends_in answer) ends.0 = begun.run (ends_in answer) ends.0 ends.1 in (
+        let run : Run IsValue m (begins_in m ++ ends_in m.gate answer) ends.0 =
+        subst (λ (g : Gate). Run IsValue m (begins_in m ++ ends_in g answer) ends.0) begun.gate (begun.run (ends_in begun.mid.gate answer) ends.0 ends.1) in (
           ends.0,
           run,
           record {
             memory = ends.2.memory;
-            machine = run-machine IsValue m ends.0 (begins_in m ++ ends_in answer) stands.machine run;
+            machine = run-machine IsValue m ends.0 (begins_in m ++ ends_in m.gate answer) stands.machine run;
             order = ends.2.order;
             in_step = ends.2.in_step;
+            gate = ends.2.gate;
             disk = ends.2.disk;
           },
         )

@@ -49,7 +49,7 @@ SubmitStands = (tells : Bool) (old new : StoreValue) (txn : TxnValue) (label now
 -- a disk that tells its bytes is sound at any time
 abbrev pub PumpStands : Type 0
 PumpStands = (tells : Bool) (old new : StoreValue) (answer : Result Did PumpFault) (m : Machine Value) → Stands tells old m → (IsTrue tells → AreSound new.disk.areas) → Pumps tells old answer new
-    → MatchBool m.failed ((answer ≡ Err pump.Failed) × Stands tells new m) ((after : Machine Value) × Run IsValue m (begins_in m ++ ends_in answer) after × Stands tells new after)
+    → MatchBool m.failed ((answer ≡ Err pump.Failed) × Stands tells new m) ((after : Machine Value) × Run IsValue m (begins_in m ++ ends_in m.gate answer) after × Stands tells new after)
 
 abbrev pub RedeemStands : Type 0
 RedeemStands = (tells : Bool) (old new : StoreValue) (ticket : TicketValue) (answer : Redeemed) (m : Machine Value) → Stands tells old m → stores.Redeems old ticket answer new

@@ -5,11 +5,11 @@ use Rattle.std.specs.declared.vec.Vec.{Vec}
 use Rattle.history.specs.declared.key.Key.{Key}
 use Rattle.history.specs.declared.time.Version.{Version}
 use Rattle.history.specs.Histories.{History, last}
-use Rattle.history.specs.Machine.{Machine}
+use Rattle.history.specs.Machine.{Machine, Gate, Shut, Due, MayBeOpen, OfGroup, OfFloor}
 use Rattle.history.specs.Answers as answers
 use Rattle.history.specs.Submissions as submissions
 use Rattle.history.specs.Submissions.{Submission, Decision, commit_made}
-use Rattle.history.specs.Steps.{Event, Step, Run, Began, BeginRefused, Aborted, Decided, Refused, GroupBegan, Published, Broke, begun}
+use Rattle.history.specs.Steps.{Event, Step, Run, Began, BeginRefused, Aborted, Decided, Refused, GroupBegan, Published, GateDue, GateWritten, Broke, begun}
 use Rattle.history.specs.Steps as steps
 use Rattle.image.specs.Values.{Value, IsValue}
 use Rattle.snapshot.specs.Txn.{TxnValue}
@@ -66,18 +66,25 @@ event_of m s (Err refused.Stranger) = Refused s steps.Failed
 abbrev pub begins_in : Machine Value → List (Event Value)
 begins_in m = if (m.group == 0) && nat_lt 0 (length m.queue) then GroupBegan ∷ [] else []
 
--- and what else a step is, by its answer
-abbrev pub ends_in : Result Did PumpFault → List (Event Value)
-ends_in (Ok did.Idle) = []
-ends_in (Ok did.WroteExtent) = []
-ends_in (Ok did.HeapSynced) = []
-ends_in (Ok did.BodyWritten) = []
-ends_in (Ok did.BodySynced) = []
-ends_in (Ok did.GateWritten) = []
-ends_in (Ok (did.Published count)) = Published count ∷ []
-ends_in (Err pump.Busy) = []
-ends_in (Err pump.NoMemory) = []
-ends_in (Err pump.Failed) = Broke ∷ []
+-- a refused write of the gate may have opened it
+abbrev pub breaks_in : Gate → List (Event Value)
+breaks_in Shut = Broke ∷ []
+breaks_in (Due OfGroup) = GateWritten OfGroup ∷ Broke ∷ []
+breaks_in (Due OfFloor) = Broke ∷ []
+breaks_in (MayBeOpen change) = Broke ∷ []
+
+-- and what else a step is, by where the gate is and by its answer
+abbrev pub ends_in : Gate → Result Did PumpFault → List (Event Value)
+ends_in gate (Ok did.Idle) = []
+ends_in gate (Ok did.WroteExtent) = []
+ends_in gate (Ok did.HeapSynced) = []
+ends_in gate (Ok did.BodyWritten) = []
+ends_in gate (Ok did.BodySynced) = GateDue OfGroup ∷ []
+ends_in gate (Ok did.GateWritten) = GateWritten OfGroup ∷ []
+ends_in gate (Ok (did.Published count)) = Published count ∷ []
+ends_in gate (Err pump.Busy) = []
+ends_in gate (Err pump.NoMemory) = []
+ends_in gate (Err pump.Failed) = breaks_in gate
 
 -- ---- steps of a job
 

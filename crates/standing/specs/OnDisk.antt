@@ -186,7 +186,7 @@ pub record Works (header : Header) (v : StoreValue) (m : Machine Value) : Type 0
   pub job : HasJob header layout reading m.published v.job v.disk.areas
   pub sound : AreSound v.disk.areas
 
--- Whatever a stop may leave stands for a front of the commit order: for what is published, or also for the whole group whose slot is in the writing.
+-- Whatever a stop may leave stands for a front of the commit order: for what is published, or, once the gate of the group may be open, for that or for what is published with the whole group.
 pub record StandsOnDisk (v : StoreValue) (m : Machine Value) : Type 0 where
   pub header : Header
   pub profile : v.log.profile ≡ header.profile

@@ -1,11 +1,30 @@
 -- A store, and the state of the machine that it stands for.
-use Rattle.std.specs.Prelude.{Bool, IsTrue}
-use Rattle.history.specs.Machine.{Machine, IsMachine}
+use Rattle.std.specs.Prelude.{◌≡◌, Bool, false, IsTrue, Option, None, Some}
+use Rattle.history.specs.Machine.{Machine, Gate, Shut, Due, MayBeOpen, OfGroup, IsMachine}
 use Rattle.image.specs.Values.{Value, IsValue}
 use Rattle.transactions.specs.Order.{IsInOrder}
+use Rattle.status.specs.SlotCalls.{SlotStage, Begun, BodyWritten, BodySynced, GateWritten, Opened}
+use Rattle.status.specs.TurnState.{TurnState}
 use Rattle.store.specs.Values.{StoreValue, IsInStep}
 use Rattle.standing.specs.Standing.{StandsInMemory}
 use Rattle.standing.specs.OnDisk.{StandsOnDisk}
+
+-- the gate of a group whose slot is at this stage
+abbrev pub gate_at : SlotStage → Gate
+gate_at Begun = Shut
+gate_at BodyWritten = Shut
+gate_at BodySynced = Due OfGroup
+gate_at GateWritten = MayBeOpen OfGroup
+gate_at Opened = MayBeOpen OfGroup
+
+-- shut, where no slot of a group is in the writing
+abbrev pub gate_of : Option TurnState → Gate
+gate_of None = Shut
+gate_of (Some turn) = gate_at turn.stage
+
+-- while the store works, the machine's gate is where the group's slot is
+abbrev pub HasGate : StoreValue → Machine Value → Type 0
+HasGate v m = m.failed ≡ false → m.gate ≡ gate_of v.turn
 
 -- What is said of the disk is said where it tells its bytes.
 pub record Stands (tells : Bool) (v : StoreValue) (m : Machine Value) : Type 0 where
@@ -13,4 +32,5 @@ pub record Stands (tells : Bool) (v : StoreValue) (m : Machine Value) : Type 0 w
   pub machine : IsMachine IsValue m
   pub order : IsInOrder v.transactions
   pub in_step : IsInStep v
+  pub gate : HasGate v m
   pub disk : IsTrue tells → StandsOnDisk v m

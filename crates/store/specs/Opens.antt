@@ -8,6 +8,7 @@ use Rattle.status.specs.Rules.{row_end}
 use Rattle.recovery.specs.Faults.{IsImageFault}
 use Rattle.recovery.specs.Names.{refusals_at_opening}
 use Rattle.recovery.specs.ReadsImage.{IsReadFrom}
+use Rattle.recovery.specs.Settling.{Settles, CountsMore, CountsAtMost}
 use Rattle.recovery.specs.declared.fault.OpenFault.{OpenFault}
 use Rattle.recovery.specs.declared.recovered.Recovered.{Recovered}
 use Rattle.transactions.specs.declared.stage.GroupStage.TheVariants.{NoGroup}
@@ -34,6 +35,9 @@ pub record Opens (tells : Bool) (old : DiskState) (mark : ℕ) (v : StoreValue) 
   pub ordered : IsOrdered v.transactions.versions
   pub settled : IsTrue tells → v.disk.areas ≡ settled_on (image_of old.areas)
   pub left : IsTrue tells → LeavesNoMore old.areas v.disk.areas
+  -- it made three syncs and no write, and at each moment a stop leaves nothing that it might not have left before
+  pub moments : Settles tells old v.disk
+  pub made : CountsMore 3 old v.disk
   pub refused : v.disk.refused ≡ old.refused
 
 -- the disk holds what it held, and a stop leaves nothing that it might not have left before
@@ -41,4 +45,7 @@ pub record OpenRefuses (tells : Bool) (old : DiskState) (why : OpenFault) (new :
   pub fault : IsTrue tells → IsImageFault (image_of old.areas) why
   pub image : IsTrue tells → image_of new.areas ≡ image_of old.areas
   pub left : IsTrue tells → LeavesNoMore old.areas new.areas
+  -- so it does at each moment of it: it made at most three syncs, and no write
+  pub moments : Settles tells old new
+  pub most : CountsAtMost 3 old new
   pub refused : new.refused ≡ refusals_at_opening {T = Unit {0}} (Err why) old.refused

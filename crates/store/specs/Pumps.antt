@@ -1,5 +1,5 @@
 -- The steps of a group to the disk.
-use Rattle.std.specs.Prelude.{◌≡◌, ◌+◌, Bool, true, false, is_some, IsTrue, Option, Some, None, Result, Ok, Err, MatchBool, MatchOption, MatchResult}
+use Rattle.std.specs.Prelude.{◌≡◌, ◌+◌, Bool, true, false, is_some, IsTrue, length, Option, Some, None, Result, Ok, Err, MatchBool, MatchOption, MatchResult}
 use Rattle.disk.specs.Areas.{Areas}
 use Rattle.disk.specs.Calls.{DiskState, Writes, Syncs, Counts, refused_answer}
 use Rattle.disk.specs.declared.area.Area.TheVariants.{Heap}
@@ -41,6 +41,8 @@ pub record Steps (what : Did) (after : TransactionsValue) (old : StoreValue) (re
 
 -- the group's next extent is written to its place
 pub record WritesExtent (tells : Bool) (stored : StoredExtent) (old : StoreValue) (result : Result Did PumpFault) (new : StoreValue) : Type 0 where
+  -- all its bytes, and no more
+  pub whole : length stored.image ≡ 8192
   pub call : Calls tells (Writes Heap (extent_start stored.extent) stored.image) result old.disk new.disk
   pub steps : Steps did.WroteExtent (wrote_extent old.transactions) old result new
 

@@ -15,6 +15,3 @@ pub use recovery::OpenFault;
 pub use snapshot::{Txn, TxnFault};
 pub use store::Store;
 pub use timequery::{QueryFault, View};
-
-#[cfg(test)]
-mod tests;

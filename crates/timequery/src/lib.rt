@@ -6,6 +6,3 @@ mod view;
 
 pub use fault::QueryFault;
 pub use view::View;
-
-#[cfg(test)]
-mod tests;

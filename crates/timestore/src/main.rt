@@ -3,12 +3,19 @@
 
 use clap::Error;
 use disk::MemDisk;
-use disk_file::FileDisk;
-use shell::{Action, WordsFault, act, read_time, read_words};
+use disk_file::{Access, FileDisk, FolderFault};
+use session::LineInput;
+use shell::{Action, Need, OpenFault, WordsFault, act, folder_need, read_words, refuse_folder};
+use status::{LogFault, read_header};
 use std::alloc::Global;
+use std::fs::File;
 use std::io;
-use std::io::BufReader;
+use std::io::{BufReader, BufWriter, Write};
 use std::process::ExitCode;
+use std::rt::Files;
+
+/// The bytes of the script that are read ahead, and those of answers that are gathered.
+const BUFFER: usize = 65_536;
 
 /// Prints what `clap` has to say: help with status 0, a fault on standard error with status 2.
 fn print_usage(rt: &(impl Print + Eprint), error: &Error) -> io::Result<ExitCode> {
@@ -20,25 +27,46 @@ fn print_usage(rt: &(impl Print + Eprint), error: &Error) -> io::Result<ExitCode
     })
 }
 
-/// The folder that an action needs. Where its time is no time no folder is touched.
-fn folder<'a>(action: &Action<'a>) -> Option<&'a str> {
-    match action {
-        Action::Example => None,
-        Action::Format { dir, slots: _ } => Some(dir),
-        Action::Run { dir } => Some(dir),
-        Action::At { dir, key: _, time } => {
-            read_time(time.as_bytes())?;
-            Some(dir)
+/// What the refusal of a folder is called: a folder without the files of a store is no store.
+fn open_fault(fault: &FolderFault) -> OpenFault {
+    match fault {
+        FolderFault::Missing { path: _, cause: _ } => OpenFault::NotAStore,
+        FolderFault::InUse { path: _ } => OpenFault::Device,
+        FolderFault::System { path: _, cause: _ } => OpenFault::Device,
+        FolderFault::NoMemory => OpenFault::NoMemory,
+    }
+}
+
+/// Says on standard error what the answers say too little of: which call the system refused, and
+/// that a file is no store's. Nothing depends on whether this can be written.
+fn explain(rt: &impl Eprint, dir: &str, disk: &mut FileDisk, status: u8) {
+    if let Some(trouble) = disk.trouble() {
+        let _ = eprintln!(rt; "timestore: {dir}/{trouble}");
+        return;
+    }
+    if status != 0 && matches!(read_header(disk), Err(LogFault::NotAStore)) {
+        let _ = eprintln!(rt; "timestore: {dir}/status: not the log of a store, or a part of one");
+    }
+}
+
+/// Does an action on the store of a folder, and gives the program's status.
+fn act_in<R: Files<File = File> + AllocGlobal + Eprint, I: LineInput, W: Write>(
+    rt: &R,
+    action: Action<'_>,
+    dir: &str,
+    access: Access,
+    input: &mut I,
+    output: &mut W,
+) -> u8 {
+    match FileDisk::open(rt, dir, access) {
+        Ok(disk) => {
+            let (status, mut disk) = act(rt.alloc(), action, disk, input, output);
+            explain(rt, dir, &mut disk, status);
+            status
         }
-        Action::Between {
-            dir,
-            key: _,
-            from,
-            to,
-        } => {
-            read_time(from.as_bytes())?;
-            read_time(to.as_bytes())?;
-            Some(dir)
+        Err(fault) => {
+            let _ = eprintln!(rt; "timestore: {fault}");
+            refuse_folder(output, open_fault(&fault))
         }
     }
 }
@@ -52,17 +80,13 @@ fn main(rt: HostRuntime) -> io::Result<ExitCode> {
         Err(WordsFault::Usage(error)) => return print_usage(&rt, &error),
         Err(WordsFault::Unread) => return Ok(ExitCode::from(2)),
     };
-    let mut input = BufReader::new(alloc, rt.reader())?;
-    let mut output = io::writer(&rt);
-    let status = match folder(&action) {
-        None => act(alloc, action, MemDisk::new(alloc), &mut input, &mut output).0,
-        Some(dir) => match FileDisk::open(&rt, dir) {
-            Ok(disk) => act(alloc, action, disk, &mut input, &mut output).0,
-            Err(_) => {
-                println!(rt; "refused: device")?;
-                1
-            }
-        },
+    let mut input = BufReader::with_capacity(alloc, BUFFER, rt.reader())?;
+    let mut output = BufWriter::with_capacity(alloc, BUFFER, io::writer(&rt))?;
+    let status = match folder_need(&action) {
+        Need::Nothing => act(alloc, action, MemDisk::new(alloc), &mut input, &mut output).0,
+        Need::Make(dir) => act_in(&rt, action, dir, Access::Make, &mut input, &mut output),
+        Need::Change(dir) => act_in(&rt, action, dir, Access::Change, &mut input, &mut output),
+        Need::Read(dir) => act_in(&rt, action, dir, Access::Read, &mut input, &mut output),
     };
     Ok(ExitCode::from(status))
 }

@@ -9,6 +9,3 @@ mod run;
 pub use anchor_source::AnchorSource;
 pub use archive_walk::ArchiveWalk;
 pub use run::archive_run;
-
-#[cfg(test)]
-mod tests;

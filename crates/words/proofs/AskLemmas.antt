@@ -12,6 +12,7 @@ no_slots rows none (action.Format dir slots) asked = none slots asked.1
 no_slots rows none (action.Run dir) asked = asked
 no_slots rows none (action.At dir key time) asked = asked
 no_slots rows none (action.Between dir key from to) asked = asked
+no_slots rows none (action.Dump dir) asked = asked
 
 pub no_key : (rows : List Row) → ((k : Key) → HasKey rows k → ⊥) → (a : Action) → AsksAt rows a → ⊥
 no_key rows none action.Example asked = asked
@@ -19,6 +20,7 @@ no_key rows none (action.Format dir slots) asked = asked
 no_key rows none (action.Run dir) asked = asked
 no_key rows none (action.At dir key time) asked = none key asked.1
 no_key rows none (action.Between dir key from to) asked = asked
+no_key rows none (action.Dump dir) asked = asked
 
 pub no_key_between : (rows : List Row) → ((k : Key) → HasKey rows k → ⊥) → (a : Action) → AsksBetween rows a → ⊥
 no_key_between rows none action.Example asked = asked
@@ -26,3 +28,4 @@ no_key_between rows none (action.Format dir slots) asked = asked
 no_key_between rows none (action.Run dir) asked = asked
 no_key_between rows none (action.At dir key time) asked = asked
 no_key_between rows none (action.Between dir key from to) asked = none key asked.1
+no_key_between rows none (action.Dump dir) asked = asked

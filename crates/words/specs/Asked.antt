@@ -33,12 +33,17 @@ AsksBetween rows (action.Between dir key from to) = (first_of (codes "DIR") rows
     × HasKey rows key × (first_of (codes "FROM") rows ≡ Some from.now) × (first_of (codes "TO") rows ≡ Some to.now)
 AsksBetween rows _ = ⊥
 
+abbrev pub AsksDump : List Row → Action → Type 0
+AsksDump rows (action.Dump dir) = first_of (codes "DIR") rows ≡ Some dir.now
+AsksDump rows _ = ⊥
+
 -- a subcommand's name, and the rows of its arguments
 abbrev pub AsksCommand : Text → List Row → Action → Type 0
 AsksCommand name rows a = MatchBool (bytes_eq name (codes "format")) (AsksFormat rows a)
     (MatchBool (bytes_eq name (codes "run")) (AsksRun rows a)
     (MatchBool (bytes_eq name (codes "at")) (AsksAt rows a)
-    (MatchBool (bytes_eq name (codes "between")) (AsksBetween rows a) ⊥)))
+    (MatchBool (bytes_eq name (codes "between")) (AsksBetween rows a)
+    (MatchBool (bytes_eq name (codes "dump")) (AsksDump rows a) ⊥))))
 
 -- without a subcommand the example is asked for
 abbrev pub Asks : Option (Text × List Row) → Action → Type 0

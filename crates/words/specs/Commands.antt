@@ -60,9 +60,12 @@ at = with_rule (of_record (codes "at")) time
 abbrev pub between : App
 between = with_rule (with_rule (of_record (codes "between")) from) to
 
+abbrev pub dump : App
+dump = with_rule (new_app (codes "dump")) dir
+
 -- the commands that make a store and run scripts
 abbrev pub making : App
 making = with_subcommand (with_subcommand (new_app (codes "timestore")) format.top) run.top
 
 abbrev pub timestore : App
-timestore = with_subcommand (with_subcommand making at.top) between.top
+timestore = with_subcommand (with_subcommand (with_subcommand making at.top) between.top) dump.top

@@ -28,4 +28,8 @@ pub enum Action<'a> {
         from: &'a str,
         to: &'a str,
     },
+    /// Shows what the log of the store in a folder says.
+    Dump {
+        dir: &'a str,
+    },
 }

@@ -4,6 +4,7 @@ ghost use Rattle.clap.specs.Words.{FailsBy, fault_of, subcommand_of, subcommand_
 ghost use Rattle.clap.specs.declared.builder.command.Command.TheViews.{out-Command as fields_of};
 ghost use Rattle.words.specs.Commands as told;
 
+use crate::help;
 use clap::{Arg, ArgMatches, Command, Error, value_parser};
 use std::alloc::{AllocError, Global};
 
@@ -75,12 +76,12 @@ fn slots<'a>(alloc: Global) -> Arg<'a>
         .help("The slots of the store's log, 16 to 65536")
 }
 
-/// A command with no argument yet.
-fn command<'a>(alloc: Global, name: &'a str, about: &'a str) -> Command<'a>
+/// A command with no argument yet. Its help begins with the first text, and ends with the other.
+fn command<'a>(alloc: Global, name: &'a str, about: &'a str, more: &'a str) -> Command<'a>
     ensures app { app_of result ≡ new_app name.entry.now }
     ensures local { (fields_of result).has_globals ≡ false }
 {
-    Command::new(alloc, name).about(about)
+    Command::new(alloc, name).about(about).after_help(more)
 }
 
 /// The command with one more argument.
@@ -95,7 +96,7 @@ fn with_arg<'a>(command: Command<'a>, arg: Arg<'a>) -> Result<Command<'a>, Alloc
 fn format<'a>(alloc: Global) -> Result<Command<'a>, AllocError>
     ensures { IfOk result (λ c. told.IsCommand c told.format) }
 {
-    let command = command(alloc, "format", "Make an empty store");
+    let command = command(alloc, "format", "Make an empty store", help::FORMAT);
     let command = with_arg(command, dir(alloc))?;
     with_arg(command, slots(alloc))
 }
@@ -103,7 +104,8 @@ fn format<'a>(alloc: Global) -> Result<Command<'a>, AllocError>
 fn run<'a>(alloc: Global) -> Result<Command<'a>, AllocError>
     ensures { IfOk result (λ c. told.IsCommand c told.run) }
 {
-    let command = command(alloc, "run", "Run the script of standard input on a store");
+    let about = "Run the script of standard input on a store";
+    let command = command(alloc, "run", about, help::RUN);
     with_arg(command, dir(alloc))
 }
 
@@ -111,7 +113,7 @@ fn run<'a>(alloc: Global) -> Result<Command<'a>, AllocError>
 fn of_record<'a>(alloc: Global, name: &'a str, about: &'a str) -> Result<Command<'a>, AllocError>
     ensures { IfOk result (λ c. told.IsCommand c (told.of_record name.entry.now)) }
 {
-    let command = command(alloc, name, about);
+    let command = command(alloc, name, about, help::TIMES);
     let command = with_arg(command, dir(alloc))?;
     let command = with_arg(command, relation(alloc))?;
     with_arg(command, record_number(alloc))
@@ -133,6 +135,14 @@ fn between<'a>(alloc: Global) -> Result<Command<'a>, AllocError>
     with_arg(command, to(alloc))
 }
 
+fn dump<'a>(alloc: Global) -> Result<Command<'a>, AllocError>
+    ensures { IfOk result (λ c. told.IsCommand c told.dump) }
+{
+    let about = "Show what the log of a store says";
+    let command = command(alloc, "dump", about, help::DUMP);
+    with_arg(command, dir(alloc))
+}
+
 /// The command with one more subcommand.
 fn with_command<'a>(command: Command<'a>, sub: Command<'a>) -> Result<Command<'a>, AllocError>
     requires { (fields_of sub).has_globals ≡ false }
@@ -151,6 +161,7 @@ fn top<'a>(alloc: Global) -> Result<Command<'a>, AllocError>
         "timestore",
         "A store of records that keeps every version. Without a command it runs the script of \
          standard input on a new store of 16 slots in memory",
+        help::LIMITS,
     )
     .bin_name("timestore")
 }
@@ -168,7 +179,8 @@ fn timestore<'a>(alloc: Global) -> Result<Command<'a>, AllocError>
     ensures { IfOk result (λ c. told.IsCommand c told.timestore) }
 {
     let command = with_command(making(alloc)?, at(alloc)?)?;
-    with_command(command, between(alloc)?)
+    let command = with_command(command, between(alloc)?)?;
+    with_command(command, dump(alloc)?)
 }
 
 /// What the words say, as `clap` reads them.

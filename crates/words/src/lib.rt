@@ -3,10 +3,8 @@
 
 mod action;
 mod command;
+mod help;
 mod read;
 
 pub use action::Action;
 pub use read::{WordsFault, read_words};
-
-#[cfg(test)]
-mod tests;

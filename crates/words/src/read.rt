@@ -4,7 +4,7 @@ ghost use Rattle.clap.specs.Words.{first_of, found_of, rows_of, subcommand_of, s
 ghost use Rattle.history.specs.declared.key.Key.{Key as AnyKey};
 ghost use Rattle.words.specs.declared.action.Action.{Action as Asked};
 ghost use Rattle.words.specs.Commands as told;
-ghost use Rattle.words.specs.Asked.{HasKey, HasNumber, Asks, AsksFormat, AsksNothing, AsksRun, AsksAt, AsksBetween};
+ghost use Rattle.words.specs.Asked.{HasKey, HasNumber, Asks, AsksFormat, AsksNothing, AsksRun, AsksAt, AsksBetween, AsksDump};
 ghost use Rattle.words.specs.Refused.{IsRefusal};
 
 use crate::action::Action;
@@ -104,6 +104,15 @@ fn between<'a>(matches: &ArgMatches<'a>) -> Option<Action<'a>>
     })
 }
 
+fn dump<'a>(matches: &ArgMatches<'a>) -> Option<Action<'a>>
+    ensures some { IfSome result (AsksDump (rows_of (found_of matches.now))) }
+    ensures none { IfNone result ((a : Asked) → AsksDump (rows_of (found_of matches.now)) a → ⊥) }
+{
+    Some(Action::Dump {
+        dir: text(matches, "DIR")?,
+    })
+}
+
 /// What the matches ask for.
 fn action<'a>(matches: &ArgMatches<'a>) -> Option<Action<'a>>
     ensures some { IfSome result (Asks (subcommand_rows_of matches.now)) }
@@ -120,6 +129,8 @@ fn action<'a>(matches: &ArgMatches<'a>) -> Option<Action<'a>>
         at(inner)
     } else if name == "between" {
         between(inner)
+    } else if name == "dump" {
+        dump(inner)
     } else {
         None
     }

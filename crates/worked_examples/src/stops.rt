@@ -57,6 +57,7 @@ fn asks_each_left(
     said: &str,
     disk: &FaultDisk,
 ) -> Result<(), Fail> {
+    assert!(rt; !disk.ran_short());
     for fill in FILLS {
         let long = [fill; 700];
         for tail in [b"".as_slice(), long.as_slice()] {

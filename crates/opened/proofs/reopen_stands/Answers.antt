@@ -1,4 +1,4 @@
-use Rattle.opened.proofs.Reopened.{reopen-stands, reopen-refuses, opening-stops, second-stops, closed-left}
+use Rattle.opened.proofs.Reopened.{reopen-stands, reopen-refuses, opening-stops, second-stops, opening-moments, closed-left}
 use Rattle.opened.proofs.reopen_stands.Goals as goal
 
 pub returns-clause-opens : goal.returns-clause-opens
@@ -12,6 +12,9 @@ returns-clause-closed c = closed-left
 
 pub returns-clause-stops : goal.returns-clause-stops
 returns-clause-stops c = opening-stops
+
+pub returns-clause-moments : goal.returns-clause-moments
+returns-clause-moments c = opening-moments
 
 pub returns-clause-second : goal.returns-clause-second
 returns-clause-second c = second-stops

@@ -14,4 +14,4 @@ pub returns-clause-publishes : goal.returns-clause-publishes
 returns-clause-publishes c = λ reading old new r stands is step scope room.
     let may : MayRaise old r = in-the-making IsValue old is r step.1 in
     let left = floor-stands_for reading old.published old.floors stands r.scope r.floor (raise-may_come reading old r stands may scope) room in
-    subst (λ (m : Machine Value). StandsFor (with_floor reading r.scope r.floor) m.published m.floors) (sym step.2) left
+    subst (λ (m : Machine Value). StandsFor (with_floor reading r.scope r.floor) m.published m.floors) (sym step.3) left

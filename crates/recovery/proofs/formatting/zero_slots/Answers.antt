@@ -4,6 +4,7 @@ use Rattle.std.proofs.lemmas.List.{length-take, get_or-take}
 use Rattle.recovery.specs.Format.{IsZeroed}
 use Rattle.disk.specs.declared.area.Area.TheVariants.{Status}
 use Rattle.recovery.proofs.Zeroing.{kept_in_part, others_in_part, zeroed_more, front_kept}
+use Rattle.recovery.proofs.Counting.{first_call, first_twice}
 use Rattle.recovery.proofs.formatting.zero_slots.Goals as goal
 
 pub returns-in_err-write_at-clause-stop : goal.returns-in_err-write_at-clause-stop
@@ -11,6 +12,9 @@ returns-in_err-write_at-clause-stop g c = λ told.
     let sound = g.met.D.Disk.sound c.args.disk.now told Status in
     let zeroed = c.loop-at.invariant.3 told in
     front_kept _ _ sound (kept_in_part 512 _ _ _ _ _ c.loop-at.invariant.0 zeroed.before (c.write_at.ensures.areas told).in_part)
+
+pub returns-in_err-write_at-clause-first : goal.returns-in_err-write_at-clause-first
+returns-in_err-write_at-clause-first g c = first_twice _ _ _ c.loop-at.invariant.5 (first_call _ _ _ c.write_at.ensures.counts)
 
 pub loop-at-preserved : goal.loop-at-preserved
 loop-at-preserved g c =
@@ -30,6 +34,7 @@ loop-at-preserved g c =
           (zeroed_more 512 c.loop-at.at (g.D.Disk.state c.args.disk.now).areas.status (g.D.Disk.state c.loop-at.disk).areas (g.D.Disk.state c.write_at.new.self).areas bytes
           c.loop-at.invariant.0 (c.loop-at.invariant.3 told) some zeros written),
       λ told. others_in_part c.loop-at.at (length bytes) (g.D.Disk.state c.args.disk.now).areas (g.D.Disk.state c.loop-at.disk).areas (g.D.Disk.state c.write_at.new.self).areas (c.loop-at.invariant.4 told) (c.write_at.ensures.areas told).in_part,
+      first_twice _ _ _ c.loop-at.invariant.5 (first_call _ _ _ c.write_at.ensures.counts),
     )
 
 pub returns-clause-stop : goal.returns-clause-stop

@@ -14,5 +14,9 @@ by-result slots old new (Err why) is = tt
 
 pub returns : goal.returns
 returns g c = record {
+  bad_slots = c.format.ensures.bad_slots;
+  occupied = c.format.ensures.occupied;
+  free = c.format.ensures.free;
+  refuses = c.format.ensures.refuses;
   stands = λ told. by-result c.args.slots (g.D.Disk.state c.args.disk.now).areas (g.D.Disk.state c.format.new.disk).areas c.format.result (c.format.ensures.formatted told);
 }

@@ -8,6 +8,7 @@ use Rattle.image.specs.Values.{Value}
 use Rattle.status.specs.declared.header.Header.{Header}
 use Rattle.recovery.specs.Faults.{IsReadFault}
 use Rattle.recovery.specs.declared.fault.OpenFault.{OpenFault}
+use Rattle.recovery.specs.Settling.{Settles, CountsMore, CountsAtMost}
 use Rattle.store.specs.Values.{StoreValue}
 use Rattle.store.specs.Opens.{Opens, OpenRefuses}
 use Rattle.standing.specs.OnDisk.{IsImageOf}
@@ -33,3 +34,19 @@ leaves-no-more tells disk_of old mark (Err e) ok err told = err.left told
 
 pub returns-clause-stops : goal.returns-clause-stops
 returns-clause-stops g c = leaves-no-more g.D.Disk.tells g.D.Disk.state (g.D.Disk.state c.args.disk) c.args.mark c.open.result c.open.ensures.ok c.open.ensures.err
+
+counts : {S : Type 0} (tells : Bool) (disk_of : S → DiskState) (old : DiskState) (mark : ℕ) (r : Result StoreValue (OpenFault × S)) → IfOk r (λ s. Opens tells old mark s) → IfErr r (λ e. OpenRefuses tells old e.0 (disk_of e.1))
+    → MatchResult r (λ s. CountsMore 3 old s.disk) (λ e. CountsAtMost 3 old (disk_of e.1))
+counts tells disk_of old mark (Ok s) ok err = ok.made
+counts tells disk_of old mark (Err e) ok err = err.most
+
+pub returns-clause-made : goal.returns-clause-made
+returns-clause-made g c = counts g.D.Disk.tells g.D.Disk.state (g.D.Disk.state c.args.disk) c.args.mark c.open.result c.open.ensures.ok c.open.ensures.err
+
+settles : {S : Type 0} (tells : Bool) (disk_of : S → DiskState) (old : DiskState) (mark : ℕ) (r : Result StoreValue (OpenFault × S)) → IfOk r (λ s. Opens tells old mark s) → IfErr r (λ e. OpenRefuses tells old e.0 (disk_of e.1))
+    → MatchResult r (λ s. Settles tells old s.disk) (λ e. Settles tells old (disk_of e.1))
+settles tells disk_of old mark (Ok s) ok err = ok.moments
+settles tells disk_of old mark (Err e) ok err = err.moments
+
+pub returns-clause-moments : goal.returns-clause-moments
+returns-clause-moments g c = settles g.D.Disk.tells g.D.Disk.state (g.D.Disk.state c.args.disk) c.args.mark c.open.result c.open.ensures.ok c.open.ensures.err

@@ -4,15 +4,15 @@ use Rattle.session.proofs.JobLemmas.{pump-fewer}
 use Rattle.session.proofs.session.finish.Goals as goal
 
 pub returns-then-is_job_idle : goal.returns-then-is_job_idle
-returns-then-is_job_idle g c = c.loop-step.invariant _ _ (record { steps = []; mid = c.loop-step.store; before = refl; answer = Ok c.in-Ok.step; last = c.in-Ok.ensures.is; ends = c.is_job_idle.ensures.0 c.if-is_job_idle.true; reply = refl })
+returns-then-is_job_idle g c = c.loop-step.invariant _ _ (record { steps = []; mid = c.loop-step.store; before = refl; answer = Ok c.in-Ok.step; last = record { is = c.in-Ok.ensures.is; sound = c.in-Ok.ensures.sound }; ends = c.is_job_idle.ensures.0 c.if-is_job_idle.true; reply = refl })
 
 pub loop-step-preserved : goal.loop-step-preserved
 loop-step-preserved g c =
     let other : c.in-Ok.step ≢ Idle = λ idle. let is = c.is_job_idle.ensures.1 idle in let not = c.if-is_job_idle.false in cc in
-    λ r end rest. c.loop-step.invariant r end (record { steps = c.in-Ok.step ∷ rest.steps; mid = rest.mid; before = (c.job_pump.new.self, c.in-Ok.ensures.is, other, rest.before); answer = rest.answer; last = rest.last; ends = rest.ends; reply = rest.reply })
+    λ r end rest. c.loop-step.invariant r end (record { steps = c.in-Ok.step ∷ rest.steps; mid = rest.mid; before = (c.job_pump.new.self, record { is = c.in-Ok.ensures.is; sound = c.in-Ok.ensures.sound }, other, rest.before); answer = rest.answer; last = rest.last; ends = rest.ends; reply = rest.reply })
 
 pub returns-in-Err : goal.returns-in-Err
-returns-in-Err g c = c.loop-step.invariant _ _ (record { steps = []; mid = c.loop-step.store; before = refl; answer = Err c.in-Err.fault; last = c.in-Err.ensures.is; ends = tt; reply = refl })
+returns-in-Err g c = c.loop-step.invariant _ _ (record { steps = []; mid = c.loop-step.store; before = refl; answer = Err c.in-Err.fault; last = record { is = c.in-Err.ensures.is; sound = c.in-Err.ensures.sound }; ends = tt; reply = refl })
 
 pub loop-step-smaller : goal.loop-step-smaller
 loop-step-smaller g c =

@@ -1,14 +1,13 @@
-use Rattle.std.proofs.Common.{◌≡◌, ℕ, List, Some, ap, sym, ◌∙◌}
-use Rattle.script.specs.Lines.{time_in}
+use Rattle.shell.proofs.Kept.{acts_kept}
+use Rattle.shell.proofs.Keeping.{keeps-acts}
 use Rattle.shell.proofs.actions.act.Goals as goal
 
-pub returns-in-Some-clause-done : goal.returns-in-Some-clause-done
-returns-in-Some-clause-done g c = λ zero.
-    let found : time_in c.in-At.time.now ≡ Some c.in-Some.time = ap (λ (text : List ℕ). time_in text) (sym c.as_bytes.ensures.value) ∙ sym c.in-Some.ensures in
-    rw (c.in-At.is, found) (c.ask.ensures.done zero)
+pub returns-clause-done : goal.returns-clause-done
+returns-clause-done g c = λ zero. acts_kept g.D.Disk.tells c.args.action (g.D.Disk.state c.args.disk) (g.R.Read.remaining c.args.input.now)
+    (g.W.Write.contents c.args.output.now) (g.W.Write.contents c.perform-status.new.output) (g.W.Write.contents c.give_out.new.output)
+    (g.D.Disk.state c.perform-status.result.1) c.give_out.ensures.kept (c.perform-status.ensures.done (c.give_out.ensures.done zero))
 
-pub returns-in-Some-Some-clause-done : goal.returns-in-Some-Some-clause-done
-returns-in-Some-Some-clause-done g c = λ zero.
-    let begins : time_in c.in-Between.from.now ≡ Some c.in-Some-Some.a = ap (λ (text : List ℕ). time_in text) (sym c.as_bytes-in-Between.ensures.value) ∙ sym c.in-Some-Some.ensures in
-    let ends : time_in c.in-Between.to.now ≡ Some c.in-Some-Some.b = ap (λ (text : List ℕ). time_in text) (sym c.as_bytes-in-Between-2.ensures.value) ∙ sym c.in-Some-Some.ensures' in
-    rw (c.in-Between.is, begins, ends) (c.ask-in-Some-Some.ensures.done zero)
+pub returns-clause-promise : goal.returns-clause-promise
+returns-clause-promise g c = λ told zero.
+    keeps-acts g.D.Disk.tells c.args.action (g.D.Disk.state c.args.disk) (g.D.Disk.state c.perform-status.result.1) (g.R.Read.remaining c.args.input.now)
+    (record { before = g.W.Write.contents c.args.output.now; after = g.W.Write.contents c.give_out.new.output }) told (g.met.D.Disk.sound c.args.disk told) (returns-clause-done g c zero)

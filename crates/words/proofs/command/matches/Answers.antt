@@ -1,6 +1,6 @@
 use Rattle.std.proofs.Common.{◌≡◌, List, ℕ, Bor, map, subst, refl, true, Result, Ok, Err}
 use Rattle.std.specs.Prelude.{IfOk}
-use Rattle.clap.specs.Words.{App, FailsBy, HasMatchesOf, fault_of, is_simple, is_simple_and_free, subcommand_of, subcommand_rows_of}
+use Rattle.clap.specs.Words.{App, FailsBy, HasMatchesOf, fault_of, is_simple, is_simple_and_free}
 use Rattle.words.specs.Commands.{timestore}
 use Rattle.words.proofs.command.matches.Goals as goal
 

@@ -1,39 +1,54 @@
-use Rattle.std.proofs.Common.{◌≡◌, ◌∙◌, ◌-◌, [], ◌∷◌, ◌++◌, length, take, drop, subst, ap, sym, refl, arith, length-drop}
-use Rattle.std.proofs.lemmas.List.{take_all}
-use Rattle.history.specs.Time.{IsRisingAfter}
-use Rattle.chains.specs.Writes.{kept_after}
+use Rattle.std.proofs.Common.{◌≡◌, ◌∙◌, ◌<◌, [], ◌∷◌, ◌++◌, List, length, subst, ap, sym, refl}
 use Rattle.chains.specs.KeyWrites.{KeyWrites, unless_empty}
-use Rattle.chains.proofs.Kept.{rising-drop}
-use Rattle.chains.proofs.Parts.{rising-front, rising-back, kept_older, older-rising}
+use Rattle.chains.specs.Pieces.{all_writes, held}
+use Rattle.chains.specs.Writes.{Write, kept_after}
+use Rattle.chains.proofs.Order.{unless_empty-some}
+use Rattle.chains.proofs.Parts.{rising-front, rising-back, rising-later, kept_older, older-rising, kept-piece}
+use Rattle.chains.proofs.Rising.{kept_after-rising}
 use Rattle.chains.proofs.chain.Chain.kept.Goals as goal
 
-pub ended_by-requires : goal.ended_by-requires
-ended_by-requires c =
-    rw (c.as_slice-recent.ensures, c.deref.ensures) (rising-back 0 c.self.inside.inner.value.older.pieces c.self.inside.inner.value.recent.items c.self.invariant.0)
-
 pub kept-requires : goal.kept-requires
-kept-requires c =
-    rw c.deref.ensures (rising-front 0 c.self.inside.inner.value.older.pieces c.self.inside.inner.value.recent.items c.self.invariant.0)
+kept-requires c = rising-front 0 (all_writes c.self.inside.older.pieces) c.self.inside.last c.self.invariant
 
-pub of-requires-clause-rising : goal.of-requires-clause-rising
-of-requires-clause-rising c =
-    let older = c.self.inside.inner.value.older.pieces in
-    let recent = c.self.inside.inner.value.recent.items in
-    let later : IsRisingAfter c.args.mark recent = rw (c.as_slice-recent.ensures, c.deref.ensures) at c.in_default.ensures.none in
-    rw (c.in_ok-older.ensures, c.in_ok-shared.ensures, c.as_slice-recent.ensures, c.deref.ensures) (older-rising c.args.mark older recent later c.self.invariant.0)
+pub of-kept-requires : goal.of-kept-requires
+of-kept-requires c =
+    let older = all_writes c.self.inside.older.pieces in
+    let last = c.self.inside.last in
+    let later = rising-later c.args.mark last c.first_time.ensures.some (rw c.first_time.ensures.is at c.if-mark-first_time.true) (rising-back 0 older last c.self.invariant) in
+    rw (c.in_ok-older.ensures, c.in_ok-share-2.ensures) (older-rising c.args.mark older last later c.self.invariant)
 
-pub returns-in_default : goal.returns-in_default
-returns-in_default c =
-    let older = c.self.inside.inner.value.older.pieces in
-    let recent = c.self.inside.inner.value.recent.items in
-    let later : IsRisingAfter c.args.mark recent = rw (c.as_slice-recent.ensures, c.deref.ensures) at c.in_default.ensures.none in
-    let left : c.in_ok-of.field-0 ≡ record { key = c.self.inside.inner.value.key; writes = kept_after c.args.mark older ++ recent } = rw (c.in_ok-of.ensures, c.in_ok-older.ensures, c.in_ok-shared.ensures, c.as_slice-recent.ensures, c.deref.ensures) refl in
-    subst (λ (k : KeyWrites). c.in_ok-of.field-0 ∷ [] ≡ unless_empty k.key (kept_after c.args.mark k.writes)) c.self.view_is
-    (ap (λ (k : KeyWrites). k ∷ []) left ∙ sym (kept_older c.args.mark c.self.inside.inner.value.key older recent c.self.invariant.1 later))
+pub returns-then-mark-first_time : goal.returns-then-mark-first_time
+returns-then-mark-first_time c =
+    let older = all_writes c.self.inside.older.pieces in
+    let last = c.self.inside.last in
+    let later = rising-later c.args.mark last c.first_time.ensures.some (rw c.first_time.ensures.is at c.if-mark-first_time.true) (rising-back 0 older last c.self.invariant) in
+    let left : c.of-kept.result ≡ record { key = c.self.inside.key; writes = kept_after c.args.mark older ++ last } = rw (c.of-kept.ensures, c.in_ok-older.ensures, c.in_ok-share-2.ensures) refl in
+    subst (λ (k : KeyWrites). c.of-kept.result ∷ [] ≡ unless_empty k.key (kept_after c.args.mark k.writes)) c.self.view_is
+    (ap (λ (k : KeyWrites). k ∷ []) left ∙ sym (kept_older c.args.mark c.self.inside.key older last c.first_time.ensures.some later))
 
-pub of-requires-2-clause-rising : goal.of-requires-2-clause-rising
-of-requires-2-clause-rising c =
-    let older = c.self.inside.inner.value.older.pieces in
-    let recent = c.self.inside.inner.value.recent.items in
-    let whole : take (length recent - c.in-Some.ended) (drop c.in-Some.ended recent) ≡ drop c.in-Some.ended recent = take_all _ _ (omega (arith, length-drop c.in-Some.ended recent)) in
-    rw (c.new.ensures, c.in_ok-recent.ensures, c.as_slice-recent.ensures, c.deref.ensures, whole) (rising-drop c.in-Some.ended 0 recent (rising-back 0 older recent c.self.invariant.0))
+pub returns-in-None : goal.returns-in-None
+returns-in-None c =
+    let older = all_writes c.self.inside.older.pieces in
+    let last = c.self.inside.last in
+    let same : [] ≡ kept_after c.args.mark last = ap held (sym c.in-None.is) ∙ c.in_ok-kept.ensures.is in
+    let by = kept-piece c.args.mark older last c.first_time.ensures.some (rw c.first_time.ensures.is at c.if-mark-first_time.false) c.self.invariant in
+    subst (λ (k : KeyWrites). [] ≡ unless_empty k.key (kept_after c.args.mark k.writes)) c.self.view_is
+    (ap (λ (ws : List Write). unless_empty c.self.inside.key ws) (same ∙ sym by))
+
+pub of-requires : goal.of-requires
+of-requires c =
+    let older = all_writes c.self.inside.older.pieces in
+    let last = c.self.inside.last in
+    let same : c.in-Some.last ≡ kept_after c.args.mark last = ap held (sym c.in-Some.is) ∙ c.in_ok-kept.ensures.is in
+    rw (c.new.ensures, same) (kept_after-rising 0 c.args.mark last (rising-back 0 older last c.self.invariant))
+
+pub returns-in-Some : goal.returns-in-Some
+returns-in-Some c =
+    let older = all_writes c.self.inside.older.pieces in
+    let last = c.self.inside.last in
+    let same : c.in-Some.last ≡ kept_after c.args.mark last = ap held (sym c.in-Some.is) ∙ c.in_ok-kept.ensures.is in
+    let some : 0 < length c.in-Some.last = rw c.in-Some.is at c.in_ok-kept.ensures.some in
+    let by = kept-piece c.args.mark older last c.first_time.ensures.some (rw c.first_time.ensures.is at c.if-mark-first_time.false) c.self.invariant in
+    let left : c.of-in-Some.result ≡ record { key = c.self.inside.key; writes = c.in-Some.last } = rw (c.of-in-Some.ensures, c.new.ensures) refl in
+    subst (λ (k : KeyWrites). c.of-in-Some.result ∷ [] ≡ unless_empty k.key (kept_after c.args.mark k.writes)) c.self.view_is
+    (ap (λ (k : KeyWrites). k ∷ []) left ∙ sym (ap (λ (ws : List Write). unless_empty c.self.inside.key ws) (by ∙ sym same) ∙ unless_empty-some c.self.inside.key c.in-Some.last some))

@@ -1,30 +1,36 @@
-use Rattle.std.proofs.Common.{◌≡◌, ◌≤◌, List, arith, subst, ap, sym, ◌∙◌}
-use Rattle.chains.specs.KeyWrites.{KeyWrites, writes_of, with_commit, latest, IsOrdered, AreRising}
-use Rattle.chains.specs.Shapes.{Shape}
-use Rattle.chains.proofs.Commits.{MayAllFollow, older-latest, may-all-follow, writes_of-with_commit, latest-with_commit, commit_whole}
+use Rattle.std.proofs.Common.{◌<◌, ◌++◌, List, arith, subst, ap, ◌∙◌}
+use Rattle.chains.specs.KeyWrites.{KeyWrites, writes_of, latest, AreRising}
+use Rattle.chains.proofs.Commits.{older-latest, may-all-follow, writes_of-with_commit, latest-with_commit}
+use Rattle.chains.proofs.CommitParts.{ordered-with_commit, rising-with_commit}
 use Rattle.history.specs.Versions.{versions}
 use Rattle.chains.specs.Writes.{written}
 use Rattle.chains.proofs.Forgetting.{versions-with}
 use Rattle.chains.proofs.Rising.{rising-writes_of}
 use Rattle.chains.proofs.frozen.Frozen.with_commit.Goals as goal
 
-pub loop-w-init : goal.loop-w-init
-loop-w-init c =
-    let m = c.args.self.now in
+pub with_writes-requires-clause-later : goal.with_writes-requires-clause-later
+with_writes-requires-clause-later c = rw c.self.view_is c.requires.later
+
+pub invariant_of-result : goal.invariant_of-result
+invariant_of-result c =
+    let m = c.self.inside.tree.pieces in
     let ws = c.args.writes.now in
-    let is : c.in_ok-share.field-0.pieces ≡ m = ap (λ (t : Shape KeyWrites). t.pieces) c.in_ok-share.ensures ∙ c.self.view_is in
-    let ordered : IsOrdered m = subst IsOrdered c.self.view_is c.self.invariant.0 in
-    let follow : MayAllFollow c.args.time m ws = may-all-follow c.args.time m ws ordered (older-latest c.args.time m ws c.requires.later) c.requires.rising in
-    record { same = ap (λ (l : List KeyWrites). with_commit l c.args.time ws) is; follow = subst (λ (l : List KeyWrites). MayAllFollow c.args.time l ws) (sym is) follow }
+    let later : latest m < c.args.time = rw c.self.view_is c.requires.later in
+    let follow = may-all-follow c.args.time m ws c.self.invariant.0 (older-latest c.args.time m ws later) c.requires.rising in
+    rw c.in_ok-with_writes.ensures (ordered-with_commit m c.args.time ws c.self.invariant.0, rising-with_commit c.args.time m ws c.requires.in_range follow c.self.invariant.1)
 
 pub returns-clause-by_key : goal.returns-clause-by_key
 returns-clause-by_key c = λ key.
-    let ordered : IsOrdered c.args.self.now = subst IsOrdered c.self.view_is c.self.invariant.0 in
-    ap (λ (l : List KeyWrites). writes_of l key) (commit_whole c.loop-w.next c.args.self.now c.args.time c.args.writes.now c.loop-w.w-index (omega arith) c.loop-w.invariant.same) ∙ writes_of-with_commit c.args.time c.args.self.now c.args.writes.now key ordered c.requires.rising
+    let m = c.self.inside.tree.pieces in
+    ap (λ (l : List KeyWrites). writes_of l key) c.in_ok-with_writes.ensures
+    ∙ writes_of-with_commit c.args.time m c.args.writes.now key c.self.invariant.0 c.requires.rising
+    ∙ ap (λ (l : List KeyWrites). writes_of l key ++ written c.args.time c.args.writes.now key) c.self.view_is
 
 pub returns-clause-latest : goal.returns-clause-latest
 returns-clause-latest c =
-    subst (λ (l : List KeyWrites). latest l ≤ c.args.time) (sym (commit_whole c.loop-w.next c.args.self.now c.args.time c.args.writes.now c.loop-w.w-index (omega arith) c.loop-w.invariant.same)) (latest-with_commit c.args.time c.args.self.now c.args.writes.now (omega (arith, c.requires.later)))
+    let m = c.self.inside.tree.pieces in
+    let later : latest m < c.args.time = rw c.self.view_is c.requires.later in
+    rw c.in_ok-with_writes.ensures (latest-with_commit c.args.time m c.args.writes.now (omega (arith, later)))
 
 pub returns-clause-versions : goal.returns-clause-versions
 returns-clause-versions c = λ key.

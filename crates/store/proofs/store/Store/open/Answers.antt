@@ -40,6 +40,8 @@ returns-clause-ok g c =
       ordered = rw c.of_recovered.ensures c.least-least.ensures.ordered;
       settled = c.in-Ok.ensures.settled;
       left = c.in-Ok.ensures.left;
+      moments = c.in-Ok.ensures.moments;
+      made = c.in-Ok.ensures.made;
       refused = c.in-Ok.ensures.refused;
     }
   where

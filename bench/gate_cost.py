@@ -1,0 +1,178 @@
+#!/usr/bin/env python3
+"""Runs a command and prints what processor time each crate took in it: its proof, its tests, the first of its must-fail edits and the others;
+and the most memory that one check of the crate held. It only reads /proc, twice a second. Its exit status is the command's.
+
+usage: bench/gate_cost.py [--limit MINUTES] [COMMAND ..]
+
+With no command it runs rt ci. With --limit the status is 1 too where the sum is above so many processor minutes.
+"""
+import collections
+import dataclasses
+import os
+import re
+import signal
+import subprocess
+import sys
+import time
+
+TICKS_A_SECOND = os.sysconf("SC_CLK_TCK")
+SECONDS_BETWEEN_LOOKS = 0.5
+PHASES = ("proof", "tests", "code", "edits", "edit alone")
+
+
+@dataclasses.dataclass
+class Process:
+    parent: int
+    began: int
+    seconds: float  # of the processor, with those of children that ended
+    words: list
+
+    def is_check(self):
+        return os.path.basename(self.words[0]) == "rattle" and "--crate-name" in self.words
+
+    def crate(self):
+        return self.words[self.words.index("--crate-name") + 1]
+
+    def phase(self):
+        if "--test" in self.words:
+            return "tests"
+        if any("rt-edits-" in it for it in self.words):
+            return "edits"
+        if "--crate-checked" in self.words:
+            return "code"
+        return "proof" if "-o" in self.words else "edit alone"
+
+
+@dataclasses.dataclass
+class Check:
+    """One run of the prover."""
+
+    crate: str
+    phase: str
+    seconds: float = 0
+    peak: int = 0  # kilobytes
+
+
+def processes():
+    found = {}
+    for pid in filter(str.isdigit, os.listdir("/proc")):
+        try:
+            with open(f"/proc/{pid}/stat") as it:
+                stat = it.read().rpartition(")")[2].split()
+            with open(f"/proc/{pid}/cmdline", "rb") as it:
+                words = it.read().decode(errors="replace").split("\0")
+        except OSError:
+            continue
+        found[int(pid)] = Process(int(stat[1]), int(stat[19]), sum(map(int, stat[11:15])) / TICKS_A_SECOND, words)
+    return found
+
+
+def peak_of(pid):
+    """The most memory that a process has held, in kilobytes."""
+    try:
+        with open(f"/proc/{pid}/status") as it:
+            found = re.search(r"^VmHWM:\s+(\d+)", it.read(), re.M)
+    except OSError:
+        return 0
+    return int(found[1]) if found else 0
+
+
+def is_below(pid, top, now):
+    while pid in now and pid != top:
+        pid = now[pid].parent
+    return pid == top
+
+
+def look(top, checks):
+    """Notes what the checks below a process have used so far."""
+    now = processes()
+    held = collections.Counter()
+    for pid, process in now.items():
+        if not process.is_check() or not is_below(pid, top, now):
+            continue
+        first = pid
+        while now[first].parent in now and now[now[first].parent].is_check():
+            first = now[first].parent
+        held[first] += peak_of(pid)
+        if first == pid:
+            check = checks.setdefault((process.began, pid), Check(process.crate(), process.phase()))
+            check.seconds = max(check.seconds, process.seconds)
+    for pid, kilobytes in held.items():
+        check = checks[now[pid].began, pid]
+        check.peak = max(check.peak, kilobytes)
+
+
+def longest_chain(seconds):
+    """The crates whose proofs wait for one another longest, by crates.txt, and what they and the last one's tests and edits take."""
+    try:
+        with open("crates.txt") as it:
+            lines = [line.partition(":") for line in it if ":" in line]
+    except OSError:
+        return 0, []
+    below = {name.split()[0]: names.split() for name, _, names in lines if name.split()}
+    waits = {}
+
+    def chain(name):
+        if name not in waits:
+            before = max((chain(it) for it in below[name] if it in below), default=(0, []))
+            waits[name] = before[0] + seconds[name]["proof"], [*before[1], name]
+        return waits[name]
+
+    return max(((chain(it)[0] + sum(seconds[it].values()) - seconds[it]["proof"], chain(it)[1]) for it in below), default=(0, []))
+
+
+def table(checks, wall):
+    """Prints the table and returns the processor minutes."""
+    seconds, first, others = collections.defaultdict(collections.Counter), {}, collections.defaultdict(list)
+    peaks = collections.Counter()
+    for _, check in sorted(checks.items(), key=lambda it: it[0]):
+        seconds[check.crate][check.phase] += check.seconds
+        peaks[check.crate] = max(peaks[check.crate], check.peak)
+        if check.phase == "edits" and check.crate not in first:
+            first[check.crate] = check.seconds
+        elif check.phase in ("edits", "edit alone"):
+            others[check.crate].append(check.seconds)
+    print(f"{'crate':18}{'total s':>9}{'proof':>8}{'tests':>8}{'code':>7}{'edit 1':>8}{'runs':>6}{'s a run':>9}{'peak MB':>9}")
+    for crate in sorted(seconds, key=lambda it: -sum(seconds[it].values())):
+        mine, rest = seconds[crate], others[crate]
+        mean = sum(rest) / len(rest) if rest else 0
+        print(f"{crate:18}{sum(mine.values()):9.0f}{mine['proof']:8.0f}{mine['tests']:8.0f}{mine['code']:7.0f}{first.get(crate, 0):8.0f}{len(rest):6}{mean:9.1f}{peaks[crate] / 1024:9.0f}")
+    length, names = longest_chain(seconds)
+    print(f"longest chain: {length / 60:.0f} processor minutes: {' '.join(names)}")
+    sums = {it: sum(mine[it] for mine in seconds.values()) / 60 for it in PHASES}
+    total, firsts = sum(sums.values()), sum(first.values()) / 60
+    rest = sums["edits"] + sums["edit alone"] - firsts
+    print(f"gate cost: {total:.0f} processor minutes, {wall:.0f} seconds on {os.cpu_count()} cores; of it proofs {sums['proof']:.0f}, tests {sums['tests']:.0f}, code {sums['code']:.0f}, first edits {firsts:.0f}, other edits {rest:.0f}; most memory of one check {max(peaks.values(), default=0) / 1024:.0f} MB")
+    return total
+
+
+def main(words):
+    limit = None
+    if words[:1] in (["-h"], ["--help"]):
+        print(__doc__, end="")
+        return 0
+    if words[:1] == ["--limit"]:
+        limit, words = float(words[1]), words[2:]
+    signal.signal(signal.SIGTERM, lambda *_: sys.exit(128 + signal.SIGTERM))
+    started, checks = time.time(), {}
+    ran = subprocess.Popen(words or ["rt", "ci"])
+    try:
+        while ran.poll() is None:
+            look(ran.pid, checks)
+            time.sleep(SECONDS_BETWEEN_LOOKS)
+    finally:
+        if ran.poll() is None:
+            ran.terminate()
+            ran.wait()
+    total = table(checks, time.time() - started)
+    sys.stdout.flush()
+    if ran.returncode:
+        return ran.returncode if ran.returncode > 0 else 128 - ran.returncode
+    if limit is not None and total > limit:
+        print(f"gate cost: above the limit of {limit:.0f} processor minutes", file=sys.stderr)
+        return 1
+    return 0
+
+
+if __name__ == "__main__":
+    sys.exit(main(sys.argv[1:]))

@@ -1,0 +1,183 @@
+#!/usr/bin/env python3
+"""Measures the store on real files, round after round, and prints medians as a table.
+
+    bench/store_bench.py STORE_BENCH [--rounds N] [--folder FOLDER] [--verbs w1,w4] [--share S]
+                         [--program TIMESTORE] [--alone]
+
+STORE_BENCH is the built program of crates/store_bench, which says what each verb does. FOLDER is where stores
+are made (a temporary folder if left out: name one on the disk that you mean to measure, since /tmp may be
+memory). S makes each count smaller or larger. TIMESTORE is the built program, of which the memory of an
+opened version is measured. Where a C compiler and the libraries are there, SQLite and LMDB run the same
+workloads in the same rounds (bench/peers); --alone leaves them out.
+"""
+import argparse
+import json
+import os
+import platform
+import shutil
+import statistics
+import subprocess
+import sys
+import tempfile
+
+HERE = os.path.dirname(os.path.abspath(__file__))
+# Each verb, what its value is, and how often it is done in a round.
+VERBS = {
+    "w1": ("commits of one record, one at a time, /s", 2_000),
+    "w2g": ("commits of one record, 16 under one gate, /s", 500),
+    "w3": ("records in commits of 1,024, /s", 200),
+    "w4": ("values of a key as of a random time, /s", 300_000),
+    "w5": ("rows of all versions of a key, /s", 20_000),
+    "w6": ("scans of 1,000 records as of a random time, /s", 2_000),
+    "w7": ("opening after so many commits, ms", 3_000),
+    "w8": ("bytes on disk a version", 1),
+}
+PEERS = {"SQLite": ("sqlite.c", "-lsqlite3"), "LMDB": ("lmdb.c", "-llmdb")}
+
+
+def built_peers(folder):
+    """The peers that can be built here, by their names."""
+    built = {}
+    for name, (source, library) in PEERS.items():
+        out = os.path.join(folder, name)
+        files = [os.path.join(HERE, "peers", it) for it in ("workloads.c", source)]
+        try:
+            done = subprocess.run(["cc", "-O2", *files, "-o", out, library], stderr=subprocess.DEVNULL)
+        except FileNotFoundError:
+            return built
+        if done.returncode == 0:
+            built[name] = out
+    return built
+
+
+def measured(program, verb, count, base):
+    """What one call prints, in a folder of its own."""
+    folder = tempfile.mkdtemp(dir=base)
+    done = subprocess.run([program, verb, folder, str(count)], stdout=subprocess.PIPE)
+    shutil.rmtree(folder)
+    if done.returncode != 0:
+        sys.exit(f"{program} {verb} ended with {done.returncode}")
+    return json.loads(done.stdout)
+
+
+def all_rounds(contenders, verbs, share, rounds, base):
+    """Of each contender and verb the answers of all rounds; every second round goes backwards."""
+    found = {(name, verb): [] for name in contenders for verb in verbs}
+    for turn in range(rounds):
+        calls = list(found)
+        for name, verb in calls if turn % 2 == 0 else reversed(calls):
+            count = max(1, int(VERBS[verb][1] * share))
+            found[name, verb].append(measured(contenders[name], verb, count, base))
+    return found
+
+
+def median(answers, field):
+    return statistics.median(answer[field] for answer in answers)
+
+
+def shown(number):
+    return f"{number:,.0f}" if number >= 100 else f"{number:,.2f}"
+
+
+def value(answers):
+    """The median of the values; where each group was timed, with that of the groups' median times."""
+    times = f" ({median(answers, 'median_us'):,.0f} µs)" if "median_us" in answers[0] else ""
+    return shown(median(answers, "value")) + times
+
+
+def beside(verb, answers):
+    """What the machine does itself, and how the store stands to it."""
+    if verb in ("w1", "w2g", "w3"):
+        raw = f"raw {shown(median(answers, 'raw'))} ({median(answers, 'raw_median_us'):,.0f} µs)"
+        return f"{raw}: {median(answers, 'times_raw'):.2f} times"
+    if verb in ("w4", "w5", "w6"):
+        return f"copies {shown(median(answers, 'copies'))}; opening {median(answers, 'opening_ms'):.0f} ms"
+    if verb == "w7":
+        return f"reading {median(answers, 'reading_ms'):.1f} ms for {median(answers, 'bytes') / 1e6:.1f} MB"
+    return f"heap {median(answers, 'heap'):.1f}"
+
+
+def held_memory(program, folder):
+    """What a process holds that has opened a store, and the most that it held, in bytes."""
+    process = subprocess.Popen([program, "run", folder], stdin=subprocess.PIPE, stdout=subprocess.PIPE)
+    process.stdin.write(b"times 1\n")
+    process.stdin.flush()
+    process.stdout.readline()
+    with open(f"/proc/{process.pid}/status", encoding="utf-8") as status:
+        fields = dict(line.split(":", 1) for line in status)
+    process.communicate()
+    return [int(fields[name].split()[0]) * 1024 for name in ("VmRSS", "VmHWM")]
+
+
+def print_memory(bench, program, base):
+    """The memory of a version: of a store with 100,000 beside an empty one."""
+    folder = tempfile.mkdtemp(dir=base)
+    empty = os.path.join(folder, "empty")
+    os.mkdir(empty)
+    subprocess.run([program, "format", empty], stdout=subprocess.DEVNULL, check=True)
+    full = os.path.join(folder, "full")
+    os.mkdir(full)
+    made = subprocess.run([bench, "w8", full], stdout=subprocess.PIPE, check=True)
+    versions = json.loads(made.stdout)["versions"]
+    pairs = zip(held_memory(program, os.path.join(full, "store")), held_memory(program, empty))
+    held, most = [(with_all - with_none) / versions for with_all, with_none in pairs]
+    shutil.rmtree(folder)
+    print(f"\nAn opened store of {versions:,} versions of 64 bytes holds {held:,.0f} bytes of memory a version, "
+          f"and {most:,.0f} at the most while it is opened.")
+
+
+def medium(folder):
+    """The file system of a folder, and its device."""
+    done = subprocess.run(["df", "--output=fstype,source", folder], stdout=subprocess.PIPE)
+    return " on ".join(done.stdout.decode().splitlines()[-1].split())
+
+
+def processor():
+    for line in open("/proc/cpuinfo", encoding="utf-8"):
+        if line.startswith("model name"):
+            return line.split(":", 1)[1].strip()
+    return platform.machine()
+
+
+def load():
+    return " ".join(f"{number:.1f}" for number in os.getloadavg())
+
+
+def arguments():
+    parser = argparse.ArgumentParser(description=__doc__, formatter_class=argparse.RawDescriptionHelpFormatter)
+    parser.add_argument("bench")
+    parser.add_argument("--rounds", type=int, default=5)
+    parser.add_argument("--folder")
+    parser.add_argument("--verbs", default=",".join(VERBS))
+    parser.add_argument("--share", type=float, default=1.0)
+    parser.add_argument("--program")
+    parser.add_argument("--alone", action="store_true")
+    return parser.parse_args()
+
+
+def main():
+    asked = arguments()
+    verbs = asked.verbs.split(",")
+    with tempfile.TemporaryDirectory(dir=asked.folder) as base:
+        contenders = {"timestore": os.path.abspath(asked.bench)}
+        if not asked.alone:
+            contenders.update(built_peers(base))
+        print(f"`{' '.join(sys.argv)}`")
+        print(f"{os.cpu_count()} cores ({processor()}), Linux {platform.release()}, {medium(base)}; "
+              f"load {load()} at the beginning; medians of {asked.rounds} rounds")
+        found = all_rounds(contenders, verbs, asked.share, asked.rounds, base)
+        print(f"load {load()} at the end\n")
+        peers = [name for name in contenders if name != "timestore"]
+        print("| Verb | Value | Count | Store | Beside it |" + "".join(f" {name} |" for name in peers))
+        print("|---" * (5 + len(peers)) + "|")
+        for verb in verbs:
+            answers = found["timestore", verb]
+            others = "".join(f" {value(found[name, verb])} |" for name in peers)
+            count = max(1, int(VERBS[verb][1] * asked.share))
+            print(f"| {verb} | {VERBS[verb][0]} | {count:,} | {value(answers)} | {beside(verb, answers)} |{others}")
+        if asked.program:
+            print_memory(os.path.abspath(asked.bench), os.path.abspath(asked.program), base)
+
+
+if __name__ == "__main__":
+    main()

@@ -1,0 +1,27 @@
+//! Examples of the calls of single crates: keys and histories, versions, transactions, times, lists
+//! of calls, steps of an archive, lines of scripts, and words of the command line. There is nothing
+//! here but tests.
+#![tactic(auto)]
+
+#[cfg(test)]
+mod archive_steps;
+#[cfg(test)]
+mod call_lists;
+#[cfg(test)]
+mod command_line;
+#[cfg(test)]
+mod commit_times;
+#[cfg(test)]
+mod histories;
+#[cfg(test)]
+mod key_versions;
+#[cfg(test)]
+mod open_transactions;
+#[cfg(test)]
+mod published;
+#[cfg(test)]
+mod script_lines;
+#[cfg(test)]
+mod views;
+#[cfg(test)]
+mod waiting_commits;

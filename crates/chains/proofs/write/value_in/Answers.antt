@@ -1,0 +1,16 @@
+use Rattle.std.proofs.Common.{◌≡◌, ◌∙◌, ◌-◌, ℕ, suc, sym, subst, arith}
+use Rattle.chains.specs.Writes.{IsBegun}
+use Rattle.std.proofs.Common.{None}
+use Rattle.chains.proofs.Begun.{value-none, value-begun}
+use Rattle.chains.proofs.write.value_in.Goals as goal
+
+pub returns-then-begun-eq0 : goal.returns-then-begun-eq0
+returns-then-begun-eq0 c =
+    sym (value-none c.args.time c.args.writes.now (subst (λ (n : ℕ). IsBegun c.args.time c.args.writes.now n) c.if-begun-eq0.true c.begun_by-begun.ensures))
+
+pub returns : goal.returns
+returns c =
+    let n = c.begun_by-begun.result - 1 in
+    let next : c.begun_by-begun.result ≡ suc n = omega arith in
+    let begun : IsBegun c.args.time c.args.writes.now (suc n) = subst (λ (m : ℕ). IsBegun c.args.time c.args.writes.now m) next c.begun_by-begun.ensures in
+    c.as_ref.ensures.value ∙ sym (value-begun None c.args.time c.args.writes.now n c.index-writes-begun.result begun)

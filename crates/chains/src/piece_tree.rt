@@ -1,0 +1,176 @@
+//! A tree of pieces of one key's writes, in the order of their times.
+ghost use Rattle.std.specs.Prelude.{◌≡◌, ◌++◌, IfOk, IsTrue, OnOk, find, option_map, option_to_list};
+ghost use Rattle.std.specs.Option.{option_copied};
+ghost use Rattle.history.specs.Time.{value_at, value_after, IsRisingAfter};
+ghost use Rattle.history.specs.Versions.{rows, ends_after};
+ghost use Rattle.chains.specs.Pieces.{all_writes, held};
+ghost use Rattle.chains.specs.Rows.{first_time_or, versions_upto, version_of_loan};
+ghost use Rattle.chains.specs.Writes.{kept_after, is_after};
+
+use crate::piece::Piece;
+use crate::rows::Rows;
+use crate::shared_value::SharedValue;
+use crate::tree::{Share, Tree};
+use history::{TimedWrite, Version};
+use std::alloc::{AllocError, Global};
+
+impl Tree<Piece> {
+    /// The piece that has the value at a time: the last one that begins by then, or else the one before
+    /// all of these.
+    pub(crate) fn begun_by<'a>(&'a self, before: Option<&'a Piece>, time: u64) -> Option<&'a Piece>
+        requires { IsRisingAfter 0 (all_writes self.now.pieces) }
+        ensures { value_at (held (option_copied result)) time ≡ value_after (value_at (held (option_copied before.entry)) time) (all_writes self.now.pieces) time }
+    {
+        let Some(node) = self.top() else {
+            return before;
+        };
+        if time < node.piece.first_time() {
+            node.left.begun_by(before, time)
+        } else {
+            node.right.begun_by(Some(&node.piece), time)
+        }
+    }
+
+    /// The first write made after a time, of these and of those of the piece before them.
+    pub(crate) fn next_after<'a>(
+        &'a self,
+        before: Option<&'a Piece>,
+        time: u64,
+    ) -> Option<&'a TimedWrite<SharedValue>>
+        requires { IsRisingAfter 0 (held (option_copied before) ++ all_writes self.now.pieces) }
+        ensures { option_copied result ≡ find (is_after time) (held (option_copied before.entry) ++ all_writes self.now.pieces) }
+    {
+        let Some(node) = self.top() else {
+            return match before {
+                None => None,
+                Some(piece) => piece.next_after(time),
+            };
+        };
+        if node.piece.first_time() <= time {
+            return node.right.next_after(Some(&node.piece), time);
+        }
+        match node.left.next_after(before, time) {
+            Some(w) => Some(w),
+            None => node.piece.next_after(time),
+        }
+    }
+
+    /// The first version of these writes, and of those of the piece before them, that ends after the
+    /// time; the last one ends at `end`.
+    pub(crate) fn ending_after<'a>(
+        &'a self,
+        before: Option<&'a Piece>,
+        end: u64,
+        time: u64,
+    ) -> Option<Version<&'a SharedValue>>
+        requires { IsRisingAfter 0 (held (option_copied before) ++ all_writes self.now.pieces) }
+        ensures { option_map version_of_loan result ≡ find (ends_after time) (versions_upto end (held (option_copied before.entry) ++ all_writes self.now.pieces)) }
+    {
+        let Some(node) = self.top() else {
+            return match before {
+                None => None,
+                Some(piece) => piece.ending_after(end, time),
+            };
+        };
+        let first = node.piece.first_time();
+        if first <= time {
+            return node.right.ending_after(Some(&node.piece), end, time);
+        }
+        match node.left.ending_after(before, first, time) {
+            Some(version) => Some(version),
+            None => node.right.ending_after(Some(&node.piece), end, time),
+        }
+    }
+
+    /// When the first of these writes was made, or `end` where there is none.
+    fn first_time_or(&self, end: u64) -> u64
+        ensures { result ≡ first_time_or end (all_writes self.now.pieces) }
+    {
+        let Some(node) = self.top() else {
+            return end;
+        };
+        node.left.first_time_or(node.piece.first_time())
+    }
+
+    /// Puts the rows of these writes behind the rows: the parts from `a` to `b` of their versions, the
+    /// last of which ends at `end`. It goes only where there are rows.
+    pub(crate) fn add_rows(
+        &self,
+        found: &mut Rows,
+        end: u64,
+        a: u64,
+        b: u64,
+    ) -> Result<(), AllocError>
+        requires { IsRisingAfter 0 (all_writes self.now.pieces) }
+        ensures { OnOk result (found.new.items ≡ found.old.items ++ rows (versions_upto end (all_writes self.now.pieces)) a b) }
+    {
+        let Some(node) = self.top() else {
+            return Ok(());
+        };
+        let first = node.piece.first_time();
+        let next = node.right.first_time_or(end);
+        if a < first {
+            node.left.add_rows(found, first, a, b)?;
+        }
+        node.piece.add_rows(found, next, a, b)?;
+        if next < b {
+            return node.right.add_rows(found, end, a, b);
+        }
+        Ok(())
+    }
+
+    /// Whether each of the writes says something of times from the mark on, and each of those of the
+    /// piece before them too.
+    pub(crate) fn is_kept(&self, before: Option<&Piece>, mark: u64) -> bool
+        requires { IsRisingAfter 0 (held (option_copied before) ++ all_writes self.now.pieces) }
+        ensures { IsTrue result → kept_after mark (held (option_copied before.entry) ++ all_writes self.now.pieces) ≡ held (option_copied before.entry) ++ all_writes self.now.pieces }
+    {
+        let Some(node) = self.top() else {
+            return match before {
+                None => true,
+                Some(piece) => piece.is_kept(mark),
+            };
+        };
+        if mark < node.piece.first_time() {
+            return node.left.is_kept(before, mark);
+        }
+        if before.is_some() || node.left.top().is_some() {
+            return false;
+        }
+        node.right.is_kept(Some(&node.piece), mark)
+    }
+
+    /// The writes that say something of times from the mark on, those of the piece before them among
+    /// them.
+    pub(crate) fn kept(
+        &self,
+        alloc: Global,
+        before: Option<&Piece>,
+        mark: u64,
+    ) -> Result<Self, AllocError>
+        requires { IsRisingAfter 0 (held (option_copied before) ++ all_writes self.now.pieces) }
+        ensures { IfOk result (λ t. all_writes t.pieces ≡ kept_after mark (held (option_copied before.entry) ++ all_writes self.now.pieces)) }
+    {
+        let Some(node) = self.top() else {
+            return Self::kept_piece(alloc, before, mark);
+        };
+        if mark < node.piece.first_time() {
+            let left = node.left.kept(alloc, before, mark)?;
+            return Tree::join(alloc, left, node.piece.share()?, node.right.share()?);
+        }
+        node.right.kept(alloc, Some(&node.piece), mark)
+    }
+
+    /// Those writes of a piece that say something of times from the mark on.
+    fn kept_piece(alloc: Global, piece: Option<&Piece>, mark: u64) -> Result<Self, AllocError>
+        ensures { IfOk result (λ t. all_writes t.pieces ≡ kept_after mark (held (option_copied piece.entry))) }
+    {
+        let Some(piece) = piece else {
+            return Ok(Tree::new());
+        };
+        match piece.kept(alloc, mark)? {
+            None => Ok(Tree::new()),
+            Some(left) => Tree::node(alloc, Tree::new(), left, Tree::new()),
+        }
+    }
+}

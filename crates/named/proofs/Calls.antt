@@ -1,0 +1,110 @@
+-- The calls that ask nothing of the disk.
+use Rattle.std.proofs.Common.{◌≡◌, ℕ, ◌==◌, Bool, true, false, cond, Option, Some, None, Result, Ok, Err, MatchBool, MatchOption, refl, ap, ◌∙◌, arith}
+use Rattle.extents.specs.Usages.{IsKept}
+use Rattle.group.specs.CommitOrder as orders
+use Rattle.group.specs.Tickets.{TicketValue}
+use Rattle.group.specs.declared.commit_order.Standing.{Standing}
+use Rattle.group.specs.declared.commit_order.Standing.TheVariants as standing
+use Rattle.group.specs.declared.answers.BeginFault.{BeginFault}
+use Rattle.group.specs.declared.answers.BeginFault.TheVariants as begin
+use Rattle.group.specs.declared.answers.Submitted.{Submitted}
+use Rattle.group.specs.declared.answers.Submitted.TheVariants.{ReadOnly, Queued}
+use Rattle.group.specs.declared.answers.SubmitFault.{SubmitFault}
+use Rattle.group.specs.declared.answers.SubmitFault.TheVariants as submit_fault
+use Rattle.group.specs.declared.answers.Redeemed.{Redeemed}
+use Rattle.group.specs.declared.answers.Redeemed.TheVariants as answers
+use Rattle.snapshot.specs.Txn.{TxnValue}
+use Rattle.transactions.specs.Values.{TransactionsValue, is_own, over}
+use Rattle.transactions.specs.Calls as calls
+use Rattle.transactions.specs.Submits as submits
+use Rattle.status.specs.TurnState.{LogState}
+use Rattle.store.specs.Values.{StoreValue, HasRest}
+use Rattle.store.specs.Calls.{Begins, Aborts, Submits, Redeems}
+use Rattle.store.specs.Archives.{StartsArchive, BeginsRun, refusal_now, with_archive}
+use Rattle.store.specs.declared.job.StartFault.{StartFault}
+use Rattle.named.specs.Named.{LeavesNamed, WritesBehind}
+use Rattle.named.proofs.Naming.{named_by, kept_same, kept_taken, disk_stays, leaves_itself, behind_by, behind_kept}
+
+-- what was kept is kept
+abbrev KeepsKept : TransactionsValue → TransactionsValue → Type 0
+KeepsKept old new = (n : ℕ) → IsKept old.usages n → IsKept new.usages n
+
+of_same : (old new : TransactionsValue) → new.usages ≡ old.usages → KeepsKept old new
+of_same old new same n kept = kept_same old.usages new.usages same n kept
+
+-- a call that keeps the rest
+rests : (tells : Bool) (old new : StoreValue) → KeepsKept old.transactions new.transactions → HasRest old new → WritesBehind old → LeavesNamed tells old new × WritesBehind new
+rests tells old new kept rest behind = (
+  disk_stays tells old new (named_by old new kept (omega (arith, ap (λ (l : LogState). l.used) rest.log)) (omega (arith, (rest.job).runs_end))) rest.disk,
+  behind_kept old new rest.job behind,
+)
+
+begins_same : (old : TransactionsValue) (answer : Result TxnValue BeginFault) (new : TransactionsValue) → calls.Begins old answer new → new.usages ≡ old.usages
+begins_same old (Ok txn) new begins = ap (λ (t : TransactionsValue). t.usages) begins.new_is
+begins_same old (Err begin.NoMemory) new begins = ap (λ (t : TransactionsValue). t.usages) begins.1
+begins_same old (Err begin.Failed) new begins = ap (λ (t : TransactionsValue). t.usages) begins.1
+
+pub began : (tells : Bool) (old new : StoreValue) (answer : Result TxnValue BeginFault) → Begins old answer new → WritesBehind old → LeavesNamed tells old new × WritesBehind new
+began tells old new answer begins behind =
+    rests tells old new (of_same old.transactions new.transactions (begins_same old.transactions answer new.transactions begins.transactions)) begins.rest behind
+
+aborts_same : (old : TransactionsValue) (txn : TxnValue) (new : TransactionsValue) → calls.Aborts old txn new → new.usages ≡ old.usages
+aborts_same old txn new aborts =
+    ap (λ (t : TransactionsValue). t.usages) aborts
+    ∙ (elim (is_own old txn) as (λ b. (cond b (over old txn.number) old).usages ≡ old.usages) [ true ↦ refl | false ↦ refl ])
+
+pub aborted : (tells : Bool) (old new : StoreValue) (txn : TxnValue) → Aborts old txn new → WritesBehind old → LeavesNamed tells old new × WritesBehind new
+aborted tells old new txn aborts behind =
+    rests tells old new (of_same old.transactions new.transactions (aborts_same old.transactions txn new.transactions aborts.transactions)) aborts.rest behind
+
+ticket_same : (old : TransactionsValue) (ticket : TicketValue) (at : Standing) (answer : Redeemed) (new : TransactionsValue) → calls.AnswersTicket old ticket at answer new → new.usages ≡ old.usages
+ticket_same old ticket standing.Unknown answer new is = ap (λ (t : TransactionsValue). t.usages) is.1
+ticket_same old ticket standing.Published answer new is = ap (λ (t : TransactionsValue). t.usages) is.1
+ticket_same old ticket standing.Waiting answer new is = ap (λ (t : TransactionsValue). t.usages) is.1
+
+pub redeemed : (tells : Bool) (old new : StoreValue) (ticket : TicketValue) (answer : Redeemed) → Redeems old ticket answer new → WritesBehind old → LeavesNamed tells old new × WritesBehind new
+redeemed tells old new ticket answer redeems behind =
+    rests tells old new (of_same old.transactions new.transactions (by_mark (ticket.mark == old.transactions.mark) redeems.transactions)) redeems.rest behind
+  where
+    by_mark : (b : Bool) → MatchBool b (calls.AnswersTicket old.transactions ticket (orders.standing_of ticket.time (calls.order_of old.transactions)) answer new.transactions) ((answer ≡ answers.Stranger) × (new.transactions ≡ old.transactions)) → new.transactions.usages ≡ old.transactions.usages
+    by_mark true is = ticket_same old.transactions ticket (orders.standing_of ticket.time (calls.order_of old.transactions)) answer new.transactions is
+    by_mark false is = ap (λ (t : TransactionsValue). t.usages) is.1
+
+submit_keeps : (v : TransactionsValue) (txn : TxnValue) (label now : ℕ) (answer : Result Submitted SubmitFault) (new : TransactionsValue) → submits.AnswersSubmit v txn label now answer new → KeepsKept v new
+submit_keeps v txn label now (Ok (ReadOnly snapshot)) new is = of_same v new (ap (λ (t : TransactionsValue). t.usages) is.2)
+submit_keeps v txn label now (Ok (Queued ticket)) new is = λ n kept.
+    kept_same _ new.usages (ap (λ (t : TransactionsValue). t.usages) (is.2).new_is) n (kept_taken v.usages (is.2).numbers n (is.2).least kept)
+submit_keeps v txn label now (Err fault) new is = of_same v new (ap (λ (t : TransactionsValue). t.usages) is.1)
+
+own_keeps : (b : Bool) (v : TransactionsValue) (txn : TxnValue) (label now : ℕ) (answer : Result Submitted SubmitFault) (new : TransactionsValue)
+    → MatchBool b ((answer ≡ Err submit_fault.Failed) × (new ≡ v)) (submits.AnswersSubmit v txn label now answer new) → KeepsKept v new
+own_keeps true v txn label now answer new is = of_same v new (ap (λ (t : TransactionsValue). t.usages) is.1)
+own_keeps false v txn label now answer new is = submit_keeps v txn label now answer new is
+
+any_keeps : (b : Bool) (v : TransactionsValue) (txn : TxnValue) (label now : ℕ) (answer : Result Submitted SubmitFault) (new : TransactionsValue)
+    → MatchBool b (submits.SubmitsOwn (over v txn.number) txn label now answer new) ((answer ≡ Err submit_fault.Stranger) × (new ≡ v)) → KeepsKept v new
+any_keeps true v txn label now answer new is = own_keeps v.failed (over v txn.number) txn label now answer new is
+any_keeps false v txn label now answer new is = of_same v new (ap (λ (t : TransactionsValue). t.usages) is.1)
+
+pub submitted : (tells : Bool) (old new : StoreValue) (txn : TxnValue) (label now : ℕ) (answer : Result Submitted SubmitFault) → Submits old txn label now answer new → WritesBehind old → LeavesNamed tells old new × WritesBehind new
+submitted tells old new txn label now answer submits behind =
+    rests tells old new (any_keeps (is_own old.transactions txn) old.transactions txn label now answer new.transactions submits.transactions) submits.rest behind
+
+-- ---- an archive begins
+
+begins_run : (tells : Bool) (old new : StoreValue) (upto : ℕ) (answer : Result (Unit {0}) StartFault) → BeginsRun old upto answer new → WritesBehind old → LeavesNamed tells old new × WritesBehind new
+begins_run tells old new upto (Ok done) is behind = (
+  disk_stays tells old new
+      (named_by old new (kept_same old.transactions.usages new.transactions.usages (ap (λ (v : StoreValue). v.transactions.usages) is.2))
+      (omega (arith, ap (λ (v : StoreValue). v.log.used) is.2)) (omega (arith, ap (λ (v : StoreValue). v.runs_end) is.2)))
+      (ap (λ (v : StoreValue). v.disk) is.2),
+  behind_by new (with_archive old upto).job old.runs_end (ap (λ (v : StoreValue). v.job) is.2) (ap (λ (v : StoreValue). v.runs_end) is.2) (omega arith, omega arith),
+)
+begins_run tells old new upto (Err why) is behind = (leaves_itself tells old new is.1, behind_by new old.job old.runs_end (ap (λ (v : StoreValue). v.job) is.1) (ap (λ (v : StoreValue). v.runs_end) is.1) behind)
+
+pub archiving : (tells : Bool) (old new : StoreValue) (upto : ℕ) (answer : Result (Unit {0}) StartFault) → StartsArchive old upto answer new → WritesBehind old → LeavesNamed tells old new × WritesBehind new
+archiving tells old new upto answer starts behind = by_refusal (refusal_now old upto) starts
+  where
+    by_refusal : (o : Option StartFault) → MatchOption o (BeginsRun old upto answer new) (λ why. (answer ≡ Err why) × (new ≡ old)) → LeavesNamed tells old new × WritesBehind new
+    by_refusal None is = begins_run tells old new upto answer is behind
+    by_refusal (Some why) is = (leaves_itself tells old new is.1, behind_by new old.job old.runs_end (ap (λ (v : StoreValue). v.job) is.1) (ap (λ (v : StoreValue). v.runs_end) is.1) behind)

@@ -1,0 +1,136 @@
+-- What a slot names that is open now.
+use Rattle.std.proofs.Common.{◌≡◌, ℕ, zero, suc, Bool, true, false, is_some, List, [], ◌∷◌, ◌++◌, take, drop, append_assoc, Option, Some, None, Result, Ok, Err, MatchBool, MatchOption, refl, sym, ap, subst, ◌∙◌, arith}
+use Rattle.std.specs.List.{AllByRecursion, flat_map}
+use Rattle.extents.specs.declared.usage.Usage.{Usage}
+use Rattle.extents.specs.declared.usage.Usage.TheVariants.{Out, Kept}
+use Rattle.extents.specs.Usages.{IsKept, AreOut, with_usage, with_usages}
+use Rattle.extents.proofs.Frames.{first_changed, now_has}
+use Rattle.status.specs.SlotCalls.{SlotStage}
+use Rattle.status.specs.SlotCalls as slots
+use Rattle.status.specs.TurnState.{TurnState, LogState}
+use Rattle.group.specs.Queued.{QueuedValue, numbers_of}
+use Rattle.group.specs.declared.queued.StoredExtent.{StoredExtent}
+use Rattle.group.specs.declared.answers.Did.{Did}
+use Rattle.group.specs.declared.answers.Did.TheVariants as group
+use Rattle.group.specs.declared.answers.PumpFault.{PumpFault}
+use Rattle.group.specs.declared.answers.PumpFault.TheVariants as fault
+use Rattle.transactions.proofs.Publishing.{out-front}
+use Rattle.transactions.specs.Values.{TransactionsValue}
+use Rattle.transactions.specs.Steps.{next_step, next_extent, grouped}
+use Rattle.transactions.specs.declared.stage.NextStep.{NextStep}
+use Rattle.transactions.specs.declared.stage.NextStep.TheVariants as step
+use Rattle.store.specs.Values.{StoreValue, IsOnItsWay, turn_of, turn_in}
+use Rattle.store.specs.Pumps.{Pumps, TakesStep, WritesExtent, BeginsSlot, TurnsSlot, IsTurned, started}
+use Rattle.store.specs.Jobs.{PumpsJob, TakesJobStep, WritesOrSyncs, BeginsJobSlot, IsJobTurned}
+use Rattle.store.specs.declared.job.ArchiveJob.{ArchiveJob}
+use Rattle.store.specs.declared.job.JobStage.{JobStage}
+use Rattle.store.specs.declared.job.JobStage.TheVariants as stages
+use Rattle.store.specs.declared.job.JobDid.{JobDid}
+use Rattle.store.specs.declared.job.JobDid.TheVariants as did
+use Rattle.named.specs.Named.{IsTyped}
+use Rattle.named.specs.Laws.{HasPublished, HasArchived}
+use Rattle.named.proofs.Naming.{kept_published, others_of, grouped_usages, grouped_queue}
+
+-- ---- a group
+
+first_rest : (n : ℕ) (queue : List QueuedValue) → flat_map numbers_of (take n queue) ++ flat_map numbers_of (drop n queue) ≡ flat_map numbers_of queue
+first_rest zero queue = refl
+first_rest (suc n) [] = refl
+first_rest (suc n) (q ∷ qs) = append_assoc (numbers_of q) (flat_map numbers_of (take n qs)) (flat_map numbers_of (drop n qs)) ∙ ap (λ (l : List ℕ). numbers_of q ++ l) (first_rest n qs)
+
+all_published : (us : List Usage) (ns : List ℕ) → AreOut us ns → AllByRecursion (IsKept (with_usages us ns Kept)) ns
+all_published us [] out = tt
+all_published us (m ∷ ms) out =
+    let next = first_changed us ms m Kept out in
+    let now = now_has us m Kept Out (λ same. cc) out.each.0 in
+    (kept_published (with_usage us m Kept) ms m (others_of (with_usage us m Kept) ms m next.each now) now, all_published (with_usage us m Kept) ms next)
+
+turned_published : (stage : SlotStage) (t : TurnState) (v new : StoreValue) (count : ℕ) → AreOut v.transactions.usages (flat_map numbers_of v.transactions.queue) → t.number ≡ v.log.used → IsTurned stage t v (group.Published count) new → HasPublished v count new
+turned_published slots.Begun t v new count out number is = absurd (let wrong = is.0 in cc)
+turned_published slots.BodyWritten t v new count out number is = absurd (let wrong = is.0 in cc)
+turned_published slots.BodySynced t v new count out number is = absurd (let wrong = is.0 in cc)
+turned_published slots.GateWritten t v new count out number is =
+    let said : ◌≡◌ {A = Did} (group.Published count) (group.Published v.transactions.group) = is.0 in
+    let same : count ≡ v.transactions.group = cc in
+    let numbers : List ℕ = flat_map numbers_of (take v.transactions.group v.transactions.queue) in
+    let front : AreOut v.transactions.usages numbers =
+    out-front v.transactions.usages numbers (flat_map numbers_of (drop v.transactions.group v.transactions.queue)) (subst (AreOut v.transactions.usages) (sym (first_rest v.transactions.group v.transactions.queue)) out) in
+    let kept : AllByRecursion (IsKept new.transactions.usages) numbers =
+    subst (λ (us : List Usage). AllByRecursion (IsKept us) numbers) (sym (ap (λ (x : TransactionsValue). x.usages) is.1)) (all_published v.transactions.usages numbers front) in
+    record {
+      extents = subst (λ (n : ℕ). AllByRecursion (IsKept new.transactions.usages) (flat_map numbers_of (take n v.transactions.queue))) (sym same) kept;
+      slots = omega (arith, ap (λ (l : LogState). l.used) is.2, number);
+    }
+turned_published slots.Opened t v new count out number is = absurd is
+
+wrote_none : (tells : Bool) (v new : StoreValue) (count : ℕ) (o : Option StoredExtent) → MatchOption o ⊥ (λ stored. WritesExtent tells stored v (Ok (group.Published count)) new) → ⊥
+wrote_none tells v new count None is = is
+wrote_none tells v new count (Some stored) is = let wrong : ◌≡◌ {A = Did} (group.Published count) group.WroteExtent = (is.steps).answer.0 in cc
+
+begun_none : (tells : Bool) (v new : StoreValue) (count : ℕ) (b : Bool) → MatchBool b ((◌≡◌ {A = Result Did PumpFault} (Ok (group.Published count)) (Err fault.Busy)) × (new ≡ v)) (BeginsSlot tells v (Ok (group.Published count)) new) → ⊥
+begun_none tells v new count true is = let wrong = is.0 in cc
+begun_none tells v new count false is = let wrong : ◌≡◌ {A = Did} (group.Published count) group.BodyWritten = (is.turns).answer.0 in cc
+
+turn_published : (tells : Bool) (v new : StoreValue) (count : ℕ) (o : Option TurnState) → AreOut v.transactions.usages (flat_map numbers_of v.transactions.queue) → MatchOption o (Unit {0}) (λ t. (t.number ≡ v.log.used) × IsOnItsWay t.stage)
+    → MatchOption o ⊥ (λ t. TurnsSlot tells t v (Ok (group.Published count)) new) → HasPublished v count new
+turn_published tells v new count None out number is = absurd is
+turn_published tells v new count (Some t) out number is = turned_published t.stage t v new count out number.0 is.answer
+
+takes_published : (tells : Bool) (next : NextStep) (v new : StoreValue) (count : ℕ) → AreOut v.transactions.usages (flat_map numbers_of v.transactions.queue) → MatchOption v.turn (Unit {0}) (λ t. (t.number ≡ v.log.used) × IsOnItsWay t.stage)
+    → TakesStep tells next v (Ok (group.Published count)) new → HasPublished v count new
+takes_published tells step.Idle v new count out turn is = absurd (let wrong = is.0 in cc)
+takes_published tells step.WriteExtent v new count out turn is = absurd (wrote_none tells v new count (next_extent v.transactions) is)
+takes_published tells step.SyncHeap v new count out turn is = absurd (let wrong : ◌≡◌ {A = Did} (group.Published count) group.HeapSynced = (is.steps).answer.0 in cc)
+takes_published tells step.BeginSlot v new count out turn is = absurd (begun_none tells v new count (is_some (turn_of v.job)) is)
+takes_published tells step.AdvanceSlot v new count out turn is = turn_published tells v new count v.turn out turn is
+
+by_failed : (tells b : Bool) (v new : StoreValue) (count : ℕ) → v.transactions.failed ≡ b → IsTyped tells v
+    → MatchBool b ((◌≡◌ {A = Result Did PumpFault} (Ok (group.Published count)) (Err fault.Failed)) × (new ≡ v)) (TakesStep tells (next_step v.transactions) (started v) (Ok (group.Published count)) new) → HasPublished v count new
+by_failed tells true v new count failed typed is = absurd (let wrong = is.0 in cc)
+by_failed tells false v new count works typed is =
+    let out : AreOut (grouped v.transactions).usages (flat_map numbers_of (grouped v.transactions).queue) =
+    subst (λ (us : List Usage). AreOut us (flat_map numbers_of (grouped v.transactions).queue)) (sym (grouped_usages v.transactions))
+    (subst (λ (q : List QueuedValue). AreOut v.transactions.usages (flat_map numbers_of q)) (sym (grouped_queue v.transactions)) (typed.order).out) in
+    let has = takes_published tells (next_step v.transactions) (started v) new count out (((typed.in_step).turns works).turn) is in
+    record { extents = subst (λ (q : List QueuedValue). AllByRecursion (IsKept new.transactions.usages) (flat_map numbers_of (take count q))) (grouped_queue v.transactions) has.extents; slots = has.slots }
+
+pub group_named : (tells : Bool) (old new : StoreValue) (count : ℕ) → IsTyped tells old → Pumps tells old (Ok (group.Published count)) new → HasPublished old count new
+group_named tells old new count typed pumps = by_failed tells old.transactions.failed old new count refl typed pumps
+
+-- ---- a job
+
+job_turned : (stage : SlotStage) (t : TurnState) (job : ArchiveJob) (v new : StoreValue) → t.number ≡ v.log.used → IsJobTurned stage t job v did.JobDone new → HasArchived v job new
+job_turned slots.Begun t job v new number is = absurd (let wrong = is.0 in cc)
+job_turned slots.BodyWritten t job v new number is = absurd (let wrong = is.0 in cc)
+job_turned slots.BodySynced t job v new number is = absurd (let wrong = is.0 in cc)
+job_turned slots.GateWritten t job v new number is = record { run = ap (λ (s : StoreValue). s.runs_end) is.2; slots = omega (arith, ap (λ (s : StoreValue). s.log.used) is.2, number) }
+job_turned slots.Opened t job v new number is = absurd is
+
+left_none : (tells : Bool) (left : List ℕ) (job : ArchiveJob) (v new : StoreValue) → WritesOrSyncs tells left job v (Ok did.JobDone) new → ⊥
+left_none tells [] job v new is = let wrong : ◌≡◌ {A = JobDid} did.JobDone did.RunSynced = (is.moves).0 in cc
+left_none tells (b ∷ bs) job v new is = let wrong : ◌≡◌ {A = JobDid} did.JobDone did.WroteRun = (is.moves).0 in cc
+
+job_begun_none : (tells : Bool) (v new : StoreValue) (job : ArchiveJob) (b : Bool) → MatchBool b ((◌≡◌ {A = Result JobDid PumpFault} (Ok did.JobDone) (Err fault.Busy)) × (new ≡ v)) (BeginsJobSlot tells job v (Ok did.JobDone) new) → ⊥
+job_begun_none tells v new job true is = let wrong = is.0 in cc
+job_begun_none tells v new job false is = let wrong : ◌≡◌ {A = JobDid} did.JobDone did.BodyWritten = is.answer.0 in cc
+
+job_takes : (tells : Bool) (stage : JobStage) (v new : StoreValue) (job : ArchiveJob) → MatchOption (turn_in stage) (Unit {0}) (λ t. t.number ≡ v.log.used) → TakesJobStep tells stage job v (Ok did.JobDone) new → HasArchived v job new
+job_takes tells stages.Writing v new job number is = absurd (left_none tells job.writer.left job v new is)
+job_takes tells stages.Stored v new job number is = absurd (job_begun_none tells v new job (is_some v.turn) is)
+job_takes tells (stages.Turning t) v new job number is = job_turned t.stage t job v new number is.answer
+
+job_number : (v : StoreValue) (o : Option TurnState) → MatchOption o (Unit {0}) (λ t. (t.number ≡ v.log.used) × IsOnItsWay t.stage × (v.turn ≡ None)) → MatchOption o (Unit {0}) (λ t. t.number ≡ v.log.used)
+job_number v None is = tt
+job_number v (Some t) is = is.0
+
+job_by_failed : (tells b : Bool) (v new : StoreValue) (job : ArchiveJob) → v.job ≡ Some job → v.transactions.failed ≡ b → IsTyped tells v
+    → MatchBool b ((◌≡◌ {A = Result JobDid PumpFault} (Ok did.JobDone) (Err fault.Failed)) × (new ≡ v)) (MatchOption v.job ((◌≡◌ {A = Result JobDid PumpFault} (Ok did.JobDone) (Ok did.Idle)) × (new ≡ v)) (λ j. TakesJobStep tells j.stage j v (Ok did.JobDone) new)) → HasArchived v job new
+job_by_failed tells true v new job there failed typed is = absurd (let wrong = is.0 in cc)
+job_by_failed tells false v new job there works typed is =
+    let number = job_number v (turn_of v.job) (((typed.in_step).turns works).job) in
+    job_takes tells job.stage v new job
+    (subst (λ (o : Option ArchiveJob). MatchOption (turn_of o) (Unit {0}) (λ (t : TurnState). t.number ≡ v.log.used)) there number)
+    (subst (λ (o : Option ArchiveJob). MatchOption o ((◌≡◌ {A = Result JobDid PumpFault} (Ok did.JobDone) (Ok did.Idle)) × (new ≡ v)) (λ (j : ArchiveJob). TakesJobStep tells j.stage j v (Ok did.JobDone) new)) there is)
+
+pub run_named : (tells : Bool) (old new : StoreValue) (job : ArchiveJob) → IsTyped tells old → old.job ≡ Some job → PumpsJob tells old (Ok did.JobDone) new → HasArchived old job new
+run_named tells old new job typed there pumps = job_by_failed tells old.transactions.failed old new job there refl typed pumps

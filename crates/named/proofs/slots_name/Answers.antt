@@ -1,0 +1,8 @@
+use Rattle.named.proofs.Publishing.{group_named, run_named}
+use Rattle.named.proofs.slots_name.Goals as goal
+
+pub returns-clause-group : goal.returns-clause-group
+returns-clause-group c = group_named
+
+pub returns-clause-job : goal.returns-clause-job
+returns-clause-job c = run_named

@@ -1,0 +1,98 @@
+-- No call writes what the log names.
+use Rattle.std.specs.Prelude.{◌≡◌, ℕ, ◌+◌, ◌<◌, Bool, IsTrue, List, [], ◌∷◌, length, take, slice_index, Some, Result, Ok}
+use Rattle.std.specs.List.{AllByRecursion, flat_map}
+use Rattle.disk.specs.Areas.{Image, LeavesImage, area_of, image_of, IsUntouched}
+use Rattle.disk.specs.Calls.{DiskState}
+use Rattle.disk.specs.declared.area.Area.{Area}
+use Rattle.extents.specs.Usages.{IsKept}
+use Rattle.image.specs.Reading.{Reading}
+use Rattle.snapshot.specs.Txn.{TxnValue}
+use Rattle.group.specs.Tickets.{TicketValue}
+use Rattle.group.specs.declared.answers.BeginFault.{BeginFault}
+use Rattle.group.specs.declared.answers.Submitted.{Submitted}
+use Rattle.group.specs.declared.answers.SubmitFault.{SubmitFault}
+use Rattle.group.specs.declared.answers.Redeemed.{Redeemed}
+use Rattle.group.specs.Queued.{numbers_of}
+use Rattle.group.specs.declared.answers.Did.{Did}
+use Rattle.group.specs.declared.answers.Did.TheVariants as group
+use Rattle.group.specs.declared.answers.PumpFault.{PumpFault}
+use Rattle.status.specs.declared.header.Header.{Header}
+use Rattle.status.specs.Rules.{row_end, runs_of}
+use Rattle.reading.specs.Layouts.{Layout, live}
+use Rattle.recovery.specs.ReadsImage.{IsOpening}
+use Rattle.store.specs.Values.{StoreValue}
+use Rattle.store.specs.Calls.{Begins, Aborts, Submits, Redeems}
+use Rattle.store.specs.Archives.{StartsArchive}
+use Rattle.store.specs.Pumps.{Pumps}
+use Rattle.store.specs.Jobs.{PumpsJob}
+use Rattle.store.specs.Opens.{Opens}
+use Rattle.store.specs.declared.job.StartFault.{StartFault}
+use Rattle.store.specs.declared.job.ArchiveJob.{ArchiveJob}
+use Rattle.store.specs.declared.job.JobDid.{JobDid}
+use Rattle.store.specs.declared.job.JobDid.TheVariants as did
+use Rattle.named.specs.Named.{IsNamed, LeavesNamed, WritesBehind, IsTyped, bytes_in}
+
+-- a call of an open store, by what it does
+pub data IsCall (tells : Bool) (old new : StoreValue) : Type 0 where
+  Began : (answer : Result TxnValue BeginFault) → Begins old answer new → IsCall tells old new
+  Aborted : (txn : TxnValue) → Aborts old txn new → IsCall tells old new
+  Submitting : (txn : TxnValue) (label now : ℕ) (answer : Result Submitted SubmitFault) → Submits old txn label now answer new → IsCall tells old new
+  Redeeming : (ticket : TicketValue) (answer : Redeemed) → Redeems old ticket answer new → IsCall tells old new
+  Pumped : (answer : Result Did PumpFault) → Pumps tells old answer new → IsCall tells old new
+  Archiving : (upto : ℕ) (answer : Result (Unit {0}) StartFault) → StartsArchive old upto answer new → IsCall tells old new
+  JobPumped : (answer : Result JobDid PumpFault) → PumpsJob tells old answer new → IsCall tells old new
+  -- a view, a query of it, or its end
+  Asked : new ≡ old → IsCall tells old new
+
+-- stores one after another, each by a call of the one before it
+abbrev pub AreCalls : Bool → StoreValue → List StoreValue → Type 0
+AreCalls tells v [] = Unit {0}
+AreCalls tells v (w ∷ ws) = IsCall tells v w × IsTyped tells w × AreCalls tells w ws
+
+-- ---- laws
+
+abbrev pub OpenedWritesBehind : Type 0
+OpenedWritesBehind = (tells : Bool) (disk : DiskState) (mark : ℕ) (v : StoreValue) → Opens tells disk mark v → WritesBehind v
+
+-- what the log of an image names a store has
+pub record HasNamed (layout : Layout) (v : StoreValue) : Type 0 where
+  pub slots : v.log.used ≡ length layout.slots
+  pub extents : AllByRecursion (λ e. IsKept v.transactions.usages e.number) (live layout)
+  pub runs : v.runs_end ≡ row_end 0 (runs_of layout.slots)
+
+-- a store that opened has all that the image's log names
+abbrev pub OpenedNames : Type 0
+OpenedNames = (tells : Bool) (disk : DiskState) (mark : ℕ) (v : StoreValue) → Opens tells disk mark v → IsTrue tells
+    → (header : Header) × (layout : Layout) × (reading : Reading) × IsOpening header (image_of disk.areas) layout reading × HasNamed layout v
+
+-- no call writes what the log names, and a job that it begins or goes on with will not
+abbrev pub CallLeavesNamed : Type 0
+CallLeavesNamed = (tells : Bool) (old new : StoreValue) → IsTyped tells old → WritesBehind old → IsCall tells old new → LeavesNamed tells old new × WritesBehind new
+
+-- so it is of calls one after another
+abbrev pub NamedStays : Type 0
+NamedStays = (tells : Bool) (v : StoreValue) (ws : List StoreValue) → IsTyped tells v → WritesBehind v → AreCalls tells v ws → AllByRecursion (λ w. LeavesNamed tells v w × WritesBehind w) ws
+
+-- and whatever a stop may then leave has there what stood on the disk
+abbrev pub StopLeavesNamed : Type 0
+StopLeavesNamed = (tells : Bool) (old new : StoreValue) (image : Image) → IsTyped tells old → LeavesNamed tells old new → IsTrue tells → LeavesImage new.disk.areas image
+    → (area : Area) (k : ℕ) → IsNamed old area k → k < (area_of old.disk.areas area).firm → IsUntouched k (k + 1) (area_of old.disk.areas area).loose
+    → slice_index (bytes_in image area) k ≡ slice_index (area_of old.disk.areas area).bytes k
+
+-- ---- what is named more
+
+-- the extents of the group's commits are named, by the slot that was opened
+pub record HasPublished (old : StoreValue) (count : ℕ) (new : StoreValue) : Type 0 where
+  pub extents : AllByRecursion (IsKept new.transactions.usages) (flat_map numbers_of (take count old.transactions.queue))
+  pub slots : new.log.used ≡ old.log.used + 1
+
+abbrev pub PublishedNamed : Type 0
+PublishedNamed = (tells : Bool) (old new : StoreValue) (count : ℕ) → IsTyped tells old → Pumps tells old (Ok (group.Published count)) new → HasPublished old count new
+
+-- the run of the job is named, by the slot that was opened
+pub record HasArchived (old : StoreValue) (job : ArchiveJob) (new : StoreValue) : Type 0 where
+  pub run : new.runs_end ≡ job.run.start + job.run.len
+  pub slots : new.log.used ≡ old.log.used + 1
+
+abbrev pub ArchivedNamed : Type 0
+ArchivedNamed = (tells : Bool) (old new : StoreValue) (job : ArchiveJob) → IsTyped tells old → old.job ≡ Some job → PumpsJob tells old (Ok did.JobDone) new → HasArchived old job new

@@ -1,0 +1,51 @@
+-- What the log of a store names, and that a call leaves it.
+use Rattle.std.specs.Prelude.{◌≡◌, ℕ, ◌+◌, ◌<◌, ◌≤◌, Bool, IsTrue, List, length, slice_index, MatchOption}
+use Rattle.disk.specs.Areas.{AreaState, Image, AreSound, area_of, IsUntouched}
+use Rattle.disk.specs.declared.area.Area.{Area}
+use Rattle.disk.specs.declared.area.Area.TheVariants.{Status, Heap, Archive}
+use Rattle.deltas.specs.Extents.{extent_start}
+use Rattle.extents.specs.Usages.{IsKept}
+use Rattle.status.specs.Log.{slot_start}
+use Rattle.transactions.specs.Order.{IsInOrder}
+use Rattle.store.specs.Values.{StoreValue, IsInStep}
+
+-- the place lies in an extent that is kept
+pub record IsInKept (v : StoreValue) (k : ℕ) : Type 0 where
+  pub number : ℕ
+  pub kept : IsKept v.transactions.usages number
+  pub low : extent_start number ≤ k
+  pub high : k < extent_start number + 8192
+
+-- The log names this place of an area: of the status area the header and the slots that are used, of the heap the extents of the chains that they name, of the archive all up to the end of the last run.
+abbrev pub IsNamed : StoreValue → Area → ℕ → Type 0
+IsNamed v Status k = k < slot_start v.log.used
+IsNamed v Heap k = IsInKept v k
+IsNamed v Archive k = k < v.runs_end
+
+-- a place of an area is as it was: what a read gives there, and whether a stop may change it
+pub record IsLeft (k : ℕ) (old new : AreaState) : Type 0 where
+  pub firm : k < old.firm → k < new.firm
+  pub inside : k < length old.bytes → k < length new.bytes
+  pub read : k < length old.bytes → slice_index new.bytes k ≡ slice_index old.bytes k
+  pub untouched : IsUntouched k (k + 1) old.loose → IsUntouched k (k + 1) new.loose
+
+-- What the log named is as it was, and is named still: no slot so far gives anything up.
+pub record LeavesNamed (tells : Bool) (old new : StoreValue) : Type 0 where
+  pub left : IsTrue tells → (area : Area) (k : ℕ) → IsNamed old area k → IsLeft k (area_of old.disk.areas area) (area_of new.disk.areas area)
+  pub named : (area : Area) (k : ℕ) → IsNamed old area k → IsNamed new area k
+
+-- the run of a job lies behind the runs of the log, and is written there
+abbrev pub WritesBehind : StoreValue → Type 0
+WritesBehind v = MatchOption v.job (Unit {0}) (λ job. (v.runs_end ≤ job.run.start) × (v.runs_end ≤ job.writer.at))
+
+-- what the types of a store and of its disk keep
+pub record IsTyped (tells : Bool) (v : StoreValue) : Type 0 where
+  pub order : IsInOrder v.transactions
+  pub in_step : IsInStep v
+  pub sound : IsTrue tells → AreSound v.disk.areas
+
+-- the bytes of an area of an image
+abbrev pub bytes_in : Image → Area → List ℕ
+bytes_in image Status = image.status
+bytes_in image Heap = image.heap
+bytes_in image Archive = image.archive

@@ -1,0 +1,4 @@
+pub mod ScriptMoments
+pub mod Says
+pub mod Keeps
+pub mod Promise

@@ -1,0 +1,11 @@
+pub mod Sending
+pub mod Fronts
+pub mod Passes
+pub mod Leaving
+pub mod JobLeaving
+pub mod Counting
+pub mod Stepping
+pub mod Moves
+pub mod Telling
+pub mod Fresh
+pub mod Committing

@@ -1,0 +1,469 @@
+-- What one call of the store leaves under the lock.
+use Rattle.std.proofs.Common.{◌≡◌, ℕ, ◌+◌, ◌<◌, ◌^◌, ◌≤◌, ◌==◌, nat_le, Bool, true, false, cond, List, [], ◌∷◌, ◌++◌, length, Result, Ok, Err, MatchBool, refl, sym, ap, ◌∙◌, subst, arith}
+use Rattle.std.specs.Prelude.{IsTrue}
+use Rattle.std.proofs.lemmas.List.{append-nil}
+use Rattle.std.proofs.lemmas.Bool.Decides.{nat_tests}
+use Rattle.atomic_table.specs.Seated.{TableId}
+use Rattle.disk.specs.Areas.{AreSound}
+use Rattle.history.specs.declared.key.KeyWrite.{KeyWrite}
+use Rattle.history.specs.Histories.{Commit, History, last}
+use Rattle.history.specs.Machine.{Machine, commit_order}
+use Rattle.history.specs.Steps.{Step, Run, Began, Aborted, Decided, begun}
+use Rattle.history.specs.Submissions as submissions
+use Rattle.history.specs.Submissions.{Submission, commit_made}
+use Rattle.history.proofs.Histories.{last_after-append}
+use Rattle.history.proofs.Runs.{step-added}
+use Rattle.image.specs.Values.{Value, IsValue}
+use Rattle.snapshot.specs.Txn.{TxnValue, AreTxnWrites}
+use Rattle.group.specs.CommitOrder as orders
+use Rattle.group.specs.CommitOrder.{last_time, is_awaited, last_published}
+use Rattle.group.specs.Tickets.{TicketValue}
+use Rattle.group.specs.declared.commit_order.CommitHead.{CommitHead}
+use Rattle.group.specs.declared.commit_order.Standing.TheVariants as standing
+use Rattle.group.specs.declared.answers.BeginFault.{BeginFault}
+use Rattle.group.specs.declared.answers.BeginFault.TheVariants as begin
+use Rattle.group.specs.declared.answers.Did.{Did}
+use Rattle.group.specs.declared.answers.PumpFault.{PumpFault}
+use Rattle.group.specs.declared.answers.PumpFault.TheVariants as pump
+use Rattle.group.specs.declared.answers.Redeemed.{Redeemed}
+use Rattle.group.specs.declared.answers.Redeemed.TheVariants as redeemed
+use Rattle.group.specs.declared.answers.Submitted.{Submitted}
+use Rattle.group.specs.declared.answers.Submitted.TheVariants as submitted
+use Rattle.group.specs.declared.answers.SubmitFault.{SubmitFault}
+use Rattle.group.specs.declared.answers.SubmitFault.TheVariants as refused
+use Rattle.transactions.specs.Values.{TransactionsValue, is_own, over}
+use Rattle.transactions.specs.Calls as calls
+use Rattle.transactions.specs.Submits.{JoinsQueue, with_queued, SubmitsOwn, AnswersSubmit}
+use Rattle.transactions.proofs.Orders.{last_time-push}
+use Rattle.store.specs.Values.{StoreValue}
+use Rattle.store.specs.Calls as stores
+use Rattle.store.specs.Pumps.{Pumps}
+use Rattle.store.specs.Archives.{StartsArchive}
+use Rattle.store.specs.Jobs.{PumpsJob}
+use Rattle.store.specs.declared.job.JobDid.{JobDid}
+use Rattle.store.specs.declared.job.StartFault.{StartFault}
+use Rattle.standing.specs.Standing.{StandsInMemory}
+use Rattle.standing.specs.Laws.{submission_of, event_of, begins_in, ends_in, job_ends_in}
+use Rattle.standing.specs.Stands.{Stands}
+use Rattle.standing.proofs.Memory.{last-is}
+use Rattle.standing.proofs.Submitting.{order-last}
+use Rattle.standing.proofs.Calling.{begin-stands, abort-stands, submit-stands, redeem-stands}
+use Rattle.standing.proofs.Pumping.{pump-stands}
+use Rattle.standing.proofs.Archiving.{archive-start-stands}
+use Rattle.standing.proofs.JobPumping.{job-pump-stands}
+use Rattle.shared.specs.Counts.{told_count, told_after}
+use Rattle.shared.specs.Reached.{Reached, opened, stepped}
+use Rattle.shared.specs.Seen.{Seen, SightValue, seen_of, IsLater}
+use Rattle.shared.specs.Shared.{IsShared, Submits, SubmitSays, SubmitHappens, queued_seen, count_in, noted, done_in}
+use Rattle.shared.proofs.Counting.{told-push, after-push, told-redeemed, after-redeemed, after-later, none-after}
+use Rattle.shared.proofs.Fronts.{last-seen}
+use Rattle.shared.proofs.Leaving.{pump-leaves}
+use Rattle.shared.proofs.JobLeaving.{start-leaves, pumped-leaves}
+use Rattle.shared.proofs.Stepping.{follows, later-published, submit_seen, submit-seen, pump_seen, pump-seen, published-none, job-seen}
+
+-- the same under another pass of the writer's
+pub repass : (tells : Bool) (start : Machine Value) (brand : ℕ) (table : TableId) (v : StoreValue) (shares : ℕ) (at at' : TableId) (pass pass' : SightValue) → IsShared tells start brand table v shares at pass
+    → at' ≡ at → pass'.writes ≡ true → pass'.seen ≡ pass.seen → IsShared tells start brand table v shares at' pass'
+repass tells start brand table v shares at at' pass pass' h same on seen = record {
+  state = h.state;
+  stands = h.stands;
+  reached = h.reached;
+  mark = h.mark;
+  told = h.told;
+  none_waits = h.none_waits;
+  cell = same ∙ h.cell;
+  seen = seen ∙ h.seen;
+  writes = on;
+}
+
+-- the machine's commits are as they were
+quiet : (tells : Bool) (start : Machine Value) (brand : ℕ) (table : TableId) (old new : StoreValue) (shares : ℕ) (at : TableId) (pass : SightValue) (h : IsShared tells start brand table old shares at pass) (after : Machine Value)
+    → Stands tells new after → Reached start after → seen_of after ≡ seen_of h.state → new.transactions.mark ≡ old.transactions.mark → new.transactions.heads ≡ old.transactions.heads → IsShared tells start brand table new shares at pass
+quiet tells start brand table old new shares at pass h after stands reached same mark heads = record {
+  state = after;
+  stands = stands;
+  reached = reached;
+  mark = mark ∙ h.mark;
+  told = ap told_count heads ∙ h.told;
+  none_waits = ap (λ (l : List CommitHead). told_after (last after.published) l) heads ∙ ap (λ (s : Seen). told_after (last s.published) old.transactions.heads) same ∙ h.none_waits;
+  cell = h.cell;
+  seen = h.seen ∙ sym same;
+  writes = h.writes;
+}
+
+pub same-store : (tells : Bool) (start : Machine Value) (brand : ℕ) (table : TableId) (old new : StoreValue) (shares : ℕ) (at : TableId) (pass : SightValue) → IsShared tells start brand table old shares at pass → new ≡ old → IsShared tells start brand table new shares at pass
+same-store tells start brand table old new shares at pass h same = subst (λ (v : StoreValue). IsShared tells start brand table v shares at pass) (sym same) h
+
+-- ---- opening
+
+pub begins : (tells : Bool) (start : Machine Value) (brand : ℕ) (table : TableId) (v : StoreValue) (total : ℕ) (at : TableId) (pass : SightValue) → Stands tells v start → v.transactions.mark ≡ brand → told_count v.transactions.heads ≡ length start.published → start.queue ≡ []
+    → total ≡ 0 → at ≡ table → pass.seen ≡ seen_of start → pass.writes ≡ true → IsShared tells start brand table v total at pass
+begins tells start brand table v total at pass stands mark fresh empty none cell seen writes = record {
+  state = start;
+  stands = stands;
+  reached = opened;
+  mark = mark;
+  told = omega (arith, fresh, none);
+  none_waits = ap (λ (t : ℕ). told_after t v.transactions.heads) (sym (order-last v.transactions start stands.memory ∙ ap (λ (h : History Value). last (start.published ++ h)) empty ∙ ap last (append-nil start.published))) ∙ none-after 0 v.transactions.heads stands.memory.rising;
+  cell = cell;
+  seen = seen;
+  writes = writes;
+}
+
+-- ---- transactions
+
+pub begin-keeps : (tells : Bool) (start : Machine Value) (brand : ℕ) (table : TableId) (old new : StoreValue) (shares : ℕ) (at : TableId) (pass : SightValue) (r : Result TxnValue BeginFault) → IsShared tells start brand table old shares at pass → stores.Begins old r new → IsShared tells start brand table new shares at pass
+begin-keeps tells start brand table old new shares at pass (Ok txn) h begins =
+    let did = begin-stands tells old new (Ok txn) h.state h.stands begins in
+    let is = begins.transactions.new_is in
+    quiet tells start brand table old new shares at pass h (begun h.state) did.1 (stepped (Began txn.snapshot) h.reached did.0) refl (ap (λ (v : TransactionsValue). v.mark) is) (ap (λ (v : TransactionsValue). v.heads) is)
+begin-keeps tells start brand table old new shares at pass (Err begin.NoMemory) h begins =
+    let did = begin-stands tells old new (Err begin.NoMemory) h.state h.stands begins in
+    let is = begins.transactions.1 in
+    quiet tells start brand table old new shares at pass h h.state did.1 h.reached refl (ap (λ (v : TransactionsValue). v.mark) is) (ap (λ (v : TransactionsValue). v.heads) is)
+begin-keeps tells start brand table old new shares at pass (Err begin.Failed) h begins =
+    let did = begin-stands tells old new (Err begin.Failed) h.state h.stands begins in
+    let is = begins.transactions.1 in
+    quiet tells start brand table old new shares at pass h h.state did.1 h.reached refl (ap (λ (v : TransactionsValue). v.mark) is) (ap (λ (v : TransactionsValue). v.heads) is)
+
+over-heads : (v new : TransactionsValue) (number : ℕ) (b : Bool) → new ≡ cond b (over v number) v → (new.mark ≡ v.mark) × (new.heads ≡ v.heads)
+over-heads v new number true is = (ap (λ (x : TransactionsValue). x.mark) is, ap (λ (x : TransactionsValue). x.heads) is)
+over-heads v new number false is = (ap (λ (x : TransactionsValue). x.mark) is, ap (λ (x : TransactionsValue). x.heads) is)
+
+pub abort-keeps : (tells : Bool) (start : Machine Value) (brand : ℕ) (table : TableId) (old new : StoreValue) (shares : ℕ) (at : TableId) (pass : SightValue) (txn : TxnValue) → IsShared tells start brand table old shares at pass → stores.Aborts old txn new → IsShared tells start brand table new shares at pass
+abort-keeps tells start brand table old new shares at pass txn h aborts =
+    let kept = over-heads old.transactions new.transactions txn.number (is_own old.transactions txn) aborts.transactions in
+    by-own kept.0 kept.1 (is_own old.transactions txn) (abort-stands tells old new txn h.state h.stands aborts)
+  where
+    by-own : new.transactions.mark ≡ old.transactions.mark → new.transactions.heads ≡ old.transactions.heads → (b : Bool)
+        → MatchBool b ((after : Machine Value) × Step IsValue h.state (Aborted txn.snapshot) after × Stands tells new after) (Stands tells new h.state) → IsShared tells start brand table new shares at pass
+    by-own mark heads true did = quiet tells start brand table old new shares at pass h did.0 did.2 (stepped (Aborted txn.snapshot) h.reached did.1) (ap seen_of did.1.2) mark heads
+    by-own mark heads false did = quiet tells start brand table old new shares at pass h h.state did h.reached refl mark heads
+
+-- ---- submits
+
+-- the transactions after a submit of the store's own transaction, by the answer
+abbrev pub Left : TransactionsValue → TxnValue → ℕ → Result Submitted SubmitFault → TransactionsValue → Type 0
+Left v t label (Ok (submitted.ReadOnly snapshot)) new = (snapshot ≡ t.snapshot) × (new ≡ v)
+Left v t label (Ok (submitted.Queued ticket)) new = (ticket.mark ≡ v.mark) × JoinsQueue v label ticket.time t.writes new
+Left v t label (Err refused.Stranger) new = ⊥
+Left v t label (Err why) new = new ≡ v
+
+left-by : (v new : TransactionsValue) (t : TxnValue) (label now : ℕ) (r : Result Submitted SubmitFault) → AnswersSubmit v t label now r new → Left v t label r new
+left-by v new t label now (Ok (submitted.ReadOnly snapshot)) says = (says.1, says.2)
+left-by v new t label now (Ok (submitted.Queued ticket)) says = (says.1, says.2)
+left-by v new t label now (Err (refused.Conflict key)) says = says.1
+left-by v new t label now (Err refused.HeapFull) says = says.1
+left-by v new t label now (Err refused.StatusFull) says = says.1
+left-by v new t label now (Err refused.ClockEnd) says = says.1
+left-by v new t label now (Err refused.NoMemory) says = says.1
+left-by v new t label now (Err refused.Failed) says = says.1
+left-by v new t label now (Err refused.Stranger) says = absurd says.0
+
+left-is : (v new : TransactionsValue) (t : TxnValue) (label now : ℕ) (r : Result Submitted SubmitFault) → SubmitsOwn v t label now r new → Left v t label r new
+left-is v new t label now r says = by-failure v.failed says
+  where
+    by-failure : (b : Bool) → MatchBool b ((r ≡ Err refused.Failed) × (new ≡ v)) (AnswersSubmit v t label now r new) → Left v t label r new
+    by-failure true says = subst (λ (x : Result Submitted SubmitFault). Left v t label x new) (sym says.0) says.1
+    by-failure false says = left-by v new t label now r says
+
+-- the time of a commit that was queued is that of the machine's
+queued-time : (v new : TransactionsValue) (m after : Machine Value) (label time : ℕ) (t : TxnValue) (numbers : List ℕ) (s : Submission Value) → StandsInMemory new after → new ≡ with_queued v label time t.writes numbers
+    → Step IsValue m (Decided s (submissions.Queues (commit_made m s))) after → time ≡ (commit_made m s).time
+queued-time v new m after label time t numbers s stands is step =
+    let head : CommitHead = record { time = time; label = label; awaited = true } in
+    let heads : last_time new.heads ≡ time = ap (λ (x : TransactionsValue). last_time x.heads) is ∙ last_time-push 0 v.heads head in
+    let order : last (commit_order after) ≡ (commit_made m s).time =
+    ap (λ (h : History Value). last h) (step-added IsValue m after (Decided s (submissions.Queues (commit_made m s))) step) ∙ last_after-append 0 (commit_order m) (commit_made m s ∷ []) in
+    sym heads ∙ order-last new after stands ∙ order
+
+-- what a submit of an own transaction leads to
+pub record Submitting (tells : Bool) (old new : StoreValue) (m : Machine Value) (t : TxnValue) (label now : ℕ) (r : Result Submitted SubmitFault) : Type 0 where
+  pub after : Machine Value
+  pub step : Step IsValue m (event_of m (submission_of t label now) r) after
+  pub stands : Stands tells new after
+  pub left : Left (over old.transactions t.number) t label r new.transactions
+
+-- or it is a stranger
+pub submitting : (tells : Bool) (old new : StoreValue) (m : Machine Value) (t : TxnValue) (label now : ℕ) (r : Result Submitted SubmitFault) → Stands tells old m → AreTxnWrites t.state t.snapshot t.writes → label < 2 ^ 64 → stores.Submits old t label now r new
+    → (b : Bool) → is_own old.transactions t ≡ b → MatchBool b (Submitting tells old new m t label now r) ((r ≡ Err refused.Stranger) × (new.transactions ≡ old.transactions) × Stands tells new m)
+submitting tells old new m t label now r stands are range does b is = by-own b (subst (λ (x : Bool). MatchBool x ((after : Machine Value) × Step IsValue m (event_of m (submission_of t label now) r) after × Stands tells new after) (Stands tells new m)) is (submit-stands tells old new t label now r m stands are range does))
+    (subst (λ (x : Bool). MatchBool x (SubmitsOwn (over old.transactions t.number) t label now r new.transactions) ((r ≡ Err refused.Stranger) × (new.transactions ≡ old.transactions))) is does.transactions)
+  where
+    by-own : (b : Bool) → MatchBool b ((after : Machine Value) × Step IsValue m (event_of m (submission_of t label now) r) after × Stands tells new after) (Stands tells new m)
+        → MatchBool b (SubmitsOwn (over old.transactions t.number) t label now r new.transactions) ((r ≡ Err refused.Stranger) × (new.transactions ≡ old.transactions))
+        → MatchBool b (Submitting tells old new m t label now r) ((r ≡ Err refused.Stranger) × (new.transactions ≡ old.transactions) × Stands tells new m)
+    by-own true did says = record { after = did.0; step = did.1; stands = did.2; left = left-is (over old.transactions t.number) new.transactions t label now r says }
+    by-own false did says = (says.0, says.1, did)
+
+-- what is noted of the answer is what is seen of the machine
+noted-seen : (r : Result Submitted SubmitFault) (s : Seen) (c : Commit Value) (label : ℕ) (writes : List (KeyWrite Value)) (brand snapshot : ℕ) → SubmitSays brand snapshot c.time r → c ≡ record { time = c.time; label = label; writes = writes } → submit_seen r s c ≡ noted r s label writes
+noted-seen (Ok (submitted.ReadOnly at)) s c label writes brand snapshot says is = refl
+noted-seen (Ok (submitted.Queued ticket)) s c label writes brand snapshot says is = ap (queued_seen s) is ∙ ap (λ (t : ℕ). queued_seen s (record { time = t; label = label; writes = writes })) (sym says.1)
+noted-seen (Err why) s c label writes brand snapshot says is = refl
+
+noted-published : (r : Result Submitted SubmitFault) (s : Seen) (label : ℕ) (writes : List (KeyWrite Value)) → (noted r s label writes).published ≡ s.published
+noted-published (Ok (submitted.ReadOnly at)) s label writes = refl
+noted-published (Ok (submitted.Queued ticket)) s label writes = refl
+noted-published (Err why) s label writes = refl
+
+-- the heads are as they were, but for one that is awaited
+pub record KeepsCounts (old new : TransactionsValue) : Type 0 where
+  pub mark : new.mark ≡ old.mark
+  pub told : told_count new.heads ≡ told_count old.heads
+  pub after : (t : ℕ) → told_after t new.heads ≡ told_after t old.heads
+
+counts-same : (old new : TransactionsValue) → new.mark ≡ old.mark → new.heads ≡ old.heads → KeepsCounts old new
+counts-same old new mark heads = record { mark = mark; told = ap told_count heads; after = λ t. ap (told_after t) heads }
+
+left-counts : (v new : TransactionsValue) (t : TxnValue) (label : ℕ) (r : Result Submitted SubmitFault) → Left (over v t.number) t label r new → KeepsCounts v new
+left-counts v new t label (Ok (submitted.ReadOnly at)) left = counts-same v new (ap (λ (x : TransactionsValue). x.mark) left.1) (ap (λ (x : TransactionsValue). x.heads) left.1)
+left-counts v new t label (Ok (submitted.Queued ticket)) left =
+    let is = left.1.new_is in
+    record {
+      mark = ap (λ (x : TransactionsValue). x.mark) is;
+      told = ap (λ (x : TransactionsValue). told_count x.heads) is ∙ told-push v.heads ticket.time label;
+      after = λ at. ap (λ (x : TransactionsValue). told_after at x.heads) is ∙ after-push at v.heads ticket.time label;
+    }
+left-counts v new t label (Err (refused.Conflict key)) left = counts-same v new (ap (λ (x : TransactionsValue). x.mark) left) (ap (λ (x : TransactionsValue). x.heads) left)
+left-counts v new t label (Err refused.HeapFull) left = counts-same v new (ap (λ (x : TransactionsValue). x.mark) left) (ap (λ (x : TransactionsValue). x.heads) left)
+left-counts v new t label (Err refused.StatusFull) left = counts-same v new (ap (λ (x : TransactionsValue). x.mark) left) (ap (λ (x : TransactionsValue). x.heads) left)
+left-counts v new t label (Err refused.ClockEnd) left = counts-same v new (ap (λ (x : TransactionsValue). x.mark) left) (ap (λ (x : TransactionsValue). x.heads) left)
+left-counts v new t label (Err refused.NoMemory) left = counts-same v new (ap (λ (x : TransactionsValue). x.mark) left) (ap (λ (x : TransactionsValue). x.heads) left)
+left-counts v new t label (Err refused.Failed) left = counts-same v new (ap (λ (x : TransactionsValue). x.mark) left) (ap (λ (x : TransactionsValue). x.heads) left)
+left-counts v new t label (Err refused.Stranger) left = absurd left
+
+-- what the answer says of an own transaction's submit
+left-says : (brand : ℕ) (v new : TransactionsValue) (m after : Machine Value) (t : TxnValue) (label now : ℕ) (r : Result Submitted SubmitFault) → v.mark ≡ brand → Left (over v t.number) t label r new → StandsInMemory new after
+    → Step IsValue m (event_of m (submission_of t label now) r) after → SubmitSays brand t.snapshot (commit_made m (submission_of t label now)).time r
+left-says brand v new m after t label now (Ok (submitted.ReadOnly at)) mark left stands step = left.0
+left-says brand v new m after t label now (Ok (submitted.Queued ticket)) mark left stands step =
+    (left.0 ∙ mark, queued-time (over v t.number) new m after label ticket.time t left.1.numbers (submission_of t label now) stands left.1.new_is step)
+left-says brand v new m after t label now (Err why) mark left stands step = tt
+
+-- what a submit leaves, of an own transaction or of a stranger
+pub record SubmitLeaves (tells : Bool) (start : Machine Value) (brand : ℕ) (m : Machine Value) (old new : StoreValue) (t : TxnValue) (label now : ℕ) (r : Result Submitted SubmitFault) : Type 0 where
+  pub after : Machine Value
+  pub stands : Stands tells new after
+  pub reached : Reached start after
+  pub noted_is : seen_of after ≡ noted r (seen_of m) label t.writes
+  pub counts : KeepsCounts old.transactions new.transactions
+  pub happens : SubmitHappens start brand t label now r (seen_of after)
+
+pub submit-leaves : (tells : Bool) (start : Machine Value) (brand : ℕ) (m : Machine Value) (old new : StoreValue) (t : TxnValue) (label now : ℕ) (r : Result Submitted SubmitFault) → Stands tells old m → Reached start m → old.transactions.mark ≡ brand → AreTxnWrites t.state t.snapshot t.writes → label < 2 ^ 64 → stores.Submits old t label now r new
+    → SubmitLeaves tells start brand m old new t label now r
+submit-leaves tells start brand m old new t label now r stands reached mark are range does = by-own (is_own old.transactions t) (submitting tells old new m t label now r stands are range does (is_own old.transactions t) refl)
+  where
+    own : (x : Result Submitted SubmitFault) → Submitting tells old new m t label now x → ((after : Machine Value) → Submits start brand t label now x (seen_of after) → SubmitHappens start brand t label now x (seen_of after)) → SubmitLeaves tells start brand m old new t label now x
+    own x s tells_so =
+        let c = commit_made m (submission_of t label now) in
+        let says = left-says brand old.transactions new.transactions m s.after t label now x mark s.left s.stands.memory s.step in
+        let ev = event_of m (submission_of t label now) x in
+        record {
+          after = s.after;
+          stands = s.stands;
+          reached = stepped ev reached s.step;
+          noted_is = submit-seen m s.after (submission_of t label now) x s.step ∙ noted-seen x (seen_of m) c label t.writes brand t.snapshot says refl;
+          counts = left-counts old.transactions new.transactions t label x s.left;
+          happens = tells_so s.after (record { before = m; after = s.after; reached = reached; step = s.step; seen_is = refl; says = says });
+        }
+
+    by-result : (x : Result Submitted SubmitFault) → Submitting tells old new m t label now x → SubmitLeaves tells start brand m old new t label now x
+    by-result (Ok (submitted.ReadOnly at)) s = own (Ok (submitted.ReadOnly at)) s (λ after d. d)
+    by-result (Ok (submitted.Queued ticket)) s = own (Ok (submitted.Queued ticket)) s (λ after d. d)
+    by-result (Err (refused.Conflict key)) s = own (Err (refused.Conflict key)) s (λ after d. d)
+    by-result (Err refused.HeapFull) s = own (Err refused.HeapFull) s (λ after d. d)
+    by-result (Err refused.StatusFull) s = own (Err refused.StatusFull) s (λ after d. d)
+    by-result (Err refused.ClockEnd) s = own (Err refused.ClockEnd) s (λ after d. d)
+    by-result (Err refused.NoMemory) s = own (Err refused.NoMemory) s (λ after d. d)
+    by-result (Err refused.Failed) s = own (Err refused.Failed) s (λ after d. d)
+    by-result (Err refused.Stranger) s = absurd s.left
+
+    stranger : SubmitLeaves tells start brand m old new t label now (Err refused.Stranger) → r ≡ Err refused.Stranger → SubmitLeaves tells start brand m old new t label now r
+    stranger s is = subst (λ (x : Result Submitted SubmitFault). SubmitLeaves tells start brand m old new t label now x) (sym is) s
+
+    by-own : (b : Bool) → MatchBool b (Submitting tells old new m t label now r) ((r ≡ Err refused.Stranger) × (new.transactions ≡ old.transactions) × Stands tells new m) → SubmitLeaves tells start brand m old new t label now r
+    by-own true s = by-result r s
+    by-own false s = stranger (record {
+      after = m;
+      stands = s.2;
+      reached = reached;
+      noted_is = refl;
+      counts = counts-same old.transactions new.transactions (ap (λ (v : TransactionsValue). v.mark) s.1) (ap (λ (v : TransactionsValue). v.heads) s.1);
+      happens = (m, reached, refl);
+    }) s.0
+
+-- what the pass has noted is what is seen of the machine
+pub noted-is : (tells : Bool) (start : Machine Value) (brand : ℕ) (m : Machine Value) (old new : StoreValue) (t : TxnValue) (label now : ℕ) (r : Result Submitted SubmitFault) (seen : Seen) (writes : List (KeyWrite Value)) (s : SubmitLeaves tells start brand m old new t label now r)
+    → t.writes ≡ writes → seen ≡ seen_of m → noted r seen label writes ≡ seen_of s.after
+noted-is tells start brand m old new t label now r seen writes s same is =
+    ap (λ (x : Seen). noted r x label writes) is ∙ ap (λ (ws : List (KeyWrite Value)). noted r (seen_of m) label ws) (sym same) ∙ sym s.noted_is
+
+pub submit-keeps : (tells : Bool) (start : Machine Value) (brand : ℕ) (table : TableId) (old new : StoreValue) (shares : ℕ) (at at' : TableId) (pass pass' : SightValue) (t : TxnValue) (label now : ℕ) (r : Result Submitted SubmitFault) (h : IsShared tells start brand table old shares at pass)
+    → (s : SubmitLeaves tells start brand h.state old new t label now r) → at' ≡ table → pass'.writes ≡ true → pass'.seen ≡ seen_of s.after → IsShared tells start brand table new shares at' pass'
+submit-keeps tells start brand table old new shares at at' pass pass' t label now r h s cell on seen =
+    let published : s.after.published ≡ h.state.published = ap (λ (x : Seen). x.published) s.noted_is ∙ noted-published r (seen_of h.state) label t.writes in
+    record {
+      state = s.after;
+      stands = s.stands;
+      reached = s.reached;
+      mark = s.counts.mark ∙ h.mark;
+      told = s.counts.told ∙ h.told;
+      none_waits = s.counts.after (last s.after.published) ∙ ap (λ (x : History Value). told_after (last x) old.transactions.heads) published ∙ h.none_waits;
+      cell = cell;
+      seen = seen;
+      writes = on;
+    }
+
+-- ---- steps of groups and jobs
+
+-- what a step of a group leads to
+pub record Pumped (tells : Bool) (start : Machine Value) (m : Machine Value) (old new : StoreValue) (r : Result Did PumpFault) : Type 0 where
+  pub after : Machine Value
+  pub run : MatchBool m.failed ((r ≡ Err pump.Failed) × (after ≡ m)) (Run IsValue m (begins_in m ++ ends_in m.gate r) after)
+  pub stands : Stands tells new after
+  pub reached : Reached start after
+  pub seen : seen_of after ≡ pump_seen r (seen_of m)
+  pub mark : new.transactions.mark ≡ old.transactions.mark
+  pub heads : new.transactions.heads ≡ old.transactions.heads
+
+pub pumped : (tells : Bool) (start : Machine Value) (m : Machine Value) (old new : StoreValue) (r : Result Did PumpFault) → Reached start m → Stands tells old m → (IsTrue tells → AreSound new.disk.areas) → Pumps tells old r new → Pumped tells start m old new r
+pumped tells start m old new r reached stands sound pumps =
+    let left = pump-leaves tells old new r pumps in
+    by-failure left.mark left.heads m.failed refl (pump-stands tells old new r m stands sound pumps)
+  where
+    by-failure : new.transactions.mark ≡ old.transactions.mark → new.transactions.heads ≡ old.transactions.heads → (b : Bool) → m.failed ≡ b
+        → MatchBool b ((r ≡ Err pump.Failed) × Stands tells new m) ((after : Machine Value) × Run IsValue m (begins_in m ++ ends_in m.gate r) after × Stands tells new after) → Pumped tells start m old new r
+    by-failure mark heads true is did = record {
+      after = m;
+      run = subst (λ (b : Bool). MatchBool b ((r ≡ Err pump.Failed) × (m ≡ m)) (Run IsValue m (begins_in m ++ ends_in m.gate r) m)) (sym is) (did.0, refl);
+      stands = did.1;
+      reached = reached;
+      seen = subst (λ (x : Result Did PumpFault). seen_of m ≡ pump_seen x (seen_of m)) (sym did.0) (published-none (seen_of m));
+      mark = mark;
+      heads = heads;
+    }
+    by-failure mark heads false is did = record {
+      after = did.0;
+      run = subst (λ (b : Bool). MatchBool b ((r ≡ Err pump.Failed) × (did.0 ≡ m)) (Run IsValue m (begins_in m ++ ends_in m.gate r) did.0)) (sym is) did.1;
+      stands = did.2;
+      reached = follows start m did.0 (begins_in m ++ ends_in m.gate r) reached did.1;
+      seen = pump-seen m did.0 r did.1;
+      mark = mark;
+      heads = heads;
+    }
+
+-- once the pass has gone on
+pub pump-publishes : (tells : Bool) (start : Machine Value) (brand : ℕ) (table : TableId) (old new : StoreValue) (shares : ℕ) (at at' : TableId) (pass pass' : SightValue) (r : Result Did PumpFault) (h : IsShared tells start brand table old shares at pass) → Pumped tells start h.state old new r
+    → at' ≡ table → pass'.writes ≡ true → pass'.seen ≡ pump_seen r (seen_of h.state) → IsShared tells start brand table new shares at' pass'
+pump-publishes tells start brand table old new shares at at' pass pass' r h p cell on seen =
+    let later' : IsLater (seen_of h.state) (seen_of p.after) = subst (λ (s : Seen). IsLater (seen_of h.state) s) (sym p.seen) (later-published (seen_of h.state) (count_in r)) in
+    let rises : last h.state.published ≤ last p.after.published = last-seen (seen_of h.state) (seen_of p.after) p.stands.machine.history later' in
+    record {
+      state = p.after;
+      stands = p.stands;
+      reached = p.reached;
+      mark = p.mark ∙ h.mark;
+      told = ap told_count p.heads ∙ h.told;
+      none_waits = ap (λ (l : List CommitHead). told_after (last p.after.published) l) p.heads ∙ after-later (last h.state.published) (last p.after.published) old.transactions.heads rises h.none_waits;
+      cell = cell;
+      seen = seen ∙ sym p.seen;
+      writes = on;
+    }
+
+pub start-keeps : (tells : Bool) (start : Machine Value) (brand : ℕ) (table : TableId) (old new : StoreValue) (shares : ℕ) (at : TableId) (pass : SightValue) (upto : ℕ) (r : Result (Unit {0}) StartFault) → IsShared tells start brand table old shares at pass → StartsArchive old upto r new
+    → IsShared tells start brand table new shares at pass
+start-keeps tells start brand table old new shares at pass upto r h starts =
+    let left = start-leaves old new upto r starts in
+    quiet tells start brand table old new shares at pass h h.state (archive-start-stands tells old new upto r h.state h.stands starts) h.reached refl left.mark left.heads
+
+pub record JobPumped (tells : Bool) (start : Machine Value) (m : Machine Value) (old new : StoreValue) (r : Result JobDid PumpFault) : Type 0 where
+  pub after : Machine Value
+  pub run : MatchBool m.failed ((r ≡ Err pump.Failed) × (after ≡ m)) (Run IsValue m (job_ends_in r) after)
+  pub stands : Stands tells new after
+  pub reached : Reached start after
+  pub seen : seen_of after ≡ seen_of m
+
+pub job-pumped : (tells : Bool) (start : Machine Value) (m : Machine Value) (old new : StoreValue) (r : Result JobDid PumpFault) → Reached start m → Stands tells old m → (IsTrue tells → AreSound new.disk.areas) → PumpsJob tells old r new → JobPumped tells start m old new r
+job-pumped tells start m old new r reached stands sound pumps = by-failure m.failed refl (job-pump-stands tells old new r m stands sound pumps)
+  where
+    by-failure : (b : Bool) → m.failed ≡ b → MatchBool b ((r ≡ Err pump.Failed) × Stands tells new m) ((after : Machine Value) × Run IsValue m (job_ends_in r) after × Stands tells new after) → JobPumped tells start m old new r
+    by-failure true is did = record {
+      after = m;
+      run = subst (λ (b : Bool). MatchBool b ((r ≡ Err pump.Failed) × (m ≡ m)) (Run IsValue m (job_ends_in r) m)) (sym is) (did.0, refl);
+      stands = did.1;
+      reached = reached;
+      seen = refl;
+    }
+    by-failure false is did = record {
+      after = did.0;
+      run = subst (λ (b : Bool). MatchBool b ((r ≡ Err pump.Failed) × (did.0 ≡ m)) (Run IsValue m (job_ends_in r) did.0)) (sym is) did.1;
+      stands = did.2;
+      reached = follows start m did.0 (job_ends_in r) reached did.1;
+      seen = job-seen m did.0 r did.1;
+    }
+
+pub job-keeps : (tells : Bool) (start : Machine Value) (brand : ℕ) (table : TableId) (old new : StoreValue) (shares : ℕ) (at : TableId) (pass : SightValue) (r : Result JobDid PumpFault) → IsShared tells start brand table old shares at pass → (IsTrue tells → AreSound new.disk.areas) → PumpsJob tells old r new
+    → IsShared tells start brand table new shares at pass
+job-keeps tells start brand table old new shares at pass r h sound pumps =
+    let p = job-pumped tells start h.state old new r h.reached h.stands sound pumps in
+    let left = pumped-leaves tells old new r pumps in
+    quiet tells start brand table old new shares at pass h p.after p.stands p.reached p.seen left.mark left.heads
+
+-- ---- tickets
+
+-- the transactions after a ticket was shown, by the answer
+abbrev pub Redeeming : TransactionsValue → TicketValue → Redeemed → TransactionsValue → Type 0
+Redeeming old k (redeemed.Done time) new = (time ≡ k.time) × (is_awaited k.time old.heads ≡ true) × (k.time ≤ calls.last old) × (new ≡ record old { heads = orders.redeemed k.time old.heads })
+Redeeming old k (redeemed.Waiting back) new = (back ≡ k) × (new ≡ old)
+Redeeming old k redeemed.InDoubt new = new ≡ old
+Redeeming old k redeemed.Stranger new = new ≡ old
+
+pub redeeming : (old new : TransactionsValue) (k : TicketValue) (r : Redeemed) → calls.Redeems old k r new → Redeeming old k r new
+redeeming old new k r redeems = by-mark (k.mark == old.mark) (is_awaited k.time old.heads) refl (nat_le k.time (last_published (calls.order_of old))) refl redeems
+  where
+    stranger : (r ≡ redeemed.Stranger) × (new ≡ old) → Redeeming old k r new
+    stranger says = subst (λ (x : Redeemed). Redeeming old k x new) (sym says.0) says.1
+
+    by-failure : (b : Bool) → (r ≡ cond b redeemed.InDoubt (redeemed.Waiting k)) × (new ≡ old) → Redeeming old k r new
+    by-failure true says = subst (λ (x : Redeemed). Redeeming old k x new) (sym says.0) says.1
+    by-failure false says = subst (λ (x : Redeemed). Redeeming old k x new) (sym says.0) (refl, says.1)
+
+    by-mark : (a b : Bool) → is_awaited k.time old.heads ≡ b → (d : Bool) → nat_le k.time (last_published (calls.order_of old)) ≡ d
+        → MatchBool a (calls.AnswersTicket old k (cond b (cond d standing.Published standing.Waiting) standing.Unknown) r new) ((r ≡ redeemed.Stranger) × (new ≡ old)) → Redeeming old k r new
+    by-mark true true waits true early says =
+        let le : k.time ≤ last_published (calls.order_of old) = grind (arith, nat_tests) in
+        subst (λ (x : Redeemed). Redeeming old k x new) (sym says.0) (refl, waits, le, says.1)
+    by-mark true true waits false late says = by-failure old.failed says
+    by-mark true false none d is says = stranger says
+    by-mark false b is d early says = stranger says
+
+pub redeem-keeps : (tells : Bool) (start : Machine Value) (brand : ℕ) (table : TableId) (old new : StoreValue) (shares : ℕ) (at : TableId) (pass : SightValue) (k : TicketValue) (r : Redeemed) → IsShared tells start brand table old shares at pass → stores.Redeems old k r new
+    → IsShared tells start brand table new (shares + done_in r) at pass
+redeem-keeps tells start brand table old new shares at pass k r h redeems =
+    by-result r (redeeming old.transactions new.transactions k r redeems.transactions) (redeem-stands tells old new k r h.state h.stands redeems).1
+  where
+    same : (x : Redeemed) → done_in x ≡ 0 → new.transactions ≡ old.transactions → Stands tells new h.state → IsShared tells start brand table new (shares + done_in x) at pass
+    same x none is stands = subst (λ (n : ℕ). IsShared tells start brand table new n at pass) (omega (arith, none))
+        (quiet tells start brand table old new shares at pass h h.state stands h.reached refl (ap (λ (v : TransactionsValue). v.mark) is) (ap (λ (v : TransactionsValue). v.heads) is))
+
+    by-result : (x : Redeemed) → Redeeming old.transactions k x new.transactions → Stands tells new h.state → IsShared tells start brand table new (shares + done_in x) at pass
+    by-result (redeemed.Done time) left stands =
+        let heads : new.transactions.heads ≡ orders.redeemed k.time old.transactions.heads = ap (λ (v : TransactionsValue). v.heads) left.3 in
+        let one = told-redeemed k.time old.transactions.heads left.1 in
+        let published = last-is old.transactions h.state h.stands.memory in
+        let early = left.2 in
+        record {
+          state = h.state;
+          stands = stands;
+          reached = h.reached;
+          mark = ap (λ (v : TransactionsValue). v.mark) left.3 ∙ h.mark;
+          told = ap told_count heads ∙ omega (arith, one, h.told);
+          none_waits = ap (λ (l : List CommitHead). told_after (last h.state.published) l) heads ∙ after-redeemed (last h.state.published) k.time old.transactions.heads (omega (arith, published, early)) ∙ h.none_waits;
+          cell = h.cell;
+          seen = h.seen;
+          writes = h.writes;
+        }
+    by-result (redeemed.Waiting back) left stands = same (redeemed.Waiting back) refl left.1 stands
+    by-result redeemed.InDoubt left stands = same redeemed.InDoubt refl left stands
+    by-result redeemed.Stranger left stands = same redeemed.Stranger refl left stands

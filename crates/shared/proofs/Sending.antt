@@ -1,0 +1,174 @@
+-- A store may go to another thread where its disk may.
+use denote.RattleType.{RattleType}
+use denote.Param.Send.{IsSend, IsSync, view_send, sendable}
+use denote.Param.SendFields.{declared_send, declared_sync}
+use Rattle.std.proofs.Crossing.{crosses}
+use Rattle.smallvec.proofs.small_vec.SmallVec.TheSendSync as small_vec
+use Rattle.std.proofs.option.Option.TheSendSync as option
+use Rattle.std.proofs.sync.Mutex.TheSendSync as mutex
+use Rattle.std.proofs.sync.Condvar.TheSendSync as condvar
+use Rattle.std.proofs.sync.ledger.Book.TheSendSync as book
+use Rattle.std.specs.declared.sync.ledger.Ledger as ledgers
+use Rattle.atomic_table.proofs.shared.Seat.TheSendSync as seat
+use Rattle.atomic_table.proofs.shared.Shared.TheSendSync as words
+use Rattle.crossbeam_utils.proofs.atomic.seq_cell.Wide.TheSendSync as wide
+use Rattle.disk.specs.declared.device.Disk as devices
+use Rattle.history.proofs.time.TimedWrite.TheSendSync as timed_write
+use Rattle.wire.proofs.slot.Run.TheSendSync as run
+use Rattle.extents.proofs.extents.Extents.TheSendSync as extents
+use Rattle.chains.proofs.tree.Tree.TheLaws.TheKnot as knot
+use Rattle.chains.proofs.shared_value.SharedValue.TheSendSync as shared_value
+use Rattle.chains.specs.contracts.chain.Chain as Chain
+use Rattle.chains.specs.contracts.frozen.Frozen as Frozen
+use Rattle.snapshot.proofs.open_table.OpenTable.TheSendSync as open_table
+use Rattle.status.proofs.status_log.StatusLog.TheSendSync as status_log
+use Rattle.status.proofs.turn.SlotTurn.TheSendSync as slot_turn
+use Rattle.group.proofs.commit_order.CommitOrder.TheSendSync as order
+use Rattle.group.proofs.queued.StoredExtent.TheSendSync as stored
+use Rattle.group.specs.contracts.queued.Queued as Queued
+use Rattle.transactions.proofs.stage.GroupStage.TheSendSync as group_stage
+use Rattle.transactions.specs.contracts.transactions.Transactions as Transactions
+use Rattle.transactions.specs.contracts.transactions.Transactions.TheInside as transactions
+use Rattle.archive.proofs.writer.RunWriter.TheSendSync as run_writer
+use Rattle.vacuum.proofs.archive_walk.Place.TheSendSync as place
+use Rattle.vacuum.specs.contracts.archive_walk.ArchiveWalk as ArchiveWalk
+use Rattle.vacuum.specs.contracts.archive_walk.ArchiveWalk.TheInside as walk
+use Rattle.store.proofs.job.JobStage.TheSendSync as job_stage
+use Rattle.store.specs.contracts.job.ArchiveJob as ArchiveJob
+use Rattle.store.specs.contracts.store.Store as Store
+use Rattle.store.specs.contracts.store.Store.TheInside as store
+use Rattle.shared.specs.declared.naming.Opening as openings
+use Rattle.shared.specs.contracts.locked.Locked as Locked
+use Rattle.shared.specs.contracts.locked.Locked.TheInside as locked
+use Rattle.shared.specs.contracts.shared.SharedStore as SharedStore
+
+-- ---- the versions
+
+chain_send : IsSend Chain.the_row
+chain_send = search (sendable, crosses, knot.crosses, small_vec.the_send, small_vec.the_sync, shared_value.the_send, shared_value.the_sync, timed_write.the_send, timed_write.the_sync) depth 40
+
+chain_sync : IsSync Chain.the_row
+chain_sync = search (sendable, crosses, knot.crosses, small_vec.the_send, small_vec.the_sync, shared_value.the_send, shared_value.the_sync, timed_write.the_send, timed_write.the_sync) depth 40
+
+frozen_send : IsSend Frozen.the_row
+frozen_send = search (sendable, crosses, knot.crosses, chain_send, chain_sync) depth 12
+
+-- ---- the transactions
+
+queued_send : IsSend Queued.the_row
+queued_send = search (sendable, crosses, frozen_send, stored.the_send) depth 20
+
+transactions_inside : IsSend transactions.the_row
+transactions_inside = declared_send transactions.the_type (
+  search sendable,
+  (
+    search (sendable, open_table.the_send),
+    (
+      search (sendable, order.the_send),
+      (
+        search (sendable, frozen_send),
+        (
+          search (sendable, crosses, queued_send),
+          (
+            search (sendable, extents.the_send),
+            (
+              search sendable,
+              (
+                search sendable,
+                (
+                  search sendable,
+                  (
+                    search (sendable, group_stage.the_send),
+                    (
+                      search sendable,
+                      (search sendable, tt),
+                    ),
+                  ),
+                ),
+              ),
+            ),
+          ),
+        ),
+      ),
+    ),
+  ),
+)
+
+transactions_send : IsSend Transactions.the_row
+transactions_send = view_send transactions.the_row _ _ _ _ transactions_inside
+
+-- ---- the job
+
+walk_inside : IsSend walk.the_row
+walk_inside = declared_send walk.the_type (search (sendable, frozen_send), (search sendable, (search sendable, (search (sendable, place.the_send), tt))))
+
+walk_send : IsSend ArchiveWalk.the_row
+walk_send = view_send walk.the_row _ _ _ _ walk_inside
+
+job_send : IsSend ArchiveJob.the_row
+job_send = declared_send ArchiveJob.the_type (search (sendable, run.the_send), (search (sendable, run_writer.the_send, walk_send), (search (sendable, job_stage.the_send), tt)))
+
+-- ---- the store
+
+module _ (D : RattleType) (disk : devices.Ghosts D.Denot) (crossing : IsSend D) where
+  store_inside : IsSend (store.the_row D disk)
+  store_inside = declared_send (store.the_type D disk) (
+    search (sendable, crosses),
+    (
+      search (sendable, transactions_send),
+      (
+        search (sendable, status_log.the_send),
+        (
+          search (sendable, option.the_send, slot_turn.the_send),
+          (
+            search (sendable, option.the_send, job_send),
+            (
+              search sendable,
+              (
+                search sendable,
+                (search (sendable, crossing), tt),
+              ),
+            ),
+          ),
+        ),
+      ),
+    ),
+  )
+
+  store_send : IsSend (Store.the_row D disk)
+  store_send = view_send (store.the_row D disk) _ _ _ _ store_inside
+
+  module _ (L : RattleType) (opening : openings.Ghosts L.Denot) (ledger : ledgers.Ghosts L.Denot) where
+    locked_inside : IsSend (locked.the_row D L disk opening ledger)
+    locked_inside = declared_send (locked.the_type D L disk opening ledger) (
+      search (sendable, store_send),
+      (
+        search (sendable, book.the_send),
+        (
+          search (sendable, seat.the_send),
+          (
+            search sendable,
+            (search sendable, tt),
+          ),
+        ),
+      ),
+    )
+
+    locked_send : IsSend (Locked.the_row D L disk opening ledger)
+    locked_send = view_send (locked.the_row D L disk opening ledger) _ _ _ _ locked_inside
+
+-- ---- the store under its lock
+
+pub shared-sync : (D L : RattleType) (disk : devices.Ghosts D.Denot) (opening : openings.Ghosts L.Denot) (ledger : ledgers.Ghosts L.Denot) → IsSend D → IsSync (SharedStore.the_row D L disk opening ledger)
+shared-sync D L disk opening ledger crossing =
+    let under = locked_send D disk crossing L opening ledger in
+    declared_sync (SharedStore.the_type D L disk opening ledger) (
+      search (sendable, crosses) depth 20,
+      (
+        search (sendable, mutex.the_sync, under),
+        (
+          search (sendable, condvar.the_sync),
+          (search (sendable, crosses, wide.the_sync, words.the_sync) depth 20, tt),
+        ),
+      ),
+    )

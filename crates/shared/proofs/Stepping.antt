@@ -1,0 +1,93 @@
+-- What was seen, as the machine steps.
+use Rattle.std.proofs.Common.{◌≡◌, ℕ, ◌==◌, ◌&&◌, nat_lt, Bool, true, false, cond, List, [], ◌∷◌, ◌++◌, length, take, drop, Result, Ok, Err, refl, sym, ap, ◌∙◌, subst, append_assoc}
+use Rattle.std.proofs.lemmas.List.{append-nil, take-append-drop}
+use Rattle.history.specs.Histories.{Commit, History}
+use Rattle.history.specs.Machine.{Machine, Gate, Shut, Due, MayBeOpen, OfGroup, OfFloor}
+use Rattle.history.specs.Steps.{Event, Step, Run, GroupBegan}
+use Rattle.history.specs.Submissions.{Submission, commit_made}
+use Rattle.image.specs.Values.{Value, IsValue}
+use Rattle.group.specs.declared.answers.Did.{Did}
+use Rattle.group.specs.declared.answers.Did.TheVariants as did
+use Rattle.group.specs.declared.answers.PumpFault.{PumpFault}
+use Rattle.group.specs.declared.answers.PumpFault.TheVariants as pump
+use Rattle.group.specs.declared.answers.Submitted.{Submitted}
+use Rattle.group.specs.declared.answers.Submitted.TheVariants as submitted
+use Rattle.group.specs.declared.answers.SubmitFault.{SubmitFault}
+use Rattle.group.specs.declared.answers.SubmitFault.TheVariants as refused
+use Rattle.store.specs.declared.job.JobDid.{JobDid}
+use Rattle.standing.specs.Laws.{event_of, begins_in, ends_in, job_ends_in}
+use Rattle.shared.specs.Reached.{Reached, stepped}
+use Rattle.shared.specs.Seen.{Seen, seen_of, order_of, IsLater}
+use Rattle.shared.specs.Shared.{published_seen, queued_seen, count_in}
+use Rattle.shared.proofs.Fronts.{front-same}
+
+pub follows : (start m n : Machine Value) (events : List (Event Value)) → Reached start m → Run IsValue m events n → Reached start n
+follows start m n [] reached run = subst (λ (x : Machine Value). Reached start x) (sym run) reached
+follows start m n (e ∷ es) reached run = follows start run.0 n es (stepped e reached run.1) run.2
+
+-- ---- what comes next is later
+
+pub later-queued : (s : Seen) (c : Commit Value) → IsLater s (queued_seen s c)
+later-queued s c = record { published = front-same s.published; order = (c ∷ [], sym (append_assoc s.published s.queue (c ∷ []))) }
+
+pub later-published : (s : Seen) (count : ℕ) → IsLater s (published_seen s count)
+later-published s count = record {
+  published = (take count s.queue, refl);
+  order = ([], append_assoc s.published (take count s.queue) (drop count s.queue) ∙ ap (λ (l : History Value). s.published ++ l) (take-append-drop count s.queue) ∙ sym (append-nil (order_of s)));
+}
+
+-- ---- a submit
+
+abbrev pub submit_seen : Result Submitted SubmitFault → Seen → Commit Value → Seen
+submit_seen (Ok (submitted.ReadOnly at)) s c = s
+submit_seen (Ok (submitted.Queued ticket)) s c = queued_seen s c
+submit_seen (Err why) s c = s
+
+pub submit-seen : (m after : Machine Value) (s : Submission Value) (r : Result Submitted SubmitFault) → Step IsValue m (event_of m s r) after → seen_of after ≡ submit_seen r (seen_of m) (commit_made m s)
+submit-seen m after s (Ok (submitted.ReadOnly at)) step = ap seen_of step.3.2
+submit-seen m after s (Ok (submitted.Queued ticket)) step = ap seen_of step.3.2
+submit-seen m after s (Err (refused.Conflict key)) step = ap seen_of step.3.2
+submit-seen m after s (Err refused.ClockEnd) step = ap seen_of step.3.2
+submit-seen m after s (Err refused.HeapFull) step = ap seen_of step.1.2
+submit-seen m after s (Err refused.StatusFull) step = ap seen_of step.1.2
+submit-seen m after s (Err refused.NoMemory) step = ap seen_of step.1.2
+submit-seen m after s (Err refused.Failed) step = ap seen_of step.1.2
+submit-seen m after s (Err refused.Stranger) step = ap seen_of step.1.2
+
+-- ---- a step of a group
+
+pub published-none : (s : Seen) → s ≡ published_seen s 0
+published-none s = ap (λ (h : History Value). record { published = h; queue = s.queue }) (sym (append-nil s.published))
+
+abbrev pub pump_seen : Result Did PumpFault → Seen → Seen
+pump_seen r s = published_seen s (count_in r)
+
+ended-seen : (m n : Machine Value) (gate : Gate) (r : Result Did PumpFault) → Run IsValue m (ends_in gate r) n → seen_of n ≡ pump_seen r (seen_of m)
+ended-seen m n gate (Ok (did.Published count)) run = ap seen_of run.2 ∙ ap seen_of run.1.4 ∙ ap (λ (k : ℕ). published_seen (seen_of m) k) (sym run.1.2)
+ended-seen m n gate (Ok did.Idle) run = ap seen_of run ∙ published-none (seen_of m)
+ended-seen m n gate (Ok did.WroteExtent) run = ap seen_of run ∙ published-none (seen_of m)
+ended-seen m n gate (Ok did.HeapSynced) run = ap seen_of run ∙ published-none (seen_of m)
+ended-seen m n gate (Ok did.BodyWritten) run = ap seen_of run ∙ published-none (seen_of m)
+ended-seen m n gate (Ok did.BodySynced) run = ap seen_of run.2 ∙ ap seen_of run.1.3 ∙ published-none (seen_of m)
+ended-seen m n gate (Ok did.GateWritten) run = ap seen_of run.2 ∙ ap seen_of run.1.2 ∙ published-none (seen_of m)
+ended-seen m n gate (Err pump.Busy) run = ap seen_of run ∙ published-none (seen_of m)
+ended-seen m n gate (Err pump.NoMemory) run = ap seen_of run ∙ published-none (seen_of m)
+ended-seen m n Shut (Err pump.Failed) run = ap seen_of run.2 ∙ ap seen_of run.1.1 ∙ published-none (seen_of m)
+ended-seen m n (Due OfGroup) (Err pump.Failed) run = ap seen_of run.2.2 ∙ ap seen_of run.2.1.1 ∙ ap seen_of run.1.2 ∙ published-none (seen_of m)
+ended-seen m n (Due OfFloor) (Err pump.Failed) run = ap seen_of run.2 ∙ ap seen_of run.1.1 ∙ published-none (seen_of m)
+ended-seen m n (MayBeOpen change) (Err pump.Failed) run = ap seen_of run.2 ∙ ap seen_of run.1.1 ∙ published-none (seen_of m)
+
+pub pump-seen : (m n : Machine Value) (r : Result Did PumpFault) → Run IsValue m (begins_in m ++ ends_in m.gate r) n → seen_of n ≡ pump_seen r (seen_of m)
+pump-seen m n r run = by-group ((m.group == 0) && nat_lt 0 (length m.queue)) run
+  where
+    by-group : (b : Bool) → Run IsValue m (cond b (GroupBegan ∷ []) [] ++ ends_in m.gate r) n → seen_of n ≡ pump_seen r (seen_of m)
+    by-group true run = ended-seen run.0 n m.gate r run.2 ∙ ap (λ (x : Machine Value). pump_seen r (seen_of x)) run.1.3
+    by-group false run = ended-seen m n m.gate r run
+
+-- ---- a step of a job
+
+pub job-seen : (m n : Machine Value) (r : Result JobDid PumpFault) → Run IsValue m (job_ends_in r) n → seen_of n ≡ seen_of m
+job-seen m n (Ok what) run = ap seen_of run
+job-seen m n (Err pump.Busy) run = ap seen_of run
+job-seen m n (Err pump.NoMemory) run = ap seen_of run
+job-seen m n (Err pump.Failed) run = ap seen_of run.2 ∙ ap seen_of run.1.1

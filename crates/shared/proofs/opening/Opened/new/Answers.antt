@@ -1,0 +1,20 @@
+use Rattle.std.proofs.Common.{rules, refl, ap, subst, sym, ◌∙◌, [], ◌∷◌}
+use Rattle.standing.specs.Stands.{Stands}
+use Rattle.standing.proofs.Memory.{last-is}
+use Rattle.shared.specs.Seen.{SightValue, IsLater, seen_of}
+use Rattle.shared.proofs.Fronts.{later-nothing}
+use Rattle.shared.proofs.Passes.{begins}
+use Rattle.shared.proofs.opening.Opened.new.Goals as goal
+
+pub ruled-requires : goal.ruled-requires
+ruled-requires g c = (search rules, (search rules, begins (0 ∷ []) refl))
+
+pub publish_next-requires : goal.publish_next-requires
+publish_next-requires g c =
+    let first = c.in-Ok.ensures.1 in
+    let on = ap (λ (v : SightValue). v.writes) first in
+    let later = subst (λ (v : SightValue). IsLater v.seen (seen_of g.start)) (sym first) (later-nothing (seen_of g.start)) in
+    let stands : Stands g.D.Disk.tells c.args.store g.start = search rules in
+    let legal = stands.machine.history in
+    let time = c.last-last.ensures ∙ last-is _ _ stands.memory in
+    search rules

@@ -1,0 +1,191 @@
+-- What the value under the lock keeps, and what the calls of a shared store answer.
+use Rattle.std.specs.Prelude.{◌≡◌, ℕ, ◌+◌, ◌++◌, Bool, true, false, List, [], ◌∷◌, length, map, take, drop, is_some, Contains, Option, None, Some, Result, Ok, Err, MatchBool, if◌then◌else◌}
+use Rattle.atomic_table.specs.Seated.{TableId}
+use Rattle.history.specs.declared.key.Key.{Key}
+use Rattle.history.specs.declared.key.KeyWrite.{KeyWrite}
+use Rattle.history.specs.Histories.{Commit, History, IsHistory, last, state}
+use Rattle.history.specs.Machine.{Machine}
+use Rattle.history.specs.Steps.{Step, Run}
+use Rattle.history.specs.Submissions.{commit_made}
+use Rattle.image.specs.Values.{Value, IsValue}
+use Rattle.snapshot.specs.Txn.{TxnValue, at_snapshot}
+use Rattle.snapshot.specs.WriteSets.{with_write, without}
+use Rattle.group.specs.Tickets.{TicketValue}
+use Rattle.group.specs.declared.answers.BeginFault.{BeginFault}
+use Rattle.group.specs.declared.answers.BeginFault.TheVariants as begin
+use Rattle.group.specs.declared.answers.Did.{Did}
+use Rattle.group.specs.declared.answers.Did.TheVariants as did
+use Rattle.group.specs.declared.answers.PumpFault.{PumpFault}
+use Rattle.group.specs.declared.answers.PumpFault.TheVariants as pump
+use Rattle.group.specs.declared.answers.Redeemed.{Redeemed}
+use Rattle.group.specs.declared.answers.Redeemed.TheVariants as redeemed
+use Rattle.group.specs.declared.answers.Submitted.{Submitted}
+use Rattle.group.specs.declared.answers.Submitted.TheVariants as submitted
+use Rattle.group.specs.declared.answers.SubmitFault.{SubmitFault}
+use Rattle.group.specs.declared.answers.SubmitFault.TheVariants as refused
+use Rattle.timequery.specs.View.{ViewValue}
+use Rattle.store.specs.Values.{StoreValue}
+use Rattle.store.specs.declared.job.JobDid.{JobDid}
+use Rattle.standing.specs.Laws.{submission_of, event_of, begins_in, ends_in, job_ends_in, ViewStands}
+use Rattle.standing.specs.Stands.{Stands}
+use Rattle.shared.specs.declared.change.Change.{Change}
+use Rattle.shared.specs.declared.change.Change.TheVariants as change
+use Rattle.shared.specs.declared.committed.Committed.{Committed}
+use Rattle.shared.specs.declared.committed.Committed.TheVariants as committed
+use Rattle.shared.specs.declared.committed.CommitFault.{CommitFault}
+use Rattle.shared.specs.Counts.{told_count, told_after}
+use Rattle.shared.specs.Reached.{Reached}
+use Rattle.shared.specs.Seen.{Seen, SightValue, seen_of, order_of, IsFrontOf}
+
+-- ---- the value under the lock
+
+-- The store stands for a state that steps of the machine lead to. The commits for which Done was answered since opening are those in the shares, and none of them waits. The pass is the cell's writer, and has seen all commits.
+pub record IsShared (tells : Bool) (start : Machine Value) (brand : ℕ) (table : TableId) (store : StoreValue) (shares : ℕ) (at : TableId) (pass : SightValue) : Type 0 where
+  pub state : Machine Value
+  pub stands : Stands tells store state
+  pub reached : Reached start state
+  pub mark : store.transactions.mark ≡ brand
+  pub told : told_count store.transactions.heads ≡ length start.published + shares
+  pub none_waits : told_after (last state.published) store.transactions.heads ≡ 0
+  pub cell : at ≡ table
+  pub seen : pass.seen ≡ seen_of state
+  pub writes : pass.writes ≡ true
+
+-- ---- what was seen
+
+-- the history before, with a group of the queue published
+abbrev pub published_seen : Seen → ℕ → Seen
+published_seen s count = record { published = s.published ++ take count s.queue; queue = drop count s.queue }
+
+-- a commit was queued
+abbrev pub queued_seen : Seen → Commit Value → Seen
+queued_seen s commit = record { published = s.published; queue = s.queue ++ commit ∷ [] }
+
+-- how many commits a step of a group published
+abbrev pub count_in : Result Did PumpFault → ℕ
+count_in (Ok (did.Published count)) = count
+count_in (Ok did.Idle) = 0
+count_in (Ok did.WroteExtent) = 0
+count_in (Ok did.HeapSynced) = 0
+count_in (Ok did.BodyWritten) = 0
+count_in (Ok did.BodySynced) = 0
+count_in (Ok did.GateWritten) = 0
+count_in (Err why) = 0
+
+-- what is to be seen once a submit of these writes was answered
+abbrev pub noted : Result Submitted SubmitFault → Seen → ℕ → List (KeyWrite Value) → Seen
+noted (Ok (submitted.ReadOnly at)) s label writes = s
+noted (Ok (submitted.Queued ticket)) s label writes = queued_seen s (record { time = ticket.time; label = label; writes = writes })
+noted (Err why) s label writes = s
+
+-- this was seen of a state that steps lead to
+abbrev pub SeenReached : Machine Value → Seen → Type 0
+SeenReached start seen = (m : Machine Value) × Reached start m × (seen ≡ seen_of m)
+
+abbrev pub HasCommitAt : History Value → ℕ → Type 0
+HasCommitAt h time = (c : Commit Value) × Contains h c × (c.time ≡ time)
+
+-- ---- views and transactions
+
+-- the view stands for the published history that was seen
+pub record Shows (start : Machine Value) (brand : ℕ) (view : ViewValue) (seen : Seen) : Type 0 where
+  pub machine : Machine Value
+  pub reached : Reached start machine
+  pub seen_is : seen ≡ seen_of machine
+  pub mark : view.mark ≡ brand
+  pub stands : ViewStands view machine.published machine.floors
+
+-- the transaction reads the published history that was seen
+pub record Reads (start : Machine Value) (brand : ℕ) (txn : TxnValue) (seen : Seen) : Type 0 where
+  pub machine : Machine Value
+  pub reached : Reached start machine
+  pub works : machine.failed ≡ false
+  pub seen_is : seen ≡ seen_of machine
+  pub mark : txn.mark ≡ brand
+  pub snapshot : txn.snapshot ≡ last machine.published
+  pub reads : (key : Key) → at_snapshot txn.state txn.snapshot key ≡ state machine.published txn.snapshot key
+  pub writes : txn.writes ≡ []
+
+abbrev pub BeginHappens : Machine Value → ℕ → Result TxnValue BeginFault → Seen → Type 0
+BeginHappens start brand (Ok txn) seen = Reads start brand txn seen
+BeginHappens start brand (Err begin.NoMemory) seen = SeenReached start seen
+BeginHappens start brand (Err begin.Failed) seen = (m : Machine Value) × Reached start m × (seen ≡ seen_of m) × (m.failed ≡ true)
+
+-- ---- submits
+
+-- a ticket is of this store and this time, and what only reads tells the snapshot
+abbrev pub SubmitSays : ℕ → ℕ → ℕ → Result Submitted SubmitFault → Type 0
+SubmitSays brand snapshot time (Ok (submitted.ReadOnly at)) = at ≡ snapshot
+SubmitSays brand snapshot time (Ok (submitted.Queued ticket)) = (ticket.mark ≡ brand) × (ticket.time ≡ time)
+SubmitSays brand snapshot time (Err why) = Unit {0}
+
+-- at a state that steps lead to the machine does this, and what follows was seen
+pub record Submits (start : Machine Value) (brand : ℕ) (txn : TxnValue) (label now : ℕ) (result : Result Submitted SubmitFault) (seen : Seen) : Type 0 where
+  pub before : Machine Value
+  pub after : Machine Value
+  pub reached : Reached start before
+  pub step : Step IsValue before (event_of before (submission_of txn label now) result) after
+  pub seen_is : seen ≡ seen_of after
+  pub says : SubmitSays brand txn.snapshot (commit_made before (submission_of txn label now)).time result
+
+-- a stranger changes nothing
+abbrev pub SubmitHappens : Machine Value → ℕ → TxnValue → ℕ → ℕ → Result Submitted SubmitFault → Seen → Type 0
+SubmitHappens start brand txn label now (Err refused.Stranger) seen = SeenReached start seen
+SubmitHappens start brand txn label now result seen = Submits start brand txn label now result seen
+
+-- ---- steps of groups and jobs
+
+pub record PumpHappens (start : Machine Value) (result : Result Did PumpFault) : Type 0 where
+  pub before : Machine Value
+  pub after : Machine Value
+  pub reached : Reached start before
+  pub run : MatchBool before.failed ((result ≡ Err pump.Failed) × (after ≡ before)) (Run IsValue before (begins_in before ++ ends_in before.gate result) after)
+
+pub record JobHappens (start : Machine Value) (result : Result JobDid PumpFault) : Type 0 where
+  pub before : Machine Value
+  pub after : Machine Value
+  pub reached : Reached start before
+  pub run : MatchBool before.failed ((result ≡ Err pump.Failed) × (after ≡ before)) (Run IsValue before (job_ends_in result) after)
+
+-- ---- tickets
+
+-- how many commits of the caller's an answer tells of for the first time
+abbrev pub done_in : Redeemed → ℕ
+done_in (redeemed.Done time) = 1
+done_in (redeemed.Waiting ticket) = 0
+done_in redeemed.InDoubt = 0
+done_in redeemed.Stranger = 0
+
+-- the answer is about this ticket: after Done its commit was seen published
+abbrev pub RedeemSays : TicketValue → Redeemed → Seen → Type 0
+RedeemSays ticket (redeemed.Done time) seen = (time ≡ ticket.time) × HasCommitAt seen.published time
+RedeemSays ticket (redeemed.Waiting back) seen = back ≡ ticket
+RedeemSays ticket redeemed.InDoubt seen = Unit {0}
+RedeemSays ticket redeemed.Stranger seen = Unit {0}
+
+-- ---- commits
+
+-- the writes after these changes, over what stood before
+abbrev pub changed : (Key → Option Value) → List (KeyWrite Value) → List Change → List (KeyWrite Value)
+changed before writes [] = writes
+changed before writes (change.Put key fields ∷ changes) = changed before (with_write writes (record { key = key; write = Some (map (λ field. field.now) fields.now) })) changes
+changed before writes (change.Delete key ∷ changes) = changed before (if is_some (before key) then with_write writes (record { key = key; write = None }) else without writes key) changes
+
+abbrev pub commits_in : Result Committed CommitFault → ℕ
+commits_in (Ok (committed.Done time)) = 1
+commits_in (Ok (committed.ReadOnly time)) = 0
+commits_in (Err fault) = 0
+
+-- what waiting for a ticket came to
+abbrev pub WaitSays : TicketValue → Result Committed CommitFault → Seen → Type 0
+WaitSays ticket (Ok (committed.Done time)) seen = (time ≡ ticket.time) × HasCommitAt seen.published time × IsHistory IsValue (order_of seen)
+WaitSays ticket (Ok (committed.ReadOnly time)) seen = ⊥
+WaitSays ticket (Err fault) seen = Unit {0}
+
+-- of a snapshot of what was seen, these changes are published as one commit, with the time that was answered; or they come to none
+abbrev pub CommitHappens : List Change → ℕ → Result Committed CommitFault → Seen → Type 0
+CommitHappens changes label (Ok (committed.Done time)) seen =
+    (snapshot : History Value) × IsFrontOf snapshot seen.published × Contains seen.published (record { time = time; label = label; writes = changed (state snapshot (last snapshot)) [] changes })
+CommitHappens changes label (Ok (committed.ReadOnly time)) seen =
+    (snapshot : History Value) × IsFrontOf snapshot seen.published × (time ≡ last snapshot) × (changed (state snapshot (last snapshot)) [] changes ≡ [])
+CommitHappens changes label (Err fault) seen = Unit {0}

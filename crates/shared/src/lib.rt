@@ -1,0 +1,25 @@
+//! Threads over one store under one lock, with an exact count of commits and a published time that never goes back.
+#![tactic(auto)]
+
+mod cell;
+mod change;
+mod committed;
+mod locked;
+mod naming;
+mod noting;
+mod observer;
+mod opening;
+mod shared;
+mod workers;
+mod workload;
+
+pub use cell::{PublishedCell, PublishedTime, Sight, WriterPass};
+pub use change::Change;
+pub use committed::{CommitFault, Committed};
+pub use locked::Locked;
+pub use naming::Opening;
+pub use observer::Observer;
+pub use opening::Opened;
+pub use shared::{SharedStore, Vacuumed};
+pub use workers::{Badge, Plan, Worked, read, run_workers};
+pub use workload::{fresh_store, stress, stress_on};

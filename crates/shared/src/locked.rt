@@ -1,0 +1,304 @@
+//! The value under the lock.
+ghost use Rattle.std.specs.Prelude.{ℕ, ◌≡◌, ◌+◌, ◌<◌, ◌==◌, [], true, length, List, IfOk, Err, MatchBool};
+ghost use Rattle.crossbeam_utils.specs.Seq.{cell_view};
+ghost use Rattle.history.specs.declared.key.KeyWrite.{KeyWrite};
+ghost use Rattle.history.specs.Answers as answers;
+ghost use Rattle.history.specs.Histories.{History};
+ghost use Rattle.history.specs.Machine.{Machine};
+ghost use Rattle.image.specs.Values.{Value};
+ghost use Rattle.timequery.specs.declared.fault.QueryFault.TheVariants as query;
+ghost use Rattle.standing.specs.Laws.{ViewStands, SaysAt, SaysScanAt, SaysBetween, SaysScanBetween};
+ghost use Rattle.standing.specs.Stands.{Stands};
+ghost use Rattle.shared.specs.Counts.{told_count, unredeemed};
+ghost use Rattle.shared.specs.Reached.{Reached};
+ghost use Rattle.shared.specs.Seen.{IsLater, seen_of};
+ghost use Rattle.shared.specs.Shared.{Shows, BeginHappens, SubmitHappens, SeenReached, PumpHappens, JobHappens, RedeemSays, done_in};
+
+use crate::cell::{PublishedCell, WriterPass};
+use crate::naming::Opening;
+use crate::noting::{count_done, is_job_move, is_move, note_published, note_queued};
+use crate::observer::Observer;
+use chains::SharedValue;
+use disk::Disk;
+use history::{Key, Version};
+use std::alloc::AllocError;
+use std::marker::Model;
+use std::sync::Wait;
+use std::sync::ledger::{Book, Share};
+use store::{
+    BeginFault, Did, JobDid, PumpFault, QueryFault, Redeemed, StartFault, Store, SubmitFault,
+    Submitted, Ticket, Txn, View,
+};
+
+/// A store that stands for a state that steps of the machine lead to from the opening one, the book
+/// of the commits that callers were told of, and the pass that writes the published time. To a
+/// contract it is the store.
+pub struct Locked<D: Disk, L: Opening> {
+    store: Store<D>,
+    book: Book<L>,
+    writer: WriterPass,
+    moves: u64,
+    stopping: bool,
+}
+
+impl<D: Disk, L: Opening> Model for Locked<D, L> {
+    ghost use Rattle.crossbeam_utils.specs.Seq.{cell_view};
+    ghost use Rattle.store.specs.Values.{StoreValue};
+    ghost use Rattle.shared.specs.Shared.{IsShared};
+
+    ghost Value = { StoreValue };
+
+    ghost view = { λ s. s.store };
+
+    ghost invariant = { λ s. IsShared D.tells L.start L.mark L.table s.store s.book.total s.writer.table_id (cell_view s.writer) };
+}
+
+impl<D: Disk, L: Opening> Locked<D, L> {
+    /// A store as it was opened, with an empty book.
+    pub(crate) fn new(store: Store<D>, book: Book<L>, writer: WriterPass) -> Locked<D, L>
+        requires stands { Stands D.tells store L.start }
+        requires mark { store.transactions.mark ≡ L.mark }
+        requires fresh { told_count store.transactions.heads ≡ length L.start.published }
+        requires queue { L.start.queue ≡ [] }
+        requires book { book.total ≡ 0 }
+        requires cell { writer.table_id ≡ L.table }
+        requires writer { ((cell_view writer).seen ≡ seen_of L.start) × ((cell_view writer).writes ≡ true) }
+        ensures { result ≡ store }
+    {
+        Locked {
+            store,
+            book,
+            writer,
+            moves: 0,
+            stopping: false,
+        }
+    }
+
+    pub(crate) fn view<R: Wait>(
+        &mut self,
+        rt: &R,
+        cell: &PublishedCell,
+        me: &mut Observer<L>,
+    ) -> Result<View, AllocError>
+        requires { cell.now.table.shared.table_id ≡ L.table }
+        ensures shows { IfOk result (λ v. Shows L.start L.mark v me.new) }
+        ensures later { IsLater me.old me.new }
+    {
+        me.meet(rt, cell, &mut self.writer);
+        self.store.view()
+    }
+
+    pub(crate) fn begin<R: Wait>(
+        &mut self,
+        rt: &R,
+        cell: &PublishedCell,
+        me: &mut Observer<L>,
+    ) -> Result<Txn, BeginFault>
+        requires { cell.now.table.shared.table_id ≡ L.table }
+        ensures happens { BeginHappens L.start L.mark result me.new }
+        ensures later { IsLater me.old me.new }
+    {
+        me.meet(rt, cell, &mut self.writer);
+        self.store.begin()
+    }
+
+    pub(crate) fn abort(&mut self, txn: Txn) {
+        // A transaction's writes are in range.
+        let _count = txn.writes().len();
+        self.store.abort(txn);
+    }
+
+    pub(crate) fn submit<R: Wait>(
+        &mut self,
+        rt: &R,
+        cell: &PublishedCell,
+        txn: Txn,
+        label: u64,
+        now: u64,
+        me: &mut Observer<L>,
+    ) -> Result<Submitted, SubmitFault>
+        requires { cell.now.table.shared.table_id ≡ L.table }
+        ensures happens { SubmitHappens L.start L.mark txn label now result me.new }
+        ensures later { IsLater me.old me.new }
+    {
+        let submitted = self.submit_writes(rt, cell, txn, label, now, me);
+        self.moves = self.moves.wrapping_add(1);
+        submitted
+    }
+
+    /// One step of the group that is written. Where it publishes, the cell is told before the lock
+    /// is given up.
+    pub(crate) fn pump<R: Wait>(&mut self, rt: &R, cell: &PublishedCell) -> Result<Did, PumpFault>
+        requires { cell.now.table.shared.table_id ≡ L.table }
+        ensures { PumpHappens L.start result }
+    {
+        let did = self.store.pump();
+        let last = self.store.last();
+        note_published(rt, cell, &mut self.writer, &did, last);
+        self.moves = self.moves.wrapping_add(u64::from(is_move(&did)));
+        did
+    }
+
+    pub(crate) fn archive_start(&mut self, upto: u64) -> Result<(), StartFault> {
+        self.store.archive_start(upto)
+    }
+
+    pub(crate) fn job_pump(&mut self) -> Result<JobDid, PumpFault>
+        ensures { JobHappens L.start result }
+    {
+        let did = self.store.job_pump();
+        self.moves = self.moves.wrapping_add(u64::from(is_job_move(&did)));
+        did
+    }
+
+    /// Asks for a ticket. Done counts once in the caller's share, and the caller has then seen the
+    /// commit published.
+    pub(crate) fn redeem<R: Wait>(
+        &mut self,
+        rt: &R,
+        cell: &PublishedCell,
+        ticket: Ticket,
+        share: &mut Share<L>,
+        me: &mut Observer<L>,
+    ) -> Redeemed
+        requires cell { cell.now.table.shared.table_id ≡ L.table }
+        requires part { 0 < share.old.parts }
+        ensures says { RedeemSays ticket result me.new }
+        ensures reached { SeenReached L.start me.new }
+        ensures parts { share.new.parts ≡ share.old.parts }
+        ensures amount { share.new.amount ≡ share.old.amount + done_in result }
+        ensures later { IsLater me.old me.new }
+    {
+        me.meet(rt, cell, &mut self.writer);
+        let redeemed = self.store.redeem(ticket);
+        self.book.add(share, count_done(&redeemed));
+        redeemed
+    }
+
+    pub(crate) fn at(
+        &mut self,
+        view: &View,
+        key: Key,
+        time: u64,
+    ) -> Result<Option<SharedValue>, QueryFault>
+        ensures { (h : History Value) (floors : ℕ → ℕ) → ViewStands view.now h floors → MatchBool (view.now.mark == L.mark) (SaysAt (answers.at_answer h floors key time) result) (result ≡ Err query.Stranger) }
+    {
+        self.store.at(view, key, time)
+    }
+
+    pub(crate) fn scan_at(
+        &mut self,
+        view: &View,
+        relation: u16,
+        time: u64,
+    ) -> Result<Vec<(u64, SharedValue)>, QueryFault>
+        ensures { (h : History Value) (floors : ℕ → ℕ) → ViewStands view.now h floors → MatchBool (view.now.mark == L.mark) (SaysScanAt h floors relation time result) (result ≡ Err query.Stranger) }
+    {
+        self.store.scan_at(view, relation, time)
+    }
+
+    pub(crate) fn between(
+        &mut self,
+        view: &View,
+        key: Key,
+        a: u64,
+        b: u64,
+    ) -> Result<Vec<Version<SharedValue>>, QueryFault>
+        ensures { (h : History Value) (floors : ℕ → ℕ) → ViewStands view.now h floors → MatchBool (view.now.mark == L.mark) (SaysBetween h floors key a b result) (result ≡ Err query.Stranger) }
+    {
+        self.store.between(view, key, a, b)
+    }
+
+    pub(crate) fn scan_between(
+        &mut self,
+        view: &View,
+        relation: u16,
+        a: u64,
+        b: u64,
+    ) -> Result<Vec<(u64, Version<SharedValue>)>, QueryFault>
+        ensures { (h : History Value) (floors : ℕ → ℕ) → ViewStands view.now h floors → MatchBool (view.now.mark == L.mark) (SaysScanBetween h floors relation a b result) (result ≡ Err query.Stranger) }
+    {
+        self.store.scan_between(view, relation, a, b)
+    }
+
+    pub(crate) fn times_of<R: Wait>(
+        &mut self,
+        rt: &R,
+        cell: &PublishedCell,
+        label: u64,
+        me: &mut Observer<L>,
+    ) -> Result<Vec<u64>, AllocError>
+        requires { cell.now.table.shared.table_id ≡ L.table }
+        ensures times { IfOk result (λ times. times.items ≡ answers.times_of me.new.published label) }
+        ensures reached { SeenReached L.start me.new }
+        ensures later { IsLater me.old me.new }
+    {
+        me.meet(rt, cell, &mut self.writer);
+        self.store.times_of(label)
+    }
+
+    pub(crate) fn end(&mut self, view: View) {
+        self.store.end(view);
+    }
+
+    /// The store. With every part of the ledger in one share, all its commits since opening are
+    /// counted.
+    pub(crate) fn into_store(self, all: &mut Share<L>) -> Store<D>
+        ensures reached { (m : Machine Value) × Stands D.tells result m × Reached L.start m × (all.old.parts ≡ L.parts → length m.published ≡ length L.start.published + all.old.amount + unredeemed result) }
+        ensures share { (all.new.parts ≡ all.old.parts) × (all.new.amount ≡ all.old.amount) }
+    {
+        let Locked {
+            store,
+            mut book,
+            writer: _,
+            moves: _,
+            stopping: _,
+        } = self;
+        book.audit(all);
+        store
+    }
+
+    /// How often something happened that a caller may wait for: a commit was queued, commits were
+    /// published, a job was done, the store failed or was told to stop.
+    pub(crate) fn moves(&self) -> u64 {
+        self.moves
+    }
+
+    pub(crate) fn is_stopping(&self) -> bool {
+        self.stopping
+    }
+
+    /// The moves so far, and whether the loops are to end.
+    pub(crate) fn signals(&self) -> (u64, bool) {
+        (self.moves, self.stopping)
+    }
+
+    pub(crate) fn stop(&mut self) {
+        self.moves = self.moves.wrapping_add(1);
+        self.stopping = true;
+    }
+
+    // The writes stay known once the transaction is over.
+    fn submit_writes<R: Wait>(
+        &mut self,
+        rt: &R,
+        cell: &PublishedCell,
+        txn: Txn,
+        label: u64,
+        now: u64,
+        me: &mut Observer<L>,
+    ) -> Result<Submitted, SubmitFault>
+        ghost writes: { List (KeyWrite Value) }
+        requires cell { cell.now.table.shared.table_id ≡ L.table }
+        requires writes { txn.writes ≡ writes }
+        ensures happens { SubmitHappens L.start L.mark txn label now result me.new }
+        ensures later { IsLater me.old me.new }
+    {
+        // A transaction's writes are in range.
+        let _count = txn.writes().len();
+        let submitted = self.store.submit(txn, label, now);
+        note_queued(rt, cell, &mut self.writer, &submitted, label);
+        me.meet(rt, cell, &mut self.writer);
+        submitted
+    }
+}

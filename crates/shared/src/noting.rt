@@ -1,0 +1,115 @@
+//! What the writer's pass notes of the store's answers.
+ghost use Rattle.std.specs.Prelude.{◌≡◌, true, List};
+ghost use Rattle.crossbeam_utils.specs.Seq.{cell_view};
+ghost use Rattle.history.specs.declared.key.KeyWrite.{KeyWrite};
+ghost use Rattle.history.specs.Histories.{IsHistory, last};
+ghost use Rattle.image.specs.Values.{Value, IsValue};
+ghost use Rattle.shared.specs.Seen.{order_of};
+ghost use Rattle.shared.specs.Shared.{published_seen, queued_seen, count_in, noted, done_in};
+
+use crate::cell::{PublishedCell, WriterPass};
+use crate::observer::{publish_next, queue_next};
+use std::sync::Wait;
+use store::{Did, JobDid, PumpFault, Redeemed, SubmitFault, Submitted};
+
+// A commit of this time and label is queued.
+fn queue_commit<R: Wait>(
+    rt: &R,
+    cell: &PublishedCell,
+    writer: &mut WriterPass,
+    time: u64,
+    label: u64,
+)
+    ghost writes: { List (KeyWrite Value) }
+    requires cell { writer.old.table_id ≡ cell.now.table.shared.table_id }
+    requires writes { (cell_view writer.old).writes ≡ true }
+    requires legal { IsHistory IsValue (order_of (queued_seen (cell_view writer.old).seen (record { time = time; label = label; writes = writes }))) }
+    ensures cell { writer.new.table_id ≡ writer.old.table_id }
+    ensures writes { (cell_view writer.new).writes ≡ true }
+    ensures seen { (cell_view writer.new).seen ≡ queued_seen (cell_view writer.old).seen (record { time = time; label = label; writes = writes }) }
+{
+    queue_next(rt, cell, writer, time, label);
+}
+
+/// Where the store answered that a commit is queued, the writer's pass has seen it.
+pub(crate) fn note_queued<R: Wait>(
+    rt: &R,
+    cell: &PublishedCell,
+    writer: &mut WriterPass,
+    submitted: &Result<Submitted, SubmitFault>,
+    label: u64,
+)
+    ghost writes: { List (KeyWrite Value) }
+    requires cell { writer.old.table_id ≡ cell.now.table.shared.table_id }
+    requires writes { (cell_view writer.old).writes ≡ true }
+    requires legal { IsHistory IsValue (order_of (noted submitted.now (cell_view writer.old).seen label writes)) }
+    ensures cell { writer.new.table_id ≡ writer.old.table_id }
+    ensures writes { (cell_view writer.new).writes ≡ true }
+    ensures seen { (cell_view writer.new).seen ≡ noted submitted.now (cell_view writer.old).seen label writes }
+{
+    match submitted {
+        Ok(Submitted::Queued(ticket)) => queue_commit(rt, cell, writer, ticket.time(), label),
+        Ok(Submitted::ReadOnly(_)) => {}
+        Err(_) => {}
+    }
+}
+
+/// Where the store answered that commits are published, the writer's pass and the cell go on.
+pub(crate) fn note_published<R: Wait>(
+    rt: &R,
+    cell: &PublishedCell,
+    writer: &mut WriterPass,
+    did: &Result<Did, PumpFault>,
+    time: u64,
+)
+    requires cell { writer.old.table_id ≡ cell.now.table.shared.table_id }
+    requires writes { (cell_view writer.old).writes ≡ true }
+    requires legal { IsHistory IsValue (order_of (published_seen (cell_view writer.old).seen (count_in did.now))) }
+    requires time { time ≡ last (published_seen (cell_view writer.old).seen (count_in did.now)).published }
+    ensures cell { writer.new.table_id ≡ writer.old.table_id }
+    ensures writes { (cell_view writer.new).writes ≡ true }
+    ensures seen { (cell_view writer.new).seen ≡ published_seen (cell_view writer.old).seen (count_in did.now) }
+{
+    let count = published_in(did);
+    if count > 0 {
+        publish_next(rt, cell, writer, time, count);
+    }
+}
+
+// How many commits a step of a group published.
+fn published_in(did: &Result<Did, PumpFault>) -> u32
+    ensures { result ≡ count_in did.now }
+{
+    match did {
+        Ok(Did::Published(count)) => *count,
+        Ok(Did::Idle) => 0,
+        Ok(Did::WroteExtent) => 0,
+        Ok(Did::HeapSynced) => 0,
+        Ok(Did::BodyWritten) => 0,
+        Ok(Did::BodySynced) => 0,
+        Ok(Did::GateWritten) => 0,
+        Err(_) => 0,
+    }
+}
+
+/// Whether some ticket may now have another answer.
+pub(crate) fn is_move(did: &Result<Did, PumpFault>) -> bool {
+    matches!(did, Ok(Did::Published(_)) | Err(PumpFault::Failed))
+}
+
+/// Whether some step of a group may now have another answer.
+pub(crate) fn is_job_move(did: &Result<JobDid, PumpFault>) -> bool {
+    matches!(did, Ok(JobDid::JobDone) | Err(PumpFault::Failed))
+}
+
+/// How many commits of the caller's the answer tells of for the first time.
+pub(crate) fn count_done(redeemed: &Redeemed) -> u64
+    ensures { result ≡ done_in redeemed.now }
+{
+    match redeemed {
+        Redeemed::Done(_) => 1,
+        Redeemed::Waiting(_) => 0,
+        Redeemed::InDoubt => 0,
+        Redeemed::Stranger => 0,
+    }
+}

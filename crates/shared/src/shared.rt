@@ -1,0 +1,446 @@
+//! The store that threads share.
+ghost use Rattle.std.specs.Prelude.{ℕ, ◌≡◌, ◌≤◌, ◌+◌, ◌<◌, ◌==◌, [], length, IfOk, OnOk, Err, MatchBool};
+ghost use Rattle.history.specs.Answers as answers;
+ghost use Rattle.history.specs.Histories.{History, IsHistory, last};
+ghost use Rattle.history.specs.Machine.{Machine};
+ghost use Rattle.image.specs.Values.{Value, IsValue};
+ghost use Rattle.snapshot.specs.Txn.{at_snapshot};
+ghost use Rattle.timequery.specs.declared.fault.QueryFault.TheVariants as query;
+ghost use Rattle.standing.specs.Laws.{ViewStands, SaysAt, SaysScanAt, SaysBetween, SaysScanBetween};
+ghost use Rattle.standing.specs.Stands.{Stands};
+ghost use Rattle.shared.specs.Counts.{unredeemed};
+ghost use Rattle.shared.specs.Reached.{Reached};
+ghost use Rattle.shared.specs.Seen.{IsLater, order_of};
+ghost use Rattle.shared.specs.Shared.{Shows, BeginHappens, SubmitHappens, SeenReached, PumpHappens, JobHappens, RedeemSays, WaitSays, CommitHappens, changed, done_in, commits_in};
+
+use crate::cell::PublishedCell;
+use crate::change::Change;
+use crate::committed::{CommitFault, Committed};
+use crate::locked::Locked;
+use crate::naming::Opening;
+use crate::noting::{is_job_move, is_move};
+use crate::observer::Observer;
+use chains::SharedValue;
+use disk::Disk;
+use history::{Key, Version};
+use std::alloc::{AllocError, Global};
+use std::sync::ledger::Share;
+use std::sync::{Condvar, Mutex, Wait};
+use store::{
+    BeginFault, Did, JobDid, PumpFault, QueryFault, Redeemed, StartFault, Store, SubmitFault,
+    Submitted, Ticket, Txn, TxnFault, View,
+};
+
+/// What `run_vacuum` was answered.
+#[derive(Clone, Copy, Debug, PartialEq, Eq)]
+pub enum Vacuumed {
+    Start(Result<(), StartFault>),
+    Job(Result<JobDid, PumpFault>),
+}
+
+/// A store under a lock, and beside it the cell of its published time. One holding of the lock makes
+/// at most one call of the store.
+pub struct SharedStore<D: Disk, L: Opening> {
+    alloc: Global,
+    locked: Mutex<Locked<D, L>>,
+    moved: Condvar,
+    cell: PublishedCell,
+    ghost named: { cell.table.shared.table_id ≡ L.table },
+}
+
+impl<D: Disk, L: Opening> SharedStore<D, L> {
+    pub(crate) fn of(alloc: Global, locked: Locked<D, L>, cell: PublishedCell) -> SharedStore<D, L>
+        requires { cell.table.shared.table_id ≡ L.table }
+    {
+        SharedStore {
+            alloc,
+            locked: Mutex::new(locked),
+            moved: Condvar::new(),
+            cell,
+        }
+    }
+
+    /// An observer for another thread, which has seen as much.
+    pub fn another(&self, me: &mut Observer<L>) -> Observer<L>
+        ensures given { result ≡ me.old }
+        ensures kept { me.new ≡ me.old }
+    {
+        me.another(&self.cell)
+    }
+
+    /// The time of the last published commit, or of one that was last a moment ago. It takes no lock.
+    pub fn last_published<R: Wait>(&self, rt: &R, me: &mut Observer<L>) -> u64
+        ensures later { IsLater me.old me.new }
+        ensures last { result ≡ last me.new.published }
+        ensures no_less { last me.old.published ≤ result }
+    {
+        me.load(rt, &self.cell)
+    }
+
+    /// A view of all that is published. Its own reads take no lock.
+    pub fn view<R: Wait>(&self, rt: &R, me: &mut Observer<L>) -> Result<View, AllocError>
+        ensures shows { IfOk result (λ v. Shows L.start L.mark v me.new) }
+        ensures later { IsLater me.old me.new }
+    {
+        self.locked.lock(rt).view(rt, &self.cell, me)
+    }
+
+    /// A transaction on all that is published. Its own reads take no lock.
+    pub fn begin<R: Wait>(&self, rt: &R, me: &mut Observer<L>) -> Result<Txn, BeginFault>
+        ensures happens { BeginHappens L.start L.mark result me.new }
+        ensures later { IsLater me.old me.new }
+    {
+        self.locked.lock(rt).begin(rt, &self.cell, me)
+    }
+
+    /// Gives the transaction's snapshot up.
+    pub fn abort<R: Wait>(&self, rt: &R, txn: Txn) {
+        self.locked.lock(rt).abort(txn);
+    }
+
+    /// Ends a transaction: its writes are queued as a commit, or it is refused.
+    pub fn submit<R: Wait>(
+        &self,
+        rt: &R,
+        txn: Txn,
+        label: u64,
+        now: u64,
+        me: &mut Observer<L>,
+    ) -> Result<Submitted, SubmitFault>
+        ensures happens { SubmitHappens L.start L.mark txn label now result me.new }
+        ensures later { IsLater me.old me.new }
+    {
+        let submitted = self
+            .locked
+            .lock(rt)
+            .submit(rt, &self.cell, txn, label, now, me);
+        self.moved.notify_all();
+        submitted
+    }
+
+    /// One step of the group that is written. A step that publishes writes the published time before
+    /// the lock is given up.
+    pub fn pump<R: Wait>(&self, rt: &R) -> Result<Did, PumpFault>
+        ensures { PumpHappens L.start result }
+    {
+        let did = self.locked.lock(rt).pump(rt, &self.cell);
+        if is_move(&did) {
+            self.moved.notify_all();
+        }
+        did
+    }
+
+    pub fn archive_start<R: Wait>(&self, rt: &R, upto: u64) -> Result<(), StartFault> {
+        self.locked.lock(rt).archive_start(upto)
+    }
+
+    pub fn job_pump<R: Wait>(&self, rt: &R) -> Result<JobDid, PumpFault>
+        ensures { JobHappens L.start result }
+    {
+        let did = self.locked.lock(rt).job_pump();
+        if is_job_move(&did) {
+            self.moved.notify_all();
+        }
+        did
+    }
+
+    /// Asks for a ticket. Done counts once in the caller's share, and the caller has then seen the
+    /// commit published.
+    pub fn redeem<R: Wait>(
+        &self,
+        rt: &R,
+        ticket: Ticket,
+        share: &mut Share<L>,
+        me: &mut Observer<L>,
+    ) -> Redeemed
+        requires { 0 < share.old.parts }
+        ensures says { RedeemSays ticket result me.new }
+        ensures reached { SeenReached L.start me.new }
+        ensures parts { share.new.parts ≡ share.old.parts }
+        ensures amount { share.new.amount ≡ share.old.amount + done_in result }
+        ensures later { IsLater me.old me.new }
+    {
+        self.locked
+            .lock(rt)
+            .redeem(rt, &self.cell, ticket, share, me)
+    }
+
+    /// The value of a key at a time, as the view's moment knows it.
+    pub fn at<R: Wait>(
+        &self,
+        rt: &R,
+        view: &View,
+        key: Key,
+        time: u64,
+    ) -> Result<Option<SharedValue>, QueryFault>
+        ensures { (h : History Value) (floors : ℕ → ℕ) → ViewStands view.now h floors → MatchBool (view.now.mark == L.mark) (SaysAt (answers.at_answer h floors key time) result) (result ≡ Err query.Stranger) }
+    {
+        self.locked.lock(rt).at(view, key, time)
+    }
+
+    /// The values of a relation at a time, as the view's moment knows them.
+    pub fn scan_at<R: Wait>(
+        &self,
+        rt: &R,
+        view: &View,
+        relation: u16,
+        time: u64,
+    ) -> Result<Vec<(u64, SharedValue)>, QueryFault>
+        ensures { (h : History Value) (floors : ℕ → ℕ) → ViewStands view.now h floors → MatchBool (view.now.mark == L.mark) (SaysScanAt h floors relation time result) (result ≡ Err query.Stranger) }
+    {
+        self.locked.lock(rt).scan_at(view, relation, time)
+    }
+
+    /// The rows of a key from `a` up to `b`, as the view's moment knows them.
+    pub fn between<R: Wait>(
+        &self,
+        rt: &R,
+        view: &View,
+        key: Key,
+        a: u64,
+        b: u64,
+    ) -> Result<Vec<Version<SharedValue>>, QueryFault>
+        ensures { (h : History Value) (floors : ℕ → ℕ) → ViewStands view.now h floors → MatchBool (view.now.mark == L.mark) (SaysBetween h floors key a b result) (result ≡ Err query.Stranger) }
+    {
+        self.locked.lock(rt).between(view, key, a, b)
+    }
+
+    /// The rows of a relation from `a` up to `b`, as the view's moment knows them.
+    pub fn scan_between<R: Wait>(
+        &self,
+        rt: &R,
+        view: &View,
+        relation: u16,
+        a: u64,
+        b: u64,
+    ) -> Result<Vec<(u64, Version<SharedValue>)>, QueryFault>
+        ensures { (h : History Value) (floors : ℕ → ℕ) → ViewStands view.now h floors → MatchBool (view.now.mark == L.mark) (SaysScanBetween h floors relation a b result) (result ≡ Err query.Stranger) }
+    {
+        self.locked.lock(rt).scan_between(view, relation, a, b)
+    }
+
+    /// The times of the published commits with a label, rising, in microseconds since 1970.
+    pub fn times_of<R: Wait>(
+        &self,
+        rt: &R,
+        label: u64,
+        me: &mut Observer<L>,
+    ) -> Result<Vec<u64>, AllocError>
+        ensures times { IfOk result (λ times. times.items ≡ answers.times_of me.new.published label) }
+        ensures reached { SeenReached L.start me.new }
+        ensures later { IsLater me.old me.new }
+    {
+        self.locked.lock(rt).times_of(rt, &self.cell, label, me)
+    }
+
+    /// Ends a view.
+    pub fn end<R: Wait>(&self, rt: &R, view: View) {
+        self.locked.lock(rt).end(view);
+    }
+
+    /// Commits these changes, and waits until they are published. With Done the caller has seen the
+    /// commit published, and it counts once in the caller's share.
+    pub fn commit<R: Wait>(
+        &self,
+        rt: &R,
+        changes: &[Change<'_>],
+        label: u64,
+        now: u64,
+        share: &mut Share<L>,
+        me: &mut Observer<L>,
+    ) -> Result<Committed, CommitFault>
+        requires { 0 < share.old.parts }
+        ensures happens { CommitHappens changes.now label result me.new }
+        ensures parts { share.new.parts ≡ share.old.parts }
+        ensures amount { share.new.amount ≡ share.old.amount + commits_in result }
+        ensures later { IsLater me.old me.new }
+    {
+        let mut txn = match self.begin(rt, me) {
+            Ok(txn) => txn,
+            Err(fault) => return Err(CommitFault::Begin(fault)),
+        };
+        match apply(self.alloc, &mut txn, changes) {
+            Ok(()) => {}
+            Err(fault) => {
+                self.abort(rt, txn);
+                return Err(CommitFault::Txn(fault));
+            }
+        }
+        match self.submit(rt, txn, label, now, me) {
+            Ok(Submitted::Queued(ticket)) => self.wait_for(rt, ticket, share, me),
+            Ok(Submitted::ReadOnly(snapshot)) => Ok(Committed::ReadOnly(snapshot)),
+            Err(fault) => Err(CommitFault::Submit(fault)),
+        }
+    }
+
+    // Asks for a ticket again and again, after each move of the store.
+    fn wait_for<R: Wait>(
+        &self,
+        rt: &R,
+        ticket: Ticket,
+        share: &mut Share<L>,
+        me: &mut Observer<L>,
+    ) -> Result<Committed, CommitFault>
+        requires { 0 < share.old.parts }
+        ensures says { WaitSays ticket result me.new }
+        ensures parts { share.new.parts ≡ share.old.parts }
+        ensures amount { share.new.amount ≡ share.old.amount + commits_in result }
+        ensures later { IsLater me.old me.new }
+    {
+        let mut ticket = ticket;
+        for _ in rt.forever() {
+            let moves = self.locked.lock(rt).moves();
+            match self.redeem(rt, ticket, share, me) {
+                Redeemed::Done(time) => {
+                    me.legal();
+                    return Ok(Committed::Done(time));
+                }
+                Redeemed::InDoubt => return Err(CommitFault::InDoubt),
+                Redeemed::Stranger => return Err(CommitFault::Stranger),
+                Redeemed::Waiting(again) => ticket = again,
+            }
+            self.wait_past(rt, moves);
+        }
+        ticket.give_up();
+        unreachable!()
+    }
+
+    fn wait_past<R: Wait>(&self, rt: &R, moves: u64) {
+        self.moved
+            .wait_while(rt, self.locked.lock(rt), |locked| locked.moves() == moves);
+    }
+
+    /// Pumps until it is told to stop and the queue is empty, or the store has failed. After each
+    /// answer, with the lock given up, it calls `pause`. Where there is nothing to do it sleeps.
+    pub fn run_committer<R: Wait, F: FnMut(&R, &Result<Did, PumpFault>)>(
+        &self,
+        rt: &R,
+        mut pause: F,
+    )
+        requires { F.IsAlwaysCallable pause }
+    {
+        for _ in rt.forever() {
+            let (moves, stopping) = self.locked.lock(rt).signals();
+            let did = self.pump(rt);
+            pause(rt, &did);
+            if is_over(stopping, &did) {
+                return;
+            }
+            if has_to_wait(&did) {
+                self.wait_past(rt, moves);
+            }
+        }
+        unreachable!()
+    }
+
+    /// Archives all that has ended, again and again, until it is told to stop and its job is done, or
+    /// the store has failed. After each answer, with the lock given up, it calls `pause`. Where there
+    /// is nothing to do it sleeps.
+    pub fn run_vacuum<R: Wait, F: FnMut(&R, &Vacuumed)>(
+        &self,
+        rt: &R,
+        me: &mut Observer<L>,
+        mut pause: F,
+    )
+        requires { F.IsAlwaysCallable pause }
+    {
+        let mut runs = false;
+        for _ in rt.forever() {
+            let (moves, stopping) = self.locked.lock(rt).signals();
+            if stopping && !runs {
+                return;
+            }
+            let answer = if runs {
+                Vacuumed::Job(self.job_pump(rt))
+            } else {
+                let last = self.last_published(rt, me);
+                Vacuumed::Start(self.archive_start(rt, last))
+            };
+            pause(rt, &answer);
+            match after_vacuum(&answer) {
+                Vacuuming::Over => return,
+                Vacuuming::Waits => self.wait_past(rt, moves),
+                Vacuuming::Runs => runs = true,
+                Vacuuming::Idles => runs = false,
+            }
+        }
+        unreachable!()
+    }
+
+    /// Tells both loops to end.
+    pub fn stop<R: Wait>(&self, rt: &R) {
+        self.locked.lock(rt).stop();
+        self.moved.notify_all();
+    }
+
+    /// The store, which stands for a state that steps of the machine lead to. Where the share has every
+    /// part, the commits published since opening are its amount and those for which Done was not
+    /// answered.
+    pub fn into_store(self, all: &mut Share<L>) -> Store<D>
+        ensures reached { (m : Machine Value) × Stands D.tells result m × Reached L.start m × (all.old.parts ≡ L.parts → length m.published ≡ length L.start.published + all.old.amount + unredeemed result) }
+        ensures share { (all.new.parts ≡ all.old.parts) × (all.new.amount ≡ all.old.amount) }
+    {
+        let SharedStore {
+            alloc: _,
+            locked,
+            moved: _,
+            cell: _,
+        } = self;
+        locked.into_inner().into_store(all)
+    }
+}
+
+// Makes the changes in turn.
+fn apply(alloc: Global, txn: &mut Txn, changes: &[Change<'_>]) -> Result<(), TxnFault>
+    ensures ok { OnOk result (txn.new.writes ≡ changed (at_snapshot txn.old.state txn.old.snapshot) txn.old.writes changes.now) }
+    ensures snapshot { OnOk result (txn.new.snapshot ≡ txn.old.snapshot) }
+{
+    for change in changes {
+        match *change {
+            Change::Put { key, fields } => txn.put(alloc, key, fields)?,
+            Change::Delete { key } => txn.delete(key)?,
+        }
+    }
+    Ok(())
+}
+
+fn is_over(stopping: bool, did: &Result<Did, PumpFault>) -> bool {
+    match did {
+        Ok(Did::Idle) => stopping,
+        Err(PumpFault::Failed) => true,
+        _ => false,
+    }
+}
+
+// Whether nothing can be done before something else happens.
+fn has_to_wait(did: &Result<Did, PumpFault>) -> bool {
+    matches!(did, Ok(Did::Idle) | Err(PumpFault::Busy))
+}
+
+// How a vacuum goes on.
+enum Vacuuming {
+    // It ends.
+    Over,
+    // Nothing can be done before something else happens.
+    Waits,
+    // Its job goes on.
+    Runs,
+    // No job runs.
+    Idles,
+}
+
+// How a vacuum goes on after this answer.
+fn after_vacuum(answer: &Vacuumed) -> Vacuuming {
+    match answer {
+        Vacuumed::Job(Err(PumpFault::Failed)) => Vacuuming::Over,
+        Vacuumed::Job(Err(PumpFault::Busy)) => Vacuuming::Waits,
+        Vacuumed::Job(Ok(JobDid::JobDone) | Ok(JobDid::Idle)) => Vacuuming::Idles,
+        Vacuumed::Job(_) => Vacuuming::Runs,
+        Vacuumed::Start(Ok(())) => Vacuuming::Runs,
+        Vacuumed::Start(Err(StartFault::JobBusy) | Err(StartFault::NothingToDo)) => {
+            Vacuuming::Waits
+        }
+        Vacuumed::Start(Err(StartFault::NoMemory)) => Vacuuming::Idles,
+        Vacuumed::Start(Err(_)) => Vacuuming::Over,
+    }
+}

@@ -1,0 +1,60 @@
+-- The text of a log.
+use Rattle.std.specs.Prelude.{◌≡◌, ℕ, ◌++◌, List, [], ◌∷◌, length, Some, None, MatchBool, codes, nat_lt}
+use Rattle.std.specs.Fmt.{decimal}
+use Rattle.clock.specs.Instant.{Spells, second_at}
+use Rattle.session.specs.Texts.{Text}
+use Rattle.status.specs.Header.{total}
+use Rattle.status.specs.declared.header.Header.{Header}
+use Rattle.wire.specs.declared.slot.Body.{Body}
+use Rattle.wire.specs.declared.slot.Body.TheVariants as body
+use Rattle.wire.specs.declared.slot.Member.{Member}
+use Rattle.wire.specs.declared.slot.Slot.{Slot}
+
+-- a text of each, one after another
+abbrev pub Each : {X : Type 0} → (X → Text → Type 0) → List X → Text → Type 0
+Each P [] text = text ≡ []
+Each P (x ∷ xs) text = (first : Text) × (more : Text) × P x first × Each P xs more × (text ≡ first ++ more)
+
+-- the second of a time as an instant, or a dash after the year 9999
+abbrev pub IsInstant : ℕ → Text → Type 0
+IsInstant time text = MatchBool (nat_lt time 253_402_300_800_000_000) (Spells text (second_at time)) (text ≡ codes "-")
+
+-- label, time, first extent, extents, records
+abbrev pub member_front : Member → Text
+member_front m = codes "member " ++ (decimal m.label ++ (codes " " ++ (decimal m.time ++ (codes " " ++ (decimal m.first ++ (codes " " ++ (decimal m.extents
+    ++ (codes " " ++ (decimal m.records ++ codes " ")))))))))
+
+-- these and the instant
+abbrev pub IsMemberLine : Member → Text → Type 0
+IsMemberLine m text = (instant : Text) × IsInstant m.time instant × (text ≡ member_front m ++ (instant ++ codes "\n"))
+
+-- a slot and the numbers of its body in their order
+abbrev pub numbers_line : ℕ → Text → ℕ → ℕ → ℕ → ℕ → Text
+numbers_line number kind a b c d = codes "slot " ++ (decimal number ++ (kind ++ (decimal a ++ (codes " " ++ (decimal b ++ (codes " " ++ (decimal c
+    ++ (codes " " ++ (decimal d ++ codes "\n")))))))))
+
+abbrev pub commit_line : ℕ → Text
+commit_line number = codes "slot " ++ (decimal number ++ codes " commit\n")
+
+abbrev pub IsBodyText : ℕ → Body → Text → Type 0
+IsBodyText n (body.Commit members) text = (lines : Text) × Each IsMemberLine members.items lines × (text ≡ commit_line n ++ lines)
+IsBodyText n (body.Archived run) text = text ≡ numbers_line n (codes " archived ") run.upto run.start run.len run.records
+IsBodyText n (body.Reclaimed anchors) text = text ≡ numbers_line n (codes " reclaimed ") anchors.upto anchors.first anchors.extents anchors.records
+IsBodyText n (body.Floor None floor) text = text ≡ codes "slot " ++ (decimal n ++ (codes " floor " ++ (decimal floor ++ codes "\n")))
+IsBodyText n (body.Floor (Some relation) floor) text = text ≡ codes "slot " ++ (decimal n ++ (codes " floor " ++ (decimal relation ++ (codes " " ++ (decimal floor ++ codes "\n")))))
+
+abbrev pub IsSlotText : Slot → Text → Type 0
+IsSlotText slot text = IsBodyText slot.number slot.body text
+
+-- how many slots there are
+abbrev pub header_line : ℕ → Text
+header_line all = codes "header " ++ (decimal all ++ codes "\n")
+
+-- how many of them are used
+abbrev pub used_line : ℕ → ℕ → Text
+used_line used all = codes "used " ++ (decimal used ++ (codes " of " ++ (decimal all ++ codes "\n")))
+
+-- the header's slots, the slots that are used, and how many these are
+abbrev pub IsDump : Header → List Slot → Text → Type 0
+IsDump header slots text = (lines : Text) × Each IsSlotText slots lines
+    × (text ≡ header_line (total header) ++ (lines ++ used_line (length slots) (total header)))

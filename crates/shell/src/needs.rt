@@ -1,0 +1,84 @@
+//! Which folder an action needs.
+ghost use Rattle.std.specs.Prelude.{◌≡◌, ◌&&◌, is_some, if◌then◌else◌};
+ghost use Rattle.script.specs.Lines.{time_in};
+ghost use Rattle.shell.specs.declared.needs.Need.TheVariants.{Change, Make, Nothing};
+ghost use Rattle.shell.specs.Needs.{is_slot_count, need_of};
+
+use script::read_time;
+use words::Action;
+
+/// The least and the greatest count of slots of a store.
+const MIN_SLOTS: u32 = 16;
+
+const MAX_SLOTS: u32 = 65_536;
+
+/// What an action needs of the files of a folder.
+#[derive(Clone, Copy, Debug, PartialEq, Eq)]
+pub enum Need<'a> {
+    /// No folder is looked at: the store is one in memory, or the words ask for what there cannot be.
+    Nothing,
+    /// To make a store in this folder.
+    Make(&'a str),
+    /// To open the store in it, which no other process may have open meanwhile.
+    Change(&'a str),
+    /// To read its log, while no process has it open to change it.
+    Read(&'a str),
+}
+
+fn is_slot_count(slots: u32) -> bool
+    ensures { result ≡ is_slot_count slots }
+{
+    slots >= MIN_SLOTS && slots <= MAX_SLOTS
+}
+
+fn is_time(text: &str) -> bool
+    ensures { result ≡ is_some (time_in text.now) }
+{
+    read_time(text.as_bytes()).is_some()
+}
+
+fn are_times(from: &str, to: &str) -> bool
+    ensures { result ≡ (is_some (time_in from.now) && is_some (time_in to.now)) }
+{
+    is_time(from) && is_time(to)
+}
+
+/// The folder, where what is asked of its store can be.
+fn change_if<'a>(can_be: bool, dir: &'a str) -> Need<'a>
+    ensures { result ≡ (if can_be then Change dir.entry else Nothing) }
+{
+    if can_be {
+        Need::Change(dir)
+    } else {
+        Need::Nothing
+    }
+}
+
+fn make_if<'a>(can_be: bool, dir: &'a str) -> Need<'a>
+    ensures { result ≡ (if can_be then Make dir.entry else Nothing) }
+{
+    if can_be {
+        Need::Make(dir)
+    } else {
+        Need::Nothing
+    }
+}
+
+/// Which folder an action needs, and for what.
+pub fn folder_need<'a>(action: &Action<'a>) -> Need<'a>
+    ensures { result ≡ need_of action.now }
+{
+    match *action {
+        Action::Example => Need::Nothing,
+        Action::Format { dir, slots } => make_if(is_slot_count(slots), dir),
+        Action::Run { dir } => Need::Change(dir),
+        Action::At { dir, key: _, time } => change_if(is_time(time), dir),
+        Action::Between {
+            dir,
+            key: _,
+            from,
+            to,
+        } => change_if(are_times(from, to), dir),
+        Action::Dump { dir } => Need::Read(dir),
+    }
+}

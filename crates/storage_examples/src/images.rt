@@ -1,0 +1,224 @@
+//! Whole images: as they are formatted, read, and damaged.
+use crate::area_bytes::{begin_with, bytes_of, put, zeros};
+use crate::worked_bytes::{ANCHOR, COMMIT_SLOT, EXTENT_FRONT, HEADER, KEY, RUN, RUN_BYTES};
+use disk::{Area, Disk, MemDisk};
+use recovery::{FormatFault, OpenFault, format, read_image};
+use std::alloc::{AllocError, Global};
+use std::test::Fail;
+
+#[test]
+fn a_new_store_is_a_header_and_closed_slots(rt: HostRuntime) -> Result<(), Fail> {
+    let alloc = rt.alloc();
+    let mut disk = MemDisk::new(alloc);
+    for slots in [15, 65_537] {
+        let formatted = format(alloc, &mut disk, slots);
+        assert_eq!(rt; formatted, Err(FormatFault::BadSlots), "{slots} slots");
+    }
+    assert_eq!(rt; disk.len(Area::Status)?, 0);
+    format(alloc, &mut disk, 16)?;
+    let status = bytes_of(alloc, &mut disk, Area::Status)?;
+    assert_eq!(rt; status.len(), 8704);
+    assert!(rt; begin_with(&status, &HEADER));
+    assert_eq!(rt; disk.len(Area::Heap)?, 0);
+    let again = format(alloc, &mut disk, 32);
+    assert_eq!(rt; again, Err(FormatFault::Occupied));
+    assert_eq!(rt; disk.len(Area::Status)?, 8704);
+    Ok(())
+}
+
+/// A status area of so many bytes: the header of 16 slots, all of them closed, as far as it reaches.
+fn status_of(alloc: Global, len: usize) -> Result<Vec<u8>, AllocError> {
+    let mut status = zeros(alloc, len)?;
+    put(&mut status, 0, &HEADER);
+    Ok(status)
+}
+
+/// One commit of the key, with the value a, at 100 with label 9, in a heap of so many bytes. Then
+/// this byte of an area is changed.
+fn one_commit(
+    alloc: Global,
+    area: Area,
+    at: u16,
+    byte: u8,
+    heap_len: usize,
+) -> Result<MemDisk, AllocError> {
+    let mut status = status_of(alloc, 8704)?;
+    put(&mut status, 512, &COMMIT_SLOT);
+    let mut heap = zeros(alloc, heap_len)?;
+    put(&mut heap, 0, &EXTENT_FRONT);
+    put(&mut heap, 16, &ANCHOR);
+    match area {
+        Area::Status => put(&mut status, at, &[byte]),
+        Area::Heap => put(&mut heap, at, &[byte]),
+        Area::Archive => {}
+    }
+    Ok(MemDisk::with_bytes(status, heap, Vec::new(alloc)))
+}
+
+#[test]
+fn a_commit_is_read(rt: HostRuntime) -> Result<(), Fail> {
+    let mut disk = one_commit(rt.alloc(), Area::Archive, 0, 0, 8192)?;
+    let found = read_image(rt.alloc(), &mut disk)?;
+    assert_eq!(rt; found.header.slots, 16);
+    assert_eq!(rt; (found.used, found.last), (1, 100));
+    assert_eq!(rt; found.commits.len(), 1);
+    assert_eq!(rt; (found.commits[0].time, found.commits[0].label), (100, 9));
+    assert_eq!(rt; (found.extents.used(), found.live.len()), (1, 1));
+    assert!(rt; found.chains.at(KEY, 99).is_none());
+    let shared = found.chains.at(KEY, 100).ok_or("no value")?;
+    assert_eq!(rt; shared.value().len(), 1);
+    Ok(())
+}
+
+/// Why the image does not open, if it does not.
+fn fault(alloc: Global, disk: &mut MemDisk) -> Option<OpenFault> {
+    read_image(alloc, disk).err()
+}
+
+#[test]
+fn damage_is_found_in_its_place(rt: HostRuntime) -> Result<(), Fail> {
+    let slot = Some(OpenFault::Damaged(Area::Status, 0));
+    let next_slot = Some(OpenFault::Damaged(Area::Status, 1));
+    let chain = Some(OpenFault::Damaged(Area::Heap, 1));
+    let table = [
+        (Area::Status, 8, 9, 8192, Some(OpenFault::NotAStore)),
+        (Area::Status, 512, 0x37, 8192, None),
+        (Area::Status, 513, 5, 8192, slot),
+        (Area::Status, 514, 0, 8192, slot),
+        (Area::Status, 516, 1, 8192, slot),
+        (Area::Status, 540, 2, 8192, slot),
+        (Area::Status, 1024, 0xc7, 8192, next_slot),
+        (Area::Status, 1536, 0xc7, 8192, None),
+        (Area::Heap, 8, 13, 8192, chain),
+        (Area::Heap, 16, 4, 8192, chain),
+        (Area::Heap, 30, 1, 8192, chain),
+        (Area::Archive, 0, 0, 8191, chain),
+        (Area::Archive, 0, 0, 0, chain),
+    ];
+    for (area, at, byte, heap_len, want) in table {
+        let mut disk = one_commit(rt.alloc(), area, at, byte, heap_len)?;
+        let got = fault(rt.alloc(), &mut disk);
+        assert_eq!(rt; got, want, "at {at}");
+    }
+    Ok(())
+}
+
+#[test]
+fn a_short_status_area_is_no_store(rt: HostRuntime) -> Result<(), Fail> {
+    let alloc = rt.alloc();
+    let no_store = Some(OpenFault::NotAStore);
+    for (len, want) in [(511, no_store), (8703, no_store), (8704, None)] {
+        let status = status_of(alloc, len)?;
+        let mut disk = MemDisk::with_bytes(status, Vec::new(alloc), Vec::new(alloc));
+        let got = fault(alloc, &mut disk);
+        assert_eq!(rt; got, want, "{len} bytes");
+    }
+    Ok(())
+}
+
+/// An extent of this number and so many bytes used, with a record of the key: its kind, and what
+/// stands behind the key.
+fn put_extent(heap: &mut [u8], at: u16, number: u8, used: u8, kind: u8, rest: &[u8]) {
+    put(heap, at, &[number, 0, 0, 0, 0, 0, 0, 0, used]);
+    put(heap, at.saturating_add(16), &[kind, 1, 0, 7]);
+    put(heap, at.saturating_add(27), rest);
+}
+
+/// Two commits in one slot, at 100 and 110, the second with its chain in this extent.
+fn two_commits(alloc: Global, second: u8) -> Result<MemDisk, AllocError> {
+    let mut status = status_of(alloc, 8704)?;
+    put(&mut status, 512, &[0xc7, 1, 2]);
+    put(
+        &mut status,
+        528,
+        &[100, 0, 0, 0, 0, 0, 0, 0, 1, 0, 0, 0, 1, 0, 0, 0, 1],
+    );
+    put(
+        &mut status,
+        556,
+        &[110, 0, 0, 0, 0, 0, 0, 0, second, 0, 0, 0, 1, 0, 0, 0, 1],
+    );
+    let mut heap = zeros(alloc, 16384)?;
+    put_extent(&mut heap, 0, 1, 13, 1, &[1]);
+    put_extent(&mut heap, 8192, 2, 13, 1, &[1]);
+    Ok(MemDisk::with_bytes(status, heap, Vec::new(alloc)))
+}
+
+#[test]
+fn no_extent_is_in_two_chains(rt: HostRuntime) -> Result<(), Fail> {
+    let mut disk = two_commits(rt.alloc(), 2)?;
+    let found = read_image(rt.alloc(), &mut disk)?;
+    assert_eq!(rt; (found.last, found.extents.used()), (110, 2));
+    assert_eq!(rt; (found.live.len(), found.commits.len()), (2, 2));
+    let mut disk = two_commits(rt.alloc(), 1)?;
+    let got = fault(rt.alloc(), &mut disk);
+    assert_eq!(rt; got, Some(OpenFault::Damaged(Area::Heap, 1)));
+    Ok(())
+}
+
+/// A slot of one commit, whose chain is the extent of the same label.
+fn put_commit(status: &mut [u8], at: u16, number: u8, time: u8) {
+    let label = number.saturating_add(1);
+    put(status, at, &[0xc7, 1, 1, 0, number]);
+    put(status, at.saturating_add(8), &[label]);
+    put(status, at.saturating_add(16), &[time]);
+    put(
+        status,
+        at.saturating_add(24),
+        &[label, 0, 0, 0, 1, 0, 0, 0, 1],
+    );
+}
+
+/// The key has a at 100, b at 110, no value at 120 and c at 130, and what ended by 120 is archived
+/// in a run of 74 bytes.
+fn one_run(alloc: Global, archive_len: usize) -> Result<MemDisk, AllocError> {
+    let mut status = status_of(alloc, 8704)?;
+    put_commit(&mut status, 512, 0, 100);
+    put_commit(&mut status, 1024, 1, 110);
+    put_commit(&mut status, 1536, 2, 120);
+    put_commit(&mut status, 2048, 3, 130);
+    put(&mut status, 2560, &[0xc7, 2, 0, 0, 4, 0, 0, 0, 120]);
+    put(&mut status, 2584, &[74, 0, 0, 0, 0, 0, 0, 0, 2]);
+    let mut heap = zeros(alloc, 32768)?;
+    put_extent(&mut heap, 0, 1, 14, 1, &[1, 1, 97]);
+    put_extent(&mut heap, 8192, 2, 14, 1, &[1, 1, 98]);
+    put_extent(&mut heap, 16384, 3, 11, 3, &[]);
+    put_extent(&mut heap, 24576, 4, 14, 1, &[1, 1, 99]);
+    let mut archive = zeros(alloc, archive_len)?;
+    put(&mut archive, 0, &RUN_BYTES);
+    Ok(MemDisk::with_bytes(status, heap, archive))
+}
+
+#[test]
+fn an_archived_slot_is_read(rt: HostRuntime) -> Result<(), Fail> {
+    let mut disk = one_run(rt.alloc(), 74)?;
+    let found = read_image(rt.alloc(), &mut disk)?;
+    assert_eq!(rt; (found.used, found.last), (5, 130));
+    assert_eq!(rt; (found.archived, found.reclaimed, found.floor), (120, 0, 0));
+    assert_eq!(rt; found.runs.as_slice(), [RUN].as_slice());
+    assert!(rt; found.chains.at(KEY, 115).is_some());
+    assert!(rt; found.chains.at(KEY, 125).is_none());
+    Ok(())
+}
+
+#[test]
+fn a_run_ends_within_the_archive(rt: HostRuntime) -> Result<(), Fail> {
+    let cut = Some(OpenFault::Damaged(Area::Archive, 0));
+    for (archive_len, want) in [(0, cut), (73, cut), (74, None), (100, None)] {
+        let mut disk = one_run(rt.alloc(), archive_len)?;
+        let got = fault(rt.alloc(), &mut disk);
+        assert_eq!(rt; got, want, "{archive_len} bytes");
+    }
+    Ok(())
+}
+
+/// Tried with each allocation failing in turn.
+#[test]
+fn a_refused_growth_is_no_memory(rt: HostRuntime) -> Result<(), Fail> {
+    let mut disk = two_commits(rt.alloc(), 2)?;
+    match read_image(rt.alloc(), &mut disk) {
+        Ok(found) => assert_eq!(rt; found.last, 110),
+        Err(fault) => assert_eq!(rt; fault, OpenFault::NoMemory),
+    }
+    Ok(())
+}

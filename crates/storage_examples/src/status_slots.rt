@@ -1,0 +1,218 @@
+//! The status log: its header, its slots, and the rules that a slot must meet.
+use crate::area_bytes::{begin_with, bytes_of, put, zeros};
+use crate::worked_bytes::{COMMIT_SLOT, HEADER, one_commit};
+use disk::{Area, Disk, MemDisk};
+use status::{
+    Header, LogFault, SlotFault, Stage, StatusLog, Step, decode_header, encode_header, is_built,
+    read_header, read_log,
+};
+use std::alloc::Global;
+use std::test::Fail;
+use wire::{Anchors, Body, Run};
+
+const SIXTEEN: Header = Header {
+    profile: 1,
+    slots: 16,
+    pieces: 0,
+};
+
+/// A disk whose status area has so many bytes, the header of 16 slots and zeros, as far as it
+/// reaches.
+fn new_disk(alloc: Global, len: usize) -> Result<MemDisk, Fail> {
+    let mut status = zeros(alloc, len)?;
+    put(&mut status, 0, &encode_header(1, 16));
+    Ok(MemDisk::with_bytes(status, Vec::new(alloc), Vec::new(alloc)))
+}
+
+#[test]
+fn a_header_is_read_from_its_bytes(rt: HostRuntime) -> Result<(), Fail> {
+    assert!(rt; begin_with(&encode_header(1, 16), &HEADER));
+    assert_eq!(rt; SIXTEEN.total(), 16);
+    let no_store = Err(LogFault::NotAStore);
+    for (len, want) in [(511, no_store), (8703, no_store), (8704, Ok(SIXTEEN))] {
+        let mut disk = new_disk(rt.alloc(), len)?;
+        assert_eq!(rt; read_header(&mut disk), want, "{len} bytes");
+    }
+    Ok(())
+}
+
+#[test]
+fn open_pieces_are_counted(rt: HostRuntime) {
+    let mut front = encode_header(2, 16);
+    front[16] = 0xc7;
+    front[18] = 0xc7;
+    let header = decode_header(&front);
+    assert!(rt; matches!(&header, Some(header) if header.total() == 272));
+    front[271] = 1;
+    assert_eq!(rt; decode_header(&front), None);
+}
+
+/// A slot in all its device calls; its number.
+fn write_slot(log: &mut StatusLog, body: Body, disk: &mut MemDisk) -> Result<u32, Fail> {
+    let mut turn = log.begin_slot(body)?;
+    for _ in 0..4 {
+        match log.advance(turn, disk)? {
+            Step::Open(number) => return Ok(number),
+            Step::More(next) => turn = next,
+        }
+    }
+    turn.give_up();
+    Err("a slot takes four calls".into())
+}
+
+#[test]
+fn a_slot_is_written_byte_for_byte(rt: HostRuntime) -> Result<(), Fail> {
+    let mut disk = new_disk(rt.alloc(), 8704)?;
+    let mut log = StatusLog::new(&SIXTEEN, 0);
+    assert_eq!(rt; write_slot(&mut log, one_commit(), &mut disk)?, 0);
+    let status = bytes_of(rt.alloc(), &mut disk, Area::Status)?;
+    let slots = status.get(512..).ok_or("no slot")?;
+    assert!(rt; begin_with(slots, &COMMIT_SLOT));
+    let slots = read_log(rt.alloc(), &mut disk, &SIXTEEN)?;
+    assert_eq!(rt; slots.len(), 1);
+    Ok(())
+}
+
+/// What is done of the slot that is begun, and let be, or why none is.
+fn begun(log: &mut StatusLog) -> Result<Stage, SlotFault> {
+    let turn = log.begin_slot(one_commit())?;
+    let stage = turn.stage();
+    turn.give_up();
+    Ok(stage)
+}
+
+#[test]
+fn one_slot_is_in_the_writing(rt: HostRuntime) {
+    let mut log = StatusLog::new(&SIXTEEN, 15);
+    assert_eq!(rt; (log.slots(), log.used()), (16, 15));
+    assert!(rt; !log.is_writing());
+    assert_eq!(rt; begun(&mut log), Ok(Stage::Begun));
+    assert!(rt; log.is_writing());
+    assert_eq!(rt; begun(&mut log), Err(SlotFault::Busy));
+    let mut full = StatusLog::new(&SIXTEEN, 16);
+    assert_eq!(rt; begun(&mut full), Err(SlotFault::StatusFull));
+    assert!(rt; !full.is_writing());
+}
+
+/// How many slots are read where a commit at 100 comes first, then these runs and then this, or why
+/// none are.
+fn read_behind(
+    alloc: Global,
+    runs: &[Run],
+    last: Option<Body>,
+) -> Result<Result<usize, LogFault>, Fail> {
+    let mut disk = new_disk(alloc, 8704)?;
+    let mut log = StatusLog::new(&SIXTEEN, 0);
+    write_slot(&mut log, one_commit(), &mut disk)?;
+    for run in runs {
+        write_slot(&mut log, Body::Archived(*run), &mut disk)?;
+    }
+    if let Some(body) = last {
+        write_slot(&mut log, body, &mut disk)?;
+    }
+    match read_log(alloc, &mut disk, &SIXTEEN) {
+        Ok(slots) => Ok(Ok(slots.len())),
+        Err(fault) => Ok(Err(fault)),
+    }
+}
+
+const FIRST_RUN: Run = Run {
+    upto: 60,
+    start: 0,
+    len: 40,
+    records: 1,
+};
+
+const SECOND_RUN: Run = Run {
+    upto: 100,
+    start: 40,
+    len: 74,
+    records: 2,
+};
+
+/// Two runs, the second another one, and what is read.
+#[derive(Clone, Copy)]
+struct Runs {
+    what: &'static str,
+    runs: &'static [Run],
+    want: Result<usize, LogFault>,
+}
+
+const RUNS: [Runs; 5] = [
+    Runs {
+        what: "two runs",
+        runs: &[FIRST_RUN, SECOND_RUN],
+        want: Ok(3),
+    },
+    Runs {
+        what: "the mark does not rise",
+        runs: &[
+            FIRST_RUN,
+            Run {
+                upto: 60,
+                ..SECOND_RUN
+            },
+        ],
+        want: Err(LogFault::Damaged(2)),
+    },
+    Runs {
+        what: "the mark rises past the last commit",
+        runs: &[
+            FIRST_RUN,
+            Run {
+                upto: 101,
+                ..SECOND_RUN
+            },
+        ],
+        want: Err(LogFault::Damaged(2)),
+    },
+    Runs {
+        what: "the first run starts away from the front",
+        runs: &[Run {
+            start: 1,
+            ..FIRST_RUN
+        }],
+        want: Err(LogFault::Damaged(1)),
+    },
+    Runs {
+        what: "the second starts behind where the first ends",
+        runs: &[
+            FIRST_RUN,
+            Run {
+                start: 41,
+                ..SECOND_RUN
+            },
+        ],
+        want: Err(LogFault::Damaged(2)),
+    },
+];
+
+#[test]
+fn archived_slots_keep_their_rules(rt: HostRuntime) -> Result<(), Fail> {
+    for row in RUNS {
+        let read = read_behind(rt.alloc(), row.runs, None)?;
+        assert_eq!(rt; read, row.want, "{}", row.what);
+    }
+    Ok(())
+}
+
+#[test]
+fn a_reclaimed_slot_is_not_read(rt: HostRuntime) -> Result<(), Fail> {
+    let reclaimed = Body::Reclaimed(Anchors {
+        upto: 60,
+        first: 0,
+        extents: 0,
+        records: 0,
+    });
+    let read = read_behind(rt.alloc(), &[FIRST_RUN], Some(reclaimed))?;
+    assert_eq!(rt; read, Err(LogFault::Damaged(2)));
+    Ok(())
+}
+
+#[test]
+fn commits_and_runs_of_profile_1_are_built(rt: HostRuntime) {
+    assert!(rt; is_built(1, 1));
+    assert!(rt; is_built(1, 2));
+    assert!(rt; !is_built(1, 3));
+    assert!(rt; !is_built(2, 1));
+}

@@ -1,0 +1,57 @@
+//! What several examples share, byte for byte.
+use arrayvec::ArrayVec;
+use history::Key;
+use wire::{Body, Member, Run};
+
+pub const KEY: Key = Key {
+    relation: 1,
+    record: 7,
+};
+
+/// The front of a header of 16 slots. Zeros follow.
+pub const HEADER: [u8; 16] = [
+    0x4e, 0x4f, 0x4f, 0x56, 0x45, 0x52, 0x30, 0x31, 0x01, 0, 0, 0, 0x10, 0, 0, 0,
+];
+
+/// A commit of one record in extent 1.
+pub const MEMBER: Member = Member {
+    label: 9,
+    time: 100,
+    first: 1,
+    extents: 1,
+    records: 1,
+};
+
+/// A slot of that commit alone.
+pub fn one_commit() -> Body {
+    let mut members = ArrayVec::new();
+    members.push(MEMBER);
+    Body::Commit(members)
+}
+
+/// The front of slot 0 with that commit, gate and all. Zeros follow.
+pub const COMMIT_SLOT: [u8; 36] = [
+    0xc7, 1, 1, 0, 0, 0, 0, 0, 9, 0, 0, 0, 0, 0, 0, 0, 100, 0, 0, 0, 0, 0, 0, 0, 1, 0, 0, 0, 1, 0,
+    0, 0, 1, 0, 0, 0,
+];
+
+/// The front of extent 1, alone in its chain, with one record of 14 bytes.
+pub const EXTENT_FRONT: [u8; 16] = [1, 0, 0, 0, 0, 0, 0, 0, 0x0e, 0, 0, 0, 0, 0, 0, 0];
+
+/// The record that says that the key has the value a.
+pub const ANCHOR: [u8; 14] = [1, 1, 0, 7, 0, 0, 0, 0, 0, 0, 0, 1, 1, 0x61];
+
+/// A run of two records of the key: a from 100 to 110, and b from 110 to 120.
+pub const RUN_BYTES: [u8; 74] = [
+    1, 0, 7, 0, 0, 0, 0, 0, 0, 0, 0x64, 0, 0, 0, 0, 0, 0, 0, 0x6e, 0, 0, 0, 0, 0, 0, 0, 1, 1, 0x61,
+    1, 0, 7, 0, 0, 0, 0, 0, 0, 0, 0x6e, 0, 0, 0, 0, 0, 0, 0, 0x78, 0, 0, 0, 0, 0, 0, 0, 1, 1, 0x62,
+    0, 0, 0, 0, 0, 0, 0, 0, 0x1d, 0, 0, 0, 0, 0, 0, 0,
+];
+
+/// The same run, as its slot names it.
+pub const RUN: Run = Run {
+    upto: 120,
+    start: 0,
+    len: 74,
+    records: 2,
+};
