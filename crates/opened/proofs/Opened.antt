@@ -11,7 +11,9 @@ use Rattle.history.specs.Histories as histories
 use Rattle.history.specs.Histories.{Commit, History, HasRisingTimes, commits_after, last}
 use Rattle.history.specs.Fronts.{OnFront}
 use Rattle.history.specs.Machine.{opened}
-use Rattle.history.proofs.Histories.{commits_after-all}
+use Rattle.history.specs.Time.{writes_after}
+use Rattle.history.proofs.Values.{writes_after-all}
+use Rattle.history.proofs.Histories.{commits_after-all, writes_of-rising}
 use Rattle.history.proofs.Machines.{opened-machine}
 use Rattle.image.specs.Values.{Value, IsValue}
 use Rattle.image.specs.Reading.{Head, OldRecord, Reading}
@@ -105,6 +107,9 @@ module _ (old : DiskState) (mark : ℕ) (disk : DiskState) (r : Recovered) (head
   unmarked : reclaim_mark image.reading.log ≡ 0
   unmarked = ap (λ l. reclaim_mark_after 0 l) (sym image.laid.heap.log_is) ∙ no_reclaim header.profile 0 image.layout.slots image.built
 
+  unmarked_read : r.reclaimed ≡ 0
+  unmarked_read = is.reclaimed ∙ unmarked
+
   no_anchors : image.reading.anchors ≡ []
   no_anchors = no_anchor image.reading.anchors (subst (λ (n : ℕ). AllByRecursion (IsAnchorUpto n) image.reading.anchors) unmarked image.stands.opens.reads.anchor_times)
 
@@ -133,7 +138,16 @@ module _ (old : DiskState) (mark : ℕ) (disk : DiskState) (r : Recovered) (head
     names = named r.commits.items h so.commits ∙ ap (λ (l : History Value). map name_of l) (sym (append-nil h));
     rising = heads_rise;
     published = many;
-    versions = record { ordered = ordered; writes = writes };
+    versions = record {
+      ordered = ordered;
+      marked = subst (λ (n : ℕ). n ≤ last h) (sym unmarked_read) (omega arith);
+      before = λ key. [];
+      rising = λ key. tt;
+      early = λ key. omega arith;
+      writes = λ key. writes key ∙ sym (writes_after-all 0 (histories.writes_of h key) (writes_of-rising 0 h key rising)) ∙ ap (λ (n : ℕ). writes_after n (histories.writes_of h key)) (sym unmarked_read);
+      at_home = so.versions_are;
+    };
+    unreclaimed = unmarked_read;
     queue = tt;
     group = refl;
     staged = λ staged. absurd staged;

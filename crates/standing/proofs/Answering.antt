@@ -30,7 +30,7 @@ use Rattle.store.specs.Values.{StoreValue}
 use Rattle.store.specs.Calls as stores
 use Rattle.standing.specs.Standing.{Name, name_of, name_at, StandsInMemory}
 use Rattle.standing.specs.Laws.{RedeemsAs, ViewStands, SaysAt}
-use Rattle.standing.proofs.Memory.{last-is}
+use Rattle.standing.proofs.Memory.{last-is, all-held}
 use Rattle.standing.proofs.Names.{front-named}
 
 -- ---- where a time stands among the commits
@@ -119,6 +119,7 @@ redeemed-stands v m time stands = record {
   rising = redeemed-rising 0 time v.heads stands.rising;
   published = stands.published;
   versions = stands.versions;
+  unreclaimed = stands.unreclaimed;
   queue = stands.queue;
   group = stands.group;
   staged = stands.staged;
@@ -178,7 +179,7 @@ times-of_label v m label stands =
 
 pub view-stands : (v : StoreValue) (view : ViewValue) (m : Machine Value) → StandsInMemory v.transactions m → stores.IsViewOf v view → ViewStands view m.published m.floors
 view-stands v view m stands is =
-    subst (λ (w : ViewValue). ViewStands w m.published m.floors) (sym is) (record { last_is = last-is v.transactions m stands; floor_is = stands.floors; state_is = stands.versions })
+    subst (λ (w : ViewValue). ViewStands w m.published m.floors) (sym is) (record { last_is = last-is v.transactions m stands; floor_is = stands.floors; ordered = stands.versions.ordered; state_is = all-held v.transactions m stands })
 
 at-said : (view : ViewValue) (h : History Value) (floors : ℕ → ℕ) (key : Key) (time : ℕ) (answer : Result (Option Value) QueryFault) → ViewStands view h floors
     → MatchResult answer (λ o. AnswersAt view time o (value_at (writes_of view.state key) time)) (stores.RefusesAt view time) → SaysAt (answers.at_answer h floors key time) answer
@@ -187,7 +188,7 @@ at-said view h floors key time (Ok o) stands says =
     let last_is = stands.last_is in
     let low : nat_lt time (floors key.relation) ≡ false = let from = says.from_floor in let above : floors key.relation ≤ time = omega arith in grind (arith, nat_tests) in
     let high : nat_lt (last h) time ≡ false = let upto = says.upto_last in let below : time ≤ last h = omega arith in grind (arith, nat_tests) in
-    rw (low, high) (ap (λ (x : Option Value). Ok x) (sym (says.is ∙ ap (λ (ws : List (TimedWrite Value)). value_at ws time) (stands.state_is.writes key))))
+    rw (low, high) (ap (λ (x : Option Value). Ok x) (sym (says.is ∙ ap (λ (ws : List (TimedWrite Value)). value_at ws time) (stands.state_is key))))
 at-said view h floors key time (Err (query.BeforeKept floor)) stands says =
     let same = stands.floor_is key.relation in
     let low : nat_lt time (floors key.relation) ≡ true = let before = says.0 in let below : time < floors key.relation = omega arith in grind (arith, nat_tests) in

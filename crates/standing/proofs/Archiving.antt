@@ -55,10 +55,10 @@ use Rattle.store.specs.declared.job.ArchiveJob.{ArchiveJob}
 use Rattle.store.specs.declared.job.JobStage.TheVariants as job
 use Rattle.store.specs.declared.job.StartFault.{StartFault}
 use Rattle.store.specs.declared.job.StartFault.TheVariants as fault
-use Rattle.standing.specs.Standing.{HasWrites, StandsInMemory}
+use Rattle.standing.specs.Standing.{StandsInMemory}
 use Rattle.standing.specs.OnDisk.{IsNextRun, IsRested, HasJob, Works}
 use Rattle.standing.specs.Stands.{Stands}
-use Rattle.standing.proofs.Memory.{last-is}
+use Rattle.standing.proofs.Memory.{last-is, all-held}
 use Rattle.standing.proofs.Jobs.{resting}
 use Rattle.standing.proofs.JobPumping.{keeps-parts}
 use Rattle.standing.proofs.Pumping.{on-disk}
@@ -177,7 +177,7 @@ records-in-range after upto (c ∷ cs) low each =
 
 -- ---- nothing is reclaimed
 
-module _ (header : Header) (m : Machine Value) (layout : Layout) (reading : Reading) (versions-in : List KeyWrites) (stands : StandsFor reading m.published m.floors) (none : reclaimed_upto reading ≡ 0) (has : HasWrites versions-in m.published) where
+module _ (header : Header) (m : Machine Value) (layout : Layout) (reading : Reading) (versions-in : List KeyWrites) (stands : StandsFor reading m.published m.floors) (none : reclaimed_upto reading ≡ 0) (has : (key : Key) → writes_of versions-in key ≡ histories.writes_of m.published key) where
   no-anchors : reading.anchors ≡ []
   no-anchors = no_anchor reading.anchors (subst (λ (n : ℕ). AllByRecursion (IsAnchorUpto n) reading.anchors) none stands.opens.reads.anchor_times)
 
@@ -189,7 +189,7 @@ module _ (header : Header) (m : Machine Value) (layout : Layout) (reading : Read
       ap (λ (ws : List (TimedWrite Value)). versions ws)
       (ap (λ (olds : _). old_writes olds key ++ histories.writes_of (heap_commits reading) key) no-anchors
       ∙ ap (λ (h : History Value). histories.writes_of h key) all-commits
-      ∙ sym (has.writes key))
+      ∙ sym (has key))
 
 -- ---- the refusals
 
@@ -226,6 +226,7 @@ lent-memory v m stands = record {
   rising = stands.rising;
   published = stands.published;
   versions = stands.versions;
+  unreclaimed = stands.unreclaimed;
   queue = stands.queue;
   group = stands.group;
   staged = stands.staged;
@@ -263,7 +264,7 @@ module _ (header : Header) (v : StoreValue) (m : Machine Value) (memory : Stands
   chains : AllByRecursion (λ (c : KeyWrites). IsRisingAfter 0 c.writes × AllByRecursion (IsInRange c.key) c.writes) v.transactions.versions
   chains =
       each-chain (λ key ws. IsRisingAfter 0 ws × AllByRecursion (IsInRange key) ws) (λ key. (tt, tt)) v.transactions.versions memory.versions.ordered (λ key.
-      subst (λ (ws : List Write). IsRisingAfter 0 ws × AllByRecursion (IsInRange key) ws) (sym (memory.versions.writes key))
+      subst (λ (ws : List Write). IsRisingAfter 0 ws × AllByRecursion (IsInRange key) ws) (sym (all-held v.transactions m memory key))
       (writes_of-rising 0 m.published key (rises w.reading m.published m.floors w.stands), writes-in-range [] m.published key w.stands.opens.history))
 
   in-memory : AreInMemory v.transactions.versions
@@ -278,7 +279,7 @@ module _ (header : Header) (v : StoreValue) (m : Machine Value) (memory : Stands
 
   next-run : IsNextRun w.layout w.reading m.published (record { entry = run_of upto v.runs_end (archive_of v upto); records = archive_of v upto })
   next-run = record {
-    plan = archive_plan-is w.reading v.transactions.versions in-memory (holds-heap header m w.layout w.reading v.transactions.versions w.stands none-reclaimed memory.versions)
+    plan = archive_plan-is w.reading v.transactions.versions in-memory (holds-heap header m w.layout w.reading v.transactions.versions w.stands none-reclaimed (all-held v.transactions m memory))
         v.archived (stores.floor v) upto (sym w.archived) (λ relation. w.stands.opens.floors_given relation ∙ sym (memory.floors relation));
     later = omega (arith, w.archived, may.later);
     by_last = omega (arith, may.by_last, last-is v.transactions m memory);

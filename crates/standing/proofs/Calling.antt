@@ -5,7 +5,7 @@ use Rattle.std.proofs.lemmas.List.{take-append-le}
 use Rattle.std.proofs.lemmas.Bool.Decides.{nat_tests}
 use Rattle.history.specs.declared.key.Key.{Key}
 use Rattle.history.specs.declared.key.KeyWrite.{KeyWrite}
-use Rattle.history.specs.Histories.{Commit, History}
+use Rattle.history.specs.Histories.{Commit, History, HasRisingTimes, last, last_after}
 use Rattle.history.specs.Floors.{Raising}
 use Rattle.history.specs.Machine.{Machine, Gate, Shut, Due, MayBeOpen, OfGroup, OfFloor, commit_order, IsMachine}
 use Rattle.history.specs.Submissions.{Submission, commit_made}
@@ -13,6 +13,8 @@ use Rattle.history.specs.Fronts.{OnFront, OnOpened, OnRaised}
 use Rattle.history.specs.Steps.{Step, Began, Aborted, begun}
 use Rattle.history.specs.Answers as answers
 use Rattle.history.proofs.Machines.{step-machine}
+use Rattle.history.proofs.Histories.{last_after-append}
+use Rattle.history.proofs.Runs.{last-later}
 use Rattle.image.specs.Values.{Value, IsValue}
 use Rattle.disk.specs.Areas.{Areas, Image}
 use Rattle.chains.specs.KeyWrites.{latest}
@@ -59,7 +61,8 @@ use Rattle.standing.specs.Stands.{Stands}
 use Rattle.standing.specs.Laws.{submission_of, event_of, RedeemsAs}
 use Rattle.standing.specs.Calls.{BeginsOn}
 use Rattle.standing.proofs.Memory.{begin-step, abort-step}
-use Rattle.standing.proofs.Submitting.{order-has, submit-step}
+use Rattle.standing.proofs.Conflicts.{rising-behind}
+use Rattle.standing.proofs.Submitting.{order-has, order-rising, submit-step}
 use Rattle.standing.proofs.Answering.{redeem-answered}
 use Rattle.standing.proofs.Packed.{bodies-packed, packed-more, as-many}
 use Rattle.standing.proofs.Usages.{all-taken}
@@ -255,20 +258,29 @@ may-queue v snapshot [] now time is = absurd cc
 may-queue v snapshot (w ∷ ws) now time is = conflict-queues v (w ∷ ws) now time (first_conflict (ordered v) snapshot (w ∷ ws)) (omega arith) is
 
 -- the commit waits with its records in the extents that it took
-queued-packed : (v : TransactionsValue) (h : History Value) (c : Commit Value) (label time : ℕ) (numbers : List ℕ) → HasWrites (ordered v) h → length numbers ≡ length (bodies_for v c.writes) → IsPacked h (queued_as v label time c.writes numbers) c
-queued-packed v h c label time numbers has many =
+queued-packed : (v : TransactionsValue) (h : History Value) (c : Commit Value) (label time : ℕ) (numbers : List ℕ) (floors : ℕ → ℕ) → HasWrites floors v.reclaimed (ordered v) h → HasRisingTimes 0 h → ((relation : ℕ) → floors relation ≤ last h) → length numbers ≡ length (bodies_for v c.writes) → IsPacked h (queued_as v label time c.writes numbers) c
+queued-packed v h c label time numbers floors has rising reached many =
     let q : QueuedValue = queued_as v label time c.writes numbers in
     let images : List (List ℕ) = map extent_bytes (chain_of numbers (bodies_for v c.writes)) in
     let sealed : length images ≡ length numbers = length-sealed numbers (bodies_for v c.writes) (sym many) in
     let named : numbers_of q ≡ numbers = numbers-stored numbers images sealed in
     let long : length q.stored ≡ length numbers = length-stored numbers images sealed in
-    let same : bodies_for v c.writes ≡ packed h c = bodies-packed (ordered v) h c has in
+    let same : bodies_for v c.writes ≡ packed h c = bodies-packed floors v.reclaimed (ordered v) h c has rising reached in
     record {
       many = long ∙ many ∙ ap (λ (l : List (List ℕ)). length l) same;
       stored = let back = sym named in λ i. stored_as (back i) (map extent_bytes (chain_of (back i) (same i)));
       first = ap first_number (sym named);
       extents = sym long;
     }
+
+-- the floors are reached by what is ordered
+floors-order : (m : Machine Value) → IsMachine IsValue m → (relation : ℕ) → m.floors relation ≤ last (commit_order m)
+floors-order m machine relation =
+    let reached = machine.floors_reached relation in
+    let behind = rising-behind 0 m.published m.queue (order-rising m machine) in
+    let later : last m.published ≤ last_after (last m.published) m.queue = last-later (last m.published) m.queue behind in
+    let both = last_after-append 0 m.published m.queue in
+    omega arith
 
 -- one more that waits changes nothing of the group
 group-same : (layout : Layout) (v : TransactionsValue) (m : Machine Value) (q : QueuedValue) (c : Commit Value) → v.group ≤ length v.queue → length v.queue ≡ length m.queue
@@ -290,12 +302,12 @@ stage-same header layout group qs q size (Storing member extent) turn areas fits
     let low = fits.1 in
     subst (λ (n : ℕ). IsStoring header layout group (take n (extents_of group.members)) (drop n (extents_of group.members)) areas) (sym (written-same qs q member extent (omega (arith, low, within)))) at
 
-queued-works : (header : Header) (v : StoreValue) (m : Machine Value) (label time : ℕ) (numbers snapshots : List ℕ) (c : Commit Value) → IsInOrder v.transactions → StandsInMemory v.transactions m → AreLeastFree v.transactions.usages numbers
+queued-works : (header : Header) (v : StoreValue) (m : Machine Value) (label time : ℕ) (numbers snapshots : List ℕ) (c : Commit Value) → IsInOrder v.transactions → StandsInMemory v.transactions m → IsMachine IsValue m → AreLeastFree v.transactions.usages numbers
     → length numbers ≡ length (bodies_for v.transactions c.writes) → Works header v m
     → Works header (with_transactions v (with_queued v.transactions label time c.writes numbers)) (record m { queue = m.queue ++ c ∷ []; snapshots = snapshots })
-queued-works header v m label time numbers snapshots c order memory least many w =
+queued-works header v m label time numbers snapshots c order memory machine least many w =
     let q : QueuedValue = queued_as v.transactions label time c.writes numbers in
-    let long = as-many m.published v.transactions.queue m.queue memory.queue in
+    let long = as-many v.transactions.versions v.transactions.queue m.queue memory.queue in
     let members = group-same w.layout v.transactions m q c order.group_within long in
     let entries : take v.transactions.group (v.transactions.queue ++ q ∷ []) ≡ take v.transactions.group v.transactions.queue = take-append-le v.transactions.group v.transactions.queue (q ∷ []) order.group_within in
     let groups : Path Group (group_of w.layout v.transactions m) (record { members = members_of m.published (take v.transactions.group (v.transactions.queue ++ q ∷ [])) (take v.transactions.group (m.queue ++ c ∷ [])); slot = slot_for (length w.layout.slots) (take v.transactions.group (v.transactions.queue ++ q ∷ [])) }) =
@@ -308,7 +320,7 @@ queued-works header v m label time numbers snapshots c order memory least many w
       built = w.built;
       used = w.used;
       kept = all-taken v.transactions.usages numbers (live w.layout) least w.kept;
-      packed = packed-more m.published v.transactions.queue m.queue q c w.packed (queued-packed v.transactions (commit_order m) c label time numbers (order-has v.transactions m memory) many);
+      packed = packed-more m.published v.transactions.queue m.queue q c w.packed (queued-packed v.transactions (commit_order m) c label time numbers m.floors (order-has v.transactions m memory machine) (order-rising m machine) (floors-order m machine) many);
       at = subst (λ (g : Group). IsAtStage header w.layout g (v.transactions.queue ++ q ∷ []) v.transactions.stage v.turn (record v.disk.areas { status = w.rested })) groups
           (stage-same header w.layout (group_of w.layout v.transactions m) v.transactions.queue q v.transactions.group v.transactions.stage v.turn (record v.disk.areas { status = w.rested }) order.stage_fits order.group_within w.at);
       archived = w.archived;
@@ -319,11 +331,11 @@ queued-works header v m label time numbers snapshots c order memory least many w
       sound = w.sound;
     }
 
-queued-disk : (v : StoreValue) (m : Machine Value) (label time : ℕ) (numbers snapshots : List ℕ) (c : Commit Value) → IsInOrder v.transactions → StandsInMemory v.transactions m → AreLeastFree v.transactions.usages numbers
+queued-disk : (v : StoreValue) (m : Machine Value) (label time : ℕ) (numbers snapshots : List ℕ) (c : Commit Value) → IsInOrder v.transactions → StandsInMemory v.transactions m → IsMachine IsValue m → AreLeastFree v.transactions.usages numbers
     → length numbers ≡ length (bodies_for v.transactions c.writes) → StandsOnDisk v m
     → StandsOnDisk (with_transactions v (with_queued v.transactions label time c.writes numbers)) (record m { queue = m.queue ++ c ∷ []; snapshots = snapshots })
-queued-disk v m label time numbers snapshots c order memory least many d =
-    let long = as-many m.published v.transactions.queue m.queue memory.queue in
+queued-disk v m label time numbers snapshots c order memory machine least many d =
+    let long = as-many v.transactions.versions v.transactions.queue m.queue memory.queue in
     let size = memory.group in
     let front : take m.group (m.queue ++ c ∷ []) ≡ take m.group m.queue = take-append-le m.group m.queue (c ∷ []) (omega (arith, order.group_within, long, size)) in
     record {
@@ -332,7 +344,7 @@ queued-disk v m label time numbers snapshots c order memory least many d =
       slots = d.slots;
       profile_built = d.profile_built;
       leaves = λ image left. by-front image (sym front) (d.leaves image left);
-      works = λ on. queued-works d.header v m label time numbers snapshots c order memory least many (d.works on);
+      works = λ on. queued-works d.header v m label time numbers snapshots c order memory machine least many (d.works on);
     }
   where
     by-gate : (image : Image) → take m.group m.queue ≡ take m.group (m.queue ++ c ∷ []) → (gate : Gate) → OnOpened (IsImageOf d.header image) m gate → OnOpened (IsImageOf d.header image) (record m { queue = m.queue ++ c ∷ []; snapshots = snapshots }) gate
@@ -363,7 +375,7 @@ queued-stands tells v m label time numbers snapshots opened c stands may least m
   gate = stands.gate;
   disk = λ told.
       same-disk (with_transactions v (with_queued v.transactions label time c.writes numbers)) (record m { queue = m.queue ++ c ∷ [] }) opened (with_queued v.transactions label time c.writes numbers).heads snapshots
-      (queued-disk v m label time numbers m.snapshots c stands.order stands.memory least many (stands.disk told));
+      (queued-disk v m label time numbers m.snapshots c stands.order stands.memory stands.machine least many (stands.disk told));
 }
 
 abbrev SubmitsTo : Bool → Machine Value → Submission Value → Result Submitted SubmitFault → StoreValue → Type 0

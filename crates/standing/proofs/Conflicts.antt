@@ -2,10 +2,10 @@
 use Rattle.std.proofs.Common.{◌≡◌, ℕ, ◌≤◌, ◌&&◌, ◌||◌, nat_lt, Bool, true, false, cond, List, [], ◌∷◌, ◌++◌, find, Option, None, Some, refl, arith, ap, sym, subst, ◌∙◌, append_assoc, append-nil}
 use Rattle.std.proofs.lemmas.Bool.Decides.{nat_tests}
 use Rattle.history.specs.declared.key.Key.{Key}
-use Rattle.history.specs.declared.time.TimedWrite.{TimedWrite}
 use Rattle.history.specs.Key.{write_in}
 use Rattle.history.specs.Histories as histories
-use Rattle.history.specs.Histories.{Commit, History, timed_write, HasRisingTimes}
+use Rattle.history.specs.Histories.{Commit, History, timed_write, HasRisingTimes, last, last_after}
+use Rattle.history.proofs.Histories.{last_after-append}
 use Rattle.history.specs.Conflicts.{is_written_after, first_conflict}
 use Rattle.image.specs.Values.{Value}
 use Rattle.chains.specs.KeyWrites.{KeyWrites, writes_of}
@@ -13,6 +13,7 @@ use Rattle.chains.specs.Writes.{last_time, last_time_after}
 use Rattle.group.specs.Queued.{QueuedValue}
 use Rattle.transactions.specs.Values.{versions_after}
 use Rattle.standing.specs.Standing.{HasWrites, AllWait}
+use Rattle.standing.proofs.Held.{later-held, one-more}
 
 -- the last write of a key is later than a time exactly where a commit later than it wrote the key
 later-written : (s before : ℕ) (h : History Value) (key : Key) → HasRisingTimes before h → nat_lt s (last_time_after before (histories.writes_of h key)) ≡ (nat_lt s before || is_written_after h s key)
@@ -46,19 +47,34 @@ later-written s before (c ∷ cs) key rising = by-write (write_in c.writes key) 
 pub key-later : (s : ℕ) (h : History Value) (key : Key) → HasRisingTimes 0 h → nat_lt s (last_time (histories.writes_of h key)) ≡ is_written_after h s key
 key-later s h key rising = later-written s 0 h key rising ∙ (let none : nat_lt s 0 ≡ false = grind (arith, nat_tests) in rw none refl)
 
+-- the front of a rising history rises, and so does the rest
+pub rising-front : (t : ℕ) (h more : History Value) → HasRisingTimes t (h ++ more) → HasRisingTimes t h
+rising-front t [] more up = tt
+rising-front t (c ∷ cs) more up = (up.0, up.1, rising-front c.time cs more up.2)
+
+pub rising-behind : (t : ℕ) (h more : History Value) → HasRisingTimes t (h ++ more) → HasRisingTimes (last_after t h) more
+rising-behind t [] more up = up
+rising-behind t (c ∷ cs) more up = rising-behind c.time cs more up.2
+
 find-same : (p q : Key → Bool) (keys : List Key) → ((key : Key) → p key ≡ q key) → find p keys ≡ find q keys
 find-same p q [] same = refl
 find-same p q (k ∷ ks) same = rw (same k) (ap (λ (o : Option Key). cond (q k) (Some k) o) (find-same p q ks same))
 
-pub conflicts-same : (s : ℕ) (versions : List KeyWrites) (h : History Value) (keys : List Key) → HasRisingTimes 0 h → HasWrites versions h
+pub conflicts-same : (s : ℕ) (floors : ℕ → ℕ) (reclaimed : ℕ) (versions : List KeyWrites) (h : History Value) (keys : List Key) → HasRisingTimes 0 h → HasWrites floors reclaimed versions h → reclaimed ≤ s
     → find (λ key. nat_lt s (last_time (writes_of versions key))) keys ≡ first_conflict h s keys
-conflicts-same s versions h keys rising has =
-    find-same (λ key. nat_lt s (last_time (writes_of versions key))) (is_written_after h s) keys (λ key. ap (λ (ws : List (TimedWrite Value)). nat_lt s (last_time ws)) (has.writes key) ∙ key-later s h key rising)
+conflicts-same s floors reclaimed versions h keys rising has recent =
+    find-same (λ key. nat_lt s (last_time (writes_of versions key))) (is_written_after h s) keys (λ key. later-held has rising key s recent ∙ key-later s h key rising)
 
--- the versions after all that wait are those of the commit order
-pub ordered-has : (before : History Value) (versions : List KeyWrites) (qs : List QueuedValue) (cs : History Value) → HasWrites versions before → AllWait before qs cs → HasWrites (versions_after versions qs) (before ++ cs)
-ordered-has before versions [] [] has all = subst (λ (h : History Value). HasWrites versions h) (sym (append-nil before)) has
-ordered-has before versions [] (c ∷ cs) has all = absurd all
-ordered-has before versions (q ∷ qs) [] has all = absurd all
-ordered-has before versions (q ∷ qs) (c ∷ cs) has all =
-    subst (λ (h : History Value). HasWrites (versions_after q.after qs) h) (append_assoc before (c ∷ []) cs) (ordered-has (before ++ c ∷ []) q.after qs cs all.0.after all.1)
+-- the versions after some that wait are those of the commits
+pub ordered-has : (floors : ℕ → ℕ) (reclaimed : ℕ) (before : History Value) (versions : List KeyWrites) (qs : List QueuedValue) (cs : History Value) → HasWrites floors reclaimed versions before → AllWait versions qs cs
+    → HasRisingTimes 0 (before ++ cs) → ((relation : ℕ) → floors relation ≤ last before) → HasWrites floors reclaimed (versions_after versions qs) (before ++ cs)
+ordered-has floors reclaimed before versions [] [] has all rising reached = subst (λ (h : History Value). HasWrites floors reclaimed versions h) (sym (append-nil before)) has
+ordered-has floors reclaimed before versions [] (c ∷ cs) has all rising reached = absurd all
+ordered-has floors reclaimed before versions (q ∷ qs) [] has all rising reached = absurd all
+ordered-has floors reclaimed before versions (q ∷ qs) (c ∷ cs) has all rising reached =
+    let whole : HasRisingTimes 0 ((before ++ c ∷ []) ++ cs) = subst (λ (h : History Value). HasRisingTimes 0 h) (sym (append_assoc before (c ∷ []) cs)) rising in
+    let next = rising-behind 0 before (c ∷ cs) rising in
+    let first = next.0 in
+    let one : HasWrites floors reclaimed q.after (before ++ c ∷ []) = one-more has (rising-front 0 before (c ∷ cs) rising) q.after c reached (next.0, next.1, tt) all.0.ordered all.0.after in
+    subst (λ (h : History Value). HasWrites floors reclaimed (versions_after q.after qs) h) (append_assoc before (c ∷ []) cs)
+    (ordered-has floors reclaimed (before ++ c ∷ []) q.after qs cs one all.1 whole (λ relation. let low = reached relation in let more = last_after-append 0 before (c ∷ []) in omega arith))

@@ -1,5 +1,5 @@
 -- The verdict on a submit is the machine's decision.
-use Rattle.std.proofs.Common.{◌≡◌, ◌≢◌, ℕ, ◌<◌, ◌+◌, ◌^◌, nat_lt, nat_le, max, Bool, true, false, cond, List, [], ◌∷◌, length, map, Option, None, Some, refl, arith, ap, sym, ◌∙◌}
+use Rattle.std.proofs.Common.{◌≡◌, ◌≢◌, ℕ, ◌<◌, ◌≤◌, ◌+◌, ◌^◌, nat_lt, nat_le, max, Bool, true, false, cond, List, [], ◌∷◌, length, map, Option, None, Some, refl, arith, ap, sym, ◌∙◌}
 use Rattle.std.proofs.lemmas.Bool.Decides.{nat_tests}
 use Rattle.history.specs.declared.key.Key.{Key}
 use Rattle.history.specs.declared.key.KeyWrite.{KeyWrite}
@@ -47,10 +47,10 @@ by-conflict v m s times some is (Some key) found = is ∙ rw found refl
 by-conflict v m s times some is None none =
     by-room m s (time_now v s.now) some none (is ∙ rw none refl) (ap (λ (t : ℕ). max (t + 1) s.now) times) (nat_lt (free_count v) (length (bodies_for v s.writes))) (nat_le (spare v) 2)
 
-pub decides : (v : TransactionsValue) (m : Machine Value) (snapshot label now : ℕ) (writes : List (KeyWrite Value)) → HasWrites (ordered v) (commit_order m) → HasRisingTimes 0 (commit_order m) → last_time v.heads ≡ last (commit_order m)
+pub decides : (v : TransactionsValue) (m : Machine Value) (snapshot label now : ℕ) (writes : List (KeyWrite Value)) → HasWrites m.floors v.reclaimed (ordered v) (commit_order m) → v.reclaimed ≤ snapshot → HasRisingTimes 0 (commit_order m) → last_time v.heads ≡ last (commit_order m)
     → DecidesAs m (record { snapshot = snapshot; label = label; now = now; writes = writes }) (verdict v snapshot writes now)
-decides v m snapshot label now [] has rising times = (refl, refl)
-decides v m snapshot label now (w ∷ ws) has rising times =
+decides v m snapshot label now [] has recent rising times = (refl, refl)
+decides v m snapshot label now (w ∷ ws) has recent rising times =
     let s : Submission Value = record { snapshot = snapshot; label = label; now = now; writes = w ∷ ws } in
-    let same : first_conflict (ordered v) snapshot (w ∷ ws) ≡ conflict_of m s = conflicts-same snapshot (ordered v) (commit_order m) (map (λ x. x.key) (w ∷ ws)) rising has in
+    let same : first_conflict (ordered v) snapshot (w ∷ ws) ≡ conflict_of m s = conflicts-same snapshot m.floors v.reclaimed (ordered v) (commit_order m) (map (λ x. x.key) (w ∷ ws)) rising has recent in
     by-conflict v m s times some-writes refl (first_conflict (ordered v) snapshot (w ∷ ws)) (sym same)

@@ -445,6 +445,7 @@ used-memory v m stands = record {
   rising = stands.rising;
   published = stands.published;
   versions = stands.versions;
+  unreclaimed = stands.unreclaimed;
   queue = stands.queue;
   group = stands.group;
   staged = stands.staged;

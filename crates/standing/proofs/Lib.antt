@@ -1,4 +1,5 @@
 pub mod Openings
+pub mod Held
 pub mod Names
 pub mod Memory
 pub mod Conflicts

@@ -4,10 +4,13 @@ use Rattle.std.specs.Prelude.{IsPermutation}
 use Rattle.std.specs.List.{list_all}
 use Rattle.std.proofs.lemmas.Bool.Decides.{nat_tests}
 use Rattle.std.proofs.lemmas.List.Sorted.{IsPermutation-refl, IsPermutation-cons, IsPermutation-trans}
-use Rattle.history.specs.Histories.{last}
-use Rattle.history.specs.Machine.{Machine}
+use Rattle.history.specs.declared.key.Key.{Key}
+use Rattle.history.specs.Histories as histories
+use Rattle.history.specs.Histories.{last, HasRisingTimes}
+use Rattle.history.specs.Machine.{Machine, commit_order}
 use Rattle.history.specs.Steps.{Step, Aborted, begun}
 use Rattle.image.specs.Values.{Value, IsValue}
+use Rattle.chains.specs.KeyWrites.{writes_of}
 use Rattle.snapshot.specs.OpenTable.{snapshot_of, with_opened, with_closed}
 use Rattle.snapshot.specs.Txn.{TxnValue}
 use Rattle.group.specs.CommitOrder.{last_time}
@@ -18,12 +21,22 @@ use Rattle.transactions.specs.Calls as calls
 use Rattle.standing.specs.Standing.{StandsInMemory, snapshots_of}
 use Rattle.standing.specs.Laws.{BeginsAs}
 use Rattle.standing.proofs.Openings.{opened_one, closed_one}
-use Rattle.standing.proofs.Names.{last-named, front-named}
+use Rattle.standing.proofs.Names.{last-named, front-named, rising-named}
+use Rattle.standing.proofs.Conflicts.{rising-front}
+use Rattle.standing.proofs.Held.{whole}
 
 -- the last published time is that of the published history
 pub last-is : (v : TransactionsValue) (m : Machine Value) → StandsInMemory v m → calls.last v ≡ last m.published
 last-is v m stands =
     ap (λ (n : ℕ). last_time (take n v.heads)) stands.published ∙ last-named 0 (take (length m.published) v.heads) m.published (front-named v.heads m.published m.queue stands.names)
+
+-- the commits of its memory rise
+pub published-rises : (v : TransactionsValue) (m : Machine Value) → StandsInMemory v m → HasRisingTimes 0 m.published
+published-rises v m stands = rising-front 0 m.published m.queue (rising-named 0 v.heads (commit_order m) stands.names stands.rising)
+
+-- where nothing is reclaimed it has all writes
+pub all-held : (v : TransactionsValue) (m : Machine Value) → StandsInMemory v m → (key : Key) → writes_of v.versions key ≡ histories.writes_of m.published key
+all-held v m stands key = whole stands.versions (published-rises v m stands) stands.unreclaimed key
 
 -- with one more open
 pub opens-one : (v : TransactionsValue) (m : Machine Value) (number snapshot : ℕ) → StandsInMemory v m → snapshot_of number v.opened ≡ None → snapshot ≡ last m.published
@@ -33,6 +46,7 @@ opens-one v m number snapshot stands fresh is = record {
   rising = stands.rising;
   published = stands.published;
   versions = stands.versions;
+  unreclaimed = stands.unreclaimed;
   queue = stands.queue;
   group = stands.group;
   staged = stands.staged;
@@ -64,6 +78,7 @@ closes-so v m number snapshot stands is =
         rising = stands.rising;
         published = stands.published;
         versions = stands.versions;
+        unreclaimed = stands.unreclaimed;
         queue = stands.queue;
         group = stands.group;
         staged = stands.staged;

@@ -1,8 +1,8 @@
 -- Times of commits in memory and in a history.
-use Rattle.std.proofs.Common.{◌≡◌, ℕ, List, [], ◌∷◌, ◌++◌, length, take, map, refl, ap, ◌∙◌}
-use Rattle.history.specs.Histories.{History, last_after}
+use Rattle.std.proofs.Common.{◌≡◌, ℕ, List, [], ◌∷◌, ◌++◌, ◌<◌, ◌^◌, length, take, map, refl, ap, subst, ◌∙◌}
+use Rattle.history.specs.Histories.{History, last_after, HasRisingTimes}
 use Rattle.image.specs.Values.{Value}
-use Rattle.group.specs.CommitOrder.{last_time_after}
+use Rattle.group.specs.CommitOrder.{last_time_after, IsRisingAfter}
 use Rattle.group.specs.declared.commit_order.CommitHead.{CommitHead}
 use Rattle.standing.specs.Standing.{Name, name_of, name_at}
 
@@ -24,3 +24,13 @@ front-named (x ∷ xs) (c ∷ cs) later same =
     let rest : map name_at xs ≡ map name_of (cs ++ later) = cc in
     let more = front-named xs cs later rest in
     ap (λ (n : Name). n ∷ map name_at (take (length cs) xs)) first ∙ ap (λ (ns : List Name). name_of c ∷ ns) more
+
+pub rising-named : (t : ℕ) (heads : List CommitHead) (h : History Value) → map name_at heads ≡ map name_of h → IsRisingAfter t heads → HasRisingTimes t h
+rising-named t [] [] same rising = tt
+rising-named t [] (c ∷ cs) same rising = absurd cc
+rising-named t (x ∷ xs) [] same rising = absurd cc
+rising-named t (x ∷ xs) (c ∷ cs) same rising =
+    let first : name_at x ≡ name_of c = cc in
+    let rest : map name_at xs ≡ map name_of cs = cc in
+    let time : x.time ≡ c.time = ap (λ (n : Name). n.time) first in
+    (subst (λ (s : ℕ). t < s) time rising.0, subst (λ (s : ℕ). s < 2 ^ 63) time rising.1, subst (λ (s : ℕ). HasRisingTimes s cs) time (rising-named x.time xs cs rest rising.2))

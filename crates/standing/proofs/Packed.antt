@@ -11,7 +11,7 @@ use Rattle.history.specs.declared.key.Key.{Key}
 use Rattle.history.specs.Key.{write_in}
 use Rattle.history.specs.Time.{value_at, value_after}
 use Rattle.history.specs.Histories as histories
-use Rattle.history.specs.Histories.{Commit, History, IsWrite, MayAllFollow}
+use Rattle.history.specs.Histories.{Commit, History, HasRisingTimes, last, IsWrite, MayAllFollow}
 use Rattle.history.specs.Queries.{values_after}
 use Rattle.history.proofs.Orders.{is_le}
 use Rattle.history.proofs.Values.{value_after-append}
@@ -38,6 +38,7 @@ use Rattle.group.specs.declared.queued.StoredExtent.{StoredExtent}
 use Rattle.transactions.specs.Submits.{bodies_over}
 use Rattle.standing.specs.Standing.{HasWrites, Waits, AllWait}
 use Rattle.standing.specs.OnDisk.{values_in, packed, IsPacked, AllPacked, member_of, members_of}
+use Rattle.standing.proofs.Held.{latest-held}
 use Rattle.standing.proofs.Contents.{records-are}
 
 -- ---- values
@@ -58,8 +59,9 @@ values-after : (h : History Value) (c : Commit Value) → c.time < 2 ^ 63 → va
 values-after h c below = fun_ext (λ key. after-one h c key below)
 
 -- memory has the values of the history
-pub values-held : (versions : List KeyWrites) (h : History Value) → HasWrites versions h → (λ (key : Key). latest (chains.writes_of versions key)) ≡ values_in h
-values-held versions h has = fun_ext (λ key. ap latest (has.writes key))
+pub values-held : (floors : ℕ → ℕ) (reclaimed : ℕ) (versions : List KeyWrites) (h : History Value) → HasWrites floors reclaimed versions h → HasRisingTimes 0 h → ((relation : ℕ) → floors relation ≤ last h)
+    → (λ (key : Key). latest (chains.writes_of versions key)) ≡ values_in h
+values-held floors reclaimed versions h has rising reached = fun_ext (λ key. latest-held has rising key (reached key.relation))
 
 -- ---- bytes
 
@@ -68,9 +70,10 @@ unfolding record_bytes
 bytes-are [] = refl
 bytes-are (r ∷ rs) = ap (λ (l : List (List ℕ)). spelling (record_of r) ∷ l) (bytes-are rs)
 
-pub bodies-packed : (versions : List KeyWrites) (h : History Value) (c : Commit Value) → HasWrites versions h → bodies_over versions c.writes ≡ packed h c
-bodies-packed versions h c has =
-    ap (λ (f : Key → Option Value). bodies (map spelling (map record_of (map (stored_record f) c.writes)))) (values-held versions h has)
+pub bodies-packed : (floors : ℕ → ℕ) (reclaimed : ℕ) (versions : List KeyWrites) (h : History Value) (c : Commit Value) → HasWrites floors reclaimed versions h → HasRisingTimes 0 h → ((relation : ℕ) → floors relation ≤ last h)
+    → bodies_over versions c.writes ≡ packed h c
+bodies-packed floors reclaimed versions h c has rising reached =
+    ap (λ (f : Key → Option Value). bodies (map spelling (map record_of (map (stored_record f) c.writes)))) (values-held floors reclaimed versions h has rising reached)
     ∙ ap bodies (bytes-are (map (stored_record (values_in h)) c.writes))
 
 -- ---- the chain of numbers and bodies
@@ -153,9 +156,9 @@ length-mapped f (x ∷ xs) = ap suc (length-mapped f xs)
 -- ---- one commit
 
 -- a commit that waits is stored as its slot is to say
-pub member-stored : (before : History Value) (q : QueuedValue) (c : Commit Value) → Waits before q c → IsPacked before q c → AllByRecursion (IsWrite IsValue) c.writes → AllByRecursion IsNumber (numbers_of q)
+pub member-stored : (versions : List KeyWrites) (before : History Value) (q : QueuedValue) (c : Commit Value) → Waits versions q c → IsPacked before q c → AllByRecursion (IsWrite IsValue) c.writes → AllByRecursion IsNumber (numbers_of q)
     → IsStoredMember (member_of before q c)
-member-stored before q c waits is writes numbered =
+member-stored versions before q c waits is writes numbered =
     let rs : List HeapRecord = map (stored_record (values_in before)) c.writes in
     let each : AllByRecursion IsRecord rs = records-are (values_in before) c.writes writes in
     let ns = numbers_of q in
@@ -182,18 +185,18 @@ member-stored before q c waits is writes numbered =
 -- ---- the commits of a group
 
 -- two lists of all that waits are as long as one another
-pub as-many : (h : History Value) (qs : List QueuedValue) (cs : History Value) → AllWait h qs cs → length qs ≡ length cs
-as-many h [] [] all = refl
-as-many h [] (c ∷ cs) all = absurd all
-as-many h (q ∷ qs) [] all = absurd all
-as-many h (q ∷ qs) (c ∷ cs) all = ap suc (as-many (h ++ c ∷ []) qs cs all.1)
+pub as-many : (before : List KeyWrites) (qs : List QueuedValue) (cs : History Value) → AllWait before qs cs → length qs ≡ length cs
+as-many before [] [] all = refl
+as-many before [] (c ∷ cs) all = absurd all
+as-many before (q ∷ qs) [] all = absurd all
+as-many before (q ∷ qs) (c ∷ cs) all = ap suc (as-many q.after qs cs all.1)
 
-pub wait-front : (n : ℕ) (h : History Value) (qs : List QueuedValue) (cs : History Value) → AllWait h qs cs → AllWait h (take n qs) (take n cs)
-wait-front zero h qs cs all = tt
-wait-front (suc n) h [] [] all = tt
-wait-front (suc n) h [] (c ∷ cs) all = absurd all
-wait-front (suc n) h (q ∷ qs) [] all = absurd all
-wait-front (suc n) h (q ∷ qs) (c ∷ cs) all = (all.0, wait-front n (h ++ c ∷ []) qs cs all.1)
+pub wait-front : (n : ℕ) (before : List KeyWrites) (qs : List QueuedValue) (cs : History Value) → AllWait before qs cs → AllWait before (take n qs) (take n cs)
+wait-front zero before qs cs all = tt
+wait-front (suc n) before [] [] all = tt
+wait-front (suc n) before [] (c ∷ cs) all = absurd all
+wait-front (suc n) before (q ∷ qs) [] all = absurd all
+wait-front (suc n) before (q ∷ qs) (c ∷ cs) all = (all.0, wait-front n q.after qs cs all.1)
 
 pub packed-front : (n : ℕ) (h : History Value) (qs : List QueuedValue) (cs : History Value) → AllPacked h qs cs → AllPacked h (take n qs) (take n cs)
 packed-front zero h qs cs all = tt
@@ -215,19 +218,19 @@ packed-more h [] (d ∷ ds) q c all is = absurd all
 packed-more h (p ∷ ps) [] q c all is = absurd all
 packed-more h (p ∷ ps) (d ∷ ds) q c all is = (all.0, packed-more (h ++ d ∷ []) ps ds q c all.1 (subst (λ (l : History Value). IsPacked l q c) (sym (append_assoc h (d ∷ []) ds)) is))
 
-pub entries-named : (h : History Value) (qs : List QueuedValue) (cs : History Value) → AllWait h qs cs → map (λ (s : StoredMember). s.entry) (members_of h qs cs) ≡ map (λ (q : QueuedValue). q.entry) qs
-entries-named h [] [] all = refl
-entries-named h [] (c ∷ cs) all = absurd all
-entries-named h (q ∷ qs) [] all = absurd all
-entries-named h (q ∷ qs) (c ∷ cs) all = ap (λ (l : List Entry). q.entry ∷ l) (entries-named (h ++ c ∷ []) qs cs all.1)
+pub entries-named : (before : List KeyWrites) (h : History Value) (qs : List QueuedValue) (cs : History Value) → AllWait before qs cs → map (λ (s : StoredMember). s.entry) (members_of h qs cs) ≡ map (λ (q : QueuedValue). q.entry) qs
+entries-named before h [] [] all = refl
+entries-named before h [] (c ∷ cs) all = absurd all
+entries-named before h (q ∷ qs) [] all = absurd all
+entries-named before h (q ∷ qs) (c ∷ cs) all = ap (λ (l : List Entry). q.entry ∷ l) (entries-named q.after (h ++ c ∷ []) qs cs all.1)
 
-pub members-are : (h : History Value) (qs : List QueuedValue) (cs : History Value) → AllWait h qs cs → MayAllFollow IsValue h cs → map (λ (s : StoredMember). s.member) (members_of h qs cs) ≡ stored_members (values_in h) cs
-members-are h [] [] all may = refl
-members-are h [] (c ∷ cs) all may = absurd all
-members-are h (q ∷ qs) [] all may = absurd all
-members-are h (q ∷ qs) (c ∷ cs) all may =
+pub members-are : (before : List KeyWrites) (h : History Value) (qs : List QueuedValue) (cs : History Value) → AllWait before qs cs → MayAllFollow IsValue h cs → map (λ (s : StoredMember). s.member) (members_of h qs cs) ≡ stored_members (values_in h) cs
+members-are before h [] [] all may = refl
+members-are before h [] (c ∷ cs) all may = absurd all
+members-are before h (q ∷ qs) [] all may = absurd all
+members-are before h (q ∷ qs) (c ∷ cs) all may =
     ap (λ (l : List Member). stored_member (values_in h) c ∷ l)
-    (members-are (h ++ c ∷ []) qs cs all.1 may.1 ∙ ap (λ (f : Key → Option Value). stored_members f cs) (sym (values-after h c (may.0).in_range)))
+    (members-are q.after (h ++ c ∷ []) qs cs all.1 may.1 ∙ ap (λ (f : Key → Option Value). stored_members f cs) (sym (values-after h c (may.0).in_range)))
 
 pub all-first : (P : ℕ → Type 0) (xs ys : List ℕ) → AllByRecursion P (xs ++ ys) → AllByRecursion P xs
 all-first P [] ys all = tt
@@ -237,14 +240,14 @@ pub all-last : (P : ℕ → Type 0) (xs ys : List ℕ) → AllByRecursion P (xs 
 all-last P [] ys all = all
 all-last P (x ∷ xs) ys all = all-last P xs ys all.1
 
-pub members-stored : (h : History Value) (qs : List QueuedValue) (cs : History Value) → AllWait h qs cs → AllPacked h qs cs → MayAllFollow IsValue h cs → AllByRecursion IsNumber (flat_map numbers_of qs) → AllByRecursion IsStoredMember (members_of h qs cs)
-members-stored h [] [] all each may numbered = tt
-members-stored h [] (c ∷ cs) all each may numbered = absurd all
-members-stored h (q ∷ qs) [] all each may numbered = absurd all
-members-stored h (q ∷ qs) (c ∷ cs) all each may numbered =
+pub members-stored : (before : List KeyWrites) (h : History Value) (qs : List QueuedValue) (cs : History Value) → AllWait before qs cs → AllPacked h qs cs → MayAllFollow IsValue h cs → AllByRecursion IsNumber (flat_map numbers_of qs) → AllByRecursion IsStoredMember (members_of h qs cs)
+members-stored before h [] [] all each may numbered = tt
+members-stored before h [] (c ∷ cs) all each may numbered = absurd all
+members-stored before h (q ∷ qs) [] all each may numbered = absurd all
+members-stored before h (q ∷ qs) (c ∷ cs) all each may numbered =
     let both : AllByRecursion IsNumber (numbers_of q ++ flat_map numbers_of qs) = subst (AllByRecursion IsNumber) (flat_map-cons numbers_of q qs) numbered in (
-      member-stored h q c all.0 each.0 (may.0).writes (all-first IsNumber (numbers_of q) (flat_map numbers_of qs) both),
-      members-stored (h ++ c ∷ []) qs cs all.1 each.1 may.1 (all-last IsNumber (numbers_of q) (flat_map numbers_of qs) both),
+      member-stored before h q c all.0 each.0 (may.0).writes (all-first IsNumber (numbers_of q) (flat_map numbers_of qs) both),
+      members-stored q.after (h ++ c ∷ []) qs cs all.1 each.1 may.1 (all-last IsNumber (numbers_of q) (flat_map numbers_of qs) both),
     )
 
 -- the numbers of a group's extents are those that its commits have taken

@@ -1,8 +1,9 @@
 -- A group begins, goes its way and is published.
 use Rattle.std.proofs.Common.{◌≡◌, ◌≢◌, ℕ, zero, suc, ◌+◌, ◌<◌, ◌≤◌, ◌==◌, nat_lt, min, Bool, true, false, List, [], ◌∷◌, ◌++◌, length, take, drop, map, refl, arith, ap, sym, subst, ◌∙◌, append_assoc, length-append}
 use Rattle.std.proofs.lemmas.Bool.Decides.{nat_tests}
-use Rattle.history.specs.Histories.{History}
+use Rattle.history.specs.Histories.{History, HasRisingTimes}
 use Rattle.history.specs.Machine.{Machine, Gate, commit_order, IsMachine}
+use Rattle.history.proofs.Histories.{rising-from_following}
 use Rattle.history.specs.Steps as steps
 use Rattle.history.specs.Steps.{Event, Step, Run}
 use Rattle.image.specs.Values.{Value, IsValue}
@@ -15,33 +16,17 @@ use Rattle.transactions.specs.declared.stage.GroupStage.TheVariants.{NoGroup, St
 use Rattle.transactions.specs.declared.stage.NextStep.TheVariants as next
 use Rattle.standing.specs.Standing.{name_of, HasWrites, AllWait, IsStaged, StandsInMemory}
 use Rattle.standing.specs.Laws.{begins_in}
+use Rattle.standing.proofs.Conflicts.{rising-front, ordered-has}
+use Rattle.standing.proofs.Packed.{as-many, wait-front}
 
 -- ---- the queue and the machine's
 
-all_wait-length : (before : History Value) (qs : List QueuedValue) (cs : History Value) → AllWait before qs cs → length qs ≡ length cs
-all_wait-length before [] [] all = refl
-all_wait-length before [] (c ∷ cs) all = absurd all
-all_wait-length before (q ∷ qs) [] all = absurd all
-all_wait-length before (q ∷ qs) (c ∷ cs) all = ap suc (all_wait-length (before ++ c ∷ []) qs cs all.1)
-
-append-none : (h : History Value) → h ++ [] ≡ h
-append-none [] = refl
-append-none (c ∷ cs) = ap (λ (ds : History Value). c ∷ ds) (append-none cs)
-
-front-has : (n : ℕ) (before : History Value) (versions : List KeyWrites) (qs : List QueuedValue) (cs : History Value) → HasWrites versions before → AllWait before qs cs → HasWrites (versions_after versions (take n qs)) (before ++ take n cs)
-front-has zero before versions qs cs has all = subst (λ (h : History Value). HasWrites versions h) (sym (append-none before)) has
-front-has (suc n) before versions [] [] has all = subst (λ (h : History Value). HasWrites versions h) (sym (append-none before)) has
-front-has (suc n) before versions [] (c ∷ cs) has all = absurd all
-front-has (suc n) before versions (q ∷ qs) [] has all = absurd all
-front-has (suc n) before versions (q ∷ qs) (c ∷ cs) has all =
-    subst (λ (h : History Value). HasWrites (versions_after q.after (take n qs)) h) (append_assoc before (c ∷ []) (take n cs)) (front-has n (before ++ c ∷ []) q.after qs cs all.0.after all.1)
-
-rest-waits : (n : ℕ) (before : History Value) (qs : List QueuedValue) (cs : History Value) → AllWait before qs cs → AllWait (before ++ take n cs) (drop n qs) (drop n cs)
-rest-waits zero before qs cs all = subst (λ (h : History Value). AllWait h qs cs) (sym (append-none before)) all
+rest-waits : (n : ℕ) (before : List KeyWrites) (qs : List QueuedValue) (cs : History Value) → AllWait before qs cs → AllWait (versions_after before (take n qs)) (drop n qs) (drop n cs)
+rest-waits zero before qs cs all = all
 rest-waits (suc n) before [] [] all = tt
 rest-waits (suc n) before [] (c ∷ cs) all = absurd all
 rest-waits (suc n) before (q ∷ qs) [] all = absurd all
-rest-waits (suc n) before (q ∷ qs) (c ∷ cs) all = subst (λ (h : History Value). AllWait h (drop n qs) (drop n cs)) (append_assoc before (c ∷ []) (take n cs)) (rest-waits n (before ++ c ∷ []) qs cs all.1)
+rest-waits (suc n) before (q ∷ qs) (c ∷ cs) all = rest-waits n q.after qs cs all.1
 
 taken-and-rest : (n : ℕ) (cs : History Value) → take n cs ++ drop n cs ≡ cs
 taken-and-rest zero cs = refl
@@ -62,6 +47,7 @@ restaged v m stage stands staged = record {
   rising = stands.rising;
   published = stands.published;
   versions = stands.versions;
+  unreclaimed = stands.unreclaimed;
   queue = stands.queue;
   group = stands.group;
   staged = staged;
@@ -78,6 +64,7 @@ regated v m gate stands = record {
   rising = stands.rising;
   published = stands.published;
   versions = stands.versions;
+  unreclaimed = stands.unreclaimed;
   queue = stands.queue;
   group = stands.group;
   staged = stands.staged;
@@ -93,6 +80,7 @@ breaks v m stands = record {
   rising = stands.rising;
   published = stands.published;
   versions = stands.versions;
+  unreclaimed = stands.unreclaimed;
   queue = stands.queue;
   group = stands.group;
   staged = stands.staged;
@@ -102,20 +90,25 @@ breaks v m stands = record {
   failed = refl;
 }
 
-pub publishes : (v : TransactionsValue) (m : Machine Value) → StandsInMemory v m → m.group ≤ length m.queue → StandsInMemory (groups.published v) (steps.group_published m)
-publishes v m stands few =
+pub publishes : (v : TransactionsValue) (m : Machine Value) → StandsInMemory v m → IsMachine IsValue m → StandsInMemory (groups.published v) (steps.group_published m)
+publishes v m stands machine =
     let g = m.group in
-    let has : HasWrites (versions_after v.versions (take g v.queue)) (m.published ++ take g m.queue) = front-has g m.published v.versions v.queue m.queue stands.versions stands.queue in
-    let waits : AllWait (m.published ++ take g m.queue) (drop g v.queue) (drop g m.queue) = rest-waits g m.published v.queue m.queue stands.queue in
+    let few = machine.group_queued in
+    let rising : HasRisingTimes 0 (commit_order m) = rising-from_following IsValue [] (commit_order m) machine.history in
     let whole : (m.published ++ take g m.queue) ++ drop g m.queue ≡ commit_order m = append_assoc m.published (take g m.queue) (drop g m.queue) ∙ ap (λ (h : History Value). m.published ++ h) (taken-and-rest g m.queue) in
+    let front : HasRisingTimes 0 (m.published ++ take g m.queue) = rising-front 0 (m.published ++ take g m.queue) (drop g m.queue) (subst (λ (h : History Value). HasRisingTimes 0 h) (sym whole) rising) in
+    let has : HasWrites m.floors v.reclaimed (versions_after v.versions (take g v.queue)) (m.published ++ take g m.queue) =
+    ordered-has m.floors v.reclaimed m.published v.versions (take g v.queue) (take g m.queue) stands.versions (wait-front g v.versions v.queue m.queue stands.queue) front machine.floors_reached in
+    let waits : AllWait (versions_after v.versions (take g v.queue)) (drop g v.queue) (drop g m.queue) = rest-waits g v.versions v.queue m.queue stands.queue in
     let many : length (m.published ++ take g m.queue) ≡ length m.published + g = simp length-append (omega (arith, length-taken g m.queue few)) in
     let same : g ≡ v.group = sym stands.group in
     record {
       names = stands.names ∙ sym (ap (λ (h : History Value). map name_of h) whole);
       rising = stands.rising;
       published = omega (arith, many, stands.published, stands.group);
-      versions = subst (λ (n : ℕ). HasWrites (versions_after v.versions (take n v.queue)) (m.published ++ take g m.queue)) same has;
-      queue = subst (λ (n : ℕ). AllWait (m.published ++ take g m.queue) (drop n v.queue) (drop g m.queue)) same waits;
+      versions = subst (λ (n : ℕ). HasWrites m.floors v.reclaimed (versions_after v.versions (take n v.queue)) (m.published ++ take g m.queue)) same has;
+      unreclaimed = stands.unreclaimed;
+      queue = subst (λ (n : ℕ). AllWait (versions_after v.versions (take n v.queue)) (drop n v.queue) (drop g m.queue)) same waits;
       group = refl;
       staged = λ none. absurd none;
       snapshots = stands.snapshots;
@@ -128,12 +121,13 @@ publishes v m stands few =
 
 grouped-stands : (v : TransactionsValue) (m : Machine Value) → StandsInMemory v m → 0 < length v.queue → StandsInMemory (record v { group = min (length v.queue) 16; stage = Storing 0 0 }) (steps.grouped m)
 grouped-stands v m stands some =
-    let same = all_wait-length m.published v.queue m.queue stands.queue in
+    let same = as-many v.versions v.queue m.queue stands.queue in
     record {
       names = stands.names;
       rising = stands.rising;
       published = stands.published;
       versions = stands.versions;
+      unreclaimed = stands.unreclaimed;
       queue = stands.queue;
       group = omega (arith, same);
       staged = λ stage. omega arith;
@@ -159,7 +153,7 @@ begins v m stands machine works =
     by-tests (m.group == 0) refl (nat_lt 0 (length m.queue)) refl
   where
     many : length v.queue ≡ length m.queue
-    many = all_wait-length m.published v.queue m.queue stands.queue
+    many = as-many v.versions v.queue m.queue stands.queue
 
     by-tests : (a : Bool) → (m.group == 0) ≡ a → (b : Bool) → nat_lt 0 (length m.queue) ≡ b → Begins v m
     by-tests true none true some =

@@ -845,7 +845,7 @@ module _ (tells : Bool) (v new : StoreValue) (m : Machine Value) (t : TurnState)
       → new.transactions ≡ groups.published v.transactions → new.log ≡ record v.log { used = t.number + 1; writing = false } → new.turn ≡ None → Ends tells m (Ok said) new
   opens is call asks said same a b c =
       let log : LogState = record v.log { used = t.number + 1; writing = false } in
-      let memory = publishes v.transactions m parts.memory machine.group_queued in
+      let memory = publishes v.transactions m parts.memory machine in
       let rest : AreOut v.transactions.usages (flat_map numbers_of (take v.transactions.group v.transactions.queue) ++ flat_map numbers_of (drop v.transactions.group v.transactions.queue)) =
       subst (λ (l : List ℕ). AreOut v.transactions.usages l) (numbers-split v.transactions.group v.transactions.queue) parts.order.out in
       let order = keeps-published v.transactions parts.order asks

@@ -9,10 +9,11 @@ use Rattle.history.specs.Key.{key_of}
 use Rattle.history.specs.Time.{value_at}
 use Rattle.history.specs.Versions.{versions, rows}
 use Rattle.history.specs.Queries.{IsScanAt, IsScanBetween, IsScanOfRows}
+use Rattle.history.specs.Histories as histories
 use Rattle.history.specs.Histories.{History, last, between}
 use Rattle.history.specs.Answers as answers
 use Rattle.image.specs.Values.{Value}
-use Rattle.chains.specs.KeyWrites.{KeyWrites, writes_of}
+use Rattle.chains.specs.KeyWrites.{KeyWrites, writes_of, IsOrdered}
 use Rattle.chains.specs.Rows.{rows_in, scanned_rows}
 use Rattle.chains.specs.Scans.{scanned}
 use Rattle.chains.proofs.Shown.{scan_is}
@@ -22,28 +23,31 @@ use Rattle.timequery.specs.declared.fault.QueryFault.{QueryFault}
 use Rattle.timequery.specs.declared.fault.QueryFault.TheVariants as query
 use Rattle.store.specs.Values.{StoreValue}
 use Rattle.store.specs.Calls as stores
-use Rattle.standing.specs.Standing.{HasWrites}
 use Rattle.standing.specs.Laws.{ViewStands, Says, SaysScanAt, SaysBetween, SaysScanBetween}
 
 -- ---- what is found is the history's
 
-scan-of : (m : List KeyWrites) (h : History Value) (relation time : ℕ) → HasWrites m h → IsScanAt h relation time (scanned relation time m)
-scan-of m h relation time has =
-    let is = scan_is m relation time has.ordered in
+-- memory has all writes of the history
+abbrev HasAll : List KeyWrites → History Value → Type 0
+HasAll m h = (key : Key) → writes_of m key ≡ histories.writes_of h key
+
+scan-of : (m : List KeyWrites) (h : History Value) (relation time : ℕ) → IsOrdered m → HasAll m h → IsScanAt h relation time (scanned relation time m)
+scan-of m h relation time ordered has =
+    let is = scan_is m relation time ordered in
     record {
       rising = is.rising;
       each = λ number value.
-          let same = ap (λ (ws : List (TimedWrite Value)). value_at ws time) (has.writes (key_of relation number)) in
+          let same = ap (λ (ws : List (TimedWrite Value)). value_at ws time) (has (key_of relation number)) in
           ((λ there. sym same ∙ (is.each number value).0 there), (λ says. (is.each number value).1 (same ∙ says)));
     }
 
-rows-of : (m : List KeyWrites) (h : History Value) (key : Key) (a b : ℕ) → HasWrites m h → rows_in m a b key ≡ between h key a b
-rows-of m h key a b has = ap (λ (ws : List (TimedWrite Value)). rows (versions ws) a b) (has.writes key)
+rows-of : (m : List KeyWrites) (h : History Value) (key : Key) (a b : ℕ) → HasAll m h → rows_in m a b key ≡ between h key a b
+rows-of m h key a b has = ap (λ (ws : List (TimedWrite Value)). rows (versions ws) a b) (has key)
 
-scan_rows-of : (m : List KeyWrites) (h : History Value) (relation a b : ℕ) → HasWrites m h → IsScanBetween h relation a b (scanned_rows relation a b m)
-scan_rows-of m h relation a b has =
+scan_rows-of : (m : List KeyWrites) (h : History Value) (relation a b : ℕ) → IsOrdered m → HasAll m h → IsScanBetween h relation a b (scanned_rows relation a b m)
+scan_rows-of m h relation a b ordered has =
     let same : Path (Key → List (Version Value)) (rows_in m a b) (λ key. between h key a b) = λ i key. rows-of m h key a b has i in
-    subst (λ (of : Key → List (Version Value)). IsScanOfRows of relation (scanned_rows relation a b m)) same (scan_of_rows m relation a b has.ordered)
+    subst (λ (of : Key → List (Version Value)). IsScanOfRows of relation (scanned_rows relation a b m)) same (scan_of_rows m relation a b ordered)
 
 -- ---- what is refused is what the history refuses
 
@@ -164,7 +168,7 @@ pub scan_at-answered : (v : StoreValue) (view : ViewValue) (h : History Value) (
     → MatchBool (view.mark == v.transactions.mark) (SaysScanAt h floors relation time answer) (answer ≡ Err query.Stranger)
 scan_at-answered v view h floors relation time answer stands says =
     own _ _ _ (view.mark == v.transactions.mark)
-    (time-said (λ (found : Vec (ℕ × Value) Global). found.items) (IsScanAt h relation time) (scanned relation time view.state) view h floors relation time answer stands (scan-of view.state h relation time stands.state_is))
+    (time-said (λ (found : Vec (ℕ × Value) Global). found.items) (IsScanAt h relation time) (scanned relation time view.state) view h floors relation time answer stands (scan-of view.state h relation time stands.ordered stands.state_is))
     says
 
 pub between-answered : (v : StoreValue) (view : ViewValue) (h : History Value) (floors : ℕ → ℕ) (key : Key) (a b : ℕ) (answer : Result (Vec (Version Value) Global) QueryFault) → ViewStands view h floors → stores.AnswersRows v view key a b answer
@@ -180,5 +184,5 @@ pub scan_between-answered : (v : StoreValue) (view : ViewValue) (h : History Val
     → MatchBool (view.mark == v.transactions.mark) (SaysScanBetween h floors relation a b answer) (answer ≡ Err query.Stranger)
 scan_between-answered v view h floors relation a b answer stands says =
     own _ _ _ (view.mark == v.transactions.mark)
-    (interval-said (λ (rows : Vec (ℕ × Version Value) Global). rows.items) (IsScanBetween h relation a b) (scanned_rows relation a b view.state) view (last h) (floors relation) a b answer stands.last_is (stands.floor_is relation) (scan_rows-of view.state h relation a b stands.state_is))
+    (interval-said (λ (rows : Vec (ℕ × Version Value) Global). rows.items) (IsScanBetween h relation a b) (scanned_rows relation a b view.state) view (last h) (floors relation) a b answer stands.last_is (stands.floor_is relation) (scan_rows-of view.state h relation a b stands.ordered stands.state_is))
     says

@@ -4,6 +4,7 @@ use Rattle.std.specs.declared.alloc.Global.{Global}
 use Rattle.std.specs.declared.vec.Vec.{Vec}
 use Rattle.history.specs.declared.key.Key.{Key}
 use Rattle.history.specs.declared.time.Version.{Version}
+use Rattle.history.specs.Histories as histories
 use Rattle.history.specs.Histories.{History, last}
 use Rattle.history.specs.Machine.{Machine, Gate, Shut, Due, MayBeOpen, OfGroup, OfFloor}
 use Rattle.history.specs.Answers as answers
@@ -12,6 +13,7 @@ use Rattle.history.specs.Submissions.{Submission, Decision, commit_made}
 use Rattle.history.specs.Steps.{Event, Step, Run, Began, BeginRefused, Aborted, Decided, Refused, GroupBegan, Published, GateDue, GateWritten, Broke, begun}
 use Rattle.history.specs.Steps as steps
 use Rattle.image.specs.Values.{Value, IsValue}
+use Rattle.chains.specs.KeyWrites.{writes_of, IsOrdered}
 use Rattle.snapshot.specs.Txn.{TxnValue}
 use Rattle.group.specs.declared.answers.BeginFault.{BeginFault}
 use Rattle.group.specs.declared.answers.BeginFault.TheVariants as fault
@@ -34,7 +36,7 @@ use Rattle.group.specs.declared.answers.Did.TheVariants as did
 use Rattle.group.specs.declared.answers.PumpFault.{PumpFault}
 use Rattle.group.specs.declared.answers.PumpFault.TheVariants as pump
 use Rattle.store.specs.Values.{StoreValue}
-use Rattle.standing.specs.Standing.{HasWrites, StandsInMemory}
+use Rattle.standing.specs.Standing.{StandsInMemory}
 
 -- what the machine does in a begin, by its answer
 abbrev pub BeginsAs : Machine Value → Result TxnValue BeginFault → TransactionsValue → Type 0
@@ -113,7 +115,8 @@ TimesAreOfLabel = (v : TransactionsValue) (m : Machine Value) (label : ℕ) → 
 pub record ViewStands (view : ViewValue) (h : History Value) (floors : ℕ → ℕ) : Type 0 where
   pub last_is : view.last ≡ last h
   pub floor_is : (relation : ℕ) → view.floor ≡ floors relation
-  pub state_is : HasWrites view.state h
+  pub ordered : IsOrdered view.state
+  pub state_is : (key : Key) → writes_of view.state key ≡ histories.writes_of h key
 
 -- an answer to a query is that of the history, or memory was refused
 abbrev pub SaysAt : Result (Option Value) answers.QueryRefusal → Result (Option Value) QueryFault → Type 0

@@ -18,7 +18,7 @@ use Rattle.store.specs.Values.{StoreValue}
 -- the store on what was read: all commits of the log are published, and nothing waits
 abbrev pub opened_on : ℕ → Recovered → DiskState → StoreValue
 opened_on mark r disk = record {
-  transactions = record { mark = mark; opened = []; heads = map head_as r.commits.items; published = length r.commits.items; versions = r.chains; queue = []; usages = r.extents; slots = total r.header; used = r.used; group = 0; stage = NoGroup; floor = r.floor; failed = false };
+  transactions = record { mark = mark; opened = []; heads = map head_as r.commits.items; published = length r.commits.items; versions = r.chains; queue = []; usages = r.extents; slots = total r.header; used = r.used; group = 0; stage = NoGroup; floor = r.floor; reclaimed = r.reclaimed; failed = false };
   log = record { profile = r.header.profile; slots = total r.header; used = r.used; writing = false };
   turn = None;
   job = None;

@@ -70,7 +70,7 @@ impl<D: Disk> Store<D> {
             commits: _,
             floor,
             archived,
-            reclaimed: _,
+            reclaimed,
             runs,
             extents,
             live: _,
@@ -86,7 +86,7 @@ impl<D: Disk> Store<D> {
         Ok(Store {
             alloc,
             transactions: Transactions::of_recovered(
-                alloc, mark, heads, chains, extents, slots, used, floor,
+                alloc, mark, heads, chains, extents, slots, used, floor, reclaimed,
             ),
             log,
             turn: None,

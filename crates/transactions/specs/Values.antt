@@ -32,6 +32,8 @@ pub record TransactionsValue : Type 0 where
   pub group : ℕ
   pub stage : GroupStage
   pub floor : ℕ
+  -- the reclaim mark: what ended by then is not among the versions
+  pub reclaimed : ℕ
   pub failed : Bool
 
 -- ---- the commit order

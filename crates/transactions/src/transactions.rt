@@ -33,6 +33,8 @@ pub struct Transactions {
     pub(crate) group: usize,
     pub(crate) stage: GroupStage,
     pub(crate) floor: u64,
+    // What ended by then is not among the versions.
+    pub(crate) reclaimed: u64,
     pub(crate) failed: bool,
 }
 
@@ -42,14 +44,14 @@ impl Model for Transactions {
 
     ghost Value = { TransactionsValue };
 
-    ghost view = { λ t. record { mark = t.mark; opened = t.opened; heads = t.order.heads; published = t.order.published; versions = t.versions; queue = t.queue.items; usages = t.extents; slots = t.slots; used = t.used; group = t.group; stage = t.stage; floor = t.floor; failed = t.failed } };
+    ghost view = { λ t. record { mark = t.mark; opened = t.opened; heads = t.order.heads; published = t.order.published; versions = t.versions; queue = t.queue.items; usages = t.extents; slots = t.slots; used = t.used; group = t.group; stage = t.stage; floor = t.floor; reclaimed = t.reclaimed; failed = t.failed } };
 
-    ghost invariant = { λ t. IsInOrder (record { mark = t.mark; opened = t.opened; heads = t.order.heads; published = t.order.published; versions = t.versions; queue = t.queue.items; usages = t.extents; slots = t.slots; used = t.used; group = t.group; stage = t.stage; floor = t.floor; failed = t.failed }) };
+    ghost invariant = { λ t. IsInOrder (record { mark = t.mark; opened = t.opened; heads = t.order.heads; published = t.order.published; versions = t.versions; queue = t.queue.items; usages = t.extents; slots = t.slots; used = t.used; group = t.group; stage = t.stage; floor = t.floor; reclaimed = t.reclaimed; failed = t.failed }) };
 }
 
 impl Transactions {
     /// Those of a store that was just opened: the published commits, the versions of each key, the
-    /// extents in use, the slots of the store and of its log, and the floor.
+    /// extents in use, the slots of the store and of its log, the floor, and the reclaim mark.
     #[allow(clippy::too_many_arguments)]
     pub fn of_recovered(
         alloc: Global,
@@ -60,12 +62,13 @@ impl Transactions {
         slots: u32,
         used: u32,
         floor: u64,
+        reclaimed: u64,
     ) -> Self
         requires rising { IsRisingAfter 0 heads.items }
         requires latest { latest versions ≤ last_time heads.items }
         requires room { used ≤ slots }
         requires slots { slots ≤ 65536 }
-        ensures { result ≡ record { mark = mark; opened = []; heads = heads.items; published = length heads.items; versions = versions; queue = []; usages = extents; slots = slots; used = used; group = 0; stage = NoGroup; floor = floor; failed = false } }
+        ensures { result ≡ record { mark = mark; opened = []; heads = heads.items; published = length heads.items; versions = versions; queue = []; usages = extents; slots = slots; used = used; group = 0; stage = NoGroup; floor = floor; reclaimed = reclaimed; failed = false } }
     {
         Transactions {
             mark,
@@ -79,6 +82,7 @@ impl Transactions {
             group: 0,
             stage: GroupStage::NoGroup,
             floor,
+            reclaimed,
             failed: false,
         }
     }
@@ -97,6 +101,7 @@ impl Transactions {
             group: _,
             stage: _,
             floor: _,
+            reclaimed: _,
             failed: _,
         } = self;
         let mut queue = queue;
