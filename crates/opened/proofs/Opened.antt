@@ -195,6 +195,7 @@ module _ (old : DiskState) (mark : ℕ) (disk : DiskState) (r : Recovered) (head
     built = image.built;
     used = is.used;
     kept = kept-numbers r.extents (live image.layout) is.extents.kept;
+    heap = is.writes;
     packed = tt;
     archived = is.archived;
     runs_end = ap (row_end 0) is.runs;

@@ -175,22 +175,6 @@ records-in-range after upto [] low each = tt
 records-in-range after upto (c ∷ cs) low each =
     AllByRecursion-append IsArchiveRecord (key_records after upto c) (records_of after upto cs) (filtered-in-range c.key after upto (versions c.writes) low (versions-in-range c.key c.writes each.0)) (records-in-range after upto cs low each.1)
 
--- ---- nothing is reclaimed
-
-module _ (header : Header) (m : Machine Value) (layout : Layout) (reading : Reading) (versions-in : List KeyWrites) (stands : StandsFor reading m.published m.floors) (none : reclaimed_upto reading ≡ 0) (has : (key : Key) → writes_of versions-in key ≡ histories.writes_of m.published key) where
-  no-anchors : reading.anchors ≡ []
-  no-anchors = no_anchor reading.anchors (subst (λ (n : ℕ). AllByRecursion (IsAnchorUpto n) reading.anchors) none stands.opens.reads.anchor_times)
-
-  all-commits : heap_commits reading ≡ m.published
-  all-commits = stands.opens.write_sets ∙ ap (λ (n : ℕ). commits_after n m.published) none ∙ commits_after-all 0 0 m.published (omega arith) (rises reading m.published m.floors stands)
-
-  pub holds-heap : (key : Key) → heap_versions reading key ≡ versions (writes_of versions-in key)
-  holds-heap key =
-      ap (λ (ws : List (TimedWrite Value)). versions ws)
-      (ap (λ (olds : _). old_writes olds key ++ histories.writes_of (heap_commits reading) key) no-anchors
-      ∙ ap (λ (h : History Value). histories.writes_of h key) all-commits
-      ∙ sym (has key))
-
 -- ---- the refusals
 
 -- what holds where no archive is refused before its run is counted
@@ -274,12 +258,9 @@ module _ (header : Header) (v : StoreValue) (m : Machine Value) (memory : Stands
         (weaker (λ (c : KeyWrites). IsRisingAfter 0 c.writes × AllByRecursion (IsInRange c.key) c.writes) (λ (c : KeyWrites). IsRisingAfter 0 c.writes) v.transactions.versions (λ c both. both.0) chains);
   }
 
-  none-reclaimed : reclaimed_upto w.reading ≡ 0
-  none-reclaimed = ap reclaim_mark (sym w.laid.heap.log_is) ∙ no_reclaim header.profile 0 w.layout.slots w.built
-
   next-run : IsNextRun w.layout w.reading m.published (record { entry = run_of upto v.runs_end (archive_of v upto); records = archive_of v upto })
   next-run = record {
-    plan = archive_plan-is w.reading v.transactions.versions in-memory (holds-heap header m w.layout w.reading v.transactions.versions w.stands none-reclaimed (all-held v.transactions m memory))
+    plan = archive_plan-is w.reading v.transactions.versions in-memory (λ key. ap (λ (ws : List (TimedWrite Value)). versions ws) (sym (w.heap key)))
         v.archived (stores.floor v) upto (sym w.archived) (λ relation. w.stands.opens.floors_given relation ∙ sym (memory.floors relation));
     later = omega (arith, w.archived, may.later);
     by_last = omega (arith, may.by_last, last-is v.transactions m memory);
@@ -302,6 +283,7 @@ module _ (header : Header) (v : StoreValue) (m : Machine Value) (memory : Stands
     built = w.built;
     used = w.used;
     kept = w.kept;
+    heap = w.heap;
     packed = w.packed;
     archived = w.archived;
     runs_end = w.runs_end;

@@ -79,6 +79,7 @@ same-works header v m opened heads snapshots w = record {
   built = w.built;
   used = w.used;
   kept = w.kept;
+  heap = w.heap;
   packed = w.packed;
   archived = w.archived;
   runs_end = w.runs_end;
@@ -320,6 +321,7 @@ queued-works header v m label time numbers snapshots c order memory machine leas
       built = w.built;
       used = w.used;
       kept = all-taken v.transactions.usages numbers (live w.layout) least w.kept;
+      heap = w.heap;
       packed = packed-more m.published v.transactions.queue m.queue q c w.packed (queued-packed v.transactions (commit_order m) c label time numbers m.floors (order-has v.transactions m memory machine) (order-rising m machine) (floors-order m machine) many);
       at = subst (λ (g : Group). IsAtStage header w.layout g (v.transactions.queue ++ q ∷ []) v.transactions.stage v.turn (record v.disk.areas { status = w.rested })) groups
           (stage-same header w.layout (group_of w.layout v.transactions m) v.transactions.queue q v.transactions.group v.transactions.stage v.turn (record v.disk.areas { status = w.rested }) order.stage_fits order.group_within w.at);

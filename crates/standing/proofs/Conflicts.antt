@@ -5,7 +5,8 @@ use Rattle.history.specs.declared.key.Key.{Key}
 use Rattle.history.specs.Key.{write_in}
 use Rattle.history.specs.Histories as histories
 use Rattle.history.specs.Histories.{Commit, History, timed_write, HasRisingTimes, last, last_after}
-use Rattle.history.proofs.Histories.{last_after-append}
+use Rattle.history.specs.declared.time.TimedWrite.{TimedWrite}
+use Rattle.history.proofs.Histories.{last_after-append, writes_of-append}
 use Rattle.history.specs.Conflicts.{is_written_after, first_conflict}
 use Rattle.image.specs.Values.{Value}
 use Rattle.chains.specs.KeyWrites.{KeyWrites, writes_of}
@@ -13,7 +14,7 @@ use Rattle.chains.specs.Writes.{last_time, last_time_after}
 use Rattle.group.specs.Queued.{QueuedValue}
 use Rattle.transactions.specs.Values.{versions_after}
 use Rattle.standing.specs.Standing.{HasWrites, AllWait}
-use Rattle.standing.proofs.Held.{later-held, one-more}
+use Rattle.standing.proofs.Held.{later-held, one-more, written-is}
 
 -- the last write of a key is later than a time exactly where a commit later than it wrote the key
 later-written : (s before : ℕ) (h : History Value) (key : Key) → HasRisingTimes before h → nat_lt s (last_time_after before (histories.writes_of h key)) ≡ (nat_lt s before || is_written_after h s key)
@@ -64,6 +65,17 @@ pub conflicts-same : (s : ℕ) (floors : ℕ → ℕ) (reclaimed : ℕ) (version
     → find (λ key. nat_lt s (last_time (writes_of versions key))) keys ≡ first_conflict h s keys
 conflicts-same s floors reclaimed versions h keys rising has recent =
     find-same (λ key. nat_lt s (last_time (writes_of versions key))) (is_written_after h s) keys (λ key. later-held has rising key s recent ∙ key-later s h key rising)
+
+-- what waits adds its writes
+pub writes-behind : (versions : List KeyWrites) (qs : List QueuedValue) (cs : History Value) (key : Key) → AllWait versions qs cs → writes_of (versions_after versions qs) key ≡ writes_of versions key ++ histories.writes_of cs key
+writes-behind versions [] [] key all = sym (append-nil (writes_of versions key))
+writes-behind versions [] (c ∷ cs) key all = absurd all
+writes-behind versions (q ∷ qs) [] key all = absurd all
+writes-behind versions (q ∷ qs) (c ∷ cs) key all =
+    writes-behind q.after qs cs key all.1
+    ∙ ap (λ (ws : List (TimedWrite Value)). ws ++ histories.writes_of cs key) (all.0.after key ∙ ap (λ (ws : List (TimedWrite Value)). writes_of versions key ++ ws) (written-is c key))
+    ∙ append_assoc (writes_of versions key) (histories.writes_of (c ∷ []) key) (histories.writes_of cs key)
+    ∙ ap (λ (ws : List (TimedWrite Value)). writes_of versions key ++ ws) (sym (writes_of-append (c ∷ []) cs key))
 
 -- the versions after some that wait are those of the commits
 pub ordered-has : (floors : ℕ → ℕ) (reclaimed : ℕ) (before : History Value) (versions : List KeyWrites) (qs : List QueuedValue) (cs : History Value) → HasWrites floors reclaimed versions before → AllWait versions qs cs

@@ -95,6 +95,14 @@ later-same s mark a b (w ∷ ws) up low la lb = ⊎_elim
     (λ (earlier : w.time ≤ mark). let dropped : nat_lt mark w.time ≡ false = not_lt earlier in rw dropped (later-same s mark a w.time ws up.2 low la (omega arith)))
     (cases_lt mark w.time)
 
+-- a commit's write of a key
+pub written-is : (c : Commit Value) (key : Key) → written c.time c.writes key ≡ histories.writes_of (c ∷ []) key
+written-is c key = by-write (write_in c.writes key) refl
+  where
+    by-write : (o : Option (Option Value)) → write_in c.writes key ≡ o → written c.time c.writes key ≡ histories.writes_of (c ∷ []) key
+    by-write None none = rw none refl
+    by-write (Some w) some = rw some refl
+
 -- ---- one history
 
 module _ {floors : ℕ → ℕ} {reclaimed : ℕ} {versions-in : List KeyWrites} {h : History Value} (has : HasWrites floors reclaimed versions-in h) (up : HasRisingTimes 0 h) where
@@ -151,13 +159,6 @@ module _ {floors : ℕ → ℕ} {reclaimed : ℕ} {versions-in : List KeyWrites}
       ∙ later-same time reclaimed (last_time (has.before key)) 0 (histories.writes_of h key) (writes_of-rising 0 h key up) recent (omega arith) (omega arith)
 
   -- ---- one commit more
-
-  pub written-is : (c : Commit Value) (key : Key) → written c.time c.writes key ≡ histories.writes_of (c ∷ []) key
-  written-is c key = by-write (write_in c.writes key) refl
-    where
-      by-write : (o : Option (Option Value)) → write_in c.writes key ≡ o → written c.time c.writes key ≡ histories.writes_of (c ∷ []) key
-      by-write None none = rw none refl
-      by-write (Some w) some = rw some refl
 
   pub one-more : (after : List KeyWrites) (c : Commit Value) → ((relation : ℕ) → floors relation ≤ last h) → HasRisingTimes (last h) (c ∷ []) → IsOrdered after
       → ((key : Key) → writes_of after key ≡ writes_of versions-in key ++ written c.time c.writes key) → HasWrites floors reclaimed after (h ++ c ∷ [])

@@ -180,6 +180,7 @@ module _ (header : Header) (v : StoreValue) (m : Machine Value) (w : Works heade
     built = w.built;
     used = w.used;
     kept = w.kept;
+    heap = w.heap;
     packed = w.packed;
     archived = w.archived;
     runs_end = w.runs_end;
@@ -398,6 +399,7 @@ module _ (header : Header) (v new : StoreValue) (m : Machine Value) (order : IsI
           built = w.built;
           used = used ∙ w.used;
           kept = w.kept;
+          heap = w.heap;
           packed = w.packed;
           archived = w.archived;
           runs_end = w.runs_end;
@@ -425,6 +427,7 @@ module _ (header : Header) (v new : StoreValue) (m : Machine Value) (order : IsI
           built = built-after header m w.layout w.reading w.laid w.stands built (archives-built header.profile built) w.built place mine.run mine.next;
           used = (let long : length (w.layout.slots ++ slot ∷ []) ≡ length w.layout.slots + 1 = length-append w.layout.slots (slot ∷ []) in omega (arith, long, at.number));
           kept = w.kept;
+          heap = w.heap;
           packed = w.packed;
           archived = ap (λ (r : WireRun). r.upto) (sym mine.entry) ∙ sym (archive_mark-append 0 w.reading.log (Archived mine.run.entry.upto ∷ []));
           runs_end = ap (λ (r : WireRun). r.start + r.len) (sym mine.entry) ∙ sym (ap (row_end 0) more ∙ row_end-more 0 (runs_of w.layout.slots) mine.run.entry);

@@ -8,6 +8,8 @@ use Rattle.history.specs.Machine.{Machine, Gate, Shut, Due, MayBeOpen, OfGroup, 
 use Rattle.history.specs.Fronts.{OnFront}
 use Rattle.history.specs.Steps as steps
 use Rattle.history.specs.Steps.{Event, Run}
+use Rattle.history.specs.declared.time.TimedWrite.{TimedWrite}
+use Rattle.history.specs.Histories as histories
 use Rattle.history.specs.Histories.{History, last, last_after}
 use Rattle.history.proofs.Histories.{last_after-append, rising-from_following}
 use Rattle.history.proofs.Runs.{last-later}
@@ -16,7 +18,7 @@ use Rattle.image.specs.Values.{Value, IsValue}
 use Rattle.image.specs.Plans.{with_group}
 use Rattle.image.specs.Reading.{Reading}
 use Rattle.image.specs.StandsFor.{archived_upto}
-use Rattle.image.proofs.GroupStep.{same_archived}
+use Rattle.image.proofs.GroupStep.{same_archived, more_facts}
 use Rattle.image.proofs.PlansStay.{archive-plan-stays}
 use Rattle.disk.specs.Areas.{AreaState, Areas, Image, AreSound, LeavesImage, loosened, while_written}
 use Rattle.disk.proofs.Stops.{left_by_write, left_by_sync}
@@ -71,7 +73,8 @@ use Rattle.standing.specs.Standing.{StandsInMemory}
 use Rattle.standing.specs.OnDisk.{IsImageOf, AllPacked, written_before, group_of, IsAtStage, IsTurnOf, IsNextRun, IsAtJob, HasJob, IsRested, Works, StandsOnDisk}
 use Rattle.standing.specs.Stands.{Stands, HasGate, gate_at, gate_of}
 use Rattle.standing.specs.Laws.{begins_in, breaks_in, ends_in}
-use Rattle.standing.proofs.Packed.{packed-rest, length-mapped}
+use Rattle.standing.proofs.Conflicts.{writes-behind}
+use Rattle.standing.proofs.Packed.{packed-rest, wait-front, length-mapped}
 use Rattle.standing.proofs.Places.{IsNext, next-is, behind-is, take-next, drop-next, none-left}
 use Rattle.standing.proofs.Usages.{AllKept, all-published}
 use Rattle.standing.proofs.Joining as joining
@@ -223,6 +226,7 @@ started-works header v m size order none w =
       built = w.built;
       used = w.used;
       kept = w.kept;
+      heap = w.heap;
       packed = w.packed;
       archived = w.archived;
       runs_end = w.runs_end;
@@ -242,6 +246,7 @@ regrouped header v m size w = record {
   built = w.built;
   used = w.used;
   kept = w.kept;
+  heap = w.heap;
   packed = w.packed;
   archived = w.archived;
   runs_end = w.runs_end;
@@ -352,6 +357,7 @@ module _ (header : Header) (v new : StoreValue) (m : Machine Value) (memory : St
     built = w.built;
     used = used ∙ w.used;
     kept = w.kept;
+    heap = w.heap;
     packed = w.packed;
     archived = w.archived;
     runs_end = w.runs_end;
@@ -559,6 +565,11 @@ module _ (header : Header) (v new : StoreValue) (m : Machine Value) (memory : St
             (joining.out header v.transactions m w.layout w.reading memory machine order w.laid w.stands built w.built w.kept w.packed some room)
             (joining.numbers header v.transactions m w.layout w.reading memory machine order w.laid w.stands built w.built w.kept w.packed some room)
             w.kept);
+        heap = λ key.
+            writes-behind v.transactions.versions (take v.transactions.group v.transactions.queue) (take v.transactions.group m.queue) key
+            (wait-front v.transactions.group v.transactions.versions v.transactions.queue m.queue memory.queue)
+            ∙ ap (λ (ws : List (TimedWrite Value)). ws ++ histories.writes_of (take v.transactions.group m.queue) key) (w.heap key)
+            ∙ sym (more_facts w.reading m.published m.floors w.stands (turns.members_of (group_of w.layout v.transactions m)) (take v.transactions.group m.queue) joins.is_group space key);
         packed = subst (λ (n : ℕ). AllPacked (m.published ++ take n m.queue) (drop v.transactions.group v.transactions.queue) (drop n m.queue)) size (packed-rest v.transactions.group m.published v.transactions.queue m.queue w.packed);
         archived = w.archived ∙ sym (same_archived w.reading m.published m.floors w.stands (turns.members_of (group_of w.layout v.transactions m)) (take v.transactions.group m.queue) joins.is_group space);
         runs_end = w.runs_end ∙ ap (row_end 0) (sym (runs_more header w.layout w.reading m.published (take v.transactions.group m.queue) m.floors (group_of w.layout v.transactions m) w.laid w.stands joins));
@@ -827,6 +838,7 @@ module _ (tells : Bool) (v new : StoreValue) (m : Machine Value) (t : TurnState)
               built = w.built;
               used = w.used;
               kept = w.kept;
+              heap = w.heap;
               packed = w.packed;
               archived = w.archived;
               runs_end = w.runs_end;

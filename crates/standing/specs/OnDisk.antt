@@ -13,9 +13,10 @@ use Rattle.history.specs.Fronts.{OnFront}
 use Rattle.history.specs.Machine.{Machine}
 use Rattle.image.specs.Values.{Value}
 use Rattle.image.specs.Reading.{Reading}
-use Rattle.image.specs.Facts.{latest}
+use Rattle.image.specs.Facts.{latest, heap_facts}
 use Rattle.image.specs.Plans.{stored_record, stored_member, IsArchivePlan}
 use Rattle.image.specs.StandsFor.{StandsFor, archived_upto}
+use Rattle.chains.specs.KeyWrites.{writes_of}
 use Rattle.extents.specs.Usages.{IsKept}
 use Rattle.deltas.specs.Extents.{extent_bytes}
 use Rattle.deltas.specs.Packing.{bodies}
@@ -177,6 +178,8 @@ pub record Works (header : Header) (v : StoreValue) (m : Machine Value) : Type 0
   pub built : AreBuilt header layout.slots
   pub used : v.log.used ≡ length layout.slots
   pub kept : AllByRecursion (λ e. IsKept v.transactions.usages e.number) (live layout)
+  -- memory has the facts of the heap
+  pub heap : (key : Key) → writes_of v.transactions.versions key ≡ heap_facts reading key
   pub packed : AllPacked m.published v.transactions.queue m.queue
   pub archived : v.archived ≡ archived_upto reading
   pub runs_end : v.runs_end ≡ row_end 0 (runs_of layout.slots)
