@@ -8,20 +8,20 @@ use Rattle.disk.specs.declared.area.Area.TheVariants.{Status, Heap, Archive}
 use Rattle.disk.specs.Calls.{DiskState}
 use Rattle.history.specs.declared.key.Key.{Key}
 use Rattle.history.specs.Histories as histories
-use Rattle.history.specs.Histories.{Commit, History, HasRisingTimes, commits_after, last}
+use Rattle.history.specs.Histories.{Commit, History, HasRisingTimes, last}
 use Rattle.history.specs.Fronts.{OnFront}
 use Rattle.history.specs.Machine.{opened}
-use Rattle.history.specs.Time.{writes_after}
-use Rattle.history.proofs.Values.{writes_after-all}
-use Rattle.history.proofs.Histories.{commits_after-all, writes_of-rising}
+use Rattle.history.specs.declared.time.TimedWrite.{TimedWrite}
+use Rattle.history.specs.Time.{IsRisingAfter, writes_after}
 use Rattle.history.proofs.Machines.{opened-machine}
 use Rattle.image.specs.Values.{Value, IsValue}
-use Rattle.image.specs.Reading.{Head, OldRecord, Reading}
-use Rattle.image.specs.Log.{AreRisingAfter, last_time_after, reclaim_mark, reclaim_mark_after}
-use Rattle.image.specs.Facts.{old_writes, heap_commits}
-use Rattle.image.specs.StandsFor.{head_of, IsAnchorUpto}
-use Rattle.image.proofs.Standing.{last_time-heads, heads-rising, rises, floor-range}
-use Rattle.chains.specs.KeyWrites.{writes_of, IsOrdered}
+use Rattle.image.specs.Reading.{Head, Reading}
+use Rattle.image.specs.Log.{AreRisingAfter, last_time_after, reclaim_mark_after}
+use Rattle.image.specs.Facts.{old_writes}
+use Rattle.image.specs.StandsFor.{head_of, reclaimed_upto}
+use Rattle.image.proofs.Standing.{last_time-heads, heads-rising, rises, facts-rise, archived-range, floor-range}
+use Rattle.chains.specs.KeyWrites.{IsOrdered}
+use Rattle.chains.specs.Writes.{last_time}
 use Rattle.extents.specs.declared.usage.Usage.{Usage}
 use Rattle.extents.specs.Usages.{IsKept}
 use Rattle.group.specs.CommitOrder as orders
@@ -40,17 +40,18 @@ use Rattle.recovery.specs.Names.{head_named}
 use Rattle.recovery.specs.HeapReads.{numbers_in}
 use Rattle.recovery.specs.ReadsImage.{IsOpening, IsReadAs, IsReadFrom}
 use Rattle.recovery.specs.Laws.{IsHistoryRead}
-use Rattle.recovery.proofs.HistoryRead.{stands_opening, history_read}
+use Rattle.recovery.proofs.HistoryRead.{stands_opening, history_read, anchors_upto, facts_are}
 use Rattle.transactions.specs.Order.{IsInOrder}
 use Rattle.store.specs.Heads.{head_as}
 use Rattle.store.specs.Values.{StoreValue, IsInStep}
 use Rattle.store.specs.Opens.{Opens, opened_on}
 use Rattle.store.proofs.Opened.{rising-opened, last-opened}
-use Rattle.standing.specs.Standing.{Name, name_of, name_at, StandsInMemory}
+use Rattle.standing.specs.Standing.{Name, name_of, name_at, HasWrites, StandsInMemory}
 use Rattle.standing.specs.OnDisk.{IsImageOf, Works, StandsOnDisk}
 use Rattle.standing.specs.Stands.{Stands}
-use Rattle.standing.proofs.Unreclaimed.{no_reclaim, no_anchor}
-use Rattle.opened.proofs.Versions.{latest-history}
+use Rattle.standing.proofs.Unreclaimed.{no_reclaim}
+use Rattle.standing.proofs.Held.{last-held}
+use Rattle.opened.proofs.Versions.{latest-upto}
 
 -- ---- the disk, once it is synced
 
@@ -83,6 +84,11 @@ kept-numbers : (usages : List Usage) (es : List Extent) → AllByRecursion (IsKe
 kept-numbers usages [] kept = tt
 kept-numbers usages (e ∷ es) kept = (kept.0, kept-numbers usages es kept.1)
 
+-- the front of rising writes
+rising-first-of : (xs ys : List (TimedWrite Value)) (t : ℕ) → IsRisingAfter t (xs ++ ys) → IsRisingAfter t xs
+rising-first-of [] ys t up = tt
+rising-first-of (x ∷ xs) ys t up = (up.0, up.1, rising-first-of xs ys x.time up.2)
+
 -- ---- what was read
 
 module _ (old : DiskState) (mark : ℕ) (disk : DiskState) (r : Recovered) (header : Header) (h : History Value) (floors : ℕ → ℕ)
@@ -103,24 +109,32 @@ module _ (old : DiskState) (mark : ℕ) (disk : DiskState) (r : Recovered) (head
   rising : HasRisingTimes 0 h
   rising = rises image.reading h floors image.stands
 
-  -- all is in the heap
-  unmarked : reclaim_mark image.reading.log ≡ 0
-  unmarked = ap (λ l. reclaim_mark_after 0 l) (sym image.laid.heap.log_is) ∙ no_reclaim header.profile 0 image.layout.slots image.built
+  marked : r.reclaimed ≡ reclaimed_upto image.reading
+  marked = is.reclaimed
 
-  unmarked_read : r.reclaimed ≡ 0
-  unmarked_read = is.reclaimed ∙ unmarked
+  -- no slot of a reclaim is built yet
+  unmarked : r.reclaimed ≡ 0
+  unmarked = marked ∙ ap (λ l. reclaim_mark_after 0 l) (sym image.laid.heap.log_is) ∙ no_reclaim header.profile 0 image.layout.slots image.built
 
-  no_anchors : image.reading.anchors ≡ []
-  no_anchors = no_anchor image.reading.anchors (subst (λ (n : ℕ). AllByRecursion (IsAnchorUpto n) image.reading.anchors) unmarked image.stands.opens.reads.anchor_times)
+  abbrev anchors : Key → List (TimedWrite Value)
+  anchors key = old_writes image.reading.anchors key
 
-  commits : heap_commits image.reading ≡ h
-  commits = image.stands.opens.write_sets ∙ ap (λ (n : ℕ). commits_after n h) unmarked ∙ commits_after-all 0 0 h (omega arith) rising
+  abbrev later : Key → List (TimedWrite Value)
+  later key = writes_after (reclaimed_upto image.reading) (histories.writes_of h key)
 
-  writes : (key : Key) → writes_of r.chains key ≡ histories.writes_of h key
-  writes key =
-      is.writes key
-      ∙ ap (λ (olds : List OldRecord). old_writes olds key ++ histories.writes_of (heap_commits image.reading) key) no_anchors
-      ∙ ap (λ (l : History Value). histories.writes_of l key) commits
+  versions_held : HasWrites floors r.reclaimed r.chains h
+  versions_held = record {
+    ordered = ordered;
+    marked = let reached = image.stands.homes.marks in let upto = archived-range image.reading h floors image.stands in omega (arith, marked);
+    before = anchors;
+    rising = λ key. rising-first-of (anchors key) (later key) 0 (subst (λ (ws : List (TimedWrite Value)). IsRisingAfter 0 ws) (facts_are header (image_of old.areas) image.layout image.reading h floors image.laid image.held image.stands image.profile_built image.built key) (facts-rise image.reading h floors image.stands key));
+    early = λ key. subst (λ (n : ℕ). last_time (anchors key) ≤ n) (sym marked) (anchors_upto (reclaimed_upto image.reading) 0 image.reading.anchors key image.stands.opens.reads.anchor_times (omega arith));
+    writes = λ key.
+        is.writes key
+        ∙ facts_are header (image_of old.areas) image.layout image.reading h floors image.laid image.held image.stands image.profile_built image.built key
+        ∙ ap (λ (n : ℕ). anchors key ++ writes_after n (histories.writes_of h key)) (sym marked);
+    at_home = so.versions_are;
+  }
 
   -- ---- memory
 
@@ -138,16 +152,8 @@ module _ (old : DiskState) (mark : ℕ) (disk : DiskState) (r : Recovered) (head
     names = named r.commits.items h so.commits ∙ ap (λ (l : History Value). map name_of l) (sym (append-nil h));
     rising = heads_rise;
     published = many;
-    versions = record {
-      ordered = ordered;
-      marked = subst (λ (n : ℕ). n ≤ last h) (sym unmarked_read) (omega arith);
-      before = λ key. [];
-      rising = λ key. tt;
-      early = λ key. omega arith;
-      writes = λ key. writes key ∙ sym (writes_after-all 0 (histories.writes_of h key) (writes_of-rising 0 h key rising)) ∙ ap (λ (n : ℕ). writes_after n (histories.writes_of h key)) (sym unmarked_read);
-      at_home = so.versions_are;
-    };
-    unreclaimed = unmarked_read;
+    versions = versions_held;
+    unreclaimed = unmarked;
     queue = tt;
     group = refl;
     staged = λ staged. absurd staged;
@@ -168,7 +174,7 @@ module _ (old : DiskState) (mark : ℕ) (disk : DiskState) (r : Recovered) (head
   order : IsInOrder (opened_on mark r disk).transactions
   order = record {
     split = omega (arith, length-map r.commits.items head_as);
-    latest = let upto = latest-history r.chains h ordered writes rising in omega (arith, upto, heads_last);
+    latest = let upto = latest-upto (last h) r.chains ordered (last-held versions_held rising) in omega (arith, upto, heads_last);
     group_within = omega arith;
     group_few = omega arith;
     stage_fits = refl;

@@ -63,7 +63,7 @@ none_later mark before (w ∷ ws) rising early =
     ap (λ b. cond b (w ∷ writes_after mark ws) (writes_after mark ws)) dropped ∙ none_later mark w.time ws rising.2 early
 
 -- the anchors' times are not later than the mark
-anchors_upto : (mark before : ℕ) (olds : List OldRecord) (key : Key) → AllByRecursion (IsAnchorUpto mark) olds → before ≤ mark → last_time_after before (old_writes olds key) ≤ mark
+pub anchors_upto : (mark before : ℕ) (olds : List OldRecord) (key : Key) → AllByRecursion (IsAnchorUpto mark) olds → before ≤ mark → last_time_after before (old_writes olds key) ≤ mark
 anchors_upto mark before [] key upto early = early
 anchors_upto mark before (o ∷ olds) key upto early =
     let write : TimedWrite Value = record { time = o.from; write = Some o.value } in
@@ -79,7 +79,7 @@ module _ (header : Header) (image : Image) (layout : Layout) (reading : Reading)
   pub stands_opening : IsOpening header image (unread_layout layout) (unread reading)
   stands_opening = record { built = built; opens = held_opens header image layout reading h floors laid held stands all_built }
 
-  facts_are : (key : Key) → heap_facts reading key ≡ old_writes reading.anchors key ++ writes_after (reclaimed_upto reading) (writes_of h key)
+  pub facts_are : (key : Key) → heap_facts reading key ≡ old_writes reading.anchors key ++ writes_after (reclaimed_upto reading) (writes_of h key)
   facts_are key =
       ap (λ (l : History Value). old_writes reading.anchors key ++ writes_of l key) stands.opens.write_sets
       ∙ ap (λ (l : List (TimedWrite Value)). old_writes reading.anchors key ++ l) (writes_of-commits_after (reclaimed_upto reading) h key)

@@ -11,14 +11,12 @@ use Rattle.history.specs.Key.{IsKey, same_key, write_in}
 use Rattle.history.specs.Time.{IsRisingAfter}
 use Rattle.history.specs.Versions.{versions, version_of, first_time, ends_after, ends_by}
 use Rattle.history.specs.Histories as histories
-use Rattle.history.specs.Histories.{History, last, IsWrite, MayAllFollow, HasRisingTimes, commits_after}
+use Rattle.history.specs.Histories.{History, last, IsWrite, MayAllFollow}
 use Rattle.history.specs.Machine.{Machine, IsMachine}
 use Rattle.history.proofs.Filters.{AllByRecursion-append}
-use Rattle.history.proofs.Histories.{writes_of-rising, rising-from_following, commits_after-all}
+use Rattle.history.proofs.Histories.{writes_of-rising}
 use Rattle.image.specs.Values.{Value, IsValue}
 use Rattle.image.specs.Reading.{ArchiveRecord, Reading}
-use Rattle.image.specs.Facts.{heap_facts, heap_versions, heap_commits, old_writes}
-use Rattle.image.specs.StandsFor.{StandsFor, IsAnchorUpto, archived_upto, reclaimed_upto}
 use Rattle.image.specs.PlansMade.{archive_record}
 use Rattle.image.proofs.Standing.{rises, last-range}
 use Rattle.disk.specs.Areas.{Areas, AreSound}
@@ -42,7 +40,6 @@ use Rattle.reading.specs.Opening.{AreBuilt}
 use Rattle.reading.specs.Layouts.{Layout}
 use Rattle.reading.proofs.RunWays.{row-within}
 use Rattle.reading.proofs.Lists.{weaker}
-use Rattle.image.specs.Log.{reclaim_mark}
 use Rattle.status.specs.declared.header.Header.{Header}
 use Rattle.vacuum.specs.Archives.{AreInMemory, key_records, records_of, run_of, unwritten}
 use Rattle.vacuum.proofs.Plans.{archive_plan-is}
@@ -62,7 +59,6 @@ use Rattle.standing.proofs.Memory.{last-is, all-held}
 use Rattle.standing.proofs.Jobs.{resting}
 use Rattle.standing.proofs.JobPumping.{keeps-parts}
 use Rattle.standing.proofs.Pumping.{on-disk}
-use Rattle.standing.proofs.Unreclaimed.{no_reclaim, no_anchor}
 
 -- ---- a run has one spelling
 

@@ -1,19 +1,18 @@
 -- What memory has of a history answers as the history does, from the reclaim mark and the floor on.
-use Rattle.std.proofs.Common.{◌≡◌, ℕ, ◌<◌, ◌≤◌, ◌^◌, nat_le, nat_lt, Bool, true, false, List, [], ◌∷◌, ◌++◌, Option, Some, None, refl, arith, ap, sym, subst, ◌∙◌, append_assoc, append-nil, ⊎_elim, cond}
+use Rattle.std.proofs.Common.{◌≡◌, ℕ, ◌<◌, ◌≤◌, ◌^◌, nat_le, nat_lt, Bool, true, false, List, [], ◌∷◌, ◌++◌, Option, Some, None, refl, arith, ap, sym, subst, ◌∙◌, append_assoc, ⊎_elim, cond}
 use Rattle.std.specs.Prelude.{filter}
-use Rattle.std.specs.List.{AllByRecursion, cons_option}
+use Rattle.std.specs.List.{AllByRecursion}
 use Rattle.std.proofs.lemmas.Bool.{cases_lt}
 use Rattle.std.proofs.lemmas.List.Elements.{filter-append}
 use Rattle.history.specs.declared.key.Key.{Key}
 use Rattle.history.specs.declared.time.TimedWrite.{TimedWrite}
-use Rattle.history.specs.declared.time.Version.{Version}
 use Rattle.history.specs.Key.{write_in}
 use Rattle.history.specs.Time.{IsRisingAfter, value_at, value_after, writes_after}
 use Rattle.history.specs.Versions.{versions, ends_after, ends_by, rows}
 use Rattle.history.specs.Histories as histories
 use Rattle.history.specs.Histories.{Commit, History, HasRisingTimes, last, last_after, state, versions_of, between}
 use Rattle.history.specs.Homes.{AreAtHome}
-use Rattle.history.proofs.Orders.{is_lt, not_lt, is_le}
+use Rattle.history.proofs.Orders.{not_lt, is_le}
 use Rattle.history.proofs.Values.{standing_at-versions, writes_after-all, rising_earlier}
 use Rattle.history.proofs.Histories.{writes_of-append, writes_of-rising, last_after-range, last_after-append}
 use Rattle.history.proofs.Views.{at-recent, between-recent}

@@ -1,5 +1,5 @@
 -- A submit is a step of the machine.
-use Rattle.std.proofs.Common.{◌≡◌, ◌≢◌, ℕ, ◌<◌, ◌≤◌, ◌^◌, ◌==◌, ◌&&◌, ◌||◌, Bool, true, false, cond, List, [], ◌∷◌, ◌++◌, length, map, Option, None, Some, Result, Ok, Err, MatchBool, refl, arith, ap, sym, subst, ◌∙◌, inl, inr, ⊎_elim, append_assoc, append-nil}
+use Rattle.std.proofs.Common.{◌≡◌, ◌≢◌, ℕ, ◌<◌, ◌≤◌, ◌^◌, ◌==◌, ◌&&◌, ◌||◌, Bool, true, false, cond, List, [], ◌∷◌, ◌++◌, length, map, Option, Result, Ok, Err, MatchBool, refl, arith, ap, sym, subst, ◌∙◌, inl, inr, ⊎_elim, append_assoc}
 use Rattle.std.specs.Prelude.{IsPermutation, is_some, Contains}
 use Rattle.std.specs.List.{AllByRecursion, list_all}
 use Rattle.std.specs.List.Sorted.{IsStrictlySortedBy}
@@ -7,8 +7,7 @@ use Rattle.std.proofs.lemmas.List.{map-append}
 use Rattle.std.proofs.lemmas.List.Sorted.{IsPermutation-sym, Contains-permutation}
 use Rattle.history.specs.declared.key.Key.{Key}
 use Rattle.history.specs.declared.key.KeyWrite.{KeyWrite}
-use Rattle.history.specs.declared.time.TimedWrite.{TimedWrite}
-use Rattle.history.specs.Key.{key_cmp, write_in}
+use Rattle.history.specs.Key.{key_cmp}
 use Rattle.history.specs.Time.{value_at}
 use Rattle.history.specs.Histories as histories
 use Rattle.history.specs.Histories.{Commit, History, last, state, HasRisingTimes, IsWrite, IsWriteSet, MayAllFollow}
