@@ -14,6 +14,7 @@ use Rattle.history.specs.Machine.{opened}
 use Rattle.history.specs.declared.time.TimedWrite.{TimedWrite}
 use Rattle.history.specs.Time.{IsRisingAfter, writes_after}
 use Rattle.history.proofs.Machines.{opened-machine}
+use Rattle.history.proofs.Members.{Contains-nil}
 use Rattle.image.specs.Values.{Value, IsValue}
 use Rattle.image.specs.Reading.{Head, Reading}
 use Rattle.image.specs.Log.{AreRisingAfter, last_time_after, reclaim_mark_after}
@@ -154,6 +155,7 @@ module _ (old : DiskState) (mark : ℕ) (disk : DiskState) (r : Recovered) (head
     published = many;
     versions = versions_held;
     unreclaimed = unmarked;
+    recent = λ snapshot there. absurd (Contains-nil snapshot there);
     queue = tt;
     group = refl;
     staged = λ staged. absurd staged;

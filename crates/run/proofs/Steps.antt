@@ -20,7 +20,7 @@ use Rattle.transactions.specs.Values.{TransactionsValue, is_own, is_snapshot, is
 use Rattle.store.specs.Values.{StoreValue}
 use Rattle.store.specs.Calls as stores
 use Rattle.standing.specs.Stands.{Stands}
-use Rattle.standing.proofs.Memory.{all-held}
+use Rattle.standing.proofs.Memory.{begun-sees, open-sees}
 use Rattle.standing.proofs.Calling.{begin-stands, abort-stands}
 use Rattle.run.specs.declared.calls.Call.{Call}
 use Rattle.run.specs.declared.calls.Call.TheVariants as call
@@ -79,7 +79,7 @@ begin-goes tells v v' xs (Ok txn) begins w is =
       mark = b.mark;
       number = opened_here v.transactions.opened txn.number txn.snapshot b.within;
       published = omega (arith, snapshot);
-      reads = λ key. ap (λ (s : List KeyWrites). at_snapshot s txn.snapshot key) b.state ∙ ap (λ (ws : List (TimedWrite Value)). value_at ws txn.snapshot) (all-held v.transactions m is.stands.memory key);
+      reads = λ key. ap (λ (s : List KeyWrites). at_snapshot s txn.snapshot key) b.state ∙ begun-sees v.transactions m is.stands.memory is.stands.machine txn.snapshot snapshot key;
     } in
     let kept = move v.transactions after h h xs w.places is.places (λ i x p at shows. stays v.transactions after h h x p (begun-keeps v.transactions h txn.number txn.snapshot x p b.fresh b.within shows) (goes_on-same h) shows) in
     let places : ArePlaces after h (xs ++ held.Transaction txn ∷ []) (w.places ++ Running (last h) [] ∷ []) =
@@ -120,7 +120,7 @@ pub own-is : (v : StoreValue) (m : Machine Value) (tells : Bool) (t : TxnValue) 
 own-is v m tells t stands are own =
     let mark : (t.mark == v.transactions.mark) ≡ true = let is = own.mark in grind (arith, nat_tests) in
     let open_ : is_snapshot (snapshot_of t.number v.transactions.opened) t.snapshot ≡ true = ap (λ (o : Option ℕ). is_snapshot o t.snapshot) own.number ∙ grind (arith, nat_tests) in
-    let reads : (key : Key) → at_snapshot t.state t.snapshot key ≡ at_snapshot v.transactions.versions t.snapshot key = λ key. own.reads key ∙ sym (ap (λ (ws : List (TimedWrite Value)). value_at ws t.snapshot) (all-held v.transactions m stands.memory key)) in
+    let reads : (key : Key) → at_snapshot t.state t.snapshot key ≡ at_snapshot v.transactions.versions t.snapshot key = λ key. own.reads key ∙ sym (open-sees v.transactions m stands.memory stands.machine t.number t.snapshot own.number key) in
     let writes = writes-own v.transactions m.published t.state t.snapshot t.writes reads are.gone in
     both (t.mark == v.transactions.mark) (cond (is_snapshot (snapshot_of t.number v.transactions.opened) t.snapshot) (list_all (is_of_value v.transactions.versions t.snapshot) t.writes) false) mark
     (both (is_snapshot (snapshot_of t.number v.transactions.opened) t.snapshot) (list_all (is_of_value v.transactions.versions t.snapshot) t.writes) open_ writes)

@@ -25,7 +25,7 @@ use Rattle.store.specs.Values.{StoreValue}
 use Rattle.store.specs.Calls as stores
 use Rattle.standing.specs.Laws.{RedeemsAs}
 use Rattle.standing.proofs.Answering.{times-of_label, view-stands}
-use Rattle.standing.proofs.Memory.{last-is, all-held}
+use Rattle.standing.proofs.Memory.{last-is, begun-sees}
 use Rattle.standing.proofs.Calling.{begin-stands, redeem-stands}
 use Rattle.shared.specs.Counts.{told_after, unredeemed}
 use Rattle.shared.specs.Seen.{Seen, SightValue}
@@ -48,7 +48,7 @@ begin-happens tells start brand table v new shares at pass seen (Ok txn) h same 
       seen_is = same ∙ h.seen;
       mark = b.mark ∙ h.mark;
       snapshot = did.0.1;
-      reads = λ key. ap (λ (s : List KeyWrites). at_snapshot s txn.snapshot key) b.state ∙ ap (λ (ws : List (TimedWrite Value)). value_at ws txn.snapshot) (all-held v.transactions h.state h.stands.memory key);
+      reads = λ key. ap (λ (s : List KeyWrites). at_snapshot s txn.snapshot key) b.state ∙ begun-sees v.transactions h.state h.stands.memory h.stands.machine txn.snapshot did.0.1 key;
       writes = b.writes;
     }
 begin-happens tells start brand table v new shares at pass seen (Err begin.NoMemory) h same begins = (h.state, h.reached, same ∙ h.seen)

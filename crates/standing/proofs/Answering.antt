@@ -120,6 +120,7 @@ redeemed-stands v m time stands = record {
   published = stands.published;
   versions = stands.versions;
   unreclaimed = stands.unreclaimed;
+  recent = stands.recent;
   queue = stands.queue;
   group = stands.group;
   staged = stands.staged;

@@ -449,6 +449,7 @@ used-memory v m stands = record {
   published = stands.published;
   versions = stands.versions;
   unreclaimed = stands.unreclaimed;
+  recent = stands.recent;
   queue = stands.queue;
   group = stands.group;
   staged = stands.staged;

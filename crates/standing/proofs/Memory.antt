@@ -1,14 +1,17 @@
 -- The calls that ask nothing of the disk are steps of the machine.
-use Rattle.std.proofs.Common.{◌≡◌, ℕ, ◌==◌, Bool, true, false, List, ◌∷◌, length, take, Option, None, Some, Result, Ok, Err, MatchBool, cond, refl, arith, ap, sym, subst, ◌∙◌}
-use Rattle.std.specs.Prelude.{IsPermutation}
-use Rattle.std.specs.List.{list_all}
+use Rattle.std.proofs.Common.{◌≡◌, ℕ, ◌<◌, ◌≤◌, ◌^◌, ◌==◌, Bool, true, false, List, [], ◌∷◌, length, take, Option, None, Some, Result, Ok, Err, MatchBool, cond, refl, arith, ap, sym, subst, ◌∙◌, ⊎_elim}
+use Rattle.std.specs.Prelude.{IsPermutation, Contains}
+use Rattle.std.specs.List.{AllByRecursion, list_all}
 use Rattle.std.proofs.lemmas.Bool.Decides.{nat_tests}
-use Rattle.std.proofs.lemmas.List.Sorted.{IsPermutation-refl, IsPermutation-cons, IsPermutation-trans}
+use Rattle.std.proofs.lemmas.List.Sorted.{IsPermutation-refl, IsPermutation-sym, IsPermutation-cons, IsPermutation-trans, Contains-permutation}
 use Rattle.history.specs.declared.key.Key.{Key}
 use Rattle.history.specs.Histories as histories
-use Rattle.history.specs.Histories.{last, HasRisingTimes}
-use Rattle.history.specs.Machine.{Machine, commit_order}
+use Rattle.history.specs.Histories.{last, state, HasRisingTimes}
+use Rattle.history.specs.Time.{value_at}
+use Rattle.history.proofs.Histories.{last_after-range}
+use Rattle.history.specs.Machine.{Machine, commit_order, IsMachine, IsKeptSnapshot}
 use Rattle.history.specs.Steps.{Step, Aborted, begun}
+use Rattle.history.proofs.Members.{Contains-cons_cases, Contains-head, Contains-tail, Contains-nil}
 use Rattle.image.specs.Values.{Value, IsValue}
 use Rattle.chains.specs.KeyWrites.{writes_of}
 use Rattle.snapshot.specs.OpenTable.{snapshot_of, with_opened, with_closed}
@@ -23,7 +26,7 @@ use Rattle.standing.specs.Laws.{BeginsAs}
 use Rattle.standing.proofs.Openings.{opened_one, closed_one}
 use Rattle.standing.proofs.Names.{last-named, front-named, rising-named}
 use Rattle.standing.proofs.Conflicts.{rising-front}
-use Rattle.standing.proofs.Held.{whole}
+use Rattle.standing.proofs.Held.{whole, state-held}
 
 -- the last published time is that of the published history
 pub last-is : (v : TransactionsValue) (m : Machine Value) → StandsInMemory v m → calls.last v ≡ last m.published
@@ -38,19 +41,42 @@ published-rises v m stands = rising-front 0 m.published m.queue (rising-named 0 
 pub all-held : (v : TransactionsValue) (m : Machine Value) → StandsInMemory v m → (key : Key) → writes_of v.versions key ≡ histories.writes_of m.published key
 all-held v m stands key = whole stands.versions (published-rises v m stands) stands.unreclaimed key
 
+pub all-of : (P : ℕ → Type 0) (xs : List ℕ) (y : ℕ) → AllByRecursion P xs → Contains xs y → P y
+all-of P [] y all has = absurd (Contains-nil y has)
+all-of P (x ∷ xs) y all has = ⊎_elim (λ (is : x ≡ y). subst P is all.0) (λ (more : Contains xs y). all-of P xs y all.1 more) (Contains-cons_cases x xs y has)
+
+-- what memory has of a key at a kept time that is not forgotten is the history's
+pub sees-at : (v : TransactionsValue) (m : Machine Value) → StandsInMemory v m → (time : ℕ) → IsKeptSnapshot m.floors (last m.published) time → v.reclaimed ≤ time → (key : Key) → value_at (writes_of v.versions key) time ≡ state m.published time key
+sees-at v m stands time kept recent key =
+    let rising = published-rises v m stands in
+    let range : last m.published < 2 ^ 63 = last_after-range 0 m.published (omega arith) rising in
+    let early = kept.published in
+    state-held stands.versions rising key time (kept.kept key.relation) recent (omega arith)
+
+-- so it is at the time of the last commit
+pub begun-sees : (v : TransactionsValue) (m : Machine Value) → StandsInMemory v m → IsMachine IsValue m → (snapshot : ℕ) → snapshot ≡ last m.published → (key : Key) → value_at (writes_of v.versions key) snapshot ≡ state m.published snapshot key
+begun-sees v m stands machine snapshot newest key =
+    let marked = stands.versions.marked in
+    sees-at v m stands snapshot (record { published = omega arith; kept = λ relation. let reached = machine.floors_reached relation in omega arith }) (omega arith) key
+
 -- with one more open
 pub opens-one : (v : TransactionsValue) (m : Machine Value) (number snapshot : ℕ) → StandsInMemory v m → snapshot_of number v.opened ≡ None → snapshot ≡ last m.published
     → StandsInMemory (record v { opened = with_opened v.opened number snapshot }) (begun m)
-opens-one v m number snapshot stands fresh is = record {
+opens-one v m number snapshot stands fresh newest = record {
   names = stands.names;
   rising = stands.rising;
   published = stands.published;
   versions = stands.versions;
   unreclaimed = stands.unreclaimed;
+  recent = λ s is.
+      let marked = stands.versions.marked in
+      let there = Contains-permutation (snapshots_of (with_opened v.opened number snapshot)) (snapshot ∷ snapshots_of v.opened) s
+      (IsPermutation-sym (snapshot ∷ snapshots_of v.opened) (snapshots_of (with_opened v.opened number snapshot)) (opened_one v.opened number snapshot fresh)) is in
+      ⊎_elim (λ (same : snapshot ≡ s). omega arith) (λ (old : Contains (snapshots_of v.opened) s). stands.recent s old) (Contains-cons_cases snapshot (snapshots_of v.opened) s there);
   queue = stands.queue;
   group = stands.group;
   staged = stands.staged;
-  snapshots = subst (λ (s : ℕ). IsPermutation (s ∷ m.snapshots) (snapshots_of (with_opened v.opened number snapshot))) is
+  snapshots = subst (λ (s : ℕ). IsPermutation (s ∷ m.snapshots) (snapshots_of (with_opened v.opened number snapshot))) newest
       (IsPermutation-trans (snapshot ∷ m.snapshots) (snapshot ∷ snapshots_of v.opened) (snapshots_of (with_opened v.opened number snapshot))
       (IsPermutation-cons snapshot m.snapshots (snapshots_of v.opened) stands.snapshots) (opened_one v.opened number snapshot fresh));
   floors = stands.floors;
@@ -79,6 +105,8 @@ closes-so v m number snapshot stands is =
         published = stands.published;
         versions = stands.versions;
         unreclaimed = stands.unreclaimed;
+        recent = λ s there.
+            stands.recent s (Contains-permutation (snapshot ∷ rest) (snapshots_of v.opened) s (IsPermutation-sym (snapshots_of v.opened) (snapshot ∷ rest) (closed_one v.opened number snapshot is)) (Contains-tail snapshot rest s there));
         queue = stands.queue;
         group = stands.group;
         staged = stands.staged;
@@ -92,6 +120,20 @@ closes-so v m number snapshot stands is =
 closes-one : (v : TransactionsValue) (m : Machine Value) (number snapshot : ℕ) → StandsInMemory v m → snapshot_of number v.opened ≡ Some snapshot
     → (after : Machine Value) × Step IsValue m (Aborted snapshot) after × StandsInMemory (over v number) after
 closes-one v m number snapshot stands is = let so = closes-so v m number snapshot stands is in (record m { snapshots = so.0 }, (so.0, so.1, refl), so.2)
+
+-- the snapshot of an open transaction is not forgotten
+pub recent-open : (v : TransactionsValue) (m : Machine Value) (number snapshot : ℕ) → StandsInMemory v m → snapshot_of number v.opened ≡ Some snapshot → v.reclaimed ≤ snapshot
+recent-open v m number snapshot stands is =
+    let rest = snapshots_of (with_closed v.opened number) in
+    stands.recent snapshot (Contains-permutation (snapshot ∷ rest) (snapshots_of v.opened) snapshot (IsPermutation-sym (snapshots_of v.opened) (snapshot ∷ rest) (closed_one v.opened number snapshot is)) (Contains-head snapshot rest snapshot refl))
+
+-- and at the snapshot of an open transaction
+pub open-sees : (v : TransactionsValue) (m : Machine Value) → StandsInMemory v m → IsMachine IsValue m → (number snapshot : ℕ) → snapshot_of number v.opened ≡ Some snapshot → (key : Key) → value_at (writes_of v.versions key) snapshot ≡ state m.published snapshot key
+open-sees v m stands machine number snapshot is key =
+    let rest = snapshots_of (with_closed v.opened number) in
+    let there : Contains (snapshots_of v.opened) snapshot = Contains-permutation (snapshot ∷ rest) (snapshots_of v.opened) snapshot (IsPermutation-sym (snapshots_of v.opened) (snapshot ∷ rest) (closed_one v.opened number snapshot is)) (Contains-head snapshot rest snapshot refl) in
+    let kept = all-of (IsKeptSnapshot m.floors (last m.published)) m.snapshots snapshot machine.snapshots (Contains-permutation (snapshots_of v.opened) m.snapshots snapshot (IsPermutation-sym m.snapshots (snapshots_of v.opened) stands.snapshots) there) in
+    sees-at v m stands snapshot kept (stands.recent snapshot there) key
 
 -- a snapshot that is found is that of the number
 found-snapshot : (o : Option ℕ) (time : ℕ) → is_snapshot o time ≡ true → o ≡ Some time

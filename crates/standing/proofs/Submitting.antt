@@ -14,7 +14,7 @@ use Rattle.history.specs.Histories.{Commit, History, last, state, HasRisingTimes
 use Rattle.history.specs.Machine.{Machine, commit_order, IsMachine, IsKeptSnapshot}
 use Rattle.history.specs.Submissions.{commit_made, EndsASeenValue, IsSubmitted}
 use Rattle.history.specs.Steps.{Event, Step}
-use Rattle.history.proofs.Histories.{rising-from_following, times-earlier, state-append, last_after-range, may_follow-behind}
+use Rattle.history.proofs.Histories.{rising-from_following, times-earlier, state-append, may_follow-behind}
 use Rattle.history.proofs.Members.{Contains-cons_cases, Contains-head, Contains-nil}
 use Rattle.image.specs.Values.{Value, IsValue}
 use Rattle.chains.specs.KeyWrites.{KeyWrites, writes_of, IsOrdered, with_write, with_commit}
@@ -35,10 +35,9 @@ use Rattle.transactions.specs.Submits.{Verdict, verdict, queued_as, with_queued,
 use Rattle.transactions.specs.Submits as verdicts
 use Rattle.standing.specs.Standing.{Name, name_of, name_at, HasWrites, Waits, AllWait, StandsInMemory}
 use Rattle.standing.specs.Laws.{submission_of, event_of}
-use Rattle.standing.proofs.Conflicts.{rising-front, ordered-has}
-use Rattle.standing.proofs.Held.{state-held}
+use Rattle.standing.proofs.Conflicts.{ordered-has}
 use Rattle.standing.proofs.Deciding.{DecidesAs, decides}
-use Rattle.standing.proofs.Memory.{closes-so, own-is}
+use Rattle.standing.proofs.Memory.{all-of, closes-so, own-is, recent-open, sees-at}
 use Rattle.standing.proofs.Names.{last-named}
 
 -- ---- a commit behind others
@@ -55,9 +54,6 @@ all_wait-push before (p ∷ ps) (d ∷ ds) q c all waits = (all.0, all_wait-push
 
 pub order-rising : (m : Machine Value) → IsMachine IsValue m → HasRisingTimes 0 (commit_order m)
 order-rising m machine = rising-from_following IsValue [] (commit_order m) machine.history
-
-pub published-rising : (m : Machine Value) → IsMachine IsValue m → HasRisingTimes 0 m.published
-published-rising m machine = rising-front 0 m.published m.queue (order-rising m machine)
 
 pub order-has : (v : TransactionsValue) (m : Machine Value) → StandsInMemory v m → IsMachine IsValue m → HasWrites m.floors v.reclaimed (ordered v) (commit_order m)
 order-has v m stands machine = ordered-has m.floors v.reclaimed m.published v.versions v.queue m.queue stands.versions stands.queue (order-rising m machine) machine.floors_reached
@@ -86,6 +82,7 @@ queues-one v m label time writes numbers stands sorted rising later range =
       published = stands.published;
       versions = stands.versions;
       unreclaimed = stands.unreclaimed;
+      recent = stands.recent;
       queue = all_wait-push v.versions v.queue m.queue (queued_as v label time writes numbers) c stands.queue waits;
       group = stands.group;
       staged = stands.staged;
@@ -96,10 +93,6 @@ queues-one v m label time writes numbers stands sorted rising later range =
     }
 
 -- ---- what is submitted is in range
-
-all-of : (P : ℕ → Type 0) (xs : List ℕ) (y : ℕ) → AllByRecursion P xs → Contains xs y → P y
-all-of P [] y all has = absurd (Contains-nil y has)
-all-of P (x ∷ xs) y all has = ⊎_elim (λ (is : x ≡ y). subst P is all.0) (λ (more : Contains xs y). all-of P xs y all.1 more) (Contains-cons_cases x xs y has)
 
 pub snapshot-kept : (m : Machine Value) (snapshot : ℕ) (rest : List ℕ) → IsMachine IsValue m → IsPermutation m.snapshots (snapshot ∷ rest) → IsKeptSnapshot m.floors (last m.published) snapshot
 snapshot-kept m snapshot rest machine moved =
@@ -138,11 +131,8 @@ pub is-submitted : (v : TransactionsValue) (m : Machine Value) (txn : TxnValue) 
     → is_own v txn ≡ true → IsPermutation m.snapshots (txn.snapshot ∷ rest) → IsSubmitted IsValue (commit_order m) (submission_of txn label now)
 is-submitted v m txn label now rest stands machine are range own moved =
     let snapshot = snapshot-kept m txn.snapshot rest machine moved in
-    let front = published-rising m machine in
-    let range : last m.published < 2 ^ 63 = last_after-range 0 m.published (omega arith) front in
     let early = snapshot.published in
-    let unreclaimed = stands.unreclaimed in
-    let sees : SeesAs v.versions m txn.snapshot = λ key. state-held stands.versions front key txn.snapshot (snapshot.kept key.relation) (omega (arith, unreclaimed)) (omega arith) in
+    let sees : SeesAs v.versions m txn.snapshot = sees-at v m stands txn.snapshot snapshot (recent-open v m txn.number txn.snapshot stands (own-is v txn own)) in
     let seen = gone-seen v.versions m txn.snapshot txn.writes sees (queue-later m txn.snapshot machine early)
     (own-writes (txn.mark == v.mark) (is_snapshot (snapshot_of txn.number v.opened) txn.snapshot) (list_all (is_of_value v.versions txn.snapshot) txn.writes) own) in
     by-writes txn.writes refl seen
@@ -215,8 +205,8 @@ own-step old new m txn label now answer stands machine are range own submits =
     let is = is-submitted old m txn label now rest stands machine are range own moved in
     let rising = order-rising m machine in
     let has = order-has old m stands machine in
-    let unreclaimed = stands.unreclaimed in
-    let decided-so = decides (over old txn.number) m txn.snapshot label now txn.writes has (omega (arith, unreclaimed)) rising (order-last old m stands) in
+    let recent = recent-open old m txn.number txn.snapshot stands (own-is old txn own) in
+    let decided-so = decides (over old txn.number) m txn.snapshot label now txn.writes has recent rising (order-last old m stands) in
     by-failure old.failed refl gives.2 is moved decided-so submits
   where
     by-failure : (b : Bool) → old.failed ≡ b → {rest : List ℕ} → StandsInMemory (over old txn.number) (record m { snapshots = rest }) → IsSubmitted IsValue (commit_order m) (submission_of txn label now) → IsPermutation m.snapshots (txn.snapshot ∷ rest)

@@ -1,5 +1,5 @@
 -- What a store holds in memory, and the state of the machine that it stands for.
-use Rattle.std.specs.Prelude.{ℕ, ◌≡◌, ◌<◌, ◌≤◌, List, [], ◌∷◌, ◌++◌, length, map, filter, filter_map, Option, None, IsPermutation}
+use Rattle.std.specs.Prelude.{ℕ, ◌≡◌, ◌<◌, ◌≤◌, List, [], ◌∷◌, ◌++◌, length, map, filter, filter_map, Option, None, IsPermutation, Contains}
 use Rattle.history.specs.declared.key.Key.{Key}
 use Rattle.history.specs.Time.{IsRisingAfter as IsRisingWrites, writes_after}
 use Rattle.history.specs.Versions.{versions as versions_in, ends_after}
@@ -69,6 +69,8 @@ pub record StandsInMemory (v : TransactionsValue) (m : Machine Value) : Type 0 w
   pub published : v.published ≡ length m.published
   pub versions : HasWrites m.floors v.reclaimed v.versions m.published
   pub unreclaimed : v.reclaimed ≡ 0
+  -- no open transaction reads what is forgotten
+  pub recent : (snapshot : ℕ) → Contains (snapshots_of v.opened) snapshot → v.reclaimed ≤ snapshot
   pub queue : AllWait v.versions v.queue m.queue
   pub group : v.group ≡ m.group
   -- where something is done of a group, one stands
