@@ -81,7 +81,7 @@ transactions_inside = declared_send transactions.the_type (
                     search (sendable, group_stage.the_send),
                     (
                       search sendable,
-                      (search sendable, tt),
+                      (search sendable, (search sendable, tt)),
                     ),
                   ),
                 ),
