@@ -6,11 +6,12 @@ STORE = crates/store_bench/out/store_bench
 # The most processor minutes that the gate may take.
 BUDGET = 450
 
-.PHONY: demo test more-edits build try examples bench trials rates
+.PHONY: demo test more-edits build try examples bench trials torture rates
 
 test:
 	@command -v rt >/dev/null || { echo "the Rattle kit's command rt is not on PATH" >&2; exit 1; }
 	bench/gate_cost.py --limit $(BUDGET) rt ci
+	if [ -x $(PROGRAM) ]; then torture/torture.py $(PROGRAM) --minutes 1; fi
 
 more-edits:
 	bench/more_edits.py $(CRATES)
@@ -38,6 +39,11 @@ trials: build
 	bench/answers_at_once.py $(PROGRAM)
 	bench/two_processes.py $(PROGRAM)
 	bench/system_calls.py $(PROGRAM)
+
+# Random scripts, stops at each device call, kills, full disks and forged images, compared with a small machine and a plain reader.
+# `make torture MINUTES=10 SEED=1`
+torture: build
+	torture/torture.py $(PROGRAM) --minutes $(or $(MINUTES),10) --seed $(or $(SEED),1)
 
 rates: build
 	bench/rates.py $(PROGRAM)

@@ -1,0 +1,170 @@
+"""A plain reader of a store's three files, by the checks of docs/FORMAT.md, written apart from the program's."""
+
+from machine import Commit
+
+EXTENT = 8192
+BODY = EXTENT - 16
+TOP = 1 << 63
+
+
+class Refused(Exception):
+    """What opening answers."""
+
+
+def u(data, at, size):
+    return int.from_bytes(data[at: at + size], "little")
+
+
+def damaged(area, place):
+    return Refused(f"damaged {area} {place}")
+
+
+def header(status):
+    if len(status) < 512 or status[:8] != b"NOOVER01" or u(status, 8, 4) != 1 or any(status[16:512]):
+        raise Refused("not a store")
+    slots = u(status, 12, 4)
+    if not 16 <= slots <= 65536 or len(status) < 512 + slots * 512:
+        raise Refused("not a store")
+    return slots
+
+
+def log(status, slots):
+    """The open slots before the first closed gate: the members of each, or the numbers of an archive."""
+    found, newest, archived, end = [], 0, 0, 0
+    for number in range(slots):
+        slot = status[512 + 512 * number: 1024 + 512 * number]
+        if slot[0] != 0xC7:
+            break
+        bad = damaged("status", number)
+        kind, count, body = slot[1], slot[2], 8
+        if u(slot, 4, 4) != number or slot[3] != 0:
+            raise bad
+        if kind == 1:
+            if not 1 <= count <= 16:
+                raise bad
+            members, before = [], 0
+            for place in range(count):
+                at = 8 + 28 * place
+                label, time, first, extents, records = u(slot, at, 8), u(slot, at + 8, 8), u(slot, at + 16, 4), u(slot, at + 20, 4), u(slot, at + 24, 4)
+                if not (before < time < TOP and 1 <= first <= 65536 and 1 <= records <= 1024 and 1 <= extents <= records):
+                    raise bad
+                members.append((label, time, first, extents, records))
+                before = time
+            if members[0][1] <= newest:
+                raise bad
+            newest, body = before, 8 + 28 * count
+            found.append(("commit", members))
+        elif kind == 2:
+            upto, start, length, records = u(slot, 8, 8), u(slot, 16, 8), u(slot, 24, 8), u(slot, 32, 8)
+            if count or not 1 <= upto < TOP or not 36 * records <= length <= 4131 * records or start + length >= TOP:
+                raise bad
+            if not archived < upto <= newest or start != end:
+                raise bad
+            archived, end, body = upto, start + length, 40
+            found.append(("archived", (upto, start, length, records)))
+        else:
+            # kinds 3 and 4 are of the format, and no version of the program builds them yet
+            raise bad
+        if any(slot[body:]):
+            raise bad
+    return found, archived
+
+
+def record(data, at, before):
+    """One record of a chain, over the key's value before it: the key, its value (None: gone) and where the next one begins."""
+    if at + 11 > len(data):
+        return None
+    kind, key = data[at], (u(data, at + 1, 2), u(data, at + 3, 8))
+    place, old = at + 11, before.get((u(data, at + 1, 2), u(data, at + 3, 8)))
+    if kind == 3:
+        return (key, None, place) if old is not None else None
+    if kind == 1:
+        if place >= len(data) or not 1 <= data[place] <= 16:
+            return None
+        count, place = data[place], place + 1
+        value = []
+        for _ in range(count):
+            if place >= len(data) or place + 1 + data[place] > len(data):
+                return None
+            value.append(bytes(data[place + 1: place + 1 + data[place]]))
+            place += 1 + data[place]
+        value = tuple(value)
+        return None if old is not None and is_delta(old, value) else (key, value, place)
+    if kind == 2:
+        if old is None or place + 2 > len(data):
+            return None
+        mask, place, value = u(data, place, 2), place + 2, list(old)
+        if mask >> len(old):
+            return None
+        for at_field in range(len(old)):
+            if mask >> at_field & 1:
+                if place >= len(data) or place + 1 + data[place] > len(data):
+                    return None
+                value[at_field] = bytes(data[place + 1: place + 1 + data[place]])
+                place += 1 + data[place]
+                if value[at_field] == old[at_field]:
+                    return None
+        value = tuple(value)
+        return (key, value, place) if is_delta(old, value) else None
+    return None
+
+
+def is_delta(old, new):
+    """Whether a value is stored as what it changes of the one before."""
+    if len(old) != len(new):
+        return False
+    changed = sum(1 + len(b) for a, b in zip(old, new) if a != b)
+    return 13 + changed < 12 + sum(1 + len(it) for it in new)
+
+
+def chain(heap, first, extents, records, before, taken):
+    """The writes of a commit's chain, or None where a check fails."""
+    writes, number, previous, room = [], first, None, None
+    for place in range(extents):
+        start = (number - 1) * EXTENT
+        if number in taken or number < 1 or start + EXTENT > len(heap):
+            return None
+        taken.add(number)
+        extent = heap[start: start + EXTENT]
+        own, following, used, zero = (u(extent, at, 4) for at in (0, 4, 8, 12))
+        if own != number or zero or not 1 <= used <= BODY or any(extent[16 + used:]):
+            return None
+        if (following == 0) != (place == extents - 1):
+            return None
+        data, at = extent[16: 16 + used], 0
+        while at < used:
+            found = record(data, at, before)
+            if found is None:
+                return None
+            key, value, end = found
+            # packed: the first record of an extent had no room in the one before
+            if at == 0 and room is not None and end - at <= room:
+                return None
+            if previous is not None and key <= previous:
+                return None
+            writes.append((key, value))
+            previous, at = key, end
+        room, number = BODY - used, following
+    return writes if len(writes) == records else None
+
+
+def fields_of(value):
+    return None if value is None else " ".join(it.hex() or "-" for it in value)
+
+
+def read(status, heap, archive):
+    """The history that the files stand for, and the archive mark; Refused where they don't open."""
+    slots = header(status)
+    found, archived = log(status, slots)
+    history, values, taken = [], {}, set()
+    for kind, body in found:
+        for label, time, first, extents, records in body if kind == "commit" else []:
+            writes = chain(heap, first, extents, records, values, taken)
+            if writes is None:
+                raise damaged("heap", first)
+            values.update(writes)
+            history.append(Commit(time, label, {key: fields_of(value) for key, value in writes}))
+    for kind, body in found:
+        if kind == "archived" and body[1] + body[2] > len(archive):
+            raise damaged("archive", body[1])
+    return history, archived

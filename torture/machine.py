@@ -1,0 +1,223 @@
+"""The small machine: what a store answers, by its write sets alone. It knows nothing of files."""
+
+from dataclasses import dataclass, field
+
+GROUP_MOST = 16
+
+
+@dataclass(frozen=True)
+class Commit:
+    time: int
+    label: int
+    # by key (relation, record): the fields as they are written in a script, or None where the record is gone
+    writes: dict
+
+
+@dataclass
+class Transaction:
+    snapshot: int
+    writes: dict = field(default_factory=dict)
+
+
+def versions(history, key):
+    """The versions of a key, oldest first: from, up to (None: it still stands), fields."""
+    found = []
+    for commit in history:
+        if key in commit.writes:
+            if found and found[-1][1] is None:
+                found[-1] = (found[-1][0], commit.time, found[-1][2])
+            if commit.writes[key] is not None:
+                found.append((commit.time, None, commit.writes[key]))
+    return found
+
+
+def last(history):
+    return history[-1].time if history else 0
+
+
+def at(history, key, time):
+    """The line that answers a query at a time."""
+    if time > last(history):
+        return [f"refused: not yet {last(history)}"]
+    for start, end, fields in versions(history, key):
+        if start <= time and (end is None or time < end):
+            return [f"value {fields}"]
+    return ["none"]
+
+
+def between(history, key, a, b):
+    newest = last(history)
+    if b > newest + 1:
+        return [f"refused: not yet {newest}"]
+    if b <= a:
+        return ["refused: empty interval"]
+    rows = []
+    for start, end, fields in versions(history, key):
+        low, high = max(a, start), b if end is None else min(b, end)
+        if low < high:
+            rows.append(f"{low} {high} {fields}")
+    return rows + [f"rows {len(rows)}"]
+
+
+def scan(history, relation, time):
+    if time > last(history):
+        return [f"refused: not yet {last(history)}"]
+    keys = sorted({key for commit in history for key in commit.writes if key[0] == relation})
+    found = [(key, at(history, key, time)[0]) for key in keys]
+    rows = [f"{key[1]} {said.removeprefix('value ')}" for key, said in found if said != "none"]
+    return rows + [f"rows {len(rows)}"]
+
+
+def times(history, label):
+    return [" ".join(["times", *(str(it.time) for it in history if it.label == label)])]
+
+
+class Machine:
+    """A store without its disk: what is published, what waits, the open transactions, and how far a group and a job are."""
+
+    def __init__(self, published=()):
+        self.published = list(published)
+        self.archived = 0
+        self.forget_what_waits()
+
+    def forget_what_waits(self):
+        self.queue, self.group, self.names = [], 0, {}
+        # the last step of the group's slot and of the job's: none, or what was answered
+        self.turn, self.job, self.upto = None, None, None
+
+    def with_group(self):
+        return self.published + self.queue[: self.group]
+
+    # ---- transactions
+
+    def begin(self, name):
+        if name in self.names or len(self.names) >= 64:
+            return ["refused: name"]
+        self.names[name] = Transaction(last(self.published))
+        return [f"snapshot {last(self.published)}"]
+
+    def own(self, name, kind):
+        found = self.names.get(name)
+        return found if isinstance(found, kind) else None
+
+    def put(self, name, key, fields):
+        txn = self.own(name, Transaction)
+        if txn is None:
+            return ["refused: name"]
+        txn.writes[key] = fields
+        return ["ok"]
+
+    def delete(self, name, key):
+        txn = self.own(name, Transaction)
+        if txn is None:
+            return ["refused: name"]
+        before = self.seen(txn.snapshot, key)
+        if (txn.writes[key] if key in txn.writes else before) is None:
+            return ["refused: missing"]
+        if before is None:
+            del txn.writes[key]
+        else:
+            txn.writes[key] = None
+        return ["ok"]
+
+    def seen(self, snapshot, key):
+        said = at([it for it in self.published if it.time <= snapshot], key, min(snapshot, last(self.published)))[0]
+        return said.removeprefix("value ") if said.startswith("value ") else None
+
+    def get(self, name, key):
+        txn = self.own(name, Transaction)
+        if txn is None:
+            return ["refused: name"]
+        fields = txn.writes[key] if key in txn.writes else self.seen(txn.snapshot, key)
+        return ["none"] if fields is None else [f"value {fields}"]
+
+    def submit(self, name, label, now):
+        txn = self.own(name, Transaction)
+        if txn is None:
+            return ["refused: name"]
+        del self.names[name]
+        if not txn.writes:
+            return [f"readonly {txn.snapshot}"]
+        order = self.published + self.queue
+        for key in sorted(txn.writes):
+            if any(it.time > txn.snapshot and key in it.writes for it in order):
+                return [f"refused: conflict {key[0]} {key[1]}"]
+        time = max(last(order) + 1, now)
+        self.queue.append(Commit(time, label, dict(txn.writes)))
+        self.names[name] = time
+        return ["queued"]
+
+    def abort(self, name):
+        if self.own(name, Transaction) is None:
+            return ["refused: name"]
+        del self.names[name]
+        return ["ok"]
+
+    def redeem(self, name):
+        time = self.own(name, int)
+        if time is None:
+            return ["refused: name"]
+        if time > last(self.published):
+            return ["waiting"]
+        del self.names[name]
+        return [f"done {time}"]
+
+    # ---- steps: the answers are the store's, and here they are followed
+
+    def pumped(self, said):
+        """Follows one step of a group; returns why it may not be answered so, or None."""
+        if said == "idle":
+            return None if not self.queue else "idle with a commit that waits"
+        if said == "refused: busy":
+            return None if self.job in SLOT_STEPS and self.turn is None else "busy without a job's slot in the writing"
+        if not self.queue:
+            return f"{said} with nothing that waits"
+        if not self.group:
+            self.group = min(GROUP_MOST, len(self.queue))
+        if said in SLOT_STEPS:
+            if self.job in SLOT_STEPS:
+                return "two slots in the writing"
+            self.turn = said
+        elif said == f"published {self.group}":
+            if self.turn != "gate written":
+                return "published before the gate is written"
+            self.published, self.queue = self.with_group(), self.queue[self.group:]
+            self.group, self.turn = 0, None
+        elif said not in ("wrote extent", "heap synced"):
+            return f"{said} is no step of a group of {self.group}"
+        return None
+
+    def jobbed(self, said):
+        """Follows one step of a job."""
+        if said == "idle":
+            return None if self.upto is None else "idle with a job that runs"
+        if said == "refused: busy":
+            return None if self.turn is not None else "busy without a group's slot in the writing"
+        if self.upto is None:
+            return f"{said} with no job"
+        self.job = said
+        if said == "job done":
+            self.archived, self.upto, self.job = self.upto, None, None
+        return None
+
+    def archive(self, upto):
+        if self.upto is not None:
+            return ["refused: job busy"]
+        if upto <= self.archived:
+            return ["refused: nothing to do"]
+        if upto > last(self.published):
+            return [f"refused: not yet {last(self.published)}"]
+        self.upto = upto
+        return ["started"]
+
+    def reopened(self):
+        """What waits is lost, but for a group or an archive whose gate is written: the files have it."""
+        if self.turn == "gate written":
+            self.published = self.with_group()
+        if self.job == "gate written":
+            self.archived = self.upto
+        self.forget_what_waits()
+        return [f"last {last(self.published)} floor 0"]
+
+
+SLOT_STEPS = ("body written", "body synced", "gate written")
