@@ -25,7 +25,7 @@ use Rattle.standing.specs.Standing.{HasWrites}
 
 -- ---- lists of writes
 
-abbrev Writes : Type 0
+abbrev pub Writes : Type 0
 Writes = List (TimedWrite Value)
 
 last-of-both : (t : ℕ) (xs ys : Writes) → last_time_after t (xs ++ ys) ≡ last_time_after (last_time_after t xs) ys

@@ -1,5 +1,6 @@
 pub mod Openings
 pub mod Held
+mod Forgetting
 pub mod Names
 pub mod Memory
 pub mod Conflicts

@@ -1,11 +1,11 @@
 -- The calls of a store are steps of the machine.
-use Rattle.std.specs.Prelude.{ℕ, ◌≡◌, ◌==◌, ◌&&◌, nat_lt, List, [], ◌∷◌, length, Option, Result, Ok, Err, MatchBool, if◌then◌else◌}
+use Rattle.std.specs.Prelude.{ℕ, ◌≡◌, ◌≤◌, ◌==◌, ◌&&◌, nat_lt, List, [], ◌∷◌, length, Option, Result, Ok, Err, MatchBool, if◌then◌else◌}
 use Rattle.std.specs.declared.alloc.Global.{Global}
 use Rattle.std.specs.declared.vec.Vec.{Vec}
 use Rattle.history.specs.declared.key.Key.{Key}
 use Rattle.history.specs.declared.time.Version.{Version}
 use Rattle.history.specs.Histories as histories
-use Rattle.history.specs.Histories.{History, last}
+use Rattle.history.specs.Histories.{History, HasRisingTimes, last}
 use Rattle.history.specs.Machine.{Machine, Gate, Shut, Due, MayBeOpen, OfGroup, OfFloor}
 use Rattle.history.specs.Answers as answers
 use Rattle.history.specs.Submissions as submissions
@@ -13,7 +13,7 @@ use Rattle.history.specs.Submissions.{Submission, Decision, commit_made}
 use Rattle.history.specs.Steps.{Event, Step, Run, Began, BeginRefused, Aborted, Decided, Refused, GroupBegan, Published, GateDue, GateWritten, Broke, begun}
 use Rattle.history.specs.Steps as steps
 use Rattle.image.specs.Values.{Value, IsValue}
-use Rattle.chains.specs.KeyWrites.{writes_of, IsOrdered}
+use Rattle.chains.specs.KeyWrites.{KeyWrites, writes_of, IsOrdered, forgotten}
 use Rattle.snapshot.specs.Txn.{TxnValue}
 use Rattle.group.specs.declared.answers.BeginFault.{BeginFault}
 use Rattle.group.specs.declared.answers.BeginFault.TheVariants as fault
@@ -36,7 +36,7 @@ use Rattle.group.specs.declared.answers.Did.TheVariants as did
 use Rattle.group.specs.declared.answers.PumpFault.{PumpFault}
 use Rattle.group.specs.declared.answers.PumpFault.TheVariants as pump
 use Rattle.store.specs.Values.{StoreValue}
-use Rattle.standing.specs.Standing.{StandsInMemory}
+use Rattle.standing.specs.Standing.{HasWrites, StandsInMemory}
 
 -- what the machine does in a begin, by its answer
 abbrev pub BeginsAs : Machine Value → Result TxnValue BeginFault → TransactionsValue → Type 0
@@ -171,3 +171,10 @@ BetweenIsAnswered = (v : StoreValue) (view : ViewValue) (h : History Value) (flo
 abbrev pub ScanBetweenIsAnswered : Type 0
 ScanBetweenIsAnswered = (v : StoreValue) (view : ViewValue) (h : History Value) (floors : ℕ → ℕ) (relation a b : ℕ) (answer : Result (Vec (ℕ × Version Value) Global) QueryFault) → ViewStands view h floors → stores.AnswersScanRows v view relation a b answer
     → MatchBool (view.mark == v.transactions.mark) (SaysScanBetween h floors relation a b answer) (answer ≡ Err query.Stranger)
+
+-- ---- what a reclaim makes memory forget
+
+-- memory that forgets what ended by a mark is that of the same history, from the mark on
+abbrev pub ForgottenHolds : Type 0
+ForgottenHolds = (floors : ℕ → ℕ) (reclaimed mark : ℕ) (versions : List KeyWrites) (h : History Value) → HasWrites floors reclaimed versions h → HasRisingTimes 0 h → reclaimed ≤ mark → mark ≤ last h
+    → HasWrites floors mark (forgotten mark versions) h

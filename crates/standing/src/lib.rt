@@ -2,7 +2,7 @@
 //! with nothing to do.
 #![tactic(auto)]
 
-ghost use Rattle.standing.specs.Laws.{TimesAreOfLabel, ViewIsOfHistory, AtIsAnswered, ScanAtIsAnswered, BetweenIsAnswered, ScanBetweenIsAnswered};
+ghost use Rattle.standing.specs.Laws.{TimesAreOfLabel, ViewIsOfHistory, AtIsAnswered, ScanAtIsAnswered, BetweenIsAnswered, ScanBetweenIsAnswered, ForgottenHolds};
 ghost use Rattle.standing.specs.Calls.{BeginStands, AbortStands, SubmitStands, PumpStands, RedeemStands, ArchiveStartStands, JobPumpStands};
 
 /// A begin takes the last published time as its snapshot.
@@ -52,4 +52,9 @@ pub fn view_is_answered()
     ensures scan_at { ScanAtIsAnswered }
     ensures between { BetweenIsAnswered }
     ensures scan_between { ScanBetweenIsAnswered }
+{}
+
+/// Memory that forgets what ended by a mark stands for the same history, from the mark on.
+pub fn forgotten_holds()
+    ensures { ForgottenHolds }
 {}
