@@ -101,7 +101,16 @@ fn measure_values<R: Print + Clock>(
         versions,
         time,
         rounds,
-    )?;
+    )
+}
+
+fn measure_views<R: Print + Clock>(
+    rt: &R,
+    scale: Scale,
+    published: &Published,
+    versions: u64,
+) -> io::Result<()> {
+    let rounds = scale.rounds(1_000_000);
     let start = Instant::now(rt)?;
     let fields = ask_with_views(published, rounds)?;
     let time = nanoseconds(rt, &start)?;
@@ -185,6 +194,7 @@ fn measure_map<R: Print + Clock>(
         writes,
     )?;
     measure_values(rt, scale, &published, versions)?;
+    measure_views(rt, scale, &published, versions)?;
     measure_rows(rt, alloc, scale, &published, versions)?;
     measure_scans(rt, alloc, scale, &published, versions)
 }

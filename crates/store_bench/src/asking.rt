@@ -145,6 +145,22 @@ fn sizes(question: Question) -> (u64, u64) {
     }
 }
 
+/// The nanoseconds of opening a store and of this many questions.
+fn time_opened<R: Files<File = File> + AllocGlobal + Clock>(
+    rt: &R,
+    alloc: Global,
+    folder: &str,
+    question: Question,
+    count: u64,
+) -> Result<(u64, u64), Fault> {
+    let start = Instant::now(rt)?;
+    let mut store = stores::open(rt, alloc, folder)?;
+    let opened = nanoseconds(rt, &start);
+    let time = time_questions(rt, &mut store, question, count);
+    store.close();
+    Ok((opened?, time?))
+}
+
 /// Measures this many questions, after the store was closed and opened.
 pub(crate) fn measure<R: Files<File = File> + AllocGlobal + Print + Clock>(
     rt: &R,
@@ -155,18 +171,14 @@ pub(crate) fn measure<R: Files<File = File> + AllocGlobal + Print + Clock>(
 ) -> Result<(), Fault> {
     let folder = format!(in alloc; "{folder}/store")?;
     make(rt, alloc, folder.as_str())?;
-    let start = Instant::now(rt)?;
-    let mut store = stores::open(rt, alloc, folder.as_str())?;
-    let opened = nanoseconds(rt, &start);
-    let time = time_questions(rt, &mut store, question, count);
-    store.close();
+    let (opened, time) = time_opened(rt, alloc, folder.as_str(), question, count)?;
     let (values, each) = sizes(question);
-    let value = rate(count.saturating_mul(each), time?);
+    let value = rate(count.saturating_mul(each), time);
     let copies = rate(
         count.saturating_mul(each),
         time_copies(rt, alloc, values, count)?,
     );
-    let opened = milliseconds(opened?);
+    let opened = milliseconds(opened);
     println!(rt;
         "{{\"value\": {value}, \"count\": {count}, \"copies\": {copies}, \"opening_ms\": {opened}}}"
     )?;

@@ -100,6 +100,22 @@ fn make<R: Files<File = File> + AllocGlobal>(
     loaded
 }
 
+/// The nanoseconds of opening a store of this many commits, up to its first answer.
+fn time_opening<R: Files<File = File> + AllocGlobal + Clock>(
+    rt: &R,
+    alloc: Global,
+    folder: &str,
+    count: u64,
+) -> Result<u64, Fault> {
+    let start = Instant::now(rt)?;
+    let mut store = stores::open(rt, alloc, folder)?;
+    let asked = ask(&mut store, count.saturating_sub(1));
+    let time = nanoseconds(rt, &start);
+    store.close();
+    asked?;
+    Ok(time?)
+}
+
 /// Measures the opening of a store of this many commits, up to its first answer.
 pub(crate) fn measure<R: Files<File = File> + AllocGlobal + Print + Clock>(
     rt: &R,
@@ -109,13 +125,7 @@ pub(crate) fn measure<R: Files<File = File> + AllocGlobal + Print + Clock>(
 ) -> Result<(), Fault> {
     let folder = format!(in alloc; "{folder}/store")?;
     make(rt, alloc, folder.as_str(), count)?;
-    let start = Instant::now(rt)?;
-    let mut store = stores::open(rt, alloc, folder.as_str())?;
-    let asked = ask(&mut store, count.saturating_sub(1));
-    let time = nanoseconds(rt, &start);
-    store.close();
-    asked?;
-    let value = milliseconds(time?);
+    let value = milliseconds(time_opening(rt, alloc, folder.as_str(), count)?);
     let (read, bytes) = time_reads(rt, alloc, folder.as_str())?;
     println!(rt;
         "{{\"value\": {value}, \"commits\": {count}, \"reading_ms\": {}, \"bytes\": {bytes}}}",

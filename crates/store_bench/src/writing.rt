@@ -70,6 +70,27 @@ fn commit_group(
     }
 }
 
+/// The nanoseconds of one group.
+fn time_group<R: Clock>(
+    rt: &R,
+    alloc: Global,
+    store: &mut Store<FileDisk>,
+    random: &mut Xoshiro256PlusPlus,
+    shape: Shape,
+    version: u64,
+) -> Result<u64, Fault> {
+    let start = Instant::now(rt)?;
+    commit_group(alloc, store, random, shape, version)?;
+    Ok(nanoseconds(rt, &start)?)
+}
+
+/// The nanoseconds of the raw writes and syncs of one group.
+fn time_raw<R: Clock>(rt: &R, raw: &mut RawFiles, shape: Shape) -> Result<u64, Fault> {
+    let start = Instant::now(rt)?;
+    raw.write_group(shape.extents)?;
+    Ok(nanoseconds(rt, &start)?)
+}
+
 /// Times this many groups, and as many of raw writes and syncs, in turns.
 fn time_groups<R: Clock>(
     rt: &R,
@@ -86,14 +107,11 @@ fn time_groups<R: Clock>(
         let first = turn.saturating_mul(TURN);
         let rounds = count.saturating_sub(first).min(TURN);
         for round in 0..rounds {
-            let start = Instant::now(rt)?;
-            commit_group(alloc, store, &mut random, shape, first.wrapping_add(round))?;
-            groups.push(nanoseconds(rt, &start)?)?;
+            let version = first.wrapping_add(round);
+            groups.push(time_group(rt, alloc, store, &mut random, shape, version)?)?;
         }
         for _ in 0..rounds {
-            let start = Instant::now(rt)?;
-            raw.write_group(shape.extents)?;
-            raws.push(nanoseconds(rt, &start)?)?;
+            raws.push(time_raw(rt, raw, shape)?)?;
         }
     }
     Ok((groups, raws))
@@ -118,6 +136,27 @@ fn print<R: Print>(rt: &R, shape: Shape, times: (Times, Times)) -> Result<(), Fa
     Ok(())
 }
 
+/// The files of raw writes, in a folder of their own below this one.
+fn open_raw<R: Files<File = File> + AllocGlobal>(
+    rt: &R,
+    alloc: Global,
+    folder: &str,
+) -> Result<RawFiles, Fault> {
+    let folder = format!(in alloc; "{folder}/raw")?;
+    RawFiles::new(rt, alloc, folder.as_str(), MOST_SLOTS)
+}
+
+/// A new store, in a folder of its own below this one.
+fn open_store<R: Files<File = File> + AllocGlobal>(
+    rt: &R,
+    alloc: Global,
+    folder: &str,
+) -> Result<Store<FileDisk>, Fault> {
+    let folder = format!(in alloc; "{folder}/store")?;
+    stores::make(rt, alloc, folder.as_str(), MOST_SLOTS)?;
+    stores::open(rt, alloc, folder.as_str())
+}
+
 /// Measures this many groups of commits.
 pub(crate) fn measure<R: Files<File = File> + AllocGlobal + Print + Clock>(
     rt: &R,
@@ -126,11 +165,8 @@ pub(crate) fn measure<R: Files<File = File> + AllocGlobal + Print + Clock>(
     shape: Shape,
     count: u64,
 ) -> Result<(), Fault> {
-    let raw_folder = format!(in alloc; "{folder}/raw")?;
-    let mut raw = RawFiles::new(rt, alloc, raw_folder.as_str(), MOST_SLOTS)?;
-    let store_folder = format!(in alloc; "{folder}/store")?;
-    stores::make(rt, alloc, store_folder.as_str(), MOST_SLOTS)?;
-    let mut store = stores::open(rt, alloc, store_folder.as_str())?;
+    let mut raw = open_raw(rt, alloc, folder)?;
+    let mut store = open_store(rt, alloc, folder)?;
     let times = time_groups(rt, alloc, &mut store, &mut raw, shape, count);
     store.close();
     print(rt, shape, times?)
