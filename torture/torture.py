@@ -388,22 +388,34 @@ def full_case(program, chance, folder):
 
 
 def forged_case(program, chance, folder):
-    """Bytes of an image are changed, or an area is cut: the program opens it, or says why not, as the plain reader does."""
-    format_store(program, folder, 16)
-    play = Play(program, chance, depth=9)
-    play.stop = lambda *it: None
-    play.play(folder, Machine(), 60)
-    whole, tried = read_areas(folder), 0
+    """Bytes of an image are changed, an area is cut, or it is that of another store: the program opens it, or says why not, as the plain reader does."""
+    whole, other = played(program, chance, folder), played(program, chance, folder + "/other")
+    tried = 0
     for _ in range(60):
         areas = {area: bytearray(whole[area]) for area in AREAS}
-        for _ in range(chance.choice((1, 1, 1, 2))):
-            forge(areas, chance)
+        if chance.random() < 0.05:
+            area = chance.choice(AREAS)
+            areas[area] = bytearray(other[area])
+        else:
+            for _ in range(chance.choice((1, 1, 1, 2))):
+                forge(areas, chance)
         check_forged(program, {area: bytes(areas[area]) for area in AREAS})
         tried += 1
     return tried
 
 
+def played(program, chance, folder):
+    """The files of a store after some lines."""
+    os.makedirs(folder, exist_ok=True)
+    format_store(program, folder, 16)
+    play = Play(program, chance)
+    play.stop = lambda *it: None
+    play.play(folder, Machine(), 60)
+    return read_areas(folder)
+
+
 def forge(areas, chance):
+    """One byte of an area is another, or the area is cut."""
     area = chance.choice(("status", "status", "heap", "heap", "archive"))
     data = areas[area]
     if not data:
