@@ -16,7 +16,7 @@ const TWO_RECORDS: RunEntry = RunEntry {
 };
 
 /// What is asked of the key, or of its relation.
-#[derive(Clone, Copy, Debug)]
+#[derive(Clone, Copy)]
 enum Query {
     /// The value at a time.
     Find(u64),
@@ -27,7 +27,7 @@ enum Query {
 }
 
 /// What is answered, in short.
-#[derive(Clone, Copy, Debug, PartialEq, Eq)]
+#[derive(Clone, Copy, PartialEq, Eq)]
 enum Found {
     Nothing,
     /// A value of one field of one byte.
@@ -99,6 +99,21 @@ fn ask(
     }
 }
 
+/// The place of the first query that is not answered as it should be.
+fn first_wrong(
+    reader: &mut ArchiveReader,
+    disk: &mut MemDisk,
+    runs: &[RunEntry],
+    table: &[(Query, Found)],
+) -> Result<Option<usize>, ArchiveFault> {
+    for (place, (query, want)) in table.iter().enumerate() {
+        if ask(reader, disk, runs, *query)? != *want {
+            return Ok(Some(place));
+        }
+    }
+    Ok(None)
+}
+
 /// A disk with these bytes as its archive.
 fn disk_of(alloc: Global, archive: Vec<u8>) -> MemDisk {
     MemDisk::with_bytes(Vec::new(alloc), Vec::new(alloc), archive)
@@ -118,13 +133,11 @@ fn a_run_answers_by_its_times(rt: HostRuntime) -> Result<(), Fail> {
         (Query::Scan(105, 121), Found::Scan(2, 7)),
         (Query::Scan(120, 121), Found::Nothing),
     ];
-    for (query, want) in table {
-        let found = ask(&mut reader, &mut disk, &[TWO_RECORDS], query)?;
-        assert_eq!(rt; found, want, "{query:?}");
-    }
+    let runs = [TWO_RECORDS];
+    assert_eq!(rt; first_wrong(&mut reader, &mut disk, &runs, &table)?, None);
     let heads = reader.heads();
-    let found = ask(&mut reader, &mut disk, &[TWO_RECORDS], Query::Find(120))?;
-    assert_eq!(rt; found, Found::Nothing);
+    let after = [(Query::Find(120), Found::Nothing)];
+    assert_eq!(rt; first_wrong(&mut reader, &mut disk, &runs, &after)?, None);
     assert_eq!(rt; reader.heads(), heads);
     Ok(())
 }
@@ -246,16 +259,22 @@ fn ask_changed(
     )
 }
 
+/// Whether both readers answer as they should, the one with a cache and the one without.
+fn are_answered(alloc: Global, change: &Change) -> Result<bool, Fail> {
+    for (query, want) in change.asked {
+        let cached = ask_changed(alloc, ArchiveReader::new(alloc)?, change, *query);
+        let fresh = ask_changed(alloc, ArchiveReader::without_cache(alloc), change, *query);
+        if cached != *want || fresh != *want {
+            return Ok(false);
+        }
+    }
+    Ok(true)
+}
+
 #[test]
 fn damage_is_told_where_it_is_read(rt: HostRuntime) -> Result<(), Fail> {
-    let alloc = rt.alloc();
     for change in CHANGES {
-        for (query, want) in change.asked {
-            let cached = ask_changed(alloc, ArchiveReader::new(alloc)?, &change, *query);
-            assert_eq!(rt; cached, *want, "{}: {query:?}", change.what);
-            let fresh = ask_changed(alloc, ArchiveReader::without_cache(alloc), &change, *query);
-            assert_eq!(rt; fresh, *want, "{}, no cache: {query:?}", change.what);
-        }
+        assert!(rt; are_answered(rt.alloc(), &change)?, "{}", change.what);
     }
     Ok(())
 }
@@ -265,7 +284,7 @@ fn a_run_past_the_end_is_damaged(rt: HostRuntime) -> Result<(), Fail> {
     let mut disk = disk_of(rt.alloc(), RUN_BYTES[..73].to_vec(rt.alloc())?);
     let mut reader = ArchiveReader::new(rt.alloc())?;
     let found = ask(&mut reader, &mut disk, &[TWO_RECORDS], Query::Find(109));
-    assert_eq!(rt; found, DAMAGED);
+    assert!(rt; found == DAMAGED);
     Ok(())
 }
 
@@ -427,13 +446,16 @@ fn two_long(alloc: Global) -> Result<[(Head, Value); 2], Fail> {
     Ok([first, second])
 }
 
-/// How many bytes are left once a piece of a run is written.
-fn left_behind<W: RecordWalk>(
+/// How many bytes of a run are left and how many calls were made, once each of two pieces is
+/// written.
+fn write_two<W: RecordWalk>(
     writer: &mut RunWriter<W>,
     disk: &mut MemDisk,
-) -> Result<u64, DeviceFault> {
+) -> Result<[(u64, u64); 2], DeviceFault> {
     writer.write_piece(disk)?;
-    Ok(writer.left())
+    let first = (writer.left(), disk.made());
+    writer.write_piece(disk)?;
+    Ok([first, (writer.left(), disk.made())])
 }
 
 #[test]
@@ -442,10 +464,7 @@ fn a_run_is_written_byte_for_byte(rt: HostRuntime) -> Result<(), Fail> {
     let mut disk = MemDisk::new(rt.alloc());
     let mut writer = writer_of(&records, 0)?;
     assert!(rt; writer.records() == 2);
-    assert!(rt; left_behind(&mut writer, &mut disk) == Ok(0));
-    assert!(rt; disk.made() == 1);
-    assert!(rt; left_behind(&mut writer, &mut disk) == Ok(0));
-    assert!(rt; disk.made() == 1);
+    assert!(rt; write_two(&mut writer, &mut disk)? == [(0, 1), (0, 1)]);
     let bytes = bytes_of(rt.alloc(), &mut disk, Area::Archive)?;
     assert!(rt; bytes.as_slice() == RUN_BYTES.as_slice());
     Ok(())
@@ -466,9 +485,7 @@ fn a_long_run_is_written_in_two_pieces(rt: HostRuntime) -> Result<(), Fail> {
     let mut disk = MemDisk::new(rt.alloc());
     let mut writer = writer_of(&records, 0)?;
     assert!(rt; writer.left() == 8262);
-    assert!(rt; left_behind(&mut writer, &mut disk) == Ok(70));
-    assert!(rt; left_behind(&mut writer, &mut disk) == Ok(0));
-    assert!(rt; disk.made() == 2);
+    assert!(rt; write_two(&mut writer, &mut disk)? == [(70, 1), (0, 2)]);
     assert!(rt; disk.len(Area::Archive)? == 8262);
     Ok(())
 }
@@ -485,9 +502,8 @@ const LATER: RunEntry = RunEntry {
     floor: 0,
 };
 
-#[test]
-fn scans_of_several_runs_are_merged(rt: HostRuntime) -> Result<(), Fail> {
-    let alloc = rt.alloc();
+/// A disk with both runs.
+fn two_runs(alloc: Global) -> Result<MemDisk, Fail> {
     let mut disk = disk_of(alloc, RUN_BYTES.to_vec(alloc)?);
     let head = Head {
         key: key_of(3),
@@ -496,11 +512,18 @@ fn scans_of_several_runs_are_merged(rt: HostRuntime) -> Result<(), Fail> {
     };
     let records = [(head, Value::new(alloc, &[b"x"])?)];
     writer_of(&records, 74)?.write_piece(&mut disk)?;
+    Ok(disk)
+}
+
+#[test]
+fn scans_of_several_runs_are_merged(rt: HostRuntime) -> Result<(), Fail> {
+    let mut disk = two_runs(rt.alloc())?;
+    let mut reader = ArchiveReader::new(rt.alloc())?;
+    let table = [
+        (Query::Scan(100, 200), Found::Scan(3, 3)),
+        (Query::Scan(120, 200), Found::Scan(1, 3)),
+    ];
     let runs = [TWO_RECORDS, LATER];
-    let mut reader = ArchiveReader::new(alloc)?;
-    let all = ask(&mut reader, &mut disk, &runs, Query::Scan(100, 200))?;
-    assert_eq!(rt; all, Found::Scan(3, 3));
-    let later = ask(&mut reader, &mut disk, &runs, Query::Scan(120, 200))?;
-    assert_eq!(rt; later, Found::Scan(1, 3));
+    assert_eq!(rt; first_wrong(&mut reader, &mut disk, &runs, &table)?, None);
     Ok(())
 }

@@ -127,6 +127,17 @@ fn is_extent_one(bytes: &[u8]) -> bool {
     bytes.starts_with(&EXTENT_FRONT) && begin_with(bytes.get(16..).unwrap_or(&[]), &ANCHOR)
 }
 
+/// Whether the extent that is filled from a source is this one, with so many records and bytes.
+fn is_filled(
+    source: &mut ListCursor<'_>,
+    image: &Image,
+    buffer: &mut [u8; EXTENT_LEN],
+    want: (u32, u32),
+) -> bool {
+    let count = fill_extent(source, image.number(), image.next(), buffer);
+    (count.records, count.used) == want && image.bytes() == buffer.as_slice()
+}
+
 #[test]
 fn an_extent_is_sealed_and_filled_byte_for_byte(rt: HostRuntime) -> Result<(), Fail> {
     let image = extent(rt.alloc())?;
@@ -134,10 +145,8 @@ fn an_extent_is_sealed_and_filled_byte_for_byte(rt: HostRuntime) -> Result<(), F
     assert!(rt; is_extent_one(image.bytes()));
     let records = record_seven(rt.alloc())?;
     let mut source = ListCursor::new(&records);
-    let mut filled = [0xff; EXTENT_LEN];
-    let count = fill_extent(&mut source, 1, 0, &mut filled);
-    assert_eq!(rt; (count.records, count.used), (1, 14));
-    assert!(rt; is_extent_one(&filled));
+    let mut buffer = [0xff; EXTENT_LEN];
+    assert!(rt; is_filled(&mut source, &image, &mut buffer, (1, 14)));
     assert!(rt; source.peek().is_none());
     Ok(())
 }
@@ -195,13 +204,9 @@ fn extents_filled_one_by_one_are_the_packed_chain(rt: HostRuntime) -> Result<(),
     let records = many(alloc, 1024)?;
     let images = chain_of_two(alloc)?;
     let mut source = ListCursor::new(&records);
-    let mut image = [0xff; EXTENT_LEN];
-    let filled = fill_extent(&mut source, 3, 4, &mut image);
-    assert_eq!(rt; (filled.records, filled.used), (584, 8176));
-    assert!(rt; images[0].bytes() == image.as_slice());
-    let filled = fill_extent(&mut source, 4, 0, &mut image);
-    assert_eq!(rt; (filled.records, filled.used), (440, 6160));
-    assert!(rt; images[1].bytes() == image.as_slice());
+    let mut buffer = [0xff; EXTENT_LEN];
+    assert!(rt; is_filled(&mut source, &images[0], &mut buffer, (584, 8176)));
+    assert!(rt; is_filled(&mut source, &images[1], &mut buffer, (440, 6160)));
     assert!(rt; source.peek().is_none());
     Ok(())
 }

@@ -1,28 +1,34 @@
 //! Whole images: as they are formatted, read, and damaged.
 use crate::area_bytes::{begin_with, bytes_of, put, zeros};
 use crate::worked_bytes::{ANCHOR, COMMIT_SLOT, EXTENT_FRONT, HEADER, KEY, RUN, RUN_BYTES};
-use disk::{Area, Disk, MemDisk};
-use recovery::{FormatFault, OpenFault, format, read_image};
+use disk::{Area, DeviceFault, Disk, MemDisk};
+use recovery::{FormatFault, OpenFault, Recovered, format, read_image};
 use std::alloc::{AllocError, Global};
 use std::test::Fail;
 
+/// The lengths of the status area and of the heap.
+fn lens(disk: &mut MemDisk) -> Result<(u64, u64), DeviceFault> {
+    let status = disk.len(Area::Status)?;
+    let heap = disk.len(Area::Heap)?;
+    Ok((status, heap))
+}
+
 #[test]
 fn a_new_store_is_a_header_and_closed_slots(rt: HostRuntime) -> Result<(), Fail> {
-    let alloc = rt.alloc();
-    let mut disk = MemDisk::new(alloc);
-    for slots in [15, 65_537] {
-        let formatted = format(alloc, &mut disk, slots);
-        assert_eq!(rt; formatted, Err(FormatFault::BadSlots), "{slots} slots");
+    let mut disk = MemDisk::new(rt.alloc());
+    let table = [
+        (15, Some(FormatFault::BadSlots), 0),
+        (65_537, Some(FormatFault::BadSlots), 0),
+        (16, None, 8704),
+        (32, Some(FormatFault::Occupied), 8704),
+    ];
+    for (slots, want, len) in table {
+        let got = format(rt.alloc(), &mut disk, slots).err();
+        assert_eq!(rt; got, want, "{slots} slots");
+        assert_eq!(rt; lens(&mut disk)?, (len, 0), "{slots} slots");
     }
-    assert_eq!(rt; disk.len(Area::Status)?, 0);
-    format(alloc, &mut disk, 16)?;
-    let status = bytes_of(alloc, &mut disk, Area::Status)?;
-    assert_eq!(rt; status.len(), 8704);
+    let status = bytes_of(rt.alloc(), &mut disk, Area::Status)?;
     assert!(rt; begin_with(&status, &HEADER));
-    assert_eq!(rt; disk.len(Area::Heap)?, 0);
-    let again = format(alloc, &mut disk, 32);
-    assert_eq!(rt; again, Err(FormatFault::Occupied));
-    assert_eq!(rt; disk.len(Area::Status)?, 8704);
     Ok(())
 }
 
@@ -55,18 +61,54 @@ fn one_commit(
     Ok(MemDisk::with_bytes(status, heap, Vec::new(alloc)))
 }
 
+/// What an image has: its slots and how many are used, the time of its last commit, and how many
+/// commits, extents and chains there are.
+#[derive(Clone, Copy, PartialEq, Eq)]
+struct Counts {
+    slots: u32,
+    used: u32,
+    last: u64,
+    commits: usize,
+    extents: u32,
+    chains: usize,
+}
+
+fn counted(found: &Recovered) -> Counts {
+    Counts {
+        slots: found.header.slots,
+        used: found.used,
+        last: found.last,
+        commits: found.commits.len(),
+        extents: found.extents.used(),
+        chains: found.live.len(),
+    }
+}
+
+/// How many fields the key's value has at a time; none where it has no value.
+fn fields_at(found: &Recovered, time: u64) -> Option<u8> {
+    let shared = found.chains.at(KEY, time)?;
+    Some(shared.value().len())
+}
+
 #[test]
 fn a_commit_is_read(rt: HostRuntime) -> Result<(), Fail> {
     let mut disk = one_commit(rt.alloc(), Area::Archive, 0, 0, 8192)?;
     let found = read_image(rt.alloc(), &mut disk)?;
-    assert_eq!(rt; found.header.slots, 16);
-    assert_eq!(rt; (found.used, found.last), (1, 100));
-    assert_eq!(rt; found.commits.len(), 1);
-    assert_eq!(rt; (found.commits[0].time, found.commits[0].label), (100, 9));
-    assert_eq!(rt; (found.extents.used(), found.live.len()), (1, 1));
-    assert!(rt; found.chains.at(KEY, 99).is_none());
-    let shared = found.chains.at(KEY, 100).ok_or("no value")?;
-    assert_eq!(rt; shared.value().len(), 1);
+    let want = Counts {
+        slots: 16,
+        used: 1,
+        last: 100,
+        commits: 1,
+        extents: 1,
+        chains: 1,
+    };
+    assert!(rt; counted(&found) == want);
+    let name = found.commits.first().ok_or("no commit")?;
+    assert_eq!(rt; (name.time, name.label), (100, 9));
+    assert_eq!(rt;
+        (fields_at(&found, 99), fields_at(&found, 100)),
+        (None, Some(1))
+    );
     Ok(())
 }
 
@@ -147,9 +189,16 @@ fn two_commits(alloc: Global, second: u8) -> Result<MemDisk, AllocError> {
 #[test]
 fn no_extent_is_in_two_chains(rt: HostRuntime) -> Result<(), Fail> {
     let mut disk = two_commits(rt.alloc(), 2)?;
+    let want = Counts {
+        slots: 16,
+        used: 1,
+        last: 110,
+        commits: 2,
+        extents: 2,
+        chains: 2,
+    };
     let found = read_image(rt.alloc(), &mut disk)?;
-    assert_eq!(rt; (found.last, found.extents.used()), (110, 2));
-    assert_eq!(rt; (found.live.len(), found.commits.len()), (2, 2));
+    assert!(rt; counted(&found) == want);
     let mut disk = two_commits(rt.alloc(), 1)?;
     let got = fault(rt.alloc(), &mut disk);
     assert_eq!(rt; got, Some(OpenFault::Damaged(Area::Heap, 1)));
@@ -196,8 +245,10 @@ fn an_archived_slot_is_read(rt: HostRuntime) -> Result<(), Fail> {
     assert_eq!(rt; (found.used, found.last), (5, 130));
     assert_eq!(rt; (found.archived, found.reclaimed, found.floor), (120, 0, 0));
     assert_eq!(rt; found.runs.as_slice(), [RUN].as_slice());
-    assert!(rt; found.chains.at(KEY, 115).is_some());
-    assert!(rt; found.chains.at(KEY, 125).is_none());
+    assert_eq!(rt;
+        (fields_at(&found, 115), fields_at(&found, 125)),
+        (Some(1), None)
+    );
     Ok(())
 }
 

@@ -31,6 +31,14 @@ fn spelled(profile: u32, number: u32, body: Body, front: &'static [u8]) -> Spell
     }
 }
 
+/// Whether a slot has its bytes, is in range, and is read from them.
+fn is_spelled(row: &SpelledSlot) -> bool {
+    let bytes = encode_slot(row.profile, &row.slot);
+    begin_with(&bytes, row.front)
+        && is_in_range(row.profile, &row.slot.body)
+        && decode_encoded(row.profile, &row.slot).is_ok()
+}
+
 /// The floor of all relations, or of one.
 fn floor(relation: Option<u16>, floor: u64) -> Body {
     Body::Floor { relation, floor }
@@ -54,11 +62,8 @@ fn slots_are_spelled_byte_for_byte(rt: HostRuntime) {
             b"\x04\0\0\x04\0\0\0\x73\0\0\0\0\0\0\0\x01",
         ),
     ];
-    for row in table {
-        let bytes = encode_slot(row.profile, &row.slot);
-        assert!(rt; begin_with(&bytes, row.front), "slot {}", row.slot.number);
-        assert!(rt; is_in_range(row.profile, &row.slot.body));
-        assert!(rt; decode_encoded(row.profile, &row.slot).is_ok());
+    for row in &table {
+        assert!(rt; is_spelled(row), "slot {}", row.slot.number);
     }
     assert!(rt; !is_in_range(2, &floor(Some(1), 115)));
 }
@@ -127,21 +132,32 @@ fn cut_bytes_are_no_value(rt: HostRuntime) -> Result<(), Fail> {
     Ok(())
 }
 
+/// Whether these fields are no value.
+fn is_bad(alloc: Global, fields: &[&[u8]]) -> bool {
+    Value::new(alloc, fields).err() == Some(ValueFault::BadValue)
+}
+
+/// How many fields there are where this one is the first; none where it is refused.
+fn count_with(alloc: Global, field: &[u8]) -> Result<Option<u8>, Fail> {
+    match Fields::none(alloc).with(field)? {
+        Some(fields) => Ok(Some(fields.count())),
+        None => Ok(None),
+    }
+}
+
 #[test]
 fn fields_of_other_sizes_are_no_value(rt: HostRuntime) -> Result<(), Fail> {
     let alloc = rt.alloc();
     let long = [0; 256];
-    let none: [&[u8]; 0] = [];
     let one: &[u8] = b"a";
-    assert!(rt; Value::new(alloc, &none).err() == Some(ValueFault::BadValue));
-    assert!(rt; Value::new(alloc, &[one; 17]).err() == Some(ValueFault::BadValue));
-    assert!(rt; Value::new(alloc, &[long.as_slice()]).err() == Some(ValueFault::BadValue));
+    assert!(rt; is_bad(alloc, &[]));
+    assert!(rt; is_bad(alloc, &[one; 17]));
+    assert!(rt; is_bad(alloc, &[long.as_slice()]));
     assert!(rt; Value::new(alloc, &[&long[1..]; 16]).is_ok());
     assert!(rt; Value::of(Fields::none(alloc)).is_none());
-    assert!(rt; Fields::none(alloc).with(&long)?.is_none());
-    let Some(fields) = Fields::none(alloc).with(b"a")? else {
-        return Err("there is room".into());
-    };
-    assert_eq!(rt; fields.count(), 1);
+    assert_eq!(rt;
+        (count_with(alloc, &long)?, count_with(alloc, one)?),
+        (None, Some(1))
+    );
     Ok(())
 }

@@ -66,8 +66,7 @@ fn a_slot_is_written_byte_for_byte(rt: HostRuntime) -> Result<(), Fail> {
     let mut log = StatusLog::new(&SIXTEEN, 0);
     assert_eq!(rt; write_slot(&mut log, one_commit(), &mut disk)?, 0);
     let status = bytes_of(rt.alloc(), &mut disk, Area::Status)?;
-    let slots = status.get(512..).ok_or("no slot")?;
-    assert!(rt; begin_with(slots, &COMMIT_SLOT));
+    assert!(rt; begin_with(status.get(512..).unwrap_or(&[]), &COMMIT_SLOT));
     let slots = read_log(rt.alloc(), &mut disk, &SIXTEEN)?;
     assert_eq!(rt; slots.len(), 1);
     Ok(())
@@ -84,14 +83,15 @@ fn begun(log: &mut StatusLog) -> Result<Stage, SlotFault> {
 #[test]
 fn one_slot_is_in_the_writing(rt: HostRuntime) {
     let mut log = StatusLog::new(&SIXTEEN, 15);
-    assert_eq!(rt; (log.slots(), log.used()), (16, 15));
-    assert!(rt; !log.is_writing());
-    assert_eq!(rt; begun(&mut log), Ok(Stage::Begun));
-    assert!(rt; log.is_writing());
-    assert_eq!(rt; begun(&mut log), Err(SlotFault::Busy));
+    assert_eq!(rt;
+        (log.slots(), log.used(), log.is_writing()),
+        (16, 15, false)
+    );
     let mut full = StatusLog::new(&SIXTEEN, 16);
+    assert_eq!(rt; begun(&mut log), Ok(Stage::Begun));
+    assert_eq!(rt; begun(&mut log), Err(SlotFault::Busy));
     assert_eq!(rt; begun(&mut full), Err(SlotFault::StatusFull));
-    assert!(rt; !full.is_writing());
+    assert_eq!(rt; (log.is_writing(), full.is_writing()), (true, false));
 }
 
 /// How many slots are read where a commit at 100 comes first, then these runs and then this, or why

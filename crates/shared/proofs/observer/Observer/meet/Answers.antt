@@ -18,9 +18,3 @@ load_as-requires g c =
     let r = c.requires in
     let j = c.join_pass.ensures in
     (search rules, (search rules, (j.0.0 ∙ r.cell.1 ∙ sym r.cell.0, confirms _ _ (ap (λ (v : SightValue). v.writes) j.1 ∙ r.writes))))
-
-pub split_pass-requires : goal.split_pass-requires
-split_pass-requires g c =
-    let r = c.requires in
-    let j = c.join_pass.ensures in
-    (search rules, (search rules, (c.load_as.ensures.cell.0 ∙ j.0.0 ∙ r.cell.1 ∙ sym r.cell.0, forks _ _)))
