@@ -35,8 +35,9 @@ use Rattle.run.specs.Runs.{Does, Follows, Puts, Deletes, deleted, Redeems, Asks,
 use Rattle.run.specs.Moments.{Moment}
 use Rattle.run.specs.Promise.{Survives, Leaves, LeavesBetween, Link, Chain}
 use Rattle.run.specs.Traces.{Trace, moment_after, moment_at, machine_at, StopLeaves, IsCall, place_of, IsSubmit, LeavesKey}
-use Rattle.run.specs.Laws.{AsManyAnswers, GoesToItsEnd, CallsLink, StopsSurvive, MachineRuns, ListsGoOn, FloorsStand, TicketsStay, DoneNamesItsSubmit, PutIsSubmitted, DeleteIsSubmitted, WrittenIsFound, ViewsStay, ViewAnswersByItsMoment}
+use Rattle.run.specs.Laws.{AsManyAnswers, GoesToItsEnd, CallsLink, StopsSurvive, MachineRuns, ListsGoOn, StepIsList, FloorsStand, TicketsStay, DoneNamesItsSubmit, PutIsSubmitted, DeleteIsSubmitted, WrittenIsFound, ViewsStay, ViewAnswersByItsMoment}
 use Rattle.run.proofs.Lists.{length-set, place-set_same, place-push_old}
+use Rattle.run.proofs.Survival.{moment-leaves}
 use Rattle.run.proofs.Commits.{commit-one}
 use Rattle.run.proofs.Floors.{SameFloors, same-then, call-floors}
 use Rattle.run.proofs.Passing.{QueuesAt, Gives, IsGiven, WasRunning, passes}
@@ -88,11 +89,22 @@ past-end tells (c ∷ cs) [] start end chain n past = refl
 past-end tells (c ∷ cs) (a ∷ said) start end chain zero past = absurd (omega (arith, past))
 past-end tells (c ∷ cs) (a ∷ said) start end chain (suc n) past = past-end tells cs said chain.0 end chain.2 n (omega (arith, past))
 
+chain-on : (tells : Bool) (calls more : List Call) (answers said : List Answer) (start mid end : Moment) → Chain tells calls answers start mid → Chain tells more said mid end → Chain tells (calls ++ more) (answers ++ said) start end
+chain-on tells [] more [] said start mid end first second = subst (λ (m : Moment). Chain tells more said m end) first second
+chain-on tells [] more (a ∷ answers) said start mid end first second = absurd first
+chain-on tells (c ∷ cs) more [] said start mid end first second = absurd first
+chain-on tells (c ∷ cs) more (a ∷ answers) said start mid end first second = (first.0, first.1, chain-on tells cs more answers said first.0 mid end first.2 second)
+
 pub lists-go-on : ListsGoOn
-lists-go-on tells [] more [] said start mid end first second = subst (λ (m : Moment). Chain tells more said m end) first second
-lists-go-on tells [] more (a ∷ answers) said start mid end first second = absurd first
-lists-go-on tells (c ∷ cs) more [] said start mid end first second = absurd first
-lists-go-on tells (c ∷ cs) more (a ∷ answers) said start mid end first second = (first.0, first.1, lists-go-on tells cs more answers said first.0 mid end first.2 second)
+lists-go-on tells old mid new before between after calls more answers said first second = λ start is.
+    let one = first start is in
+    let two = second one.0 one.2 in
+    (two.0, record { first = one.1.first; chain = chain-on tells calls more answers said start one.0 two.0 one.1.chain two.1.chain }, two.2)
+
+pub step-is-list : StepIsList
+step-is-list tells old new before after c a links = λ start is.
+    let did = links start is in
+    (did.0, record { first = moment-leaves tells old before start is; chain = (did.0, did.1, refl) }, did.2)
 
 -- ---- the moments of a trace
 

@@ -1,6 +1,6 @@
 -- Laws of lists of calls.
 use Rattle.std.specs.Borrow.{Bor}
-use Rattle.std.specs.Prelude.{ℕ, ◌≡◌, ◌≤◌, ◌<◌, ◌⊎◌, ◌++◌, Bool, IsTrue, suc, List, [], length, map, Contains, IsSome, Option, Some, None, Result, Ok, if◌then◌else◌}
+use Rattle.std.specs.Prelude.{ℕ, ◌≡◌, ◌≤◌, ◌<◌, ◌⊎◌, ◌++◌, Bool, IsTrue, suc, List, [], ◌∷◌, length, map, Contains, IsSome, Option, Some, None, Result, Ok, if◌then◌else◌}
 use Rattle.disk.specs.Areas.{Image}
 use Rattle.history.specs.declared.key.Key.{Key}
 use Rattle.history.specs.declared.key.KeyWrite.{KeyWrite}
@@ -24,7 +24,7 @@ use Rattle.run.specs.declared.calls.RedeemOutcome.TheVariants as told
 use Rattle.run.specs.declared.held.Held.{Held}
 use Rattle.run.specs.Places.{Running, Waits, Views, place_at}
 use Rattle.run.specs.Moments.{Moment, first_moment, IsAtMoment}
-use Rattle.run.specs.Promise.{IsKeptAs, Survives, Leaves, Link, Chain}
+use Rattle.run.specs.Promise.{IsKeptAs, Survives, Leaves, Link, LinksOne, KeepsPromise}
 use Rattle.run.specs.Runs.{Follows}
 use Rattle.run.specs.Traces.{Trace, moment_at, machine_at, StopLeaves, IsCall, place_of, IsSubmit, LeavesKey}
 
@@ -75,9 +75,16 @@ StopsSurvive = (tells : Bool) (t : Trace tells) (n : ℕ) (image : Image) → Is
 abbrev pub MachineRuns : Type 0
 MachineRuns = (tells : Bool) (t : Trace tells) (p q : ℕ) → p ≤ q → IsMachine IsValue (machine_at t p) × Follows (machine_at t p) (machine_at t q)
 
+-- ---- lists that go on
+
 -- a list that goes on where another ended is one list with it
 abbrev pub ListsGoOn : Type 0
-ListsGoOn = (tells : Bool) (calls more : List Call) (answers said : List Answer) (start mid end : Moment) → Chain tells calls answers start mid → Chain tells more said mid end → Chain tells (calls ++ more) (answers ++ said) start end
+ListsGoOn = (tells : Bool) (old mid new : StoreValue) (before between after : List Held) (calls more : List Call) (answers said : List Answer)
+    → KeepsPromise tells old before calls answers mid between → KeepsPromise tells mid between more said new after → KeepsPromise tells old before (calls ++ more) (answers ++ said) new after
+
+-- and a single call is a list of one
+abbrev pub StepIsList : Type 0
+StepIsList = (tells : Bool) (old new : StoreValue) (before after : List Held) (c : Call) (a : Answer) → LinksOne tells old before c a new after → KeepsPromise tells old before (c ∷ []) (a ∷ []) new after
 
 -- ---- floors
 

@@ -1,6 +1,6 @@
 //! Laws of lists of calls, each as a function with nothing to do. They speak of a `Trace`: a list of
 //! calls as it went from a moment of the store, in `specs/Traces.antt`.
-ghost use Rattle.run.specs.Laws.{FirstMoment, MomentSurvives, ImageIsKept, CommitHasItsTime, WriteStands, AsManyAnswers, GoesToItsEnd, CallsLink, StopsSurvive, MachineRuns, ListsGoOn, FloorsStand, TicketsStay, DoneNamesItsSubmit, PutIsSubmitted, DeleteIsSubmitted, WrittenIsFound, ViewsStay, ViewAnswersByItsMoment};
+ghost use Rattle.run.specs.Laws.{FirstMoment, MomentSurvives, ImageIsKept, CommitHasItsTime, WriteStands, AsManyAnswers, GoesToItsEnd, CallsLink, StopsSurvive, MachineRuns, ListsGoOn, StepIsList, FloorsStand, TicketsStay, DoneNamesItsSubmit, PutIsSubmitted, DeleteIsSubmitted, WrittenIsFound, ViewsStay, ViewAnswersByItsMoment};
 
 use history::laws::Stored;
 use std::marker::Model;
@@ -37,16 +37,21 @@ pub fn writes_stand()
     ensures stands { WriteStands }
 {}
 
-/// A list has as many answers as calls, each of which links two moments, goes from its start to its
-/// end, and may be continued; the machine runs from each moment to each later one, and whatever a
-/// stop may leave at one or within the next call survives.
+/// A list has as many answers as calls, each of which links two moments, and goes from its start to
+/// its end; the machine runs from each moment to each later one, and whatever a stop may leave at one
+/// or within the next call survives.
 pub fn calls_link()
     ensures many { AsManyAnswers }
     ensures ends { GoesToItsEnd }
     ensures links { CallsLink }
     ensures runs { MachineRuns }
     ensures stops { StopsSurvive }
+{}
+
+/// A list that goes on where another ended is one list with it, and a single call is a list of one.
+pub fn lists_go_on()
     ensures more { ListsGoOn }
+    ensures step { StepIsList }
 {}
 
 /// No call raises a floor.

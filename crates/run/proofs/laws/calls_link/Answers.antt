@@ -1,4 +1,4 @@
-use Rattle.run.proofs.Tracing.{as-many, to-its-end, calls-link, machine-runs, stops-survive, lists-go-on}
+use Rattle.run.proofs.Tracing.{as-many, to-its-end, calls-link, machine-runs, stops-survive}
 use Rattle.run.proofs.laws.calls_link.Goals as goal
 
 pub returns-clause-many : goal.returns-clause-many
@@ -15,6 +15,3 @@ returns-clause-runs c = machine-runs
 
 pub returns-clause-stops : goal.returns-clause-stops
 returns-clause-stops c = stops-survive
-
-pub returns-clause-more : goal.returns-clause-more
-returns-clause-more c = lists-go-on
