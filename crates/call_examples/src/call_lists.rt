@@ -3,7 +3,8 @@ use crate::published::SEVEN;
 use disk::MemDisk;
 use group::{Did, PumpFault};
 use run::{
-    Answer, Call, Held, RedeemOutcome, SubmitOutcome, close, format, give_back, open, run, run_on, step,
+    Answer, Call, Held, RedeemOutcome, SubmitOutcome, close, format, give_back, open, run, run_on,
+    step,
 };
 use snapshot::TxnFault;
 use std::alloc::Global;
