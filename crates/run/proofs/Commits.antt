@@ -1,5 +1,5 @@
 -- A commit in a history: its time is its own, and what it wrote stands until a later one writes the key.
-use Rattle.std.proofs.Common.{◌≡◌, ◌≤◌, ◌<◌, ⊎_elim, ℕ, Bool, true, false, cond, nat_le, [], ◌∷◌, Option, Some, None, refl, ap, sym, subst, ◌∙◌, arith}
+use Rattle.std.proofs.Common.{◌≡◌, ◌≤◌, ◌<◌, ⊎_elim, ℕ, true, false, cond, nat_le, [], ◌∷◌, Option, Some, None, refl, ap, sym, ◌∙◌, arith}
 use Rattle.std.specs.Prelude.{Contains, option_map}
 use Rattle.std.specs.List.{cons_option}
 use Rattle.std.proofs.lemmas.Bool.Decides.{nat_tests}
@@ -10,7 +10,7 @@ use Rattle.history.specs.Histories.{Commit, History, last_after, writes_of, HasR
 use Rattle.history.proofs.Members.{Contains-cons_cases, Contains-head, Contains-tail, Contains-nil}
 use Rattle.history.proofs.Orders.{is_le}
 use Rattle.history.proofs.Histories.{rising-from_following}
-use Rattle.image.specs.Values.{Value, IsValue}
+use Rattle.image.specs.Values.{IsValue}
 use Rattle.run.specs.Laws.{CommitHasItsTime, WriteStands}
 
 -- every commit is later than what the times rise from, and not later than the last

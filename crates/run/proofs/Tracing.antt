@@ -1,9 +1,8 @@
 -- Lists of calls, from moment to moment.
 use Rattle.std.proofs.Common.{◌≡◌, ◌⊎◌, inl, inr, ◌<◌, ◌≤◌, ◌+◌, ◌-◌, ◌++◌, ℕ, zero, suc, Bool, true, false, cond, List, [], ◌∷◌, length, map, Option, Some, None, Result, Ok, Bor, refl, ap, sym, subst, ◌∙◌, arith, append_assoc}
-use Rattle.std.specs.Prelude.{slice_get, slice_set, Contains, IsTrue, IsSome}
+use Rattle.std.specs.Prelude.{slice_get, slice_set, Contains, IsSome}
 use Rattle.std.proofs.lemmas.Bool.Decides.{nat_tests}
 use Rattle.std.proofs.lemmas.List.Elements.{Contains-append_left, Contains-push}
-use Rattle.disk.specs.Areas.{Image}
 use Rattle.history.specs.declared.key.Key.{Key}
 use Rattle.history.specs.declared.key.KeyWrite.{KeyWrite}
 use Rattle.history.specs.Key.{write_in, same_key}
@@ -27,14 +26,13 @@ use Rattle.run.specs.declared.calls.Call.{Call}
 use Rattle.run.specs.declared.calls.Call.TheVariants as call
 use Rattle.run.specs.declared.calls.Answer.{Answer}
 use Rattle.run.specs.declared.calls.Answer.TheVariants as answer
-use Rattle.run.specs.declared.calls.RedeemOutcome.{RedeemOutcome}
 use Rattle.run.specs.declared.calls.RedeemOutcome.TheVariants as told
 use Rattle.run.specs.Places.{Place, Free, Running, Waits, Views, place_at}
 use Rattle.run.specs.Worlds.{World, put, same}
-use Rattle.run.specs.Runs.{Does, Follows, Puts, Deletes, deleted, Redeems, Asks, submission}
+use Rattle.run.specs.Runs.{Follows, Puts, Deletes, deleted, Redeems, Asks, submission}
 use Rattle.run.specs.Moments.{Moment}
-use Rattle.run.specs.Promise.{Survives, Leaves, LeavesBetween, Link, Chain}
-use Rattle.run.specs.Traces.{Trace, moment_after, moment_at, machine_at, StopLeaves, IsCall, place_of, IsSubmit, LeavesKey}
+use Rattle.run.specs.Promise.{Leaves, Link, Chain}
+use Rattle.run.specs.Traces.{Trace, moment_after, moment_at, machine_at, IsCall, place_of, IsSubmit, LeavesKey}
 use Rattle.run.specs.Laws.{AsManyAnswers, GoesToItsEnd, CallsLink, StopsSurvive, MachineRuns, ListsGoOn, StepIsList, FloorsStand, TicketsStay, DoneNamesItsSubmit, PutIsSubmitted, DeleteIsSubmitted, WrittenIsFound, ViewsStay, ViewAnswersByItsMoment}
 use Rattle.run.proofs.Lists.{length-set, place-set_same, place-push_old}
 use Rattle.run.proofs.Survival.{moment-leaves}

@@ -1,6 +1,5 @@
 -- Lists of calls as they went: their moments, and what an earlier call of them stands for at a later one.
-use Rattle.std.specs.Borrow.{Bor}
-use Rattle.std.specs.Prelude.{ℕ, ◌≡◌, ◌+◌, Bool, false, zero, suc, List, [], ◌∷◌, length, slice_get, Option, None, Some, Ok}
+use Rattle.std.specs.Prelude.{ℕ, ◌≡◌, ◌+◌, Bool, false, zero, suc, List, [], ◌∷◌, length, slice_get, Some, Ok}
 use Rattle.disk.specs.Areas.{Image}
 use Rattle.disk.specs.Within.{LeavesWithin}
 use Rattle.history.specs.declared.key.Key.{Key}
