@@ -1,21 +1,21 @@
 -- An acknowledged commit is read after every later stop.
-use Rattle.std.proofs.Common.{◌≡◌, ◌⊎◌, inl, inr, ◌≤◌, ◌<◌, ◌++◌, ℕ, suc, Bool, IsTrue, [], ◌∷◌, Option, Some, None, MatchOption, ap, sym, subst, ◌∙◌, arith}
+use Rattle.std.proofs.Common.{◌≡◌, inl, inr, ◌≤◌, ℕ, suc, Bool, IsTrue, [], ◌∷◌, Option, Some, None, MatchOption, ap, sym, subst, ◌∙◌, arith}
 use Rattle.std.specs.Prelude.{Contains}
 use Rattle.std.proofs.lemmas.List.Elements.{Contains-append_left}
 use Rattle.history.specs.declared.key.Key.{Key}
 use Rattle.history.specs.Key.{write_in}
 use Rattle.history.specs.Floors.{Raising, covers}
-use Rattle.history.specs.Histories.{Commit, History, last, last_after, IsHistory, HasRisingTimes}
+use Rattle.history.specs.Histories.{Commit, History, last, last_after, HasRisingTimes}
 use Rattle.history.specs.Machine.{Machine, IsMachine, MayRaise}
 use Rattle.history.specs.Submissions.{time_now}
 use Rattle.history.proofs.Histories.{rising-from_following, may_follow-behind, last_after-append}
 use Rattle.history.proofs.Members.{Contains-cons_cases, Contains-nil}
 use Rattle.image.specs.Values.{Value, IsValue}
-use Rattle.run.specs.Traces.{Trace, machine_at, IsSubmit}
+use Rattle.run.specs.Traces.{Trace, moment_at, machine_at}
 use Rattle.client.specs.Public.{Public}
-use Rattle.client.specs.Kept.{IsKeptTime, IsUnchanged, IsDone, IsPutDone, IsDeleteDone, DoneIsRead, DoneIsUnchanged, PutIsRead, DeleteIsRead}
+use Rattle.client.specs.Kept.{IsKeptTime, IsUnchanged, DoneIsRead, DoneIsKept, DoneIsUnchanged, PutIsRead, DeleteIsRead}
 use Rattle.client.specs.Settled.{IsSettled, PutSettles}
-use Rattle.client.proofs.Reading.{last-later}
+use Rattle.client.proofs.Reading.{KeptLike, last-later, survivor-has}
 use Rattle.client.proofs.Settling.{shown-is, goes-on, settled-read, times-stay}
 
 -- ---- a published commit
@@ -51,6 +51,18 @@ done-read public tells t i k time told done =
       λ n image key write upto low stop wrote same.
           let settled = commit-settles public t k n submit.0 key write upto low submit.4 wrote (subst (λ (from : ℕ). IsUnchanged t n key from upto) (sym submit.1) same) in
           settled-read public tells t n key upto write image told settled same.kept_next stop,
+    )
+
+pub done-kept : Public → DoneIsKept
+done-kept public tells t i k time told done =
+    let submit = public.done tells t i k time done in (
+      submit.0,
+      submit.1,
+      submit.3,
+      λ n image low stop. elim (public.stops tells t n image told stop) as (λ o. KeptLike tells image (λ h floors. Contains h submit.0)) [
+        | inl here ↦ survivor-has tells (moment_at t n) image submit.0 (published-on public t k n submit.0 low submit.4) here
+        | inr there ↦ survivor-has tells (moment_at t (suc n)) image submit.0 (published-on public t k (suc n) submit.0 (omega (arith, low)) submit.4) there
+      ],
     )
 
 -- ---- its own time

@@ -1,15 +1,17 @@
 -- A settled value is read of whatever survives.
-use Rattle.std.proofs.Common.{◌≡◌, inl, inr, ◌⊎◌, ◌≤◌, ◌++◌, ℕ, Bool, true, false, cond, IsTrue, List, [], ◌∷◌, take, drop, Option, Some, None, Result, Ok, Err, MatchOption, refl, ap, sym, subst, ◌∙◌, arith, append-nil}
+use Rattle.std.proofs.Common.{◌≡◌, inl, inr, ◌≤◌, ◌++◌, ℕ, Bool, true, false, cond, IsTrue, List, [], ◌∷◌, take, drop, Option, Some, None, Result, Ok, Err, MatchOption, refl, ap, sym, subst, ◌∙◌, arith}
+use Rattle.std.specs.Prelude.{Contains}
 use Rattle.std.proofs.lemmas.List.{take-append-drop}
+use Rattle.std.proofs.lemmas.List.Elements.{Contains-append_left}
 use Rattle.disk.specs.Areas.{Image}
 use Rattle.history.specs.declared.key.Key.{Key}
 use Rattle.history.specs.Answers as answers
 use Rattle.history.specs.Answers.{QueryRefusal, at_answer}
 use Rattle.history.specs.Floors.{Raising, covers, raised}
 use Rattle.history.specs.Fronts.{OnFront, OnOpened, OnRaised}
-use Rattle.history.specs.Histories.{History, last, last_after, state, HasRisingTimes, MayAllFollow}
+use Rattle.history.specs.Histories.{Commit, History, last, last_after, HasRisingTimes, MayAllFollow}
 use Rattle.history.specs.Laws.{LaterChangesNothing}
-use Rattle.history.specs.Machine.{Machine, Gate, Shut, Due, MayBeOpen, OfGroup, OfFloor, IsMachine}
+use Rattle.history.specs.Machine.{Machine, Gate, Shut, Due, MayBeOpen, OfGroup, OfFloor, IsMachine, opened}
 use Rattle.history.proofs.Histories.{rising-from_following, may_follow-front, may_follow-behind, last_after-append}
 use Rattle.history.proofs.Orders.{not_lt}
 use Rattle.image.specs.Values.{Value, IsValue}
@@ -42,24 +44,40 @@ says-value value said (Err (query.Damaged start)) is says = absurd says
 says-value value said (Err query.NeedsDisk) is says = absurd says
 says-value value said (Err query.Stranger) is says = absurd says
 
--- an image that is kept as a history is read as it says
-kept-read : (tells : Bool) (image : Image) (h : History Value) (floors : ℕ → ℕ) (key : Key) (time : ℕ) (value : Option Value) → IsKeptAs tells image h floors → at_answer h floors key time ≡ Ok value → IsReadBack tells image key time value
-kept-read tells image h floors key time value kept is = record {
+-- a kept time up to the last is answered by the state
+answered : (h : History Value) (floors : ℕ → ℕ) (key : Key) (time : ℕ) (value : Option Value) → IsSettled (opened h floors) key time value → at_answer h floors key time ≡ Ok value
+answered h floors key time value settled = rw (not_lt settled.kept.0) (rw (not_lt settled.reached) (ap Ok settled.is))
+
+-- an image that is kept as a history in which a value is settled is read so
+pub kept-read : (tells : Bool) (image : Image) (h : History Value) (floors : ℕ → ℕ) (key : Key) (time : ℕ) (value : Option Value) → IsKeptAs tells image h floors → IsSettled (opened h floors) key time value → IsReadBack tells image key time value
+kept-read tells image h floors key time value kept settled = record {
   opens = λ disk new why same refuses. (kept.opens disk new why same refuses).0;
   reads = λ disk mark again asked view answer same sound opens of_view marks says.
-      says-value value (at_answer h floors key time) answer is ((kept.answers disk mark again same sound opens).1.at view asked key time answer of_view marks says);
+      says-value value (at_answer h floors key time) answer (answered h floors key time value settled) ((kept.answers disk mark again same sound opens).1.at view asked key time answer of_view marks says);
 }
 
--- a kept time up to the last is answered by the state
-answered : (h : History Value) (floors : ℕ → ℕ) (key : Key) (time : ℕ) (value : Option Value) → floors key.relation ≤ time → time ≤ last h → state h time key ≡ value → at_answer h floors key time ≡ Ok value
-answered h floors key time value kept reached is = rw (not_lt kept) (rw (not_lt reached) (ap Ok is))
+-- ---- fronts
 
--- what is settled is answered by each history that goes on
-settled-answer : LaterChangesNothing Value IsValue → (m : Machine Value) (more : History Value) (floors : ℕ → ℕ) (key : Key) (time : ℕ) (value : Option Value)
-    → MayAllFollow IsValue m.published more → IsSettled m key time value → floors key.relation ≤ time → at_answer (m.published ++ more) floors key time ≡ Ok value
-settled-answer later m more floors key time value follow settled kept =
-    let reached = last-on m.published more follow in
-    answered (m.published ++ more) floors key time value kept (omega (arith, settled.reached, reached)) (later m.published more time key follow settled.reached ∙ settled.is)
+-- the image is kept as a history that is like this
+abbrev pub KeptLike : Bool → Image → (History Value → (ℕ → ℕ) → Type 0) → Type 0
+KeptLike tells image Is = (h : History Value) × (floors : ℕ → ℕ) × IsKeptAs tells image h floors × Is h floors
+
+-- what holds of what is published, of it with the group and of it with the floor in the making holds of what is kept
+module _ (tells : Bool) (image : Image) (m : Machine Value) (done : List ℕ) (Is : History Value → (ℕ → ℕ) → Type 0) (published : Is m.published m.floors) (group : Is (m.published ++ take m.group m.queue) m.floors)
+    (raises : (r : Raising) → m.raising ≡ Some r → Is m.published (raised r.scope r.floor m.floors)) where
+  on-raised : (o : Option Raising) → m.raising ≡ o → OnRaised (IsKeptWith tells image done) m o → KeptLike tells image Is
+  on-raised None is on = absurd on
+  on-raised (Some r) is on = (m.published, raised r.scope r.floor m.floors, on.kept, raises r is)
+
+  on-opened : (gate : Gate) → OnOpened (IsKeptWith tells image done) m gate → KeptLike tells image Is
+  on-opened Shut on = absurd on
+  on-opened (Due change) on = absurd on
+  on-opened (MayBeOpen OfGroup) on = (m.published ++ take m.group m.queue, m.floors, on.kept, group)
+  on-opened (MayBeOpen OfFloor) on = on-raised m.raising refl on
+
+  pub on-front : OnFront (IsKeptWith tells image done) m → KeptLike tells image Is
+  on-front (inl on) = (m.published, m.floors, on.kept, published)
+  on-front (inr on) = on-opened m.gate on
 
 group-follows : (m : Machine Value) → IsMachine IsValue m → MayAllFollow IsValue m.published (take m.group m.queue)
 group-follows m is =
@@ -67,37 +85,31 @@ group-follows m is =
     (subst (MayAllFollow IsValue m.published) (sym (take-append-drop m.group m.queue)) (may_follow-behind IsValue [] m.published m.queue is.history))
 
 -- a floor in the making that is raised is not later either
-raised-kept : (r : Raising) (floors : ℕ → ℕ) (relation time : ℕ) → floors relation ≤ time → (IsTrue (covers r.scope relation) → r.floor ≤ time) → raised r.scope r.floor floors relation ≤ time
-raised-kept r floors relation time low covered =
-    let Goal : Bool → Type 0 = λ b. covers r.scope relation ≡ b → cond b r.floor (floors relation) ≤ time in
+raised-kept : (m : Machine Value) (r : Raising) (relation time : ℕ) → IsKeptTime m relation time → m.raising ≡ Some r → raised r.scope r.floor m.floors relation ≤ time
+raised-kept m r relation time kept is =
+    let covered : IsTrue (covers r.scope relation) → r.floor ≤ time = subst (λ (o : Option Raising). MatchOption o (Unit {0}) (λ x. IsTrue (covers x.scope relation) → x.floor ≤ time)) is kept.1 in
+    let Goal : Bool → Type 0 = λ b. covers r.scope relation ≡ b → cond b r.floor (m.floors relation) ≤ time in
     elim (covers r.scope relation) as Goal [
-      | true ↦ λ is. covered is
-      | false ↦ λ is. low
+      | true ↦ λ yes. covered yes
+      | false ↦ λ no. kept.0
     ] refl
 
-module _ (later : LaterChangesNothing Value IsValue) (tells : Bool) (image : Image) (m : Machine Value) (done : List ℕ) (key : Key) (time : ℕ) (value : Option Value) (machine : IsMachine IsValue m) (settled : IsSettled m key time value) where
-  published-is : at_answer m.published m.floors key time ≡ Ok value
-  published-is = answered m.published m.floors key time value settled.kept.0 settled.reached settled.is
+-- what is settled at a moment is settled in what is kept of it
+pub survivor-settled : LaterChangesNothing Value IsValue → (tells : Bool) (at : Moment) (image : Image) (key : Key) (time : ℕ) (value : Option Value)
+    → IsMachine IsValue at.world.machine → IsSettled at.world.machine key time value → Survives tells at image → KeptLike tells image (λ h floors. IsSettled (opened h floors) key time value)
+survivor-settled later tells at image key time value machine settled survives =
+    let m = at.world.machine in
+    let more = take m.group m.queue in
+    let follow = group-follows m machine in
+    let reached = last-on m.published more follow in
+    on-front tells image m at.done (λ h floors. IsSettled (opened h floors) key time value)
+    (record { kept = (settled.kept.0, tt); reached = settled.reached; is = settled.is })
+    (record { kept = (settled.kept.0, tt); reached = omega (arith, settled.reached, reached); is = later m.published more time key follow settled.reached ∙ settled.is })
+    (λ r is. record { kept = (raised-kept m r key.relation time settled.kept is, tt); reached = settled.reached; is = settled.is })
+    survives
 
-  on-raised : (o : Option Raising) → MatchOption o (Unit {0}) (λ r. IsTrue (covers r.scope key.relation) → r.floor ≤ time) → OnRaised (IsKeptWith tells image done) m o → IsReadBack tells image key time value
-  on-raised None kept on = absurd on
-  on-raised (Some r) kept on =
-      kept-read tells image m.published (raised r.scope r.floor m.floors) key time value on.kept
-      (answered m.published (raised r.scope r.floor m.floors) key time value (raised-kept r m.floors key.relation time settled.kept.0 kept) settled.reached settled.is)
-
-  on-opened : (gate : Gate) → OnOpened (IsKeptWith tells image done) m gate → IsReadBack tells image key time value
-  on-opened Shut on = absurd on
-  on-opened (Due change) on = absurd on
-  on-opened (MayBeOpen OfGroup) on =
-      kept-read tells image (m.published ++ take m.group m.queue) m.floors key time value on.kept
-      (settled-answer later m (take m.group m.queue) m.floors key time value (group-follows m machine) settled settled.kept.0)
-  on-opened (MayBeOpen OfFloor) on = on-raised m.raising settled.kept.1 on
-
-  on-front : OnFront (IsKeptWith tells image done) m → IsReadBack tells image key time value
-  on-front (inl on) = kept-read tells image m.published m.floors key time value on.kept published-is
-  on-front (inr on) = on-opened m.gate on
-
--- what is settled at a moment is read of whatever survives at it
-pub survivor-read : LaterChangesNothing Value IsValue → (tells : Bool) (at : Moment) (image : Image) (key : Key) (time : ℕ) (value : Option Value)
-    → IsMachine IsValue at.world.machine → IsSettled at.world.machine key time value → Survives tells at image → IsReadBack tells image key time value
-survivor-read later tells at image key time value machine settled survives = on-front later tells image at.world.machine at.done key time value machine settled survives
+-- what is published at a moment is in what is kept of it
+pub survivor-has : (tells : Bool) (at : Moment) (image : Image) (c : Commit Value) → Contains at.world.machine.published c → Survives tells at image → KeptLike tells image (λ h floors. Contains h c)
+survivor-has tells at image c has survives =
+    let m = at.world.machine in
+    on-front tells image m at.done (λ h floors. Contains h c) has (Contains-append_left m.published (take m.group m.queue) c has) (λ r is. has) survives

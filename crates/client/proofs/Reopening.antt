@@ -1,6 +1,6 @@
 -- Opening again what was opened and not called.
-use Rattle.std.proofs.Common.{◌≡◌, inl, inr, ℕ, Bool, List, [], refl}
-use Rattle.disk.specs.Areas.{Image, LeavesImage, image_of}
+use Rattle.std.proofs.Common.{inl, inr, ℕ, Bool, List, [], refl}
+use Rattle.disk.specs.Areas.{Image, image_of}
 use Rattle.history.specs.Fronts.{OnFront}
 use Rattle.history.specs.Histories.{History}
 use Rattle.history.specs.Machine.{opened}

@@ -1,18 +1,16 @@
 -- What is settled stays so, and is read after any stop.
-use Rattle.std.proofs.Common.{◌≡◌, ◌⊎◌, inl, inr, ◌≤◌, ◌++◌, ℕ, suc, Bool, IsTrue, List, [], Option, Some, MatchOption, ap, sym, subst, ◌∙◌, arith}
-use Rattle.disk.specs.Areas.{Image}
+use Rattle.std.proofs.Common.{◌≡◌, inl, inr, ◌≤◌, ◌++◌, ℕ, suc, Bool, IsTrue, [], Option, MatchOption, ap, sym, subst, ◌∙◌, arith}
 use Rattle.history.specs.declared.key.Key.{Key}
 use Rattle.history.specs.Floors.{Raising, covers}
 use Rattle.history.specs.Histories.{History, last, state, IsHistory, MayAllFollow}
-use Rattle.history.specs.Machine.{IsMachine}
+use Rattle.history.specs.Machine.{opened}
 use Rattle.history.proofs.Histories.{may_follow-front, may_follow-behind}
 use Rattle.image.specs.Values.{Value, IsValue}
-use Rattle.run.specs.Promise.{Survives}
 use Rattle.run.specs.Traces.{Trace, moment_at, machine_at}
 use Rattle.client.specs.Public.{Public}
-use Rattle.client.specs.Kept.{IsReadBack, IsKeptTime}
-use Rattle.client.specs.Settled.{IsSettled, SettledStays, SettledIsRead, TimesStayKept}
-use Rattle.client.proofs.Reading.{last-on, survivor-read}
+use Rattle.client.specs.Kept.{IsKeptTime}
+use Rattle.client.specs.Settled.{IsSettled, SettledStays, SettledIsRead, SettledReopens, TimesStayKept}
+use Rattle.client.proofs.Reading.{KeptLike, last-on, kept-read, survivor-settled}
 
 -- what is published at a moment goes on to what is published at a later one
 pub record GoesOn {tells : Bool} (t : Trace tells) (p q : ℕ) : Type 0 where
@@ -48,13 +46,18 @@ value-on public t p q key time value low reached is kept =
 pub settled-stays : Public → SettledStays
 settled-stays public tells t p q key time value low settled kept = value-on public t p q key time value low settled.reached settled.is kept
 
+pub settled-reopens : Public → SettledReopens
+settled-reopens public tells t n key time value image told settled kept stop =
+    let next : IsSettled (machine_at t (suc n)) key time value = settled-stays public tells t n (suc n) key time value (omega arith) settled kept in
+    elim (public.stops tells t n image told stop) as (λ o. KeptLike tells image (λ h floors. IsSettled (opened h floors) key time value)) [
+      | inl here ↦ survivor-settled public.later tells (moment_at t n) image key time value (public.runs tells t n n (omega arith)).0 settled here
+      | inr there ↦ survivor-settled public.later tells (moment_at t (suc n)) image key time value (public.runs tells t (suc n) (suc n) (omega arith)).0 next there
+    ]
+
 pub settled-read : Public → SettledIsRead
 settled-read public tells t n key time value image told settled kept stop =
-    let next : IsSettled (machine_at t (suc n)) key time value = settled-stays public tells t n (suc n) key time value (omega arith) settled kept in
-    elim (public.stops tells t n image told stop) as (λ o. IsReadBack tells image key time value) [
-      | inl here ↦ survivor-read public.later tells (moment_at t n) image key time value (public.runs tells t n n (omega arith)).0 settled here
-      | inr there ↦ survivor-read public.later tells (moment_at t (suc n)) image key time value (public.runs tells t (suc n) (suc n) (omega arith)).0 next there
-    ]
+    let again = settled-reopens public tells t n key time value image told settled kept stop in
+    kept-read tells image again.0 again.1 key time value again.2 again.3
 
 pub times-stay : Public → TimesStayKept
 times-stay public tells t p q relation time low kept =

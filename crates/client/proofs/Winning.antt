@@ -1,5 +1,5 @@
 -- Of two transactions of one snapshot that write a key, one is queued at most.
-use Rattle.std.proofs.Common.{◌≡◌, ⊎_elim, ◌<◌, ◌≤◌, ◌++◌, ℕ, suc, Bool, List, [], ◌∷◌, Option, Some, refl, ap, sym, subst, ◌∙◌, arith, append_assoc}
+use Rattle.std.proofs.Common.{◌≡◌, ⊎_elim, ◌<◌, ◌≤◌, ◌++◌, ℕ, suc, Bool, List, [], ◌∷◌, refl, ap, sym, subst, ◌∙◌, arith, append_assoc}
 use Rattle.std.specs.Prelude.{Contains, IsPermutation}
 use Rattle.std.specs.List.{AllByRecursion}
 use Rattle.std.proofs.lemmas.List.Elements.{Contains-append_left, Contains-push}
@@ -8,7 +8,6 @@ use Rattle.history.specs.Conflicts.{IsConflict}
 use Rattle.history.specs.Histories.{Commit, History, last}
 use Rattle.history.specs.Machine.{Machine, commit_order, IsMachine, IsKeptSnapshot}
 use Rattle.history.specs.Steps.{Step, Decided}
-use Rattle.history.specs.Submissions as submissions
 use Rattle.history.specs.Submissions.{Submission, Decision, Queues, Conflicts, decision, commit_made}
 use Rattle.history.proofs.Histories.{rising-from_following, may_follow-behind, last_after-append}
 use Rattle.history.proofs.Members.{Contains-head, Contains-nil, Contains-cons_cases}

@@ -7,7 +7,7 @@ use Rattle.history.specs.declared.key.Key.{Key}
 use Rattle.history.specs.declared.key.KeyWrite.{KeyWrite}
 use Rattle.history.specs.Key.{write_in}
 use Rattle.history.specs.Floors.{covers}
-use Rattle.history.specs.Histories.{Commit, last, state}
+use Rattle.history.specs.Histories.{Commit, History, last, state}
 use Rattle.history.specs.Machine.{Machine}
 use Rattle.image.specs.Values.{Value}
 use Rattle.recovery.specs.Faults.{IsReadFault}
@@ -23,6 +23,7 @@ use Rattle.run.specs.declared.calls.Call.TheVariants as call
 use Rattle.run.specs.declared.calls.Answer.{Answer}
 use Rattle.run.specs.declared.calls.Answer.TheVariants as answer
 use Rattle.run.specs.declared.calls.RedeemOutcome.TheVariants as told
+use Rattle.run.specs.Promise.{IsKeptAs}
 use Rattle.run.specs.Places.{Running, place_at}
 use Rattle.run.specs.Traces.{Trace, moment_at, machine_at, StopLeaves, IsCall, place_of, IsSubmit, LeavesKey}
 
@@ -63,6 +64,11 @@ abbrev pub DoneIsRead : Type 0
 DoneIsRead = (tells : Bool) (t : Trace tells) (i k time : ℕ) → IsTrue tells → IsDone t k i time
     → (c : Commit Value) × (c.time ≡ time) × IsSubmit t i c
     × ((n : ℕ) (image : Image) (key : Key) (write : Option Value) (upto : ℕ) → k ≤ n → StopLeaves t n image → write_in c.writes key ≡ Some write → IsUnchanged t n key time upto → IsReadBack tells image key upto write)
+
+-- The commit itself, with its label and all that it wrote, is in the history as which any such image is kept.
+abbrev pub DoneIsKept : Type 0
+DoneIsKept = (tells : Bool) (t : Trace tells) (i k time : ℕ) → IsTrue tells → IsDone t k i time
+    → (c : Commit Value) × (c.time ≡ time) × IsSubmit t i c × ((n : ℕ) (image : Image) → k ≤ n → StopLeaves t n image → (h : History Value) × (floors : ℕ → ℕ) × IsKeptAs tells image h floors × Contains h c)
 
 -- At its own time nothing has to be asked for: no call raises a floor, and a commit is later than each.
 abbrev pub DoneIsUnchanged : Type 0

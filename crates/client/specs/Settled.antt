@@ -2,9 +2,10 @@
 use Rattle.std.specs.Prelude.{ℕ, ◌≡◌, ◌≤◌, Bool, IsTrue, suc, Option, Some}
 use Rattle.disk.specs.Areas.{Image}
 use Rattle.history.specs.declared.key.Key.{Key}
-use Rattle.history.specs.Histories.{last, state}
-use Rattle.history.specs.Machine.{Machine}
+use Rattle.history.specs.Histories.{History, last, state}
+use Rattle.history.specs.Machine.{Machine, opened}
 use Rattle.image.specs.Values.{Value}
+use Rattle.run.specs.Promise.{IsKeptAs}
 use Rattle.run.specs.Traces.{Trace, machine_at, StopLeaves}
 use Rattle.client.specs.Kept.{IsReadBack, IsKeptTime, IsUnchanged, IsPutDone}
 
@@ -22,10 +23,16 @@ PutSettles = (tells : Bool) (t : Trace tells) (k time n upto : ℕ) (key : Key) 
 abbrev pub SettledStays : Type 0
 SettledStays = (tells : Bool) (t : Trace tells) (p q : ℕ) (key : Key) (time : ℕ) (value : Option Value) → p ≤ q → IsSettled (machine_at t p) key time value → IsKeptTime (machine_at t q) key.relation time → IsSettled (machine_at t q) key time value
 
--- and is read after any stop.
+-- is read after any stop,
 abbrev pub SettledIsRead : Type 0
 SettledIsRead = (tells : Bool) (t : Trace tells) (n : ℕ) (key : Key) (time : ℕ) (value : Option Value) (image : Image)
     → IsTrue tells → IsSettled (machine_at t n) key time value → IsKeptTime (machine_at t (suc n)) key.relation time → StopLeaves t n image → IsReadBack tells image key time value
+
+-- and is settled in the history that is kept then: a store that opens it stands for that, and the same holds of the calls that are made of it and of the next stop.
+abbrev pub SettledReopens : Type 0
+SettledReopens = (tells : Bool) (t : Trace tells) (n : ℕ) (key : Key) (time : ℕ) (value : Option Value) (image : Image)
+    → IsTrue tells → IsSettled (machine_at t n) key time value → IsKeptTime (machine_at t (suc n)) key.relation time → StopLeaves t n image
+    → (h : History Value) × (floors : ℕ → ℕ) × IsKeptAs tells image h floors × IsSettled (opened h floors) key time value
 
 -- A time that is kept stays so: no call raises a floor, or begins to.
 abbrev pub TimesStayKept : Type 0

@@ -4,9 +4,9 @@
 #![tactic(auto)]
 
 ghost use Rattle.client.specs.Public.{Public};
-ghost use Rattle.client.specs.Kept.{DoneIsRead, DoneIsUnchanged, PutIsRead, DeleteIsRead};
+ghost use Rattle.client.specs.Kept.{DoneIsRead, DoneIsKept, DoneIsUnchanged, PutIsRead, DeleteIsRead};
 ghost use Rattle.client.specs.Conflicts.{FirstWins};
-ghost use Rattle.client.specs.Settled.{PutSettles, SettledStays, SettledIsRead, TimesStayKept};
+ghost use Rattle.client.specs.Settled.{PutSettles, SettledStays, SettledIsRead, SettledReopens, TimesStayKept};
 ghost use Rattle.client.specs.Views.{ViewAnswersAgain, AnsweredIsSettled};
 ghost use Rattle.client.specs.Reopened.{ReopeningIsOnce, SecondAnswersAsFirst};
 
@@ -31,9 +31,11 @@ fn public_clauses()
 /// An acknowledged commit is read: where `Done` was answered for a ticket, the call that gave it
 /// submitted a write set, and whoever opens a store on what any later stop leaves reads each of its
 /// writes at the commit's time and until a later commit of the key, unless the device or memory gives
-/// out. At the commit's own time that needs nothing more, since no call raises a floor.
+/// out; the image is kept as a history that has the commit. At the commit's own time that needs
+/// nothing more, since no call raises a floor.
 pub fn done_is_read()
     ensures read { DoneIsRead }
+    ensures kept { DoneIsKept }
     ensures unchanged { DoneIsUnchanged }
 {
     public_clauses();
@@ -56,11 +58,12 @@ pub fn first_wins()
 }
 
 /// What a transaction put last is settled where `Done` was answered; what is settled stays so over
-/// every list of calls, and is read after any stop.
+/// every list of calls, is read after any stop, and is settled again in the store that is opened then.
 pub fn settled_stands()
     ensures put { PutSettles }
     ensures stays { SettledStays }
     ensures read { SettledIsRead }
+    ensures reopens { SettledReopens }
     ensures kept { TimesStayKept }
 {
     public_clauses();
