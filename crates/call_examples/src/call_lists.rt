@@ -2,7 +2,10 @@
 use crate::published::SEVEN;
 use disk::MemDisk;
 use group::{Did, PumpFault};
-use run::{Answer, Call, Held, RedeemOutcome, SubmitOutcome, close, format, open, run};
+use run::{
+    Answer, Call, Held, RedeemOutcome, SubmitOutcome, close, format, give_back, open, run, run_on,
+    step,
+};
 use snapshot::TxnFault;
 use std::alloc::Global;
 use std::test::Fail;
@@ -391,5 +394,76 @@ fn an_archive_goes_on_beside_a_commit(rt: HostRuntime) -> Result<(), Fail> {
     ] {
         assert!(rt; is_pumped(&answers, place, expected), "{place}");
     }
+    Ok(())
+}
+
+/// The answers to two lists on an empty store, the second of which goes on with the places of the
+/// first. What is left over is given back.
+fn answers_in_turn<'a>(
+    alloc: Global,
+    first: &'a [Call<'a>],
+    second: &'a [Call<'a>],
+) -> Result<(Vec<Answer>, Vec<Answer>), Fail> {
+    let mut store = opened(alloc)?;
+    let mut places = Vec::new(alloc);
+    let began = run_on(alloc, &mut store, &mut places, first);
+    let went_on = run_on(alloc, &mut store, &mut places, second);
+    give_back(places);
+    let _disk = close(store);
+    Ok((began?, went_on?))
+}
+
+#[test]
+fn a_list_goes_on_with_what_an_earlier_one_left(rt: HostRuntime) -> Result<(), Fail> {
+    let first = [Call::Begin, put(0, &FIELDS), submit(0), Call::View];
+    let second = [
+        Call::Pump,
+        Call::Pump,
+        Call::Pump,
+        Call::Pump,
+        Call::Pump,
+        Call::Pump,
+        Call::At {
+            view: 3,
+            key: SEVEN,
+            time: 100,
+        },
+        Call::Redeem { ticket: 2 },
+        Call::Redeem { ticket: 2 },
+        Call::View,
+        Call::At {
+            view: 13,
+            key: SEVEN,
+            time: 100,
+        },
+    ];
+    let (began, went_on) = answers_in_turn(rt.alloc(), &first, &second)?;
+    assert_eq!(rt; (began.len(), went_on.len()), (4, 11));
+    assert!(rt; is_queued(&began, 2));
+    assert!(rt; matches!(went_on.get(6), Some(Answer::At(Err(QueryFault::NotYet(0))))));
+    assert!(rt; is_redeemed(&went_on, 7, RedeemOutcome::Done(100)));
+    assert!(rt; is_unknown(&went_on, 8));
+    assert!(rt; matches!(went_on.get(10), Some(Answer::At(Ok(Some(_))))));
+    Ok(())
+}
+
+#[test]
+fn a_step_is_one_call(rt: HostRuntime) -> Result<(), Fail> {
+    let alloc = rt.alloc();
+    let calls = [Call::Begin, put(0, &FIELDS), submit(0)];
+    let mut store = opened(alloc)?;
+    let mut places = Vec::new(alloc);
+    let began = run_on(alloc, &mut store, &mut places, &calls);
+    let (given_up, none) = step(alloc, &mut store, &mut places, Call::GiveUp { ticket: 2 });
+    let (unknown, nothing) = step(alloc, &mut store, &mut places, Call::GiveUp { ticket: 2 });
+    let (begun, transaction) = step(alloc, &mut store, &mut places, Call::Begin);
+    let held = (is_spent(none), is_spent(nothing), is_spent(transaction));
+    give_back(places);
+    let _disk = close(store);
+    assert_eq!(rt; began?.len(), 3);
+    assert_eq!(rt; held, (false, false, true));
+    assert!(rt; matches!(given_up, Answer::GiveUp));
+    assert!(rt; matches!(unknown, Answer::Unknown));
+    assert!(rt; matches!(begun, Answer::Begin(Ok(()))));
     Ok(())
 }

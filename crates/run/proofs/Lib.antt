@@ -11,3 +11,7 @@ pub mod Runs
 pub mod Acknowledging
 pub mod Survival
 pub mod Linking
+pub mod Passing
+pub mod Floors
+pub mod Commits
+pub mod Tracing

@@ -21,7 +21,7 @@ use Rattle.run.specs.Promise.{IsKeptAs, IsKeptWith, Leaves}
 use Rattle.run.proofs.Acknowledging.{more-have}
 
 -- an image that stands for a history is kept as it
-kept-as : (tells : Bool) (header : Header) (image : Image) (h : History Value) (floors : ℕ → ℕ) → IsTrue tells → IsImageOf header image h floors → IsKeptAs tells image h floors
+pub kept-as : (tells : Bool) (header : Header) (image : Image) (h : History Value) (floors : ℕ → ℕ) → IsTrue tells → IsImageOf header image h floors → IsKeptAs tells image h floors
 kept-as tells header image h floors told is = record {
   header = header;
   stands = is;

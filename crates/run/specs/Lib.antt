@@ -3,3 +3,5 @@ pub mod Worlds
 pub mod Runs
 pub mod Moments
 pub mod Promise
+pub mod Traces
+pub mod Laws

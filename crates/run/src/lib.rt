@@ -3,6 +3,7 @@
 
 mod calls;
 mod held;
+pub mod laws;
 mod opening;
 mod redeeming;
 mod runner;

@@ -1,16 +1,20 @@
 use Rattle.std.proofs.Common.{[], Result, Ok, Err}
 use Rattle.std.specs.Prelude.{OnOk}
-use Rattle.disk.specs.Areas.{Areas, Image, LeavesImage}
+use Rattle.disk.specs.Areas.{Areas, Image, LeavesImage, image_of}
 use Rattle.status.specs.Header.{new_header}
 use Rattle.recovery.specs.Format.{IsFormatted}
 use Rattle.recovery.specs.declared.fault.FormatFault.{FormatFault}
 use Rattle.standing.specs.OnDisk.{IsImageOf}
-use Rattle.opened.proofs.Formatted.{formatted-leaves}
+use Rattle.opened.proofs.Formatted.{formatted-leaves, formatted-stands}
 use Rattle.run.proofs.opening.format.Goals as goal
 
 by-result : (slots : _) (old new : Areas) (r : Result (Unit {0}) FormatFault) → OnOk r (IsFormatted slots old new) → OnOk r ((image : Image) → LeavesImage new image → IsImageOf (new_header 1 slots) image [] (λ relation. 0))
 by-result slots old new (Ok u) is = λ image left. formatted-leaves slots old new image is left
 by-result slots old new (Err why) is = tt
+
+read-by-result : (slots : _) (old new : Areas) (r : Result (Unit {0}) FormatFault) → OnOk r (IsFormatted slots old new) → OnOk r (IsImageOf (new_header 1 slots) (image_of new) [] (λ relation. 0))
+read-by-result slots old new (Ok u) is = formatted-stands slots old new is
+read-by-result slots old new (Err why) is = tt
 
 pub returns : goal.returns
 returns g c = record {
@@ -19,4 +23,5 @@ returns g c = record {
   free = c.format.ensures.free;
   refuses = c.format.ensures.refuses;
   stands = λ told. by-result c.args.slots (g.D.Disk.state c.args.disk.now).areas (g.D.Disk.state c.format.new.disk).areas c.format.result (c.format.ensures.formatted told);
+  reads = λ told. read-by-result c.args.slots (g.D.Disk.state c.args.disk.now).areas (g.D.Disk.state c.format.new.disk).areas c.format.result (c.format.ensures.formatted told);
 }

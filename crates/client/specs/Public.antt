@@ -1,0 +1,20 @@
+-- The public clauses on which the laws of this crate stand: those of `run`, and of its histories.
+use Rattle.history.specs.Laws.{LaterChangesNothing, RunAdds, RunPublishes, ConflictIsDecided}
+use Rattle.image.specs.Values.{Value, IsValue}
+use Rattle.run.specs.Laws.{FirstMoment, MomentSurvives, WriteStands, StopsSurvive, MachineRuns, FloorsStand, DoneNamesItsSubmit, PutIsSubmitted, DeleteIsSubmitted, ViewAnswersByItsMoment}
+
+pub record Public : Type 0 where
+  pub first : FirstMoment
+  pub survives : MomentSurvives
+  pub writes : WriteStands
+  pub stops : StopsSurvive
+  pub runs : MachineRuns
+  pub floors : FloorsStand
+  pub done : DoneNamesItsSubmit
+  pub put : PutIsSubmitted
+  pub delete : DeleteIsSubmitted
+  pub views : ViewAnswersByItsMoment
+  pub later : LaterChangesNothing Value IsValue
+  pub adds : RunAdds Value IsValue
+  pub publishes : RunPublishes Value IsValue
+  pub conflicts : ConflictIsDecided Value

@@ -1,0 +1,200 @@
+-- No call raises a floor, or begins to.
+use Rattle.std.proofs.Common.{◌≡◌, ◌++◌, ℕ, Bool, true, false, cond, List, [], ◌∷◌, length, Result, Ok, Err, MatchBool, refl, ap, sym, subst, ◌∙◌}
+use Rattle.std.specs.Prelude.{nat_lt, ◌==◌, ◌&&◌}
+use Rattle.std.specs.List.{AllByRecursion}
+use Rattle.std.specs.declared.alloc.AllocError.{AllocError}
+use Rattle.history.specs.declared.key.Key.{Key}
+use Rattle.history.specs.Machine.{Machine, Gate, Shut, Due, MayBeOpen, OfGroup, OfFloor}
+use Rattle.history.specs.Steps.{Event, Step, Decided, FloorStarted, FloorPublished, GroupBegan, GateDue, GateWritten, Published, Broke, Aborted, decided}
+use Rattle.history.specs.Steps as steps
+use Rattle.history.specs.Submissions as submissions
+use Rattle.history.specs.Submissions.{Submission, Decision}
+use Rattle.image.specs.Values.{Value, IsValue}
+use Rattle.group.specs.declared.answers.BeginFault.{BeginFault}
+use Rattle.group.specs.declared.answers.BeginFault.TheVariants as begin
+use Rattle.group.specs.declared.answers.Did.{Did}
+use Rattle.group.specs.declared.answers.Did.TheVariants as did
+use Rattle.group.specs.declared.answers.PumpFault.{PumpFault}
+use Rattle.group.specs.declared.answers.PumpFault.TheVariants as pump
+use Rattle.group.specs.declared.answers.SubmitFault.{SubmitFault}
+use Rattle.group.specs.declared.answers.SubmitFault.TheVariants as refused
+use Rattle.snapshot.specs.declared.txn.TxnFault.{TxnFault}
+use Rattle.store.specs.declared.job.JobDid.{JobDid}
+use Rattle.standing.specs.Laws.{begins_in, breaks_in, ends_in, job_ends_in}
+use Rattle.run.specs.declared.calls.Call.{Call}
+use Rattle.run.specs.declared.calls.Call.TheVariants as call
+use Rattle.run.specs.declared.calls.Answer.{Answer}
+use Rattle.run.specs.declared.calls.Answer.TheVariants as answer
+use Rattle.run.specs.declared.calls.SubmitOutcome.{SubmitOutcome}
+use Rattle.run.specs.declared.calls.SubmitOutcome.TheVariants as outcome
+use Rattle.run.specs.declared.calls.RedeemOutcome.{RedeemOutcome}
+use Rattle.run.specs.declared.calls.RedeemOutcome.TheVariants as told
+use Rattle.run.specs.Places.{Place, Free, Running, Waits, Views, place_at}
+use Rattle.run.specs.Worlds.{World, same, moved, spent}
+use Rattle.run.specs.Runs.{Does, Begins, Puts, Deletes, Submits, Submitted, Aborts, Redeems, Shows, submission}
+use Rattle.run.proofs.Passing.{get-same, scan-same, asks-same, asks_scan-same, asks_between-same, asks_scan_between-same, give_up-spent, closes-spent, archive-same}
+
+-- the floors, and the one in the making, are the same
+abbrev pub SameFloors : Machine Value → Machine Value → Type 0
+SameFloors old new = (new.floors ≡ old.floors) × (new.raising ≡ old.raising)
+
+all-same : (m new : Machine Value) → new ≡ m → SameFloors m new
+all-same m new is = (ap (λ (x : Machine Value). x.floors) is, ap (λ (x : Machine Value). x.raising) is)
+
+pub same-then : (a b c : Machine Value) → SameFloors a b → SameFloors b c → SameFloors a c
+same-then a b c first second = (second.0 ∙ first.0, second.1 ∙ first.1)
+
+-- ---- the machine's steps
+
+-- no floor is raised by it
+abbrev KeepsFloors : Event Value → Type 0
+KeepsFloors (FloorStarted r) = ⊥
+KeepsFloors (FloorPublished r) = ⊥
+KeepsFloors event = Unit {0}
+
+decided-floors : (m : Machine Value) (d : Decision Value) → SameFloors m (decided m d)
+decided-floors m submissions.Reads = (refl, refl)
+decided-floors m (submissions.Conflicts key) = (refl, refl)
+decided-floors m submissions.Ends = (refl, refl)
+decided-floors m (submissions.Queues c) = (refl, refl)
+
+-- a state whose floors are those of another, once more
+by-state : (m mid new : Machine Value) → SameFloors m mid → new ≡ mid → SameFloors m new
+by-state m mid new first is = same-then m mid new first (all-same mid new is)
+
+step-floors : (old : Machine Value) (event : Event Value) (new : Machine Value) → KeepsFloors event → Step IsValue old event new → SameFloors old new
+step-floors old (steps.Began snapshot) new keeps step = by-state old _ new (refl, refl) step.2
+step-floors old (steps.BeginRefused why) new keeps step = by-state old _ new (refl, refl) step.1
+step-floors old (Aborted snapshot) new keeps step = by-state old _ new (refl, refl) step.2
+step-floors old (Decided s d) new keeps step = by-state old _ new (decided-floors old d) step.3.2
+step-floors old (steps.Refused s why) new keeps step = by-state old _ new (refl, refl) step.1.2
+step-floors old GroupBegan new keeps step = by-state old _ new (refl, refl) step.3
+step-floors old (Published size) new keeps step = by-state old _ new (refl, refl) step.4
+step-floors old (FloorStarted r) new keeps step = absurd keeps
+step-floors old (steps.FloorRefused r why) new keeps step = by-state old _ new (refl, refl) step.2
+step-floors old (FloorPublished r) new keeps step = absurd keeps
+step-floors old (GateDue change) new keeps step = by-state old _ new (refl, refl) step.3
+step-floors old (GateWritten change) new keeps step = by-state old _ new (refl, refl) step.2
+step-floors old Broke new keeps step = by-state old _ new (refl, refl) step.1
+
+run-floors : (old : Machine Value) (events : List (Event Value)) (new : Machine Value) → AllByRecursion KeepsFloors events → steps.Run IsValue old events new → SameFloors old new
+run-floors old [] new keeps run = all-same old new run
+run-floors old (event ∷ events) new keeps run = same-then old run.0 new (step-floors old event run.0 keeps.0 run.1) (run-floors run.0 events new keeps.1 run.2)
+
+begins-keep : (m : Machine Value) (rest : List (Event Value)) → AllByRecursion KeepsFloors rest → AllByRecursion KeepsFloors (begins_in m ++ rest)
+begins-keep m rest keeps = elim ((m.group == 0) && nat_lt 0 (length m.queue)) as (λ b. AllByRecursion KeepsFloors (cond b (GroupBegan ∷ []) [] ++ rest)) [ true ↦ (tt, keeps) | false ↦ keeps ]
+
+breaks-keep : (gate : Gate) → AllByRecursion KeepsFloors (breaks_in gate)
+breaks-keep Shut = (tt, tt)
+breaks-keep (Due OfGroup) = (tt, (tt, tt))
+breaks-keep (Due OfFloor) = (tt, tt)
+breaks-keep (MayBeOpen change) = (tt, tt)
+
+ends-keep : (gate : Gate) (said : Result Did PumpFault) → AllByRecursion KeepsFloors (ends_in gate said)
+ends-keep gate (Ok did.Idle) = tt
+ends-keep gate (Ok did.WroteExtent) = tt
+ends-keep gate (Ok did.HeapSynced) = tt
+ends-keep gate (Ok did.BodyWritten) = tt
+ends-keep gate (Ok did.BodySynced) = (tt, tt)
+ends-keep gate (Ok did.GateWritten) = (tt, tt)
+ends-keep gate (Ok (did.Published count)) = (tt, tt)
+ends-keep gate (Err pump.Busy) = tt
+ends-keep gate (Err pump.NoMemory) = tt
+ends-keep gate (Err pump.Failed) = breaks-keep gate
+
+job_ends-keep : (said : Result JobDid PumpFault) → AllByRecursion KeepsFloors (job_ends_in said)
+job_ends-keep (Ok what) = tt
+job_ends-keep (Err pump.Busy) = tt
+job_ends-keep (Err pump.NoMemory) = tt
+job_ends-keep (Err pump.Failed) = (tt, tt)
+
+submitted-keeps : (m : Machine Value) (s : Submission Value) (said : Result SubmitOutcome SubmitFault) (event : Event Value) (place : Place) → Submitted m s said event place → KeepsFloors event
+submitted-keeps m s (Ok (outcome.ReadOnly time)) event place is = subst KeepsFloors (sym is.1) tt
+submitted-keeps m s (Ok outcome.Queued) event place is = subst KeepsFloors (sym is.0) tt
+submitted-keeps m s (Err (refused.Conflict key)) event place is = subst KeepsFloors (sym is.0) tt
+submitted-keeps m s (Err refused.ClockEnd) event place is = subst KeepsFloors (sym is.0) tt
+submitted-keeps m s (Err refused.HeapFull) event place is = subst KeepsFloors (sym is.0) tt
+submitted-keeps m s (Err refused.StatusFull) event place is = subst KeepsFloors (sym is.0) tt
+submitted-keeps m s (Err refused.NoMemory) event place is = subst KeepsFloors (sym is.0) tt
+submitted-keeps m s (Err refused.Failed) event place is = subst KeepsFloors (sym is.0) tt
+submitted-keeps m s (Err refused.Stranger) event place is = absurd is
+
+-- ---- call by call
+
+same-floors : (w next : World) → next ≡ same w → SameFloors w.machine next.machine
+same-floors w next is = all-same w.machine next.machine (ap (λ (x : World). x.machine) is)
+
+spent-floors : (w : World) (i : ℕ) (next : World) → next ≡ spent w i → SameFloors w.machine next.machine
+spent-floors w i next is = all-same w.machine next.machine (ap (λ (x : World). x.machine) is)
+
+begin-floors : (w : World) (said : Result (Unit {0}) BeginFault) (next : World) → Begins w said next → SameFloors w.machine next.machine
+begin-floors w (Ok u) next does = by-state w.machine (steps.begun w.machine) next.machine (refl, refl) (ap (λ (x : World). x.machine) does.1)
+begin-floors w (Err begin.NoMemory) next does = same-floors w next does.1
+begin-floors w (Err begin.Failed) next does = same-floors w next does.1
+
+put-floors : (w : World) (i : ℕ) (key : Key) (value : Value) (p : Place) (said : Result (Unit {0}) TxnFault) (next : World) → Puts w i key value p said next → SameFloors w.machine next.machine
+put-floors w i key value (Running snapshot writes) said next does = all-same w.machine next.machine (ap (λ (x : World). x.machine) does.2)
+put-floors w i key value Free said next does = absurd does
+put-floors w i key value (Waits t) said next does = absurd does
+put-floors w i key value (Views h floors) said next does = absurd does
+
+delete-floors : (w : World) (i : ℕ) (key : Key) (p : Place) (said : Result (Unit {0}) TxnFault) (next : World) → Deletes w i key p said next → SameFloors w.machine next.machine
+delete-floors w i key (Running snapshot writes) said next does = all-same w.machine next.machine (ap (λ (x : World). x.machine) does.2)
+delete-floors w i key Free said next does = absurd does
+delete-floors w i key (Waits t) said next does = absurd does
+delete-floors w i key (Views h floors) said next does = absurd does
+
+submit-floors : (w : World) (i label now : ℕ) (p : Place) (said : Result SubmitOutcome SubmitFault) (next : World) → Submits w i label now p said next → SameFloors w.machine next.machine
+submit-floors w i label now (Running snapshot writes) said next does =
+    by-state w.machine does.1 next.machine (step-floors w.machine does.0 does.1 (submitted-keeps w.machine (submission snapshot writes label now) said does.0 does.2 does.3) does.4) (ap (λ (x : World). x.machine) does.5)
+submit-floors w i label now Free said next does = absurd does
+submit-floors w i label now (Waits t) said next does = absurd does
+submit-floors w i label now (Views h floors) said next does = absurd does
+
+abort-floors : (w : World) (i : ℕ) (p : Place) (next : World) → Aborts w i p next → SameFloors w.machine next.machine
+abort-floors w i (Running snapshot writes) next does = by-state w.machine does.0 next.machine (step-floors w.machine (Aborted snapshot) does.0 tt does.1) (ap (λ (x : World). x.machine) does.2)
+abort-floors w i Free next does = absurd does
+abort-floors w i (Waits t) next does = absurd does
+abort-floors w i (Views h floors) next does = absurd does
+
+moves-floors : (w next : World) (failed : Bool) (Says : Type 0) (Is : Type 0) (events : List (Event Value)) → AllByRecursion KeepsFloors events
+    → MatchBool failed (Says × (next ≡ same w)) ((after : Machine Value) × Is × steps.Run IsValue w.machine events after × (next ≡ same (moved w after))) → SameFloors w.machine next.machine
+moves-floors w next true Says Is events keeps does = same-floors w next does.1
+moves-floors w next false Says Is events keeps does = by-state w.machine does.0 next.machine (run-floors w.machine events does.0 keeps does.2) (ap (λ (x : World). x.machine) does.3)
+
+redeem-floors : (w : World) (i : ℕ) (p : Place) (said : RedeemOutcome) (next : World) → Redeems w i p said next → SameFloors w.machine next.machine
+redeem-floors w i (Waits time) (told.Done t) next does = spent-floors w i next does.1
+redeem-floors w i (Waits time) told.Waiting next does = same-floors w next does.1
+redeem-floors w i (Waits time) told.InDoubt next does = spent-floors w i next does.1
+redeem-floors w i (Waits time) told.Stranger next does = absurd does
+redeem-floors w i Free said next does = absurd does
+redeem-floors w i (Running snapshot writes) said next does = absurd does
+redeem-floors w i (Views h floors) said next does = absurd does
+
+view-floors : (w : World) (said : Result (Unit {0}) AllocError) (next : World) → Shows w said next → SameFloors w.machine next.machine
+view-floors w (Ok u) next does = all-same w.machine next.machine (ap (λ (x : World). x.machine) does)
+view-floors w (Err why) next does = same-floors w next does
+
+pub call-floors : (w : World) (c : Call) (a : Answer) (next : World) → Does w c a next → SameFloors w.machine next.machine
+call-floors w c answer.Unknown next does = same-floors w next does.1
+call-floors w call.Begin (answer.Begin said) next does = begin-floors w said next does
+call-floors w (call.Put i key fields) (answer.Put said) next does = put-floors w i key _ (place_at w.places i) said next does
+call-floors w (call.Delete i key) (answer.Delete said) next does = delete-floors w i key (place_at w.places i) said next does
+call-floors w (call.Get i key) (answer.Get said) next does = same-floors w next (get-same w key (place_at w.places i) said next does)
+call-floors w (call.Scan i relation) (answer.Scan said) next does = same-floors w next (scan-same w relation (place_at w.places i) said next does)
+call-floors w (call.Submit i label now) (answer.Submit said) next does = submit-floors w i label now (place_at w.places i) said next does
+call-floors w (call.Abort i) answer.Abort next does = abort-floors w i (place_at w.places i) next does
+call-floors w call.Pump (answer.Pump said) next does =
+    moves-floors w next w.machine.failed _ _ (begins_in w.machine ++ ends_in w.machine.gate said) (begins-keep w.machine (ends_in w.machine.gate said) (ends-keep w.machine.gate said)) does
+call-floors w (call.Redeem i) (answer.Redeem said) next does = redeem-floors w i (place_at w.places i) said next does
+call-floors w (call.GiveUp i) answer.GiveUp next does = spent-floors w i next (give_up-spent w i (place_at w.places i) next does)
+call-floors w call.View (answer.View said) next does = view-floors w said next does
+call-floors w (call.At i key time) (answer.At said) next does = same-floors w next (asks-same w key time (place_at w.places i) said next does)
+call-floors w (call.ScanAt i relation time) (answer.ScanAt said) next does = same-floors w next (asks_scan-same w relation time (place_at w.places i) said next does)
+call-floors w (call.Between i key a b) (answer.Between said) next does = same-floors w next (asks_between-same w key a b (place_at w.places i) said next does)
+call-floors w (call.ScanBetween i relation a b) (answer.ScanBetween said) next does = same-floors w next (asks_scan_between-same w relation a b (place_at w.places i) said next does)
+call-floors w (call.End i) answer.End next does = spent-floors w i next (closes-spent w i (place_at w.places i) next does)
+call-floors w (call.TimesOf label) (answer.TimesOf said) next does = same-floors w next does.1
+call-floors w (call.Archive upto) (answer.Archive said) next does = same-floors w next (archive-same w upto said next does)
+call-floors w call.JobPump (answer.JobPump said) next does = moves-floors w next w.machine.failed _ _ (job_ends_in said) (job_ends-keep said) does
+call-floors w c a next does = absurd does

@@ -1,0 +1,8 @@
+use Rattle.run.proofs.Tracing.{views-stay, view-answers}
+use Rattle.run.proofs.laws.views_stay.Goals as goal
+
+pub returns-clause-stay : goal.returns-clause-stay
+returns-clause-stay c = views-stay
+
+pub returns-clause-answers : goal.returns-clause-answers
+returns-clause-answers c = view-answers
