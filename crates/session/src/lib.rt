@@ -16,7 +16,7 @@ pub use ending::Ending;
 pub use engine::run;
 pub use fault::Fault;
 pub use input::{LineInput, Lines};
-pub use output::{Answers, write_reply};
+pub use output::{Answers, write_numbered, write_reply};
 pub use refused::Refused;
 pub use reply::Reply;
 pub use session::{MARK, Session};

@@ -1,13 +1,14 @@
 //! Where the answers go.
-ghost use Rattle.std.specs.Prelude.{◌≡◌, false, true, OnErr, OnOk, MatchResult};
+ghost use Rattle.std.specs.Prelude.{◌≡◌, false, true, OnErr, OnOk, MatchResult, ◌++◌, codes};
 ghost use Rattle.std.specs.Io.KnownBytes.{Appends, Keeps};
+ghost use Rattle.std.specs.Fmt.{decimal};
 ghost use Rattle.std.specs.List.{flat_map};
 ghost use Rattle.session.specs.Streams.{AppendsFront, Says, Writes, is_output_refused, text_said, text_spelled};
 ghost use Rattle.session.specs.Texts as told;
 
 use crate::refused::Refused;
 use crate::reply::{Reply, spell_line};
-use crate::text::{spell_bad_line, spell_count, spell_record, spell_row};
+use crate::text::{spell_bad_line, spell_count, spell_numbered, spell_record, spell_row};
 use chains::SharedValue;
 use history::Version;
 use std::alloc::Global;
@@ -233,6 +234,25 @@ pub fn write_reply<W: Write>(output: &mut Answers<W>, reply: &Reply) -> Result<(
         Reply::Rows(rows) => say_rows(output, rows),
         Reply::Records(found) => say_records(output, found),
         _ => say_line(output, reply),
+    }
+}
+
+/// Writes a line that ends with a number.
+///
+/// # Errors
+///
+/// Where the writer refuses, or there is no memory for the line; some of it may have been written.
+pub fn write_numbered<W: Write>(
+    output: &mut Answers<W>,
+    words: &str,
+    number: u64,
+) -> Result<(), Refused>
+    ensures { Says (text_said W.contents output.old) (words.now ++ (decimal number ++ codes "\n")) result (text_said W.contents output.new) (is_output_refused output.new) }
+{
+    output.text.clear();
+    match spell_numbered(&mut output.text, words, number) {
+        Ok(()) => output.say_spelled(),
+        Err(_) => Err(output.refuse()),
     }
 }
 

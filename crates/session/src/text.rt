@@ -1,5 +1,5 @@
 //! The texts of answers.
-ghost use Rattle.std.specs.Prelude.{◌≡◌, ◌≤◌, length, Some, OnOk};
+ghost use Rattle.std.specs.Prelude.{◌≡◌, ◌≤◌, ◌++◌, codes, length, Some, OnOk};
 ghost use Rattle.std.specs.Io.KnownBytes.{Appends};
 ghost use Rattle.std.specs.Fmt.{decimal};
 ghost use Rattle.session.specs.Texts as told;
@@ -123,6 +123,15 @@ pub fn spell_count(text: &mut Vec<u8>, count: usize) -> Result<(), AllocError>
 {
     text.extend_from_slice(b"rows ")?;
     spell_number(text, count as u64)?;
+    text.extend_from_slice(b"\n")
+}
+
+/// Spells a line that ends with a number.
+pub fn spell_numbered(text: &mut Vec<u8>, words: &str, number: u64) -> Result<(), AllocError>
+    ensures { OnOk result (Appends (Some text.old.items) (Some text.new.items) (words.now ++ (decimal number ++ codes "\n"))) }
+{
+    text.extend_from_slice(words.as_bytes())?;
+    spell_number(text, number)?;
     text.extend_from_slice(b"\n")
 }
 

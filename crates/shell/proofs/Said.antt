@@ -1,5 +1,5 @@
 -- What was said, and the status.
-use Rattle.std.proofs.Common.{◌≡◌, ◌≢◌, ◌≤◌, ◌⊎◌, ◌∙◌, inl, inr, ℕ, Bool, true, false, Option, Some, None, Result, Ok, Err, refl, sym, subst, arith}
+use Rattle.std.proofs.Common.{◌≡◌, ◌≢◌, ◌≤◌, ◌⊎◌, ◌∙◌, inl, inr, ℕ, ◌++◌, [], ap, Bool, true, false, Option, Some, None, Result, Ok, Err, refl, sym, subst, arith}
 use Rattle.std.specs.Prelude.{MatchBool, MatchOption, MatchResult}
 use Rattle.disk.specs.Calls.{DiskState}
 use Rattle.script.specs.Lines.{time_in}
@@ -13,6 +13,10 @@ use Rattle.session.specs.declared.reply.Reply.{Reply}
 use Rattle.words.specs.declared.action.Action.{Action}
 use Rattle.words.specs.declared.action.Action.TheVariants as action
 use Rattle.shell.specs.Acts.{Acts, Asks, HasStatusOf, Input, IsRefused, IsSaid, IsTold, Makes, Output, RefusesTime, RunsNew, RunsScript, SaysAll, SaysFront, is_refusal}
+
+-- a text was written where nothing was
+pub appended-none : (old new text : Text) → old ≡ [] → new ≡ old ++ text → new ≡ text
+appended-none old new text none is = is ∙ ap (λ (t : Text). t ++ text) none
 
 pub either-said : {T E : Type 0} (o : Output) (text : Text) (r : Result T E) → Says o.before text r o.after o.refused → SaysAll o text ⊎ SaysFront o text
 either-said o text (Ok u) says = inl says

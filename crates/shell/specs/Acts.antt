@@ -134,7 +134,7 @@ RunsNew tells old input output new = RefusesToMake tells old 16 output new ⊎ R
 -- ---- one question
 
 abbrev pub is_refusal : Reply → Bool
-is_refusal (reply.Refused fault) = true
+is_refusal (reply.Refused f) = true
 is_refusal _ = false
 
 -- a reply is said

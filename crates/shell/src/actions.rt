@@ -1,29 +1,29 @@
 //! What an action does.
-ghost use Rattle.std.specs.Prelude.{◌≡◌, ◌≢◌, ◌≤◌, ◌⊎◌, ◌++◌, codes, Option, IsTrue, MatchOption, MatchResult};
-ghost use Rattle.std.specs.Fmt.{decimal};
+ghost use Rattle.std.specs.Prelude.{◌≡◌, ◌≢◌, ◌≤◌, ◌⊎◌, Option, IfOk, IsTrue, MatchOption, MatchResult};
 ghost use Rattle.script.specs.Lines.{time_in};
 ghost use Rattle.script.specs.declared.line.Line.TheVariants.{At, Between, Reopen};
 ghost use Rattle.session.specs.Streams.{is_output_refused, text_said};
-ghost use Rattle.session.specs.Streams as session;
 ghost use Rattle.session.specs.Texts.{Text, open_line, refusal_line};
 ghost use Rattle.session.specs.declared.ending.Ending.TheVariants.{Whole};
 ghost use Rattle.shell.specs.Acts as acts;
 ghost use Rattle.shell.specs.Acts.{Acts, Asks, Dumps, GivesOut, IsRefused, IsTold, Makes, RefusesTime, RunsNew, RunsScript, given, open_fault_of, told};
+ghost use Rattle.shell.specs.Dump.{IsDump};
 ghost use Rattle.shell.specs.Keeps.{KeepsPromise};
 
-use crate::dump::write_dump;
+use crate::dump::{DumpFault, write_dump};
 use disk::{Area, Disk};
 use history::Key;
-use itoa::Buffer;
 use recovery::{OpenFault, format};
 use script::{Line, read_time};
 use session::{
-    Answers, Ending, Fault, LineInput, Lines, MARK, Refused, Reply, Session, run, write_reply,
+    Answers, Ending, Fault, LineInput, Lines, MARK, Refused, Reply, Session, run, write_numbered,
+    write_reply,
 };
-use status::{LogFault, read_header, read_log};
+use status::{Header, LogFault, read_header, read_log};
 use std::alloc::Global;
 use std::io::Write;
 use store::Store;
+use wire::Slot;
 use words::Action;
 
 /// The status of what was done and said in full.
@@ -84,22 +84,16 @@ fn run_script<D: Disk, R: LineInput, W: Write>(
     (status_of_ending(ending), disk)
 }
 
-/// Says that an empty store was made.
-fn say_formatted<W: Write>(output: &mut Answers<W>, slots: u32) -> Result<(), Refused>
-    ensures { session.Says (text_said W.contents output.old) (codes "formatted " ++ (decimal slots ++ codes "\n")) result (text_said W.contents output.new) (is_output_refused output.new) }
-{
-    output.say(b"formatted ")?;
-    output.say(Buffer::new().format(slots).as_bytes())?;
-    output.say(b"\n")
-}
-
 /// Makes an empty store.
 fn make<D: Disk, W: Write>(alloc: Global, disk: D, slots: u32, output: &mut Answers<W>) -> (u8, D)
     ensures { Makes D.tells (D.state disk) slots (told W.contents result.0 output.old output.new) (D.state result.1) }
 {
     let mut disk = disk;
     match format(alloc, &mut disk, slots) {
-        Ok(()) => (status_of(say_formatted(output, slots)), disk),
+        Ok(()) => {
+            let said = write_numbered(output, "formatted ", u64::from(slots));
+            (status_of(said), disk)
+        }
         Err(fault) => (refuse(output, Fault::Format(fault)), disk),
     }
 }
@@ -138,7 +132,12 @@ fn tell<W: Write>(output: &mut Answers<W>, reply: &Reply) -> u8
 }
 
 /// Asks what a line of a script asks for, on a store opened for it.
-fn ask<D: Disk, W: Write>(alloc: Global, disk: D, line: Line<'_>, output: &mut Answers<W>) -> (u8, D)
+fn ask<D: Disk, W: Write>(
+    alloc: Global,
+    disk: D,
+    line: Line<'_>,
+    output: &mut Answers<W>,
+) -> (u8, D)
     requires { line.entry ≢ Reopen }
     ensures { Asks D.tells (D.state disk) line.entry (told W.contents result.0 output.old output.new) (D.state result.1) }
 {
@@ -214,6 +213,15 @@ fn refuse_log<W: Write>(output: &mut Answers<W>, fault: LogFault) -> u8
     refuse(output, Fault::Open(open_fault(fault)))
 }
 
+/// The text of a log.
+fn dump_text(alloc: Global, header: &Header, slots: &[Slot]) -> Result<Vec<u8>, DumpFault>
+    ensures { IfOk result (λ text. IsDump header.now slots.now text.items) }
+{
+    let mut text = Vec::new(alloc);
+    write_dump(alloc, &mut text, header, slots)?;
+    Ok(text)
+}
+
 /// Writes the log of a store, which is not opened for it.
 fn dump<D: Disk, W: Write>(alloc: Global, disk: D, output: &mut Answers<W>) -> (u8, D)
     ensures { Dumps D.tells (D.state disk) (told W.contents result.0 output.old output.new) (D.state result.1) }
@@ -227,9 +235,8 @@ fn dump<D: Disk, W: Write>(alloc: Global, disk: D, output: &mut Answers<W>) -> (
         Ok(slots) => slots,
         Err(fault) => return (refuse_log(output, fault), disk),
     };
-    let mut text = Vec::new(alloc);
-    match write_dump(alloc, &mut text, &header, slots.as_slice()) {
-        Ok(()) => (status_of(output.say(text.as_slice())), disk),
+    match dump_text(alloc, &header, slots.as_slice()) {
+        Ok(text) => (status_of(output.say(text.as_slice())), disk),
         Err(_) => (refuse(output, Fault::NoMemory), disk),
     }
 }
