@@ -140,8 +140,8 @@ between-kept tells old new None to line o v gives refused = time-kept old new o 
 between-kept tells old new (Some s) to line o v gives asks = at-kept tells old new to (line s) o v gives asks
 
 dumps-kept : (tells : Bool) (old new : DiskState) (o v : Output) → GivesOut o v → Dumps tells old o new → Dumps tells old v new
-dumps-kept tells old new o v gives (inl (inl no)) = inl (inl (record { why = no.why; fault = no.fault; only = no.only; same = no.same; said = refused-kept o v _ gives no.said }))
-dumps-kept tells old new o v gives (inl (inr no)) = inl (inr (record { header = no.header; reads = no.reads; why = no.why; fault = no.fault; same = no.same; said = refused-kept o v _ gives no.said }))
+dumps-kept tells old new o v gives (inl (inl lacks)) = inl (inl (record { why = lacks.why; fault = lacks.fault; only = lacks.only; same = lacks.same; said = refused-kept o v _ gives lacks.said }))
+dumps-kept tells old new o v gives (inl (inr lacks)) = inl (inr (record { header = lacks.header; reads = lacks.reads; why = lacks.why; fault = lacks.fault; same = lacks.same; said = refused-kept o v _ gives lacks.said }))
 dumps-kept tells old new o v gives (inr (inl done)) = inr (inl (record { header = done.header; slots = done.slots; reads = done.reads; log = done.log; text = done.text; dump = done.dump; said = said-kept o v done.text gives done.said; same = done.same }))
 dumps-kept tells old new o v gives (inr (inr lacks)) = inr (inr (lacks.0, refused-kept o v _ gives lacks.1))
 

@@ -1,8 +1,9 @@
 //! What an action does.
-ghost use Rattle.std.specs.Prelude.{◌≡◌, ◌≢◌, ◌≤◌, ◌⊎◌, Option, IfOk, IsTrue, MatchOption, MatchResult};
+ghost use Rattle.std.specs.Prelude.{◌++◌, codes, ◌≡◌, ◌≢◌, ◌≤◌, ◌⊎◌, Option, IfOk, IsTrue, MatchOption, MatchResult};
+ghost use Rattle.std.specs.Fmt.{decimal};
 ghost use Rattle.script.specs.Lines.{time_in};
 ghost use Rattle.script.specs.declared.line.Line.TheVariants.{At, Between, Reopen};
-ghost use Rattle.session.specs.Streams.{is_output_refused, text_said};
+ghost use Rattle.session.specs.Streams.{Says, is_output_refused, text_said};
 ghost use Rattle.session.specs.Texts.{Text, open_line, refusal_line};
 ghost use Rattle.session.specs.declared.ending.Ending.TheVariants.{Whole};
 ghost use Rattle.shell.specs.Acts as acts;
@@ -84,6 +85,13 @@ fn run_script<D: Disk, R: LineInput, W: Write>(
     (status_of_ending(ending), disk)
 }
 
+/// Says that an empty store was made.
+fn say_formatted<W: Write>(output: &mut Answers<W>, slots: u32) -> Result<(), Refused>
+    ensures { Says (text_said W.contents output.old) (codes "formatted " ++ (decimal slots ++ codes "\n")) result (text_said W.contents output.new) (is_output_refused output.new) }
+{
+    write_numbered(output, "formatted ", u64::from(slots))
+}
+
 /// Makes an empty store.
 fn make<D: Disk, W: Write>(alloc: Global, disk: D, slots: u32, output: &mut Answers<W>) -> (u8, D)
     ensures { Makes D.tells (D.state disk) slots (told W.contents result.0 output.old output.new) (D.state result.1) }
@@ -91,7 +99,7 @@ fn make<D: Disk, W: Write>(alloc: Global, disk: D, slots: u32, output: &mut Answ
     let mut disk = disk;
     match format(alloc, &mut disk, slots) {
         Ok(()) => {
-            let said = write_numbered(output, "formatted ", u64::from(slots));
+            let said = say_formatted(output, slots);
             (status_of(said), disk)
         }
         Err(fault) => (refuse(output, Fault::Format(fault)), disk),
@@ -138,7 +146,7 @@ fn ask<D: Disk, W: Write>(
     line: Line<'_>,
     output: &mut Answers<W>,
 ) -> (u8, D)
-    requires { line.entry ≢ Reopen }
+    requires { line ≢ Reopen }
     ensures { Asks D.tells (D.state disk) line.entry (told W.contents result.0 output.old output.new) (D.state result.1) }
 {
     let store = match Store::open(alloc, disk, MARK) {

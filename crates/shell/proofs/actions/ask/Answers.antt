@@ -9,8 +9,8 @@ returns-in-Err g c = inl (c.in-Err.fault, c.in-Err.ensures.err, c.refuse.ensures
 pub returns-in-Err-new : goal.returns-in-Err-new
 returns-in-Err-new g c = inr (inl (c.in-Ok.store, c.in-Ok.ensures.ok, c.close.ensures ∙ ap (λ (s : StoreValue). s.disk) c.in-Err-new.ensures.err, c.refuse-in-Err-new.ensures))
 
-pub returns-in-Some : goal.returns-in-Some
-returns-in-Some g c = inr (inr (record {
+pub returns : goal.returns
+returns g c = inr (inr (record {
   opened = c.in-Ok.store;
   opens = c.in-Ok.ensures.ok;
   answer = c.in-Some.reply;

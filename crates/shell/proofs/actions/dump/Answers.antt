@@ -39,5 +39,5 @@ returns-in-Ok-dump_text g c =
       same = c.in-Ok-read_log.ensures.same ∙ kept;
     }))
 
-pub returns-in-Err-dump_text : goal.returns-in-Err-dump_text
-returns-in-Err-dump_text g c = inr (inr (c.in-Ok-read_log.ensures.same ∙ c.in-Ok.ensures.same, c.refuse.ensures))
+pub returns : goal.returns
+returns g c = inr (inr (c.in-Ok-read_log.ensures.same ∙ c.in-Ok.ensures.same, c.refuse.ensures))

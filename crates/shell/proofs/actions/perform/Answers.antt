@@ -1,0 +1,7 @@
+use Rattle.shell.proofs.actions.perform.Goals as goal
+
+pub returns-in-At : goal.returns-in-At
+returns-in-At g c = rw c.in-At.is c.ask_at.ensures
+
+pub returns-in-Between : goal.returns-in-Between
+returns-in-Between g c = rw c.in-Between.is c.ask_between.ensures
