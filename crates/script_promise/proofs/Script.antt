@@ -1,5 +1,5 @@
 -- One line after another.
-use Rattle.std.proofs.Common.{◌≡◌, ℕ, ◌+◌, ◌++◌, Bool, IsTrue, List, [], ◌∷◌, Option, Some, None, Result, Ok, Err, MatchOption, MatchResult, refl, sym, subst}
+use Rattle.std.proofs.Common.{◌≡◌, ℕ, ◌+◌, ◌++◌, ◌⊎◌, inl, inr, Bool, IsTrue, List, [], ◌∷◌, Option, Some, None, Result, Ok, Err, MatchOption, MatchResult, refl, sym, subst}
 use Rattle.disk.specs.Calls.{DiskState}
 use Rattle.recovery.specs.declared.fault.OpenFault.{OpenFault}
 use Rattle.opened.proofs.Opened.{open-stands}
@@ -7,14 +7,13 @@ use Rattle.script.specs.Lines.{said}
 use Rattle.script.specs.declared.line.Line.{Line}
 use Rattle.script.specs.declared.line.Line.TheVariants as line
 use Rattle.session.specs.Run as session
-use Rattle.session.specs.Run.{End, EndsBadly, bad_line}
-use Rattle.session.specs.Session.{State, Step, Refuses}
-use Rattle.session.specs.Texts.{Text, open_line, text_of}
-use Rattle.session.specs.declared.ending.Ending.TheVariants as ending
+use Rattle.session.specs.Run.{End, EndsBadly, EndsCut, EndsRefused, EndsUnsaid}
+use Rattle.session.specs.Session.{State, Closes, Step, Refuses}
+use Rattle.session.specs.Texts.{Text, text_of}
 use Rattle.session.specs.declared.reply.Reply.{Reply}
 use Rattle.script_promise.specs.ScriptMoments.{ScriptMoment}
-use Rattle.script_promise.specs.Keeps.{KeepsBy, LineKeeps, Closed, KeepsUnopened}
-use Rattle.script_promise.specs.Promise.{TurnKeeps, ScriptKeeps, ScriptPromise}
+use Rattle.script_promise.specs.Keeps.{KeepsBy, LineKeeps, KeepsUnopened}
+use Rattle.script_promise.specs.Promise.{BadKeeps, CutKeeps, UnopenedKeeps, UnsaidKeeps, TurnKeeps, ScriptKeeps, ScriptPromise}
 use Rattle.script_promise.proofs.Leading.{IsScriptMoment}
 use Rattle.script_promise.proofs.Lines.{pump-line, flush-line, archive-line, job-line, finish-line, at-line, scan-line, between-line, times-line}
 use Rattle.script_promise.proofs.Steps.{begin-line, put-line, delete-line, get-line, abort-line, submit-line, redeem-line}
@@ -86,25 +85,44 @@ turn-goes tells told n m is text out new turn = by-line (said text) refl turn
         record {
           after = to.after;
           is_state = to.is_state;
-          turn = subst (λ (o : Option Line). MatchOption o ((disk : DiskState) × (out ≡ bad_line n) × Closed tells m disk × (Path (Result ScriptMoment End) (Ok to.after) (Err (ending.BadLine, disk)))) (λ x. (r : Reply) × LineKeeps tells x r m to.after × (out ≡ text_of r))) (sym is_line) (step.0, keeps, step.2);
+          turn = subst (λ (o : Option Line). MatchOption o (BadKeeps tells n m out (Ok to.after)) (λ x. (r : Reply) × LineKeeps tells x r m to.after × (out ≡ text_of r))) (sym is_line) (step.0, keeps, step.2);
           is = to.is;
         }
+
+-- the answer to a line was not written in full
+unsaid : (tells : Bool) → IsTrue tells → (m : ScriptMoment) → IsScriptMoment tells m → (l : Line) (out : Text) (e : End) → EndsUnsaid tells m.state l out e → UnsaidKeeps tells l m out e
+unsaid tells told m is l out e ends =
+    let to = line-leads tells told m is l ends.0 ends.1 ends.2 in
+    let keeps : LineKeeps tells l ends.0 m to.after = record { step = subst (λ (s : State). Step tells m.state l ends.0 s) (sym to.is_state) ends.2; keeps = to.keeps } in
+    let closes : Closes to.after.state e.1 = subst (λ (s : State). Closes s e.1) (sym to.is_state) ends.3 in
+    (ends.0, to.after, keeps, (close-keeps tells to.after to.is e.1 closes).closed, ends.4, ends.5)
 
 turn-ends : (tells : Bool) → IsTrue tells → (n : ℕ) (m : ScriptMoment) → IsScriptMoment tells m → (text out : Text) (e : End) → session.Turn tells n m.state text out (Err e) → TurnKeeps tells n m text out (Err e)
 turn-ends tells told n m is text out e turn = by-line (said text) turn
   where
-    by-line : (o : Option Line) → MatchOption o (EndsBadly n m.state out (Err e)) (λ l. (f : OpenFault) × Refuses tells m.state l f e.1 × (out ≡ open_line f) × (e.0 ≡ ending.NotOpened))
-        → MatchOption o ((disk : DiskState) × (out ≡ bad_line n) × Closed tells m disk × (Path (Result ScriptMoment End) (Err e) (Err (ending.BadLine, disk)))) (λ l. (why : OpenFault) × KeepsUnopened tells m why e.1 × (out ≡ open_line why) × (e.0 ≡ ending.NotOpened))
-    by-line None bad = let so = bad.3 in (bad.0, bad.1, (close-keeps tells m is bad.0 bad.2).closed, cc)
-    by-line (Some l) refused = (refused.0, line-ends tells told m is l refused.0 e.1 refused.1, refused.2, refused.3)
+    by-end : (l : Line) → (EndsRefused tells m.state l out e ⊎ EndsUnsaid tells m.state l out e) → (UnopenedKeeps tells m out e ⊎ UnsaidKeeps tells l m out e)
+    by-end l (inl refused) = inl (refused.0, line-ends tells told m is l refused.0 e.1 refused.1, refused.2)
+    by-end l (inr ends) = inr (unsaid tells told m is l out e ends)
+
+    by-line : (o : Option Line) → MatchOption o (EndsBadly n m.state out (Err e)) (λ l. EndsRefused tells m.state l out e ⊎ EndsUnsaid tells m.state l out e)
+        → MatchOption o (BadKeeps tells n m out (Err e)) (λ l. UnopenedKeeps tells m out e ⊎ UnsaidKeeps tells l m out e)
+    by-line None bad = let so = bad.3 in (bad.0, (close-keeps tells m is bad.0.1 bad.1).closed, bad.2, cc)
+    by-line (Some l) ends = by-end l ends
+
+cut-keeps : (tells : Bool) (m : ScriptMoment) → IsScriptMoment tells m → (out : Text) (end : End) → EndsCut m.state out end → CutKeeps tells m out end
+cut-keeps tells m is out end cut = (cut.0, cut.1, (close-keeps tells m is end.1 cut.2).closed)
 
 pub script-keeps : (tells : Bool) → IsTrue tells → (n : ℕ) (m : ScriptMoment) → IsScriptMoment tells m → (lines : List Text) (out : Text) (end : End) → session.Run tells n m.state lines out end → ScriptKeeps tells n m lines out end
-script-keeps tells told n m is [] out end run = (run.0, run.1, (close-keeps tells m is end.1 run.2).closed)
-script-keeps tells told n m is (text ∷ rest) out end run =
-    by-next (λ next next_is more run_on. script-keeps tells told (n + 1) next next_is rest more end run_on) run.1 run.2 run.3
+script-keeps tells told n m is [] out end (inl cut) = inl (cut-keeps tells m is out end cut)
+script-keeps tells told n m is [] out end (inr run) = inr (run.0, run.1, (close-keeps tells m is end.1 run.2).closed)
+script-keeps tells told n m is (text ∷ rest) out end (inl cut) = inl (cut-keeps tells m is out end cut)
+script-keeps tells told n m is (text ∷ rest) out end (inr run) =
+    inr (by-next (λ next next_is more run_on. script-keeps tells told (n + 1) next next_is rest more end run_on) run.1 run.2 run.3)
   where
     by-next : ((next : ScriptMoment) → IsScriptMoment tells next → (more : Text) → session.Run tells (n + 1) next.state rest more end → ScriptKeeps tells (n + 1) next rest more end) → (next : Result State End) → session.Turn tells n m.state text run.0 next
-        → MatchResult next (λ mid. (more : Text) × session.Run tells (n + 1) mid rest more end × (out ≡ run.0 ++ more)) (λ e. (out ≡ run.0) × (end ≡ e)) → ScriptKeeps tells n m (text ∷ rest) out end
+        → MatchResult next (λ mid. (more : Text) × session.Run tells (n + 1) mid rest more end × (out ≡ run.0 ++ more)) (λ e. (out ≡ run.0) × (end ≡ e))
+        → (first : Text) × (next : Result ScriptMoment End) × TurnKeeps tells n m text first next
+        × MatchResult next (λ mid. (more : Text) × ScriptKeeps tells (n + 1) mid rest more end × (out ≡ first ++ more)) (λ e. (out ≡ first) × (end ≡ e))
     by-next keeps_rest (Ok new) turn more =
         let to = turn-goes tells told n m is text run.0 new turn in
         let on : session.Run tells (n + 1) to.after.state rest more.0 end = subst (λ (s : State). session.Run tells (n + 1) s rest more.0 end) (sym to.is_state) more.1 in
@@ -112,5 +130,5 @@ script-keeps tells told n m is (text ∷ rest) out end run =
     by-next keeps_rest (Err e) turn ends = (run.0, Err e, turn-ends tells told n m is text run.0 e turn, ends)
 
 pub promise : ScriptPromise
-promise tells disk store header h floors lines out end told sound is opens run =
-    script-keeps tells told 1 _ (first-script tells store h floors (open-stands tells disk 1 store header h floors opens told sound is)) lines out end run
+promise tells disk store header h floors n lines out end told sound is opens run =
+    script-keeps tells told n _ (first-script tells store h floors (open-stands tells disk 1 store header h floors opens told sound is)) lines out end run

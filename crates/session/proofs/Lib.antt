@@ -1,4 +1,5 @@
 mod JobLemmas
 mod LineLemmas
 mod RunLemmas
+mod SayLemmas
 mod TextLemmas

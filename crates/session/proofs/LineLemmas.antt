@@ -6,7 +6,7 @@ use Rattle.std.specs.Io.BufRead.{drop_through, take_through, strip_last}
 use Rattle.std.specs.Prelude.{IfSome}
 use Rattle.std.specs.Io.BufRead.{DropsThrough}
 use Rattle.session.specs.Texts.{Text}
-use Rattle.session.specs.Run.{Reads, lines_of, onto_line}
+use Rattle.session.specs.Lines.{Reads, lines_of, onto_line}
 
 strip_cons : (x y : ℕ) (ys : Text) → strip_last 10 (x ∷ y ∷ ys) ≡ x ∷ strip_last 10 (y ∷ ys)
 strip_cons x y ys = grind (arith, common_steps, nat_tests)

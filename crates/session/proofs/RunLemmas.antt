@@ -1,64 +1,135 @@
 -- A run goes on by one line.
-use Rattle.std.proofs.Common.{subst, ◌≡◌, ℕ, ◌+◌, Bool, true, false, [], ◌∷◌, ◌++◌, refl, Option, Some, None, Ok, Err, append_assoc, append-nil}
-use Rattle.std.specs.Prelude.{IfSome, ⊤}
+use Rattle.std.proofs.Common.{subst, sym, ap, ◌∙◌, ◌≡◌, ℕ, ◌+◌, Bool, true, false, List, [], ◌∷◌, ◌++◌, refl, Option, Some, None, Ok, Err, append_assoc, append-nil, inl, inr}
+use Rattle.std.specs.Prelude.{⊤, if◌then◌else◌, MatchOption, MatchResult, Result}
+use Rattle.script.specs.Lines.{said}
+use Rattle.script.specs.declared.line.Line.{Line}
+use Rattle.script.specs.declared.line.Line.TheVariants.{Reopen}
 use Rattle.std.specs.Io.KnownBytes.{Appends, Keeps}
 use Rattle.std.proofs.KnownBytes.{Appends-kept, Appends-nil, Appends-trans}
+use Rattle.session.specs.Lines.{AreLines, Reads, lines_of}
+use Rattle.session.specs.Run.{Answers, End, EndsBadly, EndsCut, IsCut, Run, Turn}
 use Rattle.session.specs.Session.{State, Closes}
 use Rattle.session.specs.Texts.{Text}
-use Rattle.session.specs.Run.{End, Reads, Run, Turn, lines_of}
 use Rattle.session.specs.declared.ending.Ending.TheVariants as ending
 
--- whatever completes the run of what remains completes the run of all
-abbrev pub SoFar : Bool → Option Text → Option Text → ℕ → State → State → Option Text → Option Text → Type 0
-SoFar tells None now n first state written w = ⊤
-SoFar tells (Some text) None n first state written w = ⊥
-SoFar tells (Some text) (Some rest) n first state written w = (out : Text) × Appends written w out
-    × ((more : Text) (end : End) → Run tells n state (lines_of rest) more end → Run tells 1 first (lines_of text) (out ++ more) end)
+-- these lines of an input were read, where it is known
+abbrev pub IsLeft : Option Text → List Text → Option Text → Type 0
+IsLeft None read new = ⊤
+IsLeft (Some xs) read None = ⊥
+IsLeft (Some xs) read (Some ys) = lines_of xs ≡ read ++ lines_of ys
 
--- the run of a known input is known
-abbrev pub Known : Bool → Option Text → State → Option Text → Option Text → End → Type 0
-Known tells input first written w end = IfSome input (λ text. (out : Text) × Run tells 1 first (lines_of text) out end × Appends written w out)
+abbrev pub lines_left : Option Text → List Text
+lines_left None = []
+lines_left (Some xs) = lines_of xs
 
-pub so_far_start : (tells : Bool) (i w : Option Text) (s : State) → SoFar tells i i 1 s s w w
-so_far_start tells None w s = tt
-so_far_start tells (Some text) w s = ([], Appends-nil w, λ more end r. r)
+-- lines were read and answered, and whatever completes the run of the rest completes the run of all
+pub record SoFar (tells : Bool) (i0 i : Option Text) (n0 n : ℕ) (s0 s : State) (w0 w : Option Text) : Type 0 where
+  pub read : List Text
+  pub out : Text
+  pub left : IsLeft i0 read i
+  pub written : Appends w0 w out
+  pub goes : (rest : List Text) (more : Text) (end : End) → Run tells n s rest more end → Run tells n0 s0 (read ++ rest) (out ++ more) end
+
+-- the run of an input's lines
+abbrev pub Ran : Bool → ℕ → Option Text → State → Option Text → Option Text → End → Type 0
+Ran tells n0 i0 s0 w0 w end = (lines : List Text) × (out : Text) × AreLines i0 lines × Run tells n0 s0 lines out end × Appends w0 w out
+
+left-start : (i : Option Text) → IsLeft i [] i
+left-start None = tt
+left-start (Some xs) = refl
+
+pub so_far_start : (tells : Bool) (i w : Option Text) (n : ℕ) (s : State) → SoFar tells i i n n s s w w
+so_far_start tells i w n s = record { read = []; out = []; left = left-start i; written = Appends-nil w; goes = λ rest more end r. r }
 
 -- giving out what was written changes nothing of that
-pub so_far_kept : (tells : Bool) (i0 i w0 w v : Option Text) (n : ℕ) (s0 s : State) → SoFar tells i0 i n s0 s w0 w → Keeps w v → SoFar tells i0 i n s0 s w0 v
-so_far_kept tells None i w0 w v n s0 s so kept = tt
-so_far_kept tells (Some text) None w0 w v n s0 s so kept = absurd so
-so_far_kept tells (Some text) (Some xs) w0 w v n s0 s so kept = (so.0, Appends-kept w0 w v so.0 so.1 kept, so.2)
+pub so_far_kept : (tells : Bool) (i0 i w0 w v : Option Text) (n0 n : ℕ) (s0 s : State) → SoFar tells i0 i n0 n s0 s w0 w → Keeps w v → SoFar tells i0 i n0 n s0 s w0 v
+so_far_kept tells i0 i w0 w v n0 n s0 s so kept = record { read = so.read; out = so.out; left = so.left; written = Appends-kept w0 w v so.out so.written kept; goes = so.goes }
 
-pub so_far_next : (tells : Bool) (i0 i j w0 w v : Option Text) (n : ℕ) (s0 s t : State) (line slice : Text) (some : Bool) → SoFar tells i0 i n s0 s w0 w
-    → Reads i j some line → some ≡ true → slice ≡ line → ((out : Text) × Turn tells n s slice out (Ok t) × Appends w v out)
-    → SoFar tells i0 j (n + 1) s0 t w0 v
-so_far_next tells None i j w0 w v n s0 s t line slice some so reads yes' same turn = tt
-so_far_next tells (Some text) None j w0 w v n s0 s t line slice some so reads yes' same turn = absurd so
-so_far_next tells (Some text) (Some xs) None w0 w v n s0 s t line slice some so reads yes' same turn = absurd reads
-so_far_next tells (Some text) (Some xs) (Some ys) w0 w v n s0 s t line slice some so reads yes' same turn =
-    let cut : lines_of xs ≡ line ∷ lines_of ys = subst (λ (b : Bool). Reads (Some xs) (Some ys) b line) yes' reads in
-    let here : Turn tells n s line turn.0 (Ok t) = subst (λ (l : Text). Turn tells n s l turn.0 (Ok t)) same turn.1 in (
-      so.0 ++ turn.0,
-      Appends-trans w0 w v so.0 turn.0 so.1 turn.2,
-      λ more end r. rw append_assoc (so.2 (turn.0 ++ more) end (rw cut (turn.0, Ok t, here, (more, r, refl)))),
-    )
+left-next : (i0 i j : Option Text) (read : List Text) (line : Text) → IsLeft i0 read i → Reads i j true line → IsLeft i0 (read ++ line ∷ []) j
+left-next None i j read line left reads = tt
+left-next (Some x0) None j read line left reads = absurd left
+left-next (Some x0) (Some xs) None read line left reads = absurd reads
+left-next (Some x0) (Some xs) (Some ys) read line left reads = left ∙ ap (λ (l : List Text). read ++ l) reads ∙ sym (append_assoc read (line ∷ []) (lines_of ys))
 
-pub known_whole : (tells : Bool) (i0 i j w0 w : Option Text) (n : ℕ) (s0 s : State) (line : Text) (some : Bool) (end : End) → SoFar tells i0 i n s0 s w0 w
-    → Reads i j some line → some ≡ false → end.0 ≡ ending.Whole → Closes s end.1 → Known tells i0 s0 w0 w end
-known_whole tells None i j w0 w n s0 s line some end so reads no' whole closes = tt
-known_whole tells (Some text) None j w0 w n s0 s line some end so reads no' whole closes = absurd so
-known_whole tells (Some text) (Some xs) None w0 w n s0 s line some end so reads no' whole closes = absurd reads
-known_whole tells (Some text) (Some xs) (Some ys) w0 w n s0 s line some end so reads no' whole closes =
-    let empty : xs ≡ [] = subst (λ (b : Bool). Reads (Some xs) (Some ys) b line) no' reads in
-    (so.0 ++ [], so.2 [] end (rw empty (refl, whole, closes)), rw (append-nil so.0) so.1)
+are-left : (i0 i : Option Text) (read : List Text) → IsLeft i0 read i → AreLines i0 (read ++ lines_left i)
+are-left None i read left = tt
+are-left (Some x0) None read left = absurd left
+are-left (Some x0) (Some xs) read left = sym left
 
-pub known_end : (tells : Bool) (i0 i j w0 w v : Option Text) (n : ℕ) (s0 s : State) (line slice : Text) (some : Bool) (end : End) → SoFar tells i0 i n s0 s w0 w
-    → Reads i j some line → some ≡ true → slice ≡ line → ((out : Text) × Turn tells n s slice out (Err end) × Appends w v out)
-    → Known tells i0 s0 w0 v end
-known_end tells None i j w0 w v n s0 s line slice some end so reads yes' same turn = tt
-known_end tells (Some text) None j w0 w v n s0 s line slice some end so reads yes' same turn = absurd so
-known_end tells (Some text) (Some xs) None w0 w v n s0 s line slice some end so reads yes' same turn = absurd reads
-known_end tells (Some text) (Some xs) (Some ys) w0 w v n s0 s line slice some end so reads yes' same turn =
-    let cut : lines_of xs ≡ line ∷ lines_of ys = subst (λ (b : Bool). Reads (Some xs) (Some ys) b line) yes' reads in
-    let here : Turn tells n s line turn.0 (Err end) = subst (λ (l : Text). Turn tells n s l turn.0 (Err end)) same turn.1 in
-    (so.0 ++ turn.0, so.2 turn.0 end (rw cut (turn.0, Err end, here, (refl, refl))), Appends-trans w0 w v so.0 turn.0 so.1 turn.2)
+are-all : (i0 i j : Option Text) (read : List Text) (line : Text) → IsLeft i0 read i → Reads i j false line → AreLines i0 (read ++ [])
+are-all None i j read line left reads = tt
+are-all (Some x0) None j read line left reads = absurd left
+are-all (Some x0) (Some xs) None read line left reads = absurd reads
+are-all (Some x0) (Some xs) (Some ys) read line left reads = sym (left ∙ ap (λ (t : Text). read ++ lines_of t) reads)
+
+pub counted : (b : Bool) (new old : ℕ) → new ≡ (if b then old + 1 else old) → b ≡ true → new ≡ old + 1
+counted true new old is yes' = is
+counted false new old is yes' = absurd cc
+
+-- a line more is answered
+pub so_far_next : (tells : Bool) (i0 i j w0 w v : Option Text) (n0 n number m : ℕ) (s0 s t : State) (line slice : Text) (some : Bool) → SoFar tells i0 i n0 n s0 s w0 w → number ≡ n → m ≡ number + 1
+    → Reads i j some line → some ≡ true → slice ≡ line → ((out : Text) × Turn tells number s slice out (Ok t) × Appends w v out) → SoFar tells i0 j n0 m s0 t w0 v
+so_far_next tells i0 i j w0 w v n0 n number m s0 s t line slice some so is_n is_m reads is_some same turn =
+    let first : Text = turn.0 in
+    let on : Turn tells number s line first (Ok t) = subst (λ (l : Text). Turn tells number s l first (Ok t)) same turn.1 in
+    let here : Turn tells n s line first (Ok t) = subst (λ (k : ℕ). Turn tells k s line first (Ok t)) is_n on in
+    let next : m ≡ n + 1 = is_m ∙ ap (λ (k : ℕ). k + 1) is_n in
+    record {
+      read = so.read ++ line ∷ [];
+      out = so.out ++ first;
+      left = left-next i0 i j so.read line so.left (subst (λ (b : Bool). Reads i j b line) is_some reads);
+      written = Appends-trans w0 w v so.out first so.written turn.2;
+      goes = λ rest more end r.
+          subst (λ (l : List Text). Run tells n0 s0 l ((so.out ++ first) ++ more) end) (sym (append_assoc so.read (line ∷ []) rest))
+          (subst (λ (x : Text). Run tells n0 s0 (so.read ++ line ∷ rest) x end) (sym (append_assoc so.out first more))
+          (so.goes (line ∷ rest) (first ++ more) end (inr (first, Ok t, here, (more, subst (λ (k : ℕ). Run tells k t rest more end) next r, refl)))));
+    }
+
+-- ---- how a run ends
+
+ran-by : (tells : Bool) (i0 i w0 w v : Option Text) (n0 n : ℕ) (s0 s : State) (so : SoFar tells i0 i n0 n s0 s w0 w) (rest : List Text) (more : Text) (end : End)
+    → AreLines i0 (so.read ++ rest) → Run tells n s rest more end → Appends w v more → Ran tells n0 i0 s0 w0 v end
+ran-by tells i0 i w0 w v n0 n s0 s so rest more end are run written =
+    (so.read ++ rest, so.out ++ more, are, so.goes rest more end run, Appends-trans w0 w v so.out more so.written written)
+
+run-cut : (tells : Bool) (n : ℕ) (s : State) (lines : List Text) (end : End) → IsCut end.0 → Closes s end.1 → Run tells n s lines [] end
+run-cut tells n s [] end cut closes = inl (refl, cut, closes)
+run-cut tells n s (line ∷ rest) end cut closes = inl (refl, cut, closes)
+
+-- the input or the output is refused before a line
+pub ran-cut : (tells : Bool) (i0 i w0 w : Option Text) (n0 n : ℕ) (s0 s : State) (end : End) → SoFar tells i0 i n0 n s0 s w0 w → IsCut end.0 → Closes s end.1 → Ran tells n0 i0 s0 w0 w end
+ran-cut tells i0 i w0 w n0 n s0 s end so cut closes =
+    ran-by tells i0 i w0 w w n0 n s0 s so (lines_left i) [] end (are-left i0 i so.read so.left) (run-cut tells n s (lines_left i) end cut closes) (Appends-nil w)
+
+-- no line is left
+pub ran-whole : (tells : Bool) (i0 i j w0 w : Option Text) (n0 n : ℕ) (s0 s : State) (line : Text) (some : Bool) (end : End) → SoFar tells i0 i n0 n s0 s w0 w
+    → Reads i j some line → some ≡ false → end.0 ≡ ending.Whole → Closes s end.1 → Ran tells n0 i0 s0 w0 w end
+ran-whole tells i0 i j w0 w n0 n s0 s line some end so reads is_none whole closes =
+    ran-by tells i0 i w0 w w n0 n s0 s so [] [] end (are-all i0 i j so.read line so.left (subst (λ (b : Bool). Reads i j b line) is_none reads)) (inr (refl, whole, closes)) (Appends-nil w)
+
+-- a line ends the run
+pub ran-end : (tells : Bool) (i0 i j w0 w v : Option Text) (n0 n number : ℕ) (s0 s : State) (line slice : Text) (some : Bool) (end : End) → SoFar tells i0 i n0 n s0 s w0 w → number ≡ n
+    → Reads i j some line → some ≡ true → slice ≡ line → ((out : Text) × Turn tells number s slice out (Err end) × Appends w v out) → Ran tells n0 i0 s0 w0 v end
+ran-end tells i0 i j w0 w v n0 n number s0 s line slice some end so is_n reads is_some same turn =
+    let on : Turn tells number s line turn.0 (Err end) = subst (λ (l : Text). Turn tells number s l turn.0 (Err end)) same turn.1 in
+    let here : Turn tells n s line turn.0 (Err end) = subst (λ (k : ℕ). Turn tells k s line turn.0 (Err end)) is_n on in
+    let left : IsLeft i0 (so.read ++ line ∷ []) j = left-next i0 i j so.read line so.left (subst (λ (b : Bool). Reads i j b line) is_some reads) in
+    ran-by tells i0 i w0 w v n0 n s0 s so (line ∷ lines_left j) turn.0 end
+    (subst (λ (l : List Text). AreLines i0 l) (append_assoc so.read (line ∷ []) (lines_left j)) (are-left i0 j (so.read ++ line ∷ []) left))
+    (inr (turn.0, Err end, here, (refl, refl))) turn.2
+
+-- ---- one line
+
+-- what a line left
+abbrev pub Turned : {E : Type 0} → (E → End) → (Text → Result State End → Type 0) → Option Text → Option Text → Result State E → Type 0
+Turned end_of P w v r = MatchResult r (λ new. (out : Text) × P out (Ok new) × Appends w v out) (λ e. (out : Text) × P out (Err (end_of e)) × Appends w v out)
+
+pub turned-by : {E : Type 0} (end_of : E → End) (P Q : Text → Result State End → Type 0) (w v : Option Text) (r : Result State E) → ((out : Text) (next : Result State End) → P out next → Q out next) → Turned end_of P w v r → Turned end_of Q w v r
+turned-by end_of P Q w v (Ok new) by turned = (turned.0, by turned.0 (Ok new) turned.1, turned.2)
+turned-by end_of P Q w v (Err e) by turned = (turned.0, by turned.0 (Err (end_of e)) turned.1, turned.2)
+
+pub answers-turn : (tells : Bool) (n : ℕ) (s t : State) (line : Text) (l : Line) (out : Text) (next : Result State End) → said line ≡ Some l → l ≡ Reopen → t ≡ s → Answers tells t Reopen out next → Turn tells n s line out next
+answers-turn tells n s t line l out next found is same answers =
+    let here : Answers tells s Reopen out next = subst (λ (x : State). Answers tells x Reopen out next) same answers in
+    let there : Answers tells s l out next = subst (λ (x : Line). Answers tells s x out next) (sym is) here in
+    subst (λ (o : Option Line). MatchOption o (EndsBadly n s out next) (λ x. Answers tells s x out next)) (sym found) there

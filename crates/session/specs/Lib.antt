@@ -1,3 +1,5 @@
+pub mod Lines
 pub mod Run
 pub mod Session
+pub mod Streams
 pub mod Texts

@@ -34,6 +34,10 @@ use Rattle.session.specs.declared.reply.Reply.TheVariants as reply
 abbrev pub Text : Type 0
 Text = List ℕ
 
+-- a line of no form is told by its number
+abbrev pub bad_line : ℕ → Text
+bad_line n = codes "line " ++ decimal n ++ codes ": bad\n"
+
 -- two lower-case digits a byte
 abbrev pub hex_text : Text → Text
 hex_text bytes = encode_lower bytes
@@ -169,22 +173,28 @@ refusal_line (fault.Query f) = query_line f
 refusal_line (fault.Open f) = open_line f
 refusal_line (fault.Format f) = refused (format_text f)
 
--- the line of an answer
+-- the line of an answer that has one; rows and records have several
+abbrev pub line_text : Reply → Text
+line_text (reply.Snapshot t) = codes "snapshot " ++ decimal t ++ codes "\n"
+line_text reply.Ok = codes "ok\n"
+line_text (reply.Found None) = codes "none\n"
+line_text (reply.Found (Some value)) = value_text value
+line_text reply.Queued = codes "queued\n"
+line_text (reply.ReadOnly t) = codes "readonly " ++ decimal t ++ codes "\n"
+line_text (reply.Done t) = codes "done " ++ decimal t ++ codes "\n"
+line_text reply.Waiting = codes "waiting\n"
+line_text reply.InDoubt = codes "in doubt\n"
+line_text (reply.Did step) = step_text step
+line_text reply.Started = codes "started\n"
+line_text (reply.JobDid step) = job_step_text step
+line_text (reply.Times times) = times_text times.items
+line_text (reply.Rows rows) = []
+line_text (reply.Records found) = []
+line_text (reply.Opened last floor) = codes "last " ++ (decimal last ++ (codes " floor " ++ (decimal floor ++ codes "\n")))
+line_text (reply.Refused f) = refusal_line f
+
+-- the lines of an answer
 abbrev pub text_of : Reply → Text
-text_of (reply.Snapshot t) = codes "snapshot " ++ decimal t ++ codes "\n"
-text_of reply.Ok = codes "ok\n"
-text_of (reply.Found None) = codes "none\n"
-text_of (reply.Found (Some value)) = value_text value
-text_of reply.Queued = codes "queued\n"
-text_of (reply.ReadOnly t) = codes "readonly " ++ decimal t ++ codes "\n"
-text_of (reply.Done t) = codes "done " ++ decimal t ++ codes "\n"
-text_of reply.Waiting = codes "waiting\n"
-text_of reply.InDoubt = codes "in doubt\n"
-text_of (reply.Did step) = step_text step
-text_of reply.Started = codes "started\n"
-text_of (reply.JobDid step) = job_step_text step
-text_of (reply.Times times) = times_text times.items
 text_of (reply.Rows rows) = rows_text rows.items
 text_of (reply.Records found) = records_text found.items
-text_of (reply.Opened last floor) = codes "last " ++ (decimal last ++ (codes " floor " ++ (decimal floor ++ codes "\n")))
-text_of (reply.Refused f) = refusal_line f
+text_of r = line_text r

@@ -1,35 +1,62 @@
 //! The script engine of `run`.
-ghost use Rattle.std.specs.Prelude.{◌≡◌, IfOk, IfErr, IfSome, MatchResult, Ok, Err};
+ghost use Rattle.std.specs.Prelude.{◌≡◌, ◌≢◌, ◌+◌, true, List, IfOk, IfErr, OnErr, MatchResult, Ok, Err, if◌then◌else◌};
 ghost use Rattle.std.specs.Io.KnownBytes.{Appends, Keeps};
-ghost use Rattle.std.specs.Io.BufRead.{strip_last};
+ghost use Rattle.script.specs.declared.line.Line.TheVariants.{Reopen};
+ghost use Rattle.session.specs.Lines.{AreLines, Reads};
+ghost use Rattle.session.specs.Streams.{text_left, last_line, lines_read, IsToldOf, text_said, is_output_refused};
 ghost use Rattle.session.specs.Texts.{Text};
 ghost use Rattle.session.specs.Run as told;
 
 use crate::ending::Ending;
 use crate::fault::Fault;
-use crate::input::LineInput;
-use crate::reply::{Reply, write_reply};
+use crate::input::{LineInput, Lines};
+use crate::output::{Answers, say_bad_line, write_reply};
+use crate::refused::Refused;
+use crate::reply::Reply;
 use crate::session::Session;
 use disk::Disk;
 use std::alloc::Global;
-use std::io;
-use std::io::{BufRead, Write};
-
-/// The end of a run whose output was refused.
-fn refused_output<D: Disk>(session: Session<D>) -> (Ending, D)
-    ensures { result.0 ≡ Ending.OutputRefused }
-{
-    (Ending::OutputRefused, session.close())
-}
+use std::io::Write;
 
 /// Ends a run at a line of no form.
-fn end_badly<D: Disk, W: Write>(session: Session<D>, number: u64, output: &mut W) -> (Ending, D)
-    ensures { told.IsTold result.0 → (out : Text) × told.EndsBadly number session out (Err (result.0, D.state result.1))
-        × Appends (W.contents output.old) (W.contents output.new) out }
+fn end_badly<D: Disk, W: Write>(
+    session: Session<D>,
+    number: u64,
+    output: &mut Answers<W>,
+) -> (Ending, D)
+    ensures ended { (out : Text) × told.EndsBadly number session out (Err (result.0, D.state result.1)) × Appends (text_said W.contents output.old) (text_said W.contents output.new) out }
+    ensures refused { result.0 ≡ Ending.OutputRefused → is_output_refused output.new ≡ true }
 {
-    match writeln!(output, "line {number}: bad") {
+    match say_bad_line(output, number) {
         Ok(()) => (Ending::BadLine, session.close()),
-        Err(_) => refused_output(session),
+        Err(_) => (Ending::OutputRefused, session.close()),
+    }
+}
+
+/// Opens the session's store again, and says so. Where the run ends with it, how it ended and the
+/// disk come back.
+fn reopen<D: Disk, W: Write>(
+    session: Session<D>,
+    alloc: Global,
+    output: &mut Answers<W>,
+) -> Result<Session<D>, (Ending, D)>
+    ensures turned { MatchResult result
+        (λ new. (out : Text) × told.Answers D.tells session Reopen out (Ok new) × Appends (text_said W.contents output.old) (text_said W.contents output.new) out)
+        (λ e. (out : Text) × told.Answers D.tells session Reopen out (Err (e.0, D.state e.1)) × Appends (text_said W.contents output.old) (text_said W.contents output.new) out) }
+    ensures refused { IfErr result (λ e. e.0 ≡ Ending.OutputRefused → is_output_refused output.new ≡ true) }
+{
+    match session.reopen(alloc) {
+        Ok(session) => {
+            let (last, floor) = session.ends();
+            match write_reply(output, &Reply::Opened(last, floor)) {
+                Ok(()) => Ok(session),
+                Err(_) => Err((Ending::OutputRefused, session.close())),
+            }
+        }
+        Err((fault, disk)) => match write_reply(output, &Reply::Refused(Fault::Open(fault))) {
+            Ok(()) => Err((Ending::NotOpened, disk)),
+            Err(_) => Err((Ending::OutputRefused, disk)),
+        },
     }
 }
 
@@ -39,71 +66,55 @@ fn turn<D: Disk, W: Write>(
     alloc: Global,
     number: u64,
     line: &[u8],
-    output: &mut W,
+    output: &mut Answers<W>,
 ) -> Result<Session<D>, (Ending, D)>
-    ensures { MatchResult result
-        (λ new. (out : Text) × told.Turn D.tells number session line.now out (Ok new) × Appends (W.contents output.old) (W.contents output.new) out)
-        (λ e. told.IsTold e.0 → (out : Text) × told.Turn D.tells number session line.now out (Err (e.0, D.state e.1))
-        × Appends (W.contents output.old) (W.contents output.new) out) }
+    ensures turned { MatchResult result
+        (λ new. (out : Text) × told.Turn D.tells number session line.now out (Ok new) × Appends (text_said W.contents output.old) (text_said W.contents output.new) out)
+        (λ e. (out : Text) × told.Turn D.tells number session line.now out (Err (e.0, D.state e.1)) × Appends (text_said W.contents output.old) (text_said W.contents output.new) out) }
+    ensures refused { IfErr result (λ e. e.0 ≡ Ending.OutputRefused → is_output_refused output.new ≡ true) }
+    ensures read { IfErr result (λ e. e.0 ≢ Ending.InputRefused) }
 {
     let Some(found) = script::parse(line) else {
         return Err(end_badly(session, number, output));
     };
+    let mut session = session;
     match session.answer(alloc, found) {
-        Ok((session, reply)) => match write_reply(output, &reply) {
+        Some(reply) => match write_reply(output, &reply) {
             Ok(()) => Ok(session),
-            Err(_) => Err(refused_output(session)),
+            Err(_) => Err((Ending::OutputRefused, session.close())),
         },
-        Err((fault, disk)) => match write_reply(output, &Reply::Refused(Fault::Open(fault))) {
-            Ok(()) => Err((Ending::NotOpened, disk)),
-            Err(_) => Err((Ending::OutputRefused, disk)),
-        },
+        None => reopen(session, alloc, output),
     }
-}
-
-fn remove_feed(line: &mut Vec<u8>)
-    ensures { line.new.items ≡ strip_last 10 line.old.items }
-{
-    if line.last().copied() == Some(b'\n') {
-        line.pop();
-    }
-}
-
-/// Reads the next line, without its line feed, and says whether there was one.
-fn read_line<R: BufRead>(input: &mut R, line: &mut Vec<u8>) -> io::Result<bool>
-    ensures { IfOk result (λ some. told.Reads (R.remaining input.old) (R.remaining input.new) some line.new.items) }
-{
-    line.clear();
-    if input.read_until(b'\n', line)? == 0 {
-        return Ok(false);
-    }
-    remove_feed(line);
-    Ok(true)
 }
 
 /// Gives out what was written, where the input may wait for it.
-fn give_out<R: LineInput, W: Write>(input: &R, output: &mut W) -> io::Result<()>
-    ensures { Keeps (W.contents output.old) (W.contents output.new) }
+fn give_out<R: LineInput, W: Write>(
+    input: &Lines<R>,
+    output: &mut Answers<W>,
+) -> Result<(), Refused>
+    ensures kept { Keeps (text_said W.contents output.old) (text_said W.contents output.new) }
+    ensures refused { OnErr result (is_output_refused output.new ≡ true) }
 {
     if input.may_wait() {
-        output.flush()
+        output.give_out()
     } else {
         Ok(())
     }
 }
 
-/// Reads the next line as `read_line` does, once whoever may give it has the answers so far.
+/// Reads the next line as `Lines::next_line` does, once whoever may give it has the answers so far.
 fn next_line<R: LineInput, W: Write>(
-    input: &mut R,
-    output: &mut W,
-    line: &mut Vec<u8>,
+    input: &mut Lines<R>,
+    output: &mut Answers<W>,
 ) -> Result<bool, Ending>
-    ensures read { IfOk result (λ some. told.Reads (R.remaining input.old) (R.remaining input.new) some line.new.items) }
-    ensures refused { IfErr result (λ ending. ¬ told.IsTold ending) }
-    ensures kept { Keeps (W.contents output.old) (W.contents output.new) }
+    ensures read { IfOk result (λ some. Reads (text_left R.remaining input.old) (text_left R.remaining input.new) some (last_line input.new)) }
+    ensures count { IfOk result (λ some. lines_read input.new ≡ (if some then lines_read input.old + 1 else lines_read input.old)) }
+    ensures cut { IfErr result (λ ending. told.IsCut ending) }
+    ensures refused { IfErr result (λ ending. IsToldOf ending input.new output.new) }
+    ensures kept { Keeps (text_said W.contents output.old) (text_said W.contents output.new) }
 {
     match give_out(input, output) {
-        Ok(()) => match read_line(input, line) {
+        Ok(()) => match input.next_line() {
             Ok(some) => Ok(some),
             Err(_) => Err(Ending::InputRefused),
         },
@@ -111,30 +122,31 @@ fn next_line<R: LineInput, W: Write>(
     }
 }
 
-/// Runs the script that a reader gives, and gives the store's disk back. Where the reader may wait,
-/// the answers so far are given out first; the last ones may still be in the writer at the end.
+/// Runs the script of these lines, and gives the store's disk back. Where the input may wait, the
+/// answers so far are given out first; the last ones may still be in the writer at the end.
+///
+/// It ends before its last line only at a line of no form, at a `reopen` that the store refuses, and
+/// where the input or the output is refused, of which each says so.
 pub fn run<D: Disk, R: LineInput, W: Write>(
     session: Session<D>,
     alloc: Global,
-    input: &mut R,
-    output: &mut W,
+    input: &mut Lines<R>,
+    output: &mut Answers<W>,
 ) -> (Ending, D)
-    ensures { told.IsTold result.0 → IfSome (R.remaining input.old) (λ text. (out : Text)
-        × told.Run D.tells 1 session (told.lines_of text) out (result.0, D.state result.1)
-        × Appends (W.contents output.old) (W.contents output.new) out) }
+    ensures ran { (lines : List Text) × (out : Text) × AreLines (text_left R.remaining input.old) lines
+        × told.Run D.tells (lines_read input.old + 1) session lines out (result.0, D.state result.1) × Appends (text_said W.contents output.old) (text_said W.contents output.new) out }
+    ensures refused { IsToldOf result.0 input.new output.new }
 {
     let mut session = session;
-    let mut line = Vec::new(alloc);
-    for number in 1..u64::MAX {
-        match next_line(input, output, &mut line) {
+    loop {
+        match next_line(input, output) {
             Ok(true) => {}
             Ok(false) => return (Ending::Whole, session.close()),
             Err(ending) => return (ending, session.close()),
         }
-        match turn(session, alloc, number, line.as_slice(), output) {
+        match turn(session, alloc, input.count(), input.line(), output) {
             Ok(next) => session = next,
             Err(end) => return end,
         }
     }
-    (Ending::InputRefused, session.close())
 }

@@ -1,12 +1,10 @@
 //! What a line is answered with.
-ghost use Rattle.std.specs.Prelude.{◌≡◌, OnOk};
+ghost use Rattle.std.specs.Prelude.{Some, OnOk};
 ghost use Rattle.std.specs.Io.KnownBytes.{Appends};
 ghost use Rattle.session.specs.Texts as told;
 
 use crate::fault::Fault;
-use crate::text::{
-    write_job_step, write_records, write_refusal, write_rows, write_step, write_times, write_value,
-};
+use crate::text::{spell_times, spell_value, write_job_step, write_refusal, write_step};
 use chains::SharedValue;
 use group::Did;
 use history::Version;
@@ -46,31 +44,28 @@ pub enum Reply {
     Refused(Fault),
 }
 
-/// Writes an answer's line.
-///
-/// # Errors
-///
-/// Where the writer refuses; some of the line may have been written.
-pub fn write_reply<W: Write>(output: &mut W, reply: &Reply) -> io::Result<()>
-    ensures { OnOk result (Appends (W.contents output.old) (W.contents output.new) (told.text_of reply.now)) }
+/// Spells the line of an answer that has one. Rows and records have several: none of theirs is
+/// spelled.
+pub fn spell_line(text: &mut Vec<u8>, reply: &Reply) -> io::Result<()>
+    ensures { OnOk result (Appends (Some text.old.items) (Some text.new.items) (told.line_text reply.now)) }
 {
     match reply {
-        Reply::Snapshot(time) => writeln!(output, "snapshot {time}"),
-        Reply::Ok => writeln!(output, "ok"),
-        Reply::Found(None) => writeln!(output, "none"),
-        Reply::Found(Some(value)) => write_value(output, value),
-        Reply::Queued => writeln!(output, "queued"),
-        Reply::ReadOnly(time) => writeln!(output, "readonly {time}"),
-        Reply::Done(time) => writeln!(output, "done {time}"),
-        Reply::Waiting => writeln!(output, "waiting"),
-        Reply::InDoubt => writeln!(output, "in doubt"),
-        Reply::Did(step) => write_step(output, *step),
-        Reply::Started => writeln!(output, "started"),
-        Reply::JobDid(step) => write_job_step(output, *step),
-        Reply::Times(times) => write_times(output, times),
-        Reply::Rows(rows) => write_rows(output, rows),
-        Reply::Records(found) => write_records(output, found),
-        Reply::Opened(last, floor) => writeln!(output, "last {last} floor {floor}"),
-        Reply::Refused(fault) => write_refusal(output, *fault),
+        Reply::Snapshot(time) => writeln!(text, "snapshot {time}"),
+        Reply::Ok => writeln!(text, "ok"),
+        Reply::Found(None) => writeln!(text, "none"),
+        Reply::Found(Some(value)) => Ok(spell_value(text, value)?),
+        Reply::Queued => writeln!(text, "queued"),
+        Reply::ReadOnly(time) => writeln!(text, "readonly {time}"),
+        Reply::Done(time) => writeln!(text, "done {time}"),
+        Reply::Waiting => writeln!(text, "waiting"),
+        Reply::InDoubt => writeln!(text, "in doubt"),
+        Reply::Did(step) => write_step(text, *step),
+        Reply::Started => writeln!(text, "started"),
+        Reply::JobDid(step) => write_job_step(text, *step),
+        Reply::Times(times) => Ok(spell_times(text, times)?),
+        Reply::Rows(_) => Ok(()),
+        Reply::Records(_) => Ok(()),
+        Reply::Opened(last, floor) => writeln!(text, "last {last} floor {floor}"),
+        Reply::Refused(fault) => write_refusal(text, *fault),
     }
 }

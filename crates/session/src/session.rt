@@ -2,6 +2,7 @@
 ghost use Rattle.std.specs.Prelude.{◌≡◌, ◌↔◌, ◌<◌, ◌+◌, ◌≤◌, ◌||◌, ◌++◌, ◌∷◌, [], not, nat_lt, length, map, position, MatchOption, MatchResult, IfOk, IfErr, IfSome, IsTrue, Ok, Err, Some, slice_get, remove, vec_capacity};
 ghost use Rattle.snapshot.specs.Txn.{seen_by};
 ghost use Rattle.store.specs.Calls.{last, floor};
+ghost use Rattle.script.specs.declared.line.Line.TheVariants.{Reopen};
 ghost use Rattle.session.specs.declared.reply.Reply.TheVariants.{Opened};
 ghost use Rattle.session.specs.Session as told;
 
@@ -206,17 +207,6 @@ fn give_up_all(tickets: &mut Vec<TicketName>)
     while let Some(TicketName { name: _, ticket }) = tickets.pop() {
         ticket.give_up();
     }
-}
-
-/// The answer to a reopening.
-fn reopened<D: Disk>(
-    outcome: Result<Session<D>, (OpenFault, D)>,
-) -> Result<(Session<D>, Reply), (OpenFault, D)>
-    ensures { MatchResult outcome (λ s. result ≡ Ok (s, Opened (last s.store) (floor s.store))) (λ e. result ≡ Err e) }
-{
-    let session = outcome?;
-    let (last, floor) = session.ends();
-    Ok((session, Reply::Opened(last, floor)))
 }
 
 impl<D: Disk> Session<D> {
@@ -553,84 +543,29 @@ impl<D: Disk> Session<D> {
         finish(&mut self.store)
     }
 
-    /// Answers a line.
-    ///
-    /// # Errors
-    ///
-    /// Where the line is a `reopen` and the store does not open; the disk comes back.
-    pub fn answer(
-        mut self,
-        alloc: Global,
-        line: Line<'_>,
-    ) -> Result<(Session<D>, Reply), (OpenFault, D)>
-        ensures { MatchResult result (λ p. told.Step D.tells self line.entry p.1 p.0) (λ p. told.Refuses D.tells self line.entry p.0 (D.state p.1)) }
+    /// Answers a line. A `reopen` has no answer here, and nothing happens: see
+    /// [`Session::reopen`].
+    pub fn answer(&mut self, alloc: Global, line: Line<'_>) -> Option<Reply>
+        ensures { MatchOption result ((line.entry ≡ Reopen) × (self.new ≡ self.old)) (λ r. told.Step D.tells self.old line.entry r self.new) }
     {
         match line {
-            Line::Begin(name) => {
-                let reply = self.begin(name);
-                Ok((self, reply))
-            }
-            Line::Put(name, key, fields) => {
-                let reply = self.put(alloc, &name, key, fields);
-                Ok((self, reply))
-            }
-            Line::Delete(name, key) => {
-                let reply = self.delete(&name, key);
-                Ok((self, reply))
-            }
-            Line::Get(name, key) => {
-                let reply = self.get(&name, key);
-                Ok((self, reply))
-            }
-            Line::Submit(name, label, now) => {
-                let reply = self.submit(&name, label, now);
-                Ok((self, reply))
-            }
-            Line::Abort(name) => {
-                let reply = self.abort(&name);
-                Ok((self, reply))
-            }
-            Line::Redeem(name) => {
-                let reply = self.redeem(&name);
-                Ok((self, reply))
-            }
-            Line::Pump => {
-                let reply = self.pump();
-                Ok((self, reply))
-            }
-            Line::Flush => {
-                let reply = self.flush();
-                Ok((self, reply))
-            }
-            Line::At(key, time) => {
-                let reply = self.at(key, time);
-                Ok((self, reply))
-            }
-            Line::Between(key, a, b) => {
-                let reply = self.between(key, a, b);
-                Ok((self, reply))
-            }
-            Line::Scan(relation, time) => {
-                let reply = self.scan(relation, time);
-                Ok((self, reply))
-            }
-            Line::Times(label) => {
-                let reply = self.times(label);
-                Ok((self, reply))
-            }
-            Line::Archive(upto) => {
-                let reply = self.archive(upto);
-                Ok((self, reply))
-            }
-            Line::Job => {
-                let reply = self.job();
-                Ok((self, reply))
-            }
-            Line::Finish => {
-                let reply = self.finish();
-                Ok((self, reply))
-            }
-            Line::Reopen => reopened(self.reopen(alloc)),
+            Line::Begin(name) => Some(self.begin(name)),
+            Line::Put(name, key, fields) => Some(self.put(alloc, &name, key, fields)),
+            Line::Delete(name, key) => Some(self.delete(&name, key)),
+            Line::Get(name, key) => Some(self.get(&name, key)),
+            Line::Submit(name, label, now) => Some(self.submit(&name, label, now)),
+            Line::Abort(name) => Some(self.abort(&name)),
+            Line::Redeem(name) => Some(self.redeem(&name)),
+            Line::Pump => Some(self.pump()),
+            Line::Flush => Some(self.flush()),
+            Line::At(key, time) => Some(self.at(key, time)),
+            Line::Between(key, a, b) => Some(self.between(key, a, b)),
+            Line::Scan(relation, time) => Some(self.scan(relation, time)),
+            Line::Times(label) => Some(self.times(label)),
+            Line::Archive(upto) => Some(self.archive(upto)),
+            Line::Job => Some(self.job()),
+            Line::Finish => Some(self.finish()),
+            Line::Reopen => None,
         }
     }
 }

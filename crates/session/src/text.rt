@@ -1,7 +1,7 @@
 //! The texts of answers.
-ghost use Rattle.std.specs.Prelude.{◌≡◌, ◌≤◌, length, OnOk};
+ghost use Rattle.std.specs.Prelude.{◌≡◌, ◌≤◌, ◌++◌, codes, length, Some, OnOk};
 ghost use Rattle.std.specs.Io.KnownBytes.{Appends};
-ghost use Rattle.std.specs.List.{flat_map};
+ghost use Rattle.std.specs.Fmt.{decimal};
 ghost use Rattle.session.specs.Texts as told;
 
 use crate::fault::Fault;
@@ -10,8 +10,10 @@ use disk::Area;
 use group::{BeginFault, Did, PumpFault, SubmitFault};
 use hex::encode_to_slice;
 use history::Version;
+use itoa::Buffer;
 use recovery::{FormatFault, OpenFault};
 use snapshot::TxnFault;
+use std::alloc::AllocError;
 use std::io;
 use std::io::Write;
 use store::{JobDid, StartFault};
@@ -20,120 +22,126 @@ use timequery::QueryFault;
 /// A field has at most so many bytes.
 const MAX_FIELD: usize = 255;
 
-/// Writes the bytes of a field in hexadecimal, two digits a byte, by one call.
-fn write_hex<W: Write>(output: &mut W, bytes: &[u8]) -> io::Result<()>
+/// The digits of a field.
+type Digits = [u8; 2 * MAX_FIELD];
+
+/// Spells the bytes of a field in hexadecimal, two digits a byte.
+fn spell_hex(text: &mut Vec<u8>, bytes: &[u8], digits: &mut Digits) -> Result<(), AllocError>
     requires { length bytes.now ≤ 255 }
-    ensures { OnOk result (Appends (W.contents output.old) (W.contents output.new) (told.hex_text bytes.now)) }
+    ensures { OnOk result (Appends (Some text.old.items) (Some text.new.items) (told.hex_text bytes.now)) }
 {
-    let mut digits = [0; 2 * MAX_FIELD];
-    let text = &mut digits[..2 * bytes.len()];
-    match encode_to_slice(bytes, text) {
-        Ok(()) => output.write_all(text),
+    let spelled = &mut digits[..2 * bytes.len()];
+    match encode_to_slice(bytes, spelled) {
+        Ok(()) => text.extend_from_slice(spelled),
         Err(_) => unreachable!(),
     }
 }
 
-/// Writes a field: its bytes in hexadecimal, the empty field as `-`.
-fn write_field<W: Write>(output: &mut W, field: &[u8]) -> io::Result<()>
+/// Spells a field: its bytes in hexadecimal, the empty field as `-`.
+fn spell_field(text: &mut Vec<u8>, field: &[u8], digits: &mut Digits) -> Result<(), AllocError>
     requires { length field.now ≤ 255 }
-    ensures { OnOk result (Appends (W.contents output.old) (W.contents output.new) (told.field_text field.now)) }
+    ensures { OnOk result (Appends (Some text.old.items) (Some text.new.items) (told.field_text field.now)) }
 {
     if field.is_empty() {
-        return output.write_all(b"-");
+        return text.extend_from_slice(b"-");
     }
-    write_hex(output, field)
+    spell_hex(text, field, digits)
 }
 
-/// Writes a value's fields, each after a space.
-fn write_fields<W: Write>(output: &mut W, value: &SharedValue) -> io::Result<()>
-    ensures { OnOk result (Appends (W.contents output.old) (W.contents output.new) (told.fields_text value.now)) }
+/// Spells a value's fields, each after a space.
+fn spell_fields(text: &mut Vec<u8>, value: &SharedValue) -> Result<(), AllocError>
+    ensures { OnOk result (Appends (Some text.old.items) (Some text.new.items) (told.fields_text value.now)) }
 {
+    let mut digits = [0; 2 * MAX_FIELD];
     let mut left = value.value().iter();
     while let Some(field) = left.take_field() {
-        output.write_all(b" ")?;
-        write_field(output, field)?;
+        text.extend_from_slice(b" ")?;
+        spell_field(text, field, &mut digits)?;
     }
     Ok(())
 }
 
-/// Writes the line of a value.
-pub fn write_value<W: Write>(output: &mut W, value: &SharedValue) -> io::Result<()>
-    ensures { OnOk result (Appends (W.contents output.old) (W.contents output.new) (told.value_text value.now)) }
+/// Spells the line of a value.
+pub fn spell_value(text: &mut Vec<u8>, value: &SharedValue) -> Result<(), AllocError>
+    ensures { OnOk result (Appends (Some text.old.items) (Some text.new.items) (told.value_text value.now)) }
 {
-    write!(output, "value")?;
-    write_fields(output, value)?;
-    writeln!(output)
+    text.extend_from_slice(b"value")?;
+    spell_fields(text, value)?;
+    text.extend_from_slice(b"\n")
 }
 
-/// Writes numbers, each after a space.
-fn write_numbers<W: Write>(output: &mut W, numbers: &[u64]) -> io::Result<()>
-    ensures { OnOk result (Appends (W.contents output.old) (W.contents output.new) (told.numbers_text numbers.now)) }
+/// Spells a number in decimal.
+fn spell_number(text: &mut Vec<u8>, number: u64) -> Result<(), AllocError>
+    ensures { OnOk result (Appends (Some text.old.items) (Some text.new.items) (decimal number)) }
+{
+    text.extend_from_slice(Buffer::new().format(number).as_bytes())
+}
+
+/// Spells numbers, each after a space.
+fn spell_numbers(text: &mut Vec<u8>, numbers: &[u64]) -> Result<(), AllocError>
+    ensures { OnOk result (Appends (Some text.old.items) (Some text.new.items) (told.numbers_text numbers.now)) }
 {
     for number in numbers {
-        write!(output, " {number}")?;
+        text.extend_from_slice(b" ")?;
+        spell_number(text, *number)?;
     }
     Ok(())
 }
 
-/// Writes the line of times.
-pub fn write_times<W: Write>(output: &mut W, times: &[u64]) -> io::Result<()>
-    ensures { OnOk result (Appends (W.contents output.old) (W.contents output.new) (told.times_text times.now)) }
+/// Spells the line of times.
+pub fn spell_times(text: &mut Vec<u8>, times: &[u64]) -> Result<(), AllocError>
+    ensures { OnOk result (Appends (Some text.old.items) (Some text.new.items) (told.times_text times.now)) }
 {
-    write!(output, "times")?;
-    write_numbers(output, times)?;
-    writeln!(output)
+    text.extend_from_slice(b"times")?;
+    spell_numbers(text, times)?;
+    text.extend_from_slice(b"\n")
 }
 
-/// Writes a row's line: from when on and up to when the value stood, and its fields.
-fn write_row<W: Write>(output: &mut W, row: &Version<SharedValue>) -> io::Result<()>
-    ensures { OnOk result (Appends (W.contents output.old) (W.contents output.new) (told.row_text row.now)) }
+/// Spells a row's line: from when on and up to when the value stood, and its fields.
+pub fn spell_row(text: &mut Vec<u8>, row: &Version<SharedValue>) -> Result<(), AllocError>
+    ensures { OnOk result (Appends (Some text.old.items) (Some text.new.items) (told.row_text row.now)) }
 {
-    write!(output, "{} {}", row.from, row.to)?;
-    write_fields(output, &row.value)?;
-    writeln!(output)
+    spell_number(text, row.from)?;
+    text.extend_from_slice(b" ")?;
+    spell_number(text, row.to)?;
+    spell_fields(text, &row.value)?;
+    text.extend_from_slice(b"\n")
 }
 
-fn write_row_lines<W: Write>(output: &mut W, rows: &[Version<SharedValue>]) -> io::Result<()>
-    ensures { OnOk result (Appends (W.contents output.old) (W.contents output.new) (flat_map told.row_text rows.now)) }
+/// Spells the line of a record and its value.
+pub fn spell_record(text: &mut Vec<u8>, found: &(u64, SharedValue)) -> Result<(), AllocError>
+    ensures { OnOk result (Appends (Some text.old.items) (Some text.new.items) (told.record_text found.now)) }
 {
-    for row in rows {
-        write_row(output, row)?;
-    }
-    Ok(())
+    spell_number(text, found.0)?;
+    spell_fields(text, &found.1)?;
+    text.extend_from_slice(b"\n")
 }
 
-/// Writes the lines of rows, and how many there are.
-pub fn write_rows<W: Write>(output: &mut W, rows: &[Version<SharedValue>]) -> io::Result<()>
-    ensures { OnOk result (Appends (W.contents output.old) (W.contents output.new) (told.rows_text rows.now)) }
+/// Spells how many lines came before.
+pub fn spell_count(text: &mut Vec<u8>, count: usize) -> Result<(), AllocError>
+    ensures { OnOk result (Appends (Some text.old.items) (Some text.new.items) (told.rows_line count)) }
 {
-    write_row_lines(output, rows)?;
-    writeln!(output, "rows {}", rows.len())
+    text.extend_from_slice(b"rows ")?;
+    spell_number(text, count as u64)?;
+    text.extend_from_slice(b"\n")
 }
 
-/// Writes the line of a record and its value.
-fn write_record<W: Write>(output: &mut W, found: &(u64, SharedValue)) -> io::Result<()>
-    ensures { OnOk result (Appends (W.contents output.old) (W.contents output.new) (told.record_text found.now)) }
+/// Spells a line that ends with a number.
+pub fn spell_numbered(text: &mut Vec<u8>, words: &str, number: u64) -> Result<(), AllocError>
+    ensures { OnOk result (Appends (Some text.old.items) (Some text.new.items) (words.now ++ (decimal number ++ codes "\n"))) }
 {
-    write!(output, "{}", found.0)?;
-    write_fields(output, &found.1)?;
-    writeln!(output)
+    text.extend_from_slice(words.as_bytes())?;
+    spell_number(text, number)?;
+    text.extend_from_slice(b"\n")
 }
 
-fn write_record_lines<W: Write>(output: &mut W, found: &[(u64, SharedValue)]) -> io::Result<()>
-    ensures { OnOk result (Appends (W.contents output.old) (W.contents output.new) (flat_map told.record_text found.now)) }
+/// Spells the line that says that a line of a script has no form.
+pub fn spell_bad_line(text: &mut Vec<u8>, number: u64) -> Result<(), AllocError>
+    ensures { OnOk result (Appends (Some text.old.items) (Some text.new.items) (told.bad_line number)) }
 {
-    for pair in found {
-        write_record(output, pair)?;
-    }
-    Ok(())
-}
-
-/// Writes the lines of records, and how many there are.
-pub fn write_records<W: Write>(output: &mut W, found: &[(u64, SharedValue)]) -> io::Result<()>
-    ensures { OnOk result (Appends (W.contents output.old) (W.contents output.new) (told.records_text found.now)) }
-{
-    write_record_lines(output, found)?;
-    writeln!(output, "rows {}", found.len())
+    text.extend_from_slice(b"line ")?;
+    spell_number(text, number)?;
+    text.extend_from_slice(b": bad\n")
 }
 
 /// Writes the line of a step.

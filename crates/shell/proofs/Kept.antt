@@ -1,84 +1,154 @@
--- What was said stays said when it is given out.
-use Rattle.std.proofs.Common.{ℕ, Bool, Option, Some, None}
-use Rattle.std.specs.Prelude.{IfSome, MatchOption}
+-- What was said stays said when it is given out; where that is refused, the status is 1.
+use Rattle.std.proofs.Common.{◌≡◌, ◌≢◌, ◌∙◌, ◌⊎◌, inl, inr, ℕ, ◌++◌, Bool, true, false, [], Option, Some, None, refl, sym, subst, append-nil}
+use Rattle.std.specs.Prelude.{MatchOption, MatchBool}
 use Rattle.std.specs.Io.KnownBytes.{Appends, Keeps}
 use Rattle.std.proofs.KnownBytes.{Appends-kept}
 use Rattle.disk.specs.Calls.{DiskState}
 use Rattle.script.specs.declared.line.Line.{Line}
 use Rattle.script.specs.declared.line.Line.TheVariants as line
 use Rattle.script.specs.Lines.{time_in}
-use Rattle.session.specs.Run.{Run, lines_of}
-use Rattle.session.specs.Session.{fresh}
-use Rattle.session.specs.Texts.{Text}
-use Rattle.session.specs.declared.ending.Ending.TheVariants.{Whole}
+use Rattle.session.specs.Streams.{AppendsFront}
+use Rattle.session.specs.Texts.{Text, text_of}
+use Rattle.session.specs.declared.ending.Ending.{Ending}
+use Rattle.session.specs.declared.ending.Ending.TheVariants.{OutputRefused, Whole}
+use Rattle.session.specs.declared.reply.Reply.{Reply}
 use Rattle.words.specs.declared.action.Action.{Action}
 use Rattle.words.specs.declared.action.Action.TheVariants as action
-use Rattle.shell.specs.Acts.{Acts, Asks, Dumps, Makes, Output, Runs, RunsOnNew}
+use Rattle.shell.specs.Acts.{Acts, Asks, Dumps, DoesNotOpen, GivesOut, HasNoMemory, HasStatusOf, Input, IsRefused, IsSaid, IsTold, Makes, Output, RefusesTime, RefusesToMake, Runs, RunsNew, RunsScript, SaysAll, SaysFront, is_refusal}
 
-abbrev output : Option Text → Option Text → Output
-output before after = record { before = before; after = after }
+all-kept : (o v : Output) (text : Text) → GivesOut o v → SaysAll o text → SaysAll v text
+all-kept o v text gives says = subst (λ (b : Option Text). Appends b v.after text) (sym gives.0) (Appends-kept o.before o.after v.after text says gives.1)
 
-run_kept : (input b m n : Option Text) (P : Text → Text → Type 0) → Keeps m n → IfSome input (λ text. (out : Text) × P text out × Appends b m out)
-    → IfSome input (λ text. (out : Text) × P text out × Appends b n out)
-run_kept None b m n P kept run = tt
-run_kept (Some text) b m n P kept run = (run.0, run.1, Appends-kept b m n run.0 run.2 kept)
+parts-kept : (o v : Output) (text : Text) → GivesOut o v → AppendsFront o.before o.after text → AppendsFront v.before v.after text
+parts-kept o v text gives front = (front.0, front.1, all-kept o v front.0 gives front.2)
 
-runs_kept : (tells : Bool) (old : DiskState) (input b m n : Option Text) (new : DiskState) → Keeps m n → Runs tells old input (output b m) new
-    → Runs tells old input (output b n) new
-runs_kept tells old input b m n new kept runs = record {
+-- the whole is a front
+whole-front : (v : Output) (text : Text) → SaysAll v text → AppendsFront v.before v.after text
+whole-front v text says = (text, ([], sym (append-nil text)), says)
+
+-- what was refused before stays refused
+still : (o v : Output) → GivesOut o v → o.refused ≡ true → v.refused ≡ true
+still o v gives was = by (gives.2)
+  where
+    by : (((v.status ≡ o.status) × (v.refused ≡ o.refused)) ⊎ ((v.status ≡ 1) × (v.refused ≡ true))) → v.refused ≡ true
+    by (inl same) = same.1 ∙ was
+    by (inr now) = now.1
+
+-- a status of 1 stays
+still-one : (o v : Output) → GivesOut o v → o.status ≡ 1 → v.status ≡ 1
+still-one o v gives one = by (gives.2)
+  where
+    by : (((v.status ≡ o.status) × (v.refused ≡ o.refused)) ⊎ ((v.status ≡ 1) × (v.refused ≡ true))) → v.status ≡ 1
+    by (inl same) = same.0 ∙ one
+    by (inr now) = now.0
+
+front-kept : (o v : Output) (text : Text) → GivesOut o v → SaysFront o text → SaysFront v text
+front-kept o v text gives says = (still o v gives says.0, parts-kept o v text gives says.1)
+
+said-kept : (o v : Output) (text : Text) → GivesOut o v → IsSaid o text → IsSaid v text
+said-kept o v text gives (inl done) = by (gives.2)
+  where
+    by : (((v.status ≡ o.status) × (v.refused ≡ o.refused)) ⊎ ((v.status ≡ 1) × (v.refused ≡ true))) → IsSaid v text
+    by (inl same) = inl (same.0 ∙ done.0, all-kept o v text gives done.1)
+    by (inr now) = inr (now.0, (now.1, whole-front v text (all-kept o v text gives done.1)))
+said-kept o v text gives (inr cut) = inr (still-one o v gives cut.0, front-kept o v text gives cut.1)
+
+pub refused-kept : (o v : Output) (text : Text) → GivesOut o v → IsRefused o text → IsRefused v text
+refused-kept o v text gives refused = (still-one o v gives refused.0, by (refused.1))
+  where
+    by : (SaysAll o text ⊎ SaysFront o text) → (SaysAll v text ⊎ SaysFront v text)
+    by (inl all) = inl (all-kept o v text gives all)
+    by (inr front) = inr (front-kept o v text gives front)
+
+told-kept : (o v : Output) (r : Reply) → GivesOut o v → IsTold o r → IsTold v r
+told-kept o v r gives told = by (is_refusal r) told
+  where
+    by : (b : Bool) → MatchBool b (IsRefused o (text_of r)) (IsSaid o (text_of r)) → MatchBool b (IsRefused v (text_of r)) (IsSaid v (text_of r))
+    by true refused = refused-kept o v (text_of r) gives refused
+    by false said = said-kept o v (text_of r) gives said
+
+status-kept : (end : Ending) (o v : Output) → GivesOut o v → HasStatusOf end o → HasStatusOf end v
+status-kept end o v gives (inl done) = by (gives.2)
+  where
+    by : (((v.status ≡ o.status) × (v.refused ≡ o.refused)) ⊎ ((v.status ≡ 1) × (v.refused ≡ true))) → HasStatusOf end v
+    by (inl same) = inl (same.0 ∙ done.0, done.1)
+    by (inr now) = inr (now.0, inr now.1)
+status-kept end o v gives (inr failed) = inr (still-one o v gives failed.0, by (failed.1))
+  where
+    by : ((end ≢ Whole) ⊎ (o.refused ≡ true)) → ((end ≢ Whole) ⊎ (v.refused ≡ true))
+    by (inl other) = inl other
+    by (inr was) = inr (still o v gives was)
+
+not_opened-kept : (tells : Bool) (old new : DiskState) (o v : Output) → GivesOut o v → DoesNotOpen tells old o new → DoesNotOpen tells old v new
+not_opened-kept tells old new o v gives refused = (refused.0, refused.1, refused-kept o v _ gives refused.2)
+
+no_memory-kept : (tells : Bool) (old new : DiskState) (o v : Output) → GivesOut o v → HasNoMemory tells old o new → HasNoMemory tells old v new
+no_memory-kept tells old new o v gives lacks = (lacks.0, lacks.1, lacks.2, refused-kept o v _ gives lacks.3)
+
+runs-kept : (tells : Bool) (old new : DiskState) (input : Input) (o v : Output) → GivesOut o v → RunsScript tells old input o new → RunsScript tells old input v new
+runs-kept tells old new input o v gives (inl refused) = inl (not_opened-kept tells old new o v gives refused)
+runs-kept tells old new input o v gives (inr (inl lacks)) = inr (inl (no_memory-kept tells old new o v gives lacks))
+runs-kept tells old new input o v gives (inr (inr runs)) = inr (inr (record {
   opened = runs.opened;
   opens = runs.opens;
-  run = run_kept input b m n (λ text out. Run tells 1 (fresh runs.opened) (lines_of text) out (Whole, new)) kept runs.run;
-}
+  lines = runs.lines;
+  are = runs.are;
+  out = runs.out;
+  end = runs.end;
+  run = runs.run;
+  said = all-kept o v runs.out gives runs.said;
+  ends = (runs.ends.0, λ (is : runs.end ≡ OutputRefused). still o v gives (runs.ends.1 is));
+  status = status-kept runs.end o v gives runs.status;
+}))
 
-asks_kept : (tells : Bool) (old : DiskState) (line : Line) (b m n : Option Text) (new : DiskState) → Keeps m n → Asks tells old line (output b m) new
-    → Asks tells old line (output b n) new
-asks_kept tells old line b m n new kept asks = record {
-  opened = asks.opened;
-  opens = asks.opens;
-  answer = asks.answer;
-  asked = asks.asked;
-  step = asks.step;
-  answered = asks.answered;
-  said = Appends-kept b m n _ asks.said kept;
-  closes = asks.closes;
-}
+unmade-kept : (tells : Bool) (old new : DiskState) (slots : ℕ) (o v : Output) → GivesOut o v → RefusesToMake tells old slots o new → RefusesToMake tells old slots v new
+unmade-kept tells old new slots o v gives refused = (refused.0, refused.1, refused-kept o v _ gives refused.2)
 
-at_kept : (tells : Bool) (old : DiskState) (time : Option ℕ) (line : ℕ → Line) (b m n : Option Text) (new : DiskState) → Keeps m n
-    → MatchOption time ⊥ (λ t. Asks tells old (line t) (output b m) new) → MatchOption time ⊥ (λ t. Asks tells old (line t) (output b n) new)
-at_kept tells old None line b m n new kept asks = asks
-at_kept tells old (Some t) line b m n new kept asks = asks_kept tells old (line t) b m n new kept asks
+makes-kept : (tells : Bool) (old new : DiskState) (slots : ℕ) (o v : Output) → GivesOut o v → Makes tells old slots o new → Makes tells old slots v new
+makes-kept tells old new slots o v gives (inl made) = inl (record { count = made.count; formatted = made.formatted; said = said-kept o v _ gives made.said })
+makes-kept tells old new slots o v gives (inr refused) = inr (unmade-kept tells old new slots o v gives refused)
 
-between_kept : (tells : Bool) (old : DiskState) (from to : Option ℕ) (line : ℕ → ℕ → Line) (b m n : Option Text) (new : DiskState) → Keeps m n
-    → MatchOption from ⊥ (λ s. MatchOption to ⊥ (λ t. Asks tells old (line s t) (output b m) new))
-    → MatchOption from ⊥ (λ s. MatchOption to ⊥ (λ t. Asks tells old (line s t) (output b n) new))
-between_kept tells old None to line b m n new kept asks = asks
-between_kept tells old (Some s) to line b m n new kept asks = at_kept tells old to (line s) b m n new kept asks
+runs_new-kept : (tells : Bool) (old new : DiskState) (input : Input) (o v : Output) → GivesOut o v → RunsNew tells old input o new → RunsNew tells old input v new
+runs_new-kept tells old new input o v gives (inl refused) = inl (unmade-kept tells old new 16 o v gives refused)
+runs_new-kept tells old new input o v gives (inr runs) = inr (record { made = runs.made; formatted = runs.formatted; sound = runs.sound; runs = runs-kept tells runs.made new input o v gives runs.runs })
 
-pub acts_kept : (tells : Bool) (a : Action) (old : DiskState) (input b m n : Option Text) (new : DiskState) → Keeps m n
-    → Acts tells a old input (output b m) new → Acts tells a old input (output b n) new
-acts_kept tells action.Example old input b m n new kept acts = record {
-  made = acts.made;
-  formatted = acts.formatted;
-  sound = acts.sound;
-  runs = runs_kept tells acts.made input b m n new kept acts.runs;
-}
-acts_kept tells (action.Format dir slots) old input b m n new kept acts = record {
-  count = acts.count;
-  formatted = acts.formatted;
-  said = Appends-kept b m n _ acts.said kept;
-}
-acts_kept tells (action.Run dir) old input b m n new kept acts = runs_kept tells old input b m n new kept acts
-acts_kept tells (action.At dir key time) old input b m n new kept acts = at_kept tells old (time_in time.now) (λ t. line.At key t) b m n new kept acts
-acts_kept tells (action.Between dir key from to) old input b m n new kept acts =
-    between_kept tells old (time_in from.now) (time_in to.now) (λ s t. line.Between key s t) b m n new kept acts
-acts_kept tells (action.Dump dir) old input b m n new kept acts = record {
-  header = acts.header;
-  slots = acts.slots;
-  reads = acts.reads;
-  log = acts.log;
-  text = acts.text;
-  dump = acts.dump;
-  said = Appends-kept b m n _ acts.said kept;
-  same = acts.same;
-}
+asks-kept : (tells : Bool) (old new : DiskState) (asks : Line) (o v : Output) → GivesOut o v → Asks tells old asks o new → Asks tells old asks v new
+asks-kept tells old new asks o v gives (inl refused) = inl (not_opened-kept tells old new o v gives refused)
+asks-kept tells old new asks o v gives (inr (inl lacks)) = inr (inl (no_memory-kept tells old new o v gives lacks))
+asks-kept tells old new asks o v gives (inr (inr asked)) = inr (inr (record {
+  opened = asked.opened;
+  opens = asked.opens;
+  answer = asked.answer;
+  asked = asked.asked;
+  step = asked.step;
+  told = told-kept o v asked.answer gives asked.told;
+  closes = asked.closes;
+}))
+
+time-kept : (old new : DiskState) (o v : Output) → GivesOut o v → RefusesTime old o new → RefusesTime old v new
+time-kept old new o v gives refused = (refused.0, refused-kept o v _ gives refused.1)
+
+at-kept : (tells : Bool) (old new : DiskState) (time : Option ℕ) (line : ℕ → Line) (o v : Output) → GivesOut o v
+    → MatchOption time (RefusesTime old o new) (λ t. Asks tells old (line t) o new) → MatchOption time (RefusesTime old v new) (λ t. Asks tells old (line t) v new)
+at-kept tells old new None line o v gives refused = time-kept old new o v gives refused
+at-kept tells old new (Some t) line o v gives asks = asks-kept tells old new (line t) o v gives asks
+
+between-kept : (tells : Bool) (old new : DiskState) (from to : Option ℕ) (line : ℕ → ℕ → Line) (o v : Output) → GivesOut o v
+    → MatchOption from (RefusesTime old o new) (λ s. MatchOption to (RefusesTime old o new) (λ t. Asks tells old (line s t) o new))
+    → MatchOption from (RefusesTime old v new) (λ s. MatchOption to (RefusesTime old v new) (λ t. Asks tells old (line s t) v new))
+between-kept tells old new None to line o v gives refused = time-kept old new o v gives refused
+between-kept tells old new (Some s) to line o v gives asks = at-kept tells old new to (line s) o v gives asks
+
+dumps-kept : (tells : Bool) (old new : DiskState) (o v : Output) → GivesOut o v → Dumps tells old o new → Dumps tells old v new
+dumps-kept tells old new o v gives (inl (inl lacks)) = inl (inl (record { why = lacks.why; fault = lacks.fault; only = lacks.only; same = lacks.same; said = refused-kept o v _ gives lacks.said }))
+dumps-kept tells old new o v gives (inl (inr lacks)) = inl (inr (record { header = lacks.header; reads = lacks.reads; why = lacks.why; fault = lacks.fault; same = lacks.same; said = refused-kept o v _ gives lacks.said }))
+dumps-kept tells old new o v gives (inr (inl done)) = inr (inl (record { header = done.header; slots = done.slots; reads = done.reads; log = done.log; text = done.text; dump = done.dump; said = said-kept o v done.text gives done.said; same = done.same }))
+dumps-kept tells old new o v gives (inr (inr lacks)) = inr (inr (lacks.0, refused-kept o v _ gives lacks.1))
+
+pub acts-kept : (tells : Bool) (a : Action) (old new : DiskState) (input : Input) (o v : Output) → GivesOut o v → Acts tells a old input o new → Acts tells a old input v new
+acts-kept tells action.Example old new input o v gives acts = runs_new-kept tells old new input o v gives acts
+acts-kept tells (action.Format dir slots) old new input o v gives acts = makes-kept tells old new slots o v gives acts
+acts-kept tells (action.Run dir) old new input o v gives acts = runs-kept tells old new input o v gives acts
+acts-kept tells (action.At dir key time) old new input o v gives acts = at-kept tells old new (time_in time.now) (λ t. line.At key t) o v gives acts
+acts-kept tells (action.Between dir key from to) old new input o v gives acts = between-kept tells old new (time_in from.now) (time_in to.now) (λ s t. line.Between key s t) o v gives acts
+acts-kept tells (action.Dump dir) old new input o v gives acts = dumps-kept tells old new o v gives acts

@@ -1,4 +1,4 @@
-pub mod Done
 pub mod DumpLemmas
 pub mod Kept
 pub mod Keeping
+pub mod Said

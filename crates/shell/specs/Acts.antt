@@ -1,75 +1,164 @@
--- What an action does to the disk and writes, where the program's status is 0.
-use Rattle.std.specs.Prelude.{◌≡◌, ℕ, ◌++◌, Bool, IsTrue, IfSome, List, Option, codes, MatchOption}
+-- What an action does to the disk and writes.
+use Rattle.std.specs.Prelude.{◌≡◌, ◌≢◌, ◌⊎◌, ◌+◌, ℕ, ◌++◌, Bool, true, false, IsTrue, List, Option, Err, codes, MatchBool, MatchOption}
 use Rattle.std.specs.Fmt.{decimal}
-use Rattle.std.specs.Io.KnownBytes.{Appends}
+use Rattle.std.specs.Io.KnownBytes.{Appends, Keeps}
 use Rattle.disk.specs.Areas.{AreSound}
 use Rattle.disk.specs.Calls.{DiskState}
 use Rattle.disk.specs.declared.area.Area.TheVariants as area
-use Rattle.recovery.specs.Format.{IsSlotCount, IsFormatted}
+use Rattle.recovery.specs.Format.{IsSlotCount, IsFormatted, FormatRefuses}
+use Rattle.recovery.specs.declared.fault.FormatFault.{FormatFault}
 use Rattle.recovery.specs.declared.fault.OpenFault.{OpenFault}
 use Rattle.recovery.specs.declared.fault.OpenFault.TheVariants as opening
-use Rattle.status.specs.Reading.{HoldsLog, ReadsHeader}
+use Rattle.status.specs.Reading.{AnswersHeader, HoldsLog, IsHeaderFault, IsLogFault, ReadsHeader, refused_by}
 use Rattle.status.specs.declared.fault.LogFault.{LogFault}
 use Rattle.status.specs.declared.fault.LogFault.TheVariants as log
 use Rattle.status.specs.declared.header.Header.{Header}
 use Rattle.wire.specs.declared.slot.Slot.{Slot}
 use Rattle.store.specs.Values.{StoreValue}
-use Rattle.store.specs.Opens.{Opens}
+use Rattle.store.specs.Opens.{Opens, OpenRefuses}
 use Rattle.script.specs.Lines.{time_in}
 use Rattle.script.specs.declared.line.Line.{Line}
 use Rattle.script.specs.declared.line.Line.TheVariants as line
+use Rattle.session.specs.Lines.{AreLines}
+use Rattle.session.specs.Run.{Run}
 use Rattle.session.specs.Session.{State, fresh, Step, Closes}
-use Rattle.session.specs.Texts.{Text, text_of}
-use Rattle.session.specs.Run.{Run, lines_of}
-use Rattle.session.specs.declared.ending.Ending.TheVariants.{Whole}
+use Rattle.session.specs.Streams.{AppendsFront, is_input_refused, is_output_refused, lines_read, text_left, text_said}
+use Rattle.session.specs.Texts.{Text, open_line, refusal_line, text_of}
+use Rattle.session.specs.declared.ending.Ending.{Ending}
+use Rattle.session.specs.declared.ending.Ending.TheVariants.{InputRefused, OutputRefused, Whole}
+use Rattle.session.specs.declared.fault.Fault.TheVariants as fault
+use Rattle.session.specs.declared.input.Lines.{Lines}
+use Rattle.session.specs.declared.output.Answers.{Answers}
 use Rattle.session.specs.declared.reply.Reply.{Reply}
 use Rattle.session.specs.declared.reply.Reply.TheVariants as reply
 use Rattle.shell.specs.Dump.{IsDump}
 use Rattle.words.specs.declared.action.Action.{Action}
 use Rattle.words.specs.declared.action.Action.TheVariants as action
 
--- what is known of a writer's bytes, before and after
+-- what is known of a script's input: its text, how many lines were read before, and whether it was refused since
+pub record Input : Type 0 where
+  pub text : Option Text
+  pub read : ℕ
+  pub refused : Bool
+
+abbrev pub given : {R : Type 0} → (R → Option Text) → Lines R → Lines R → Input
+given remaining old new = record { text = text_left remaining old; read = lines_read old; refused = is_input_refused new }
+
+-- the program's status, what is known of a writer's bytes before and after, and whether the output was refused
 pub record Output : Type 0 where
+  pub status : ℕ
   pub before : Option Text
   pub after : Option Text
+  pub refused : Bool
 
-abbrev pub Says : Output → Text → Type 0
-Says output text = Appends output.before output.after text
+abbrev pub told : {W : Type 0} → (W → Option Text) → ℕ → Answers W → Answers W → Output
+told contents status old new = record { status = status; before = text_said contents old; after = text_said contents new; refused = is_output_refused new }
+
+abbrev pub SaysAll : Output → Text → Type 0
+SaysAll o text = Appends o.before o.after text
+
+-- a front of the text was written, and the output is refused
+abbrev pub SaysFront : Output → Text → Type 0
+SaysFront o text = (o.refused ≡ true) × AppendsFront o.before o.after text
+
+-- what was done is said, with status 0; where the output is refused, with status 1
+abbrev pub IsSaid : Output → Text → Type 0
+IsSaid o text = ((o.status ≡ 0) × SaysAll o text) ⊎ ((o.status ≡ 1) × SaysFront o text)
+
+-- what was refused is said, with status 1
+abbrev pub IsRefused : Output → Text → Type 0
+IsRefused o text = (o.status ≡ 1) × (SaysAll o text ⊎ SaysFront o text)
+
+-- the output is given out, or it is refused
+abbrev pub GivesOut : Output → Output → Type 0
+GivesOut old new = (new.before ≡ old.before) × Keeps old.after new.after × (((new.status ≡ old.status) × (new.refused ≡ old.refused)) ⊎ ((new.status ≡ 1) × (new.refused ≡ true)))
+
+-- ---- format
 
 -- an empty store is made, and its slots are said
-pub record Makes (tells : Bool) (old : DiskState) (slots : ℕ) (output : Output) (new : DiskState) : Type 0 where
+pub record MakesStore (tells : Bool) (old : DiskState) (slots : ℕ) (output : Output) (new : DiskState) : Type 0 where
   pub count : IsSlotCount slots
   pub formatted : IsTrue tells → IsFormatted slots old.areas new.areas
-  pub said : Says output (codes "formatted " ++ (decimal slots ++ codes "\n"))
+  pub said : IsSaid output (codes "formatted " ++ (decimal slots ++ codes "\n"))
 
--- the store opens, and the script runs on it to the end of the input
-pub record Runs (tells : Bool) (old : DiskState) (input : Option Text) (output : Output) (new : DiskState) : Type 0 where
+abbrev pub RefusesToMake : Bool → DiskState → ℕ → Output → DiskState → Type 0
+RefusesToMake tells old slots output new = (f : FormatFault) × FormatRefuses tells slots old f new × IsRefused output (refusal_line (fault.Format f))
+
+abbrev pub Makes : Bool → DiskState → ℕ → Output → DiskState → Type 0
+Makes tells old slots output new = MakesStore tells old slots output new ⊎ RefusesToMake tells old slots output new
+
+-- ---- scripts
+
+-- the store does not open, or there is no memory for its session
+abbrev pub DoesNotOpen : Bool → DiskState → Output → DiskState → Type 0
+DoesNotOpen tells old output new = (f : OpenFault) × OpenRefuses tells old f new × IsRefused output (open_line f)
+
+abbrev pub HasNoMemory : Bool → DiskState → Output → DiskState → Type 0
+HasNoMemory tells old output new = (store : StoreValue) × Opens tells old 1 store × (new ≡ store.disk) × IsRefused output (refusal_line fault.NoMemory)
+
+-- status 0 where the script ran to its end and all was given out, and only there
+abbrev pub HasStatusOf : Ending → Output → Type 0
+HasStatusOf end output = ((output.status ≡ 0) × (end ≡ Whole)) ⊎ ((output.status ≡ 1) × ((end ≢ Whole) ⊎ (output.refused ≡ true)))
+
+-- it ended for the input or the output only where that was refused
+abbrev pub IsEndOf : Ending → Input → Output → Type 0
+IsEndOf end input output = (end ≡ InputRefused → input.refused ≡ true) × (end ≡ OutputRefused → output.refused ≡ true)
+
+-- the store opens, and the lines of the input run on it, all or a front of them
+pub record Runs (tells : Bool) (old : DiskState) (input : Input) (output : Output) (new : DiskState) : Type 0 where
   pub opened : StoreValue
   pub opens : Opens tells old 1 opened
-  pub run : IfSome input (λ text. (out : Text) × Run tells 1 (fresh opened) (lines_of text) out (Whole, new) × Says output out)
+  pub lines : List Text
+  pub are : AreLines input.text lines
+  pub out : Text
+  pub end : Ending
+  pub run : Run tells (input.read + 1) (fresh opened) lines out (end, new)
+  pub said : SaysAll output out
+  pub ends : IsEndOf end input output
+  pub status : HasStatusOf end output
+
+abbrev pub RunsScript : Bool → DiskState → Input → Output → DiskState → Type 0
+RunsScript tells old input output new = DoesNotOpen tells old output new ⊎ (HasNoMemory tells old output new ⊎ Runs tells old input output new)
 
 -- an empty store of 16 slots is made, and the script runs on it
-pub record RunsOnNew (tells : Bool) (old : DiskState) (input : Option Text) (output : Output) (new : DiskState) : Type 0 where
+pub record RunsOnNew (tells : Bool) (old : DiskState) (input : Input) (output : Output) (new : DiskState) : Type 0 where
   pub made : DiskState
   pub formatted : IsTrue tells → IsFormatted 16 old.areas made.areas
   -- a disk that tells its bytes is sound
   pub sound : IsTrue tells → AreSound made.areas
-  pub runs : Runs tells made input output new
+  pub runs : RunsScript tells made input output new
 
-abbrev pub IsAnswered : Reply → Type 0
-IsAnswered (reply.Refused fault) = ⊥
-IsAnswered _ = Unit {0}
+abbrev pub RunsNew : Bool → DiskState → Input → Output → DiskState → Type 0
+RunsNew tells old input output new = RefusesToMake tells old 16 output new ⊎ RunsOnNew tells old input output new
+
+-- ---- one question
+
+abbrev pub is_refusal : Reply → Bool
+is_refusal (reply.Refused f) = true
+is_refusal _ = false
+
+-- a reply is said
+abbrev pub IsTold : Output → Reply → Type 0
+IsTold o r = MatchBool (is_refusal r) (IsRefused o (text_of r)) (IsSaid o (text_of r))
 
 -- the store opens, and answers one line of a script
-pub record Asks (tells : Bool) (old : DiskState) (asks : Line) (output : Output) (new : DiskState) : Type 0 where
+pub record AsksStore (tells : Bool) (old : DiskState) (asks : Line) (output : Output) (new : DiskState) : Type 0 where
   pub opened : StoreValue
   pub opens : Opens tells old 1 opened
   pub answer : Reply
   pub asked : State
   pub step : Step tells (fresh opened) asks answer asked
-  pub answered : IsAnswered answer
-  pub said : Says output (text_of answer)
+  pub told : IsTold output answer
   pub closes : Closes asked new
+
+abbrev pub Asks : Bool → DiskState → Line → Output → DiskState → Type 0
+Asks tells old asks output new = DoesNotOpen tells old output new ⊎ (HasNoMemory tells old output new ⊎ AsksStore tells old asks output new)
+
+-- a time that is none is refused, and the disk is as it was
+abbrev pub RefusesTime : DiskState → Output → DiskState → Type 0
+RefusesTime old output new = (new ≡ old) × IsRefused output (refusal_line fault.Time)
+
+-- ---- dump
 
 -- what a fault of the log is called where a store is opened
 abbrev pub open_fault_of : LogFault → OpenFault
@@ -78,21 +167,49 @@ open_fault_of (log.Damaged slot) = opening.Damaged area.Status slot
 open_fault_of log.Device = opening.Device
 open_fault_of log.NoMemory = opening.NoMemory
 
+-- no header stands there
+pub record HasNoHeader (tells : Bool) (old : DiskState) (output : Output) (new : DiskState) : Type 0 where
+  pub why : LogFault
+  pub fault : IsHeaderFault why
+  pub only : IsTrue tells → (header : Header) → ReadsHeader old.areas.status.bytes header → AnswersHeader header (Err why)
+  pub same : new ≡ refused_by why old
+  pub said : IsRefused output (open_line (open_fault_of why))
+
+-- no log follows the header
+pub record HasNoLog (tells : Bool) (old : DiskState) (output : Output) (new : DiskState) : Type 0 where
+  pub header : Header
+  pub reads : IsTrue tells → ReadsHeader old.areas.status.bytes header
+  pub why : LogFault
+  pub fault : IsTrue tells → IsLogFault header old.areas.status.bytes why
+  pub same : new ≡ refused_by why old
+  pub said : IsRefused output (open_line (open_fault_of why))
+
 -- the log that stands on the disk is said, and the disk is as it was
-pub record Dumps (tells : Bool) (old : DiskState) (output : Output) (new : DiskState) : Type 0 where
+pub record DumpsLog (tells : Bool) (old : DiskState) (output : Output) (new : DiskState) : Type 0 where
   pub header : Header
   pub slots : List Slot
   pub reads : IsTrue tells → ReadsHeader old.areas.status.bytes header
   pub log : IsTrue tells → HoldsLog header old.areas.status.bytes slots
   pub text : Text
   pub dump : IsDump header slots text
-  pub said : Says output text
+  pub said : IsSaid output text
   pub same : new ≡ old
 
-abbrev pub Acts : Bool → Action → DiskState → Option Text → Output → DiskState → Type 0
-Acts tells action.Example old input output new = RunsOnNew tells old input output new
+-- there is no memory for its text
+abbrev pub LacksText : DiskState → Output → DiskState → Type 0
+LacksText old output new = (new ≡ old) × IsRefused output (refusal_line fault.NoMemory)
+
+abbrev pub Dumps : Bool → DiskState → Output → DiskState → Type 0
+Dumps tells old output new = (HasNoHeader tells old output new ⊎ HasNoLog tells old output new) ⊎ (DumpsLog tells old output new ⊎ LacksText old output new)
+
+-- ---- actions
+
+-- With status 0 it is done and said in full. With status 1 the store, the input or the output was refused, which is said as far as the output took it, and the disk is as this says.
+abbrev pub Acts : Bool → Action → DiskState → Input → Output → DiskState → Type 0
+Acts tells action.Example old input output new = RunsNew tells old input output new
 Acts tells (action.Format dir slots) old input output new = Makes tells old slots output new
-Acts tells (action.Run dir) old input output new = Runs tells old input output new
-Acts tells (action.At dir key time) old input output new = MatchOption (time_in time.now) ⊥ (λ t. Asks tells old (line.At key t) output new)
-Acts tells (action.Between dir key from to) old input output new = MatchOption (time_in from.now) ⊥ (λ a. MatchOption (time_in to.now) ⊥ (λ b. Asks tells old (line.Between key a b) output new))
+Acts tells (action.Run dir) old input output new = RunsScript tells old input output new
+Acts tells (action.At dir key time) old input output new = MatchOption (time_in time.now) (RefusesTime old output new) (λ t. Asks tells old (line.At key t) output new)
+Acts tells (action.Between dir key from to) old input output new =
+    MatchOption (time_in from.now) (RefusesTime old output new) (λ a. MatchOption (time_in to.now) (RefusesTime old output new) (λ b. Asks tells old (line.Between key a b) output new))
 Acts tells (action.Dump dir) old input output new = Dumps tells old output new

@@ -1,18 +1,30 @@
 //! What an action does.
-ghost use Rattle.std.specs.Prelude.{◌≡◌, ◌≤◌, OnOk, IsOk, IsTrue};
-ghost use Rattle.std.specs.Io.KnownBytes.{Keeps};
-ghost use Rattle.shell.specs.Acts.{Acts, Makes, Runs, RunsOnNew, Asks, Dumps, IsAnswered, open_fault_of};
+ghost use Rattle.std.specs.Prelude.{◌++◌, codes, ◌≡◌, ◌≢◌, ◌≤◌, ◌⊎◌, Option, IfOk, IsTrue, MatchOption, MatchResult};
+ghost use Rattle.std.specs.Fmt.{decimal};
+ghost use Rattle.script.specs.Lines.{time_in};
+ghost use Rattle.script.specs.declared.line.Line.TheVariants.{At, Between, Reopen};
+ghost use Rattle.session.specs.Streams.{Says, is_output_refused, text_said};
+ghost use Rattle.session.specs.Texts.{Text, open_line, refusal_line};
+ghost use Rattle.session.specs.declared.ending.Ending.TheVariants.{Whole};
+ghost use Rattle.shell.specs.Acts as acts;
+ghost use Rattle.shell.specs.Acts.{Acts, Asks, Dumps, GivesOut, IsRefused, IsTold, Makes, RefusesTime, RunsNew, RunsScript, given, open_fault_of, told};
+ghost use Rattle.shell.specs.Dump.{IsDump};
 ghost use Rattle.shell.specs.Keeps.{KeepsPromise};
 
 use crate::dump::{DumpFault, write_dump};
 use disk::{Area, Disk};
+use history::Key;
 use recovery::{OpenFault, format};
 use script::{Line, read_time};
-use session::{Ending, Fault, LineInput, MARK, Reply, Session, run, write_reply};
-use status::{LogFault, read_header, read_log};
+use session::{
+    Answers, Ending, Fault, LineInput, Lines, MARK, Refused, Reply, Session, run, write_numbered,
+    write_reply,
+};
+use status::{Header, LogFault, read_header, read_log};
 use std::alloc::Global;
 use std::io::Write;
 use store::Store;
+use wire::Slot;
 use words::Action;
 
 /// The status of what was done and said in full.
@@ -24,23 +36,42 @@ const REFUSED: u8 = 1;
 /// The slots of the store in memory.
 const EXAMPLE_SLOTS: u32 = 16;
 
+/// The status of what was done, where it was said.
+fn status_of(said: Result<(), Refused>) -> u8
+    ensures { MatchResult said (λ _. result ≡ 0) (λ _. result ≡ 1) }
+{
+    match said {
+        Ok(()) => DONE,
+        Err(_) => REFUSED,
+    }
+}
+
 /// Says a refusal.
-fn refuse<W: Write>(output: &mut W, fault: Fault) -> u8
-    ensures { result ≡ 1 }
+fn refuse<W: Write>(output: &mut Answers<W>, fault: Fault) -> u8
+    ensures { IsRefused (told W.contents result output.old output.new) (refusal_line fault) }
 {
     let _ = write_reply(output, &Reply::Refused(fault));
     REFUSED
+}
+
+/// The status of a script that ended so.
+fn status_of_ending(ending: Ending) -> u8
+    ensures { ((result ≡ 0) × (ending ≡ Whole)) ⊎ ((result ≡ 1) × (ending ≢ Whole)) }
+{
+    match ending {
+        Ending::Whole => DONE,
+        _ => REFUSED,
+    }
 }
 
 /// Opens the store and runs the script on it.
 fn run_script<D: Disk, R: LineInput, W: Write>(
     alloc: Global,
     disk: D,
-    input: &mut R,
-    output: &mut W,
+    input: &mut Lines<R>,
+    output: &mut Answers<W>,
 ) -> (u8, D)
-    ensures done { result.0 ≡ 0 → Runs D.tells (D.state disk) (R.remaining input.old) (record { before = W.contents output.old; after = W.contents output.new }) (D.state result.1) }
-    ensures status { result.0 ≤ 1 }
+    ensures { RunsScript D.tells (D.state disk) (given R.remaining input.old input.new) (told W.contents result.0 output.old output.new) (D.state result.1) }
 {
     let store = match Store::open(alloc, disk, MARK) {
         Ok(store) => store,
@@ -50,46 +81,39 @@ fn run_script<D: Disk, R: LineInput, W: Write>(
         Ok(session) => session,
         Err(store) => return (refuse(output, Fault::NoMemory), store.close()),
     };
-    match run(session, alloc, input, output) {
-        (Ending::Whole, disk) => (DONE, disk),
-        (_, disk) => (REFUSED, disk),
-    }
+    let (ending, disk) = run(session, alloc, input, output);
+    (status_of_ending(ending), disk)
 }
 
-/// Whether a line was said in full.
-fn status_of<E: Drop>(said: Result<(), E>, status: u8) -> u8
-    requires { status ≤ 1 }
-    ensures done { result ≡ 0 → IsOk said × (status ≡ 0) }
-    ensures status { result ≤ 1 }
+/// Says that an empty store was made.
+fn say_formatted<W: Write>(output: &mut Answers<W>, slots: u32) -> Result<(), Refused>
+    ensures { Says (text_said W.contents output.old) (codes "formatted " ++ (decimal slots ++ codes "\n")) result (text_said W.contents output.new) (is_output_refused output.new) }
 {
-    match said {
-        Ok(()) => status,
-        Err(_) => REFUSED,
-    }
+    write_numbered(output, "formatted ", u64::from(slots))
 }
 
 /// Makes an empty store.
-fn make<D: Disk, W: Write>(alloc: Global, disk: D, slots: u32, output: &mut W) -> (u8, D)
-    ensures done { result.0 ≡ 0 → Makes D.tells (D.state disk) slots (record { before = W.contents output.old; after = W.contents output.new }) (D.state result.1) }
-    ensures status { result.0 ≤ 1 }
+fn make<D: Disk, W: Write>(alloc: Global, disk: D, slots: u32, output: &mut Answers<W>) -> (u8, D)
+    ensures { Makes D.tells (D.state disk) slots (told W.contents result.0 output.old output.new) (D.state result.1) }
 {
     let mut disk = disk;
-    let status = match format(alloc, &mut disk, slots) {
-        Ok(()) => status_of(writeln!(output, "formatted {slots}"), DONE),
-        Err(fault) => refuse(output, Fault::Format(fault)),
-    };
-    (status, disk)
+    match format(alloc, &mut disk, slots) {
+        Ok(()) => {
+            let said = say_formatted(output, slots);
+            (status_of(said), disk)
+        }
+        Err(fault) => (refuse(output, Fault::Format(fault)), disk),
+    }
 }
 
 /// Makes a small store and runs the script on it.
 fn run_example<D: Disk, R: LineInput, W: Write>(
     alloc: Global,
     disk: D,
-    input: &mut R,
-    output: &mut W,
+    input: &mut Lines<R>,
+    output: &mut Answers<W>,
 ) -> (u8, D)
-    ensures done { result.0 ≡ 0 → RunsOnNew D.tells (D.state disk) (R.remaining input.old) (record { before = W.contents output.old; after = W.contents output.new }) (D.state result.1) }
-    ensures status { result.0 ≤ 1 }
+    ensures { RunsNew D.tells (D.state disk) (given R.remaining input.old input.new) (told W.contents result.0 output.old output.new) (D.state result.1) }
 {
     let mut disk = disk;
     match format(alloc, &mut disk, EXAMPLE_SLOTS) {
@@ -98,36 +122,83 @@ fn run_example<D: Disk, R: LineInput, W: Write>(
     }
 }
 
-/// The status of a command that is answered with one reply.
-fn status_of_reply(reply: &Reply) -> u8
-    ensures done { result ≡ 0 → IsAnswered reply.now }
-    ensures status { result ≤ 1 }
+fn is_refusal(reply: &Reply) -> bool
+    ensures { result ≡ acts.is_refusal reply.now }
 {
-    match reply {
-        Reply::Refused(_) => REFUSED,
-        _ => DONE,
+    matches!(reply, Reply::Refused(_))
+}
+
+/// Says the one reply of a command.
+fn tell<W: Write>(output: &mut Answers<W>, reply: &Reply) -> u8
+    ensures { IsTold (told W.contents result output.old output.new) reply.now }
+{
+    let said = write_reply(output, reply);
+    if is_refusal(reply) {
+        return REFUSED;
     }
+    status_of(said)
 }
 
 /// Asks what a line of a script asks for, on a store opened for it.
-fn ask<D: Disk, W: Write>(alloc: Global, disk: D, line: Line<'_>, output: &mut W) -> (u8, D)
-    ensures done { result.0 ≡ 0 → Asks D.tells (D.state disk) line.entry (record { before = W.contents output.old; after = W.contents output.new }) (D.state result.1) }
-    ensures status { result.0 ≤ 1 }
+fn ask<D: Disk, W: Write>(
+    alloc: Global,
+    disk: D,
+    line: Line<'_>,
+    output: &mut Answers<W>,
+) -> (u8, D)
+    requires { line ≢ Reopen }
+    ensures { Asks D.tells (D.state disk) line.entry (told W.contents result.0 output.old output.new) (D.state result.1) }
 {
     let store = match Store::open(alloc, disk, MARK) {
         Ok(store) => store,
         Err((fault, disk)) => return (refuse(output, Fault::Open(fault)), disk),
     };
-    let session = match Session::new(alloc, store) {
+    let mut session = match Session::new(alloc, store) {
         Ok(session) => session,
         Err(store) => return (refuse(output, Fault::NoMemory), store.close()),
     };
     match session.answer(alloc, line) {
-        Ok((session, reply)) => {
-            let status = status_of(write_reply(output, &reply), status_of_reply(&reply));
-            (status, session.close())
-        }
-        Err((fault, disk)) => (refuse(output, Fault::Open(fault)), disk),
+        Some(reply) => (tell(output, &reply), session.close()),
+        None => unreachable!(),
+    }
+}
+
+/// Asks for the value of a key at the time that a text spells.
+fn ask_at<D: Disk, W: Write>(
+    alloc: Global,
+    disk: D,
+    key: Key,
+    time: &str,
+    output: &mut Answers<W>,
+) -> (u8, D)
+    ensures { MatchOption (time_in time.now) (RefusesTime (D.state disk) (told W.contents result.0 output.old output.new) (D.state result.1))
+        (λ t. Asks D.tells (D.state disk) (At key t) (told W.contents result.0 output.old output.new) (D.state result.1)) }
+{
+    match read_time(time.as_bytes()) {
+        Some(time) => ask(alloc, disk, Line::At(key, time), output),
+        None => (refuse(output, Fault::Time), disk),
+    }
+}
+
+/// Asks for the rows of a key between the times that two texts spell.
+fn ask_between<D: Disk, W: Write>(
+    alloc: Global,
+    disk: D,
+    key: Key,
+    from: &str,
+    to: &str,
+    output: &mut Answers<W>,
+) -> (u8, D)
+    ensures { MatchOption (time_in from.now) (RefusesTime (D.state disk) (told W.contents result.0 output.old output.new) (D.state result.1))
+        (λ a. MatchOption (time_in to.now) (RefusesTime (D.state disk) (told W.contents result.0 output.old output.new) (D.state result.1))
+        (λ b. Asks D.tells (D.state disk) (Between key a b) (told W.contents result.0 output.old output.new) (D.state result.1))) }
+{
+    match read_time(from.as_bytes()) {
+        Some(a) => match read_time(to.as_bytes()) {
+            Some(b) => ask(alloc, disk, Line::Between(key, a, b), output),
+            None => (refuse(output, Fault::Time), disk),
+        },
+        None => (refuse(output, Fault::Time), disk),
     }
 }
 
@@ -144,28 +215,24 @@ fn open_fault(fault: LogFault) -> OpenFault
 }
 
 /// Says that a log is not to be had.
-fn refuse_log<W: Write>(output: &mut W, fault: LogFault) -> u8
-    ensures { result ≡ 1 }
+fn refuse_log<W: Write>(output: &mut Answers<W>, fault: LogFault) -> u8
+    ensures { IsRefused (told W.contents result output.old output.new) (open_line (open_fault_of fault)) }
 {
     refuse(output, Fault::Open(open_fault(fault)))
 }
 
-/// The status of a log that was written as text.
-fn status_of_dump<W: Write>(output: &mut W, said: Result<(), DumpFault>) -> u8
-    ensures done { result ≡ 0 → IsOk said × Keeps (W.contents output.old) (W.contents output.new) }
-    ensures status { result ≤ 1 }
+/// The text of a log.
+fn dump_text(alloc: Global, header: &Header, slots: &[Slot]) -> Result<Vec<u8>, DumpFault>
+    ensures { IfOk result (λ text. IsDump header.now slots.now text.items) }
 {
-    match said {
-        Ok(()) => DONE,
-        Err(DumpFault::NoMemory) => refuse(output, Fault::NoMemory),
-        Err(DumpFault::OutputRefused) => REFUSED,
-    }
+    let mut text = Vec::new(alloc);
+    write_dump(alloc, &mut text, header, slots)?;
+    Ok(text)
 }
 
 /// Writes the log of a store, which is not opened for it.
-fn dump<D: Disk, W: Write>(alloc: Global, disk: D, output: &mut W) -> (u8, D)
-    ensures done { result.0 ≡ 0 → Dumps D.tells (D.state disk) (record { before = W.contents output.old; after = W.contents output.new }) (D.state result.1) }
-    ensures status { result.0 ≤ 1 }
+fn dump<D: Disk, W: Write>(alloc: Global, disk: D, output: &mut Answers<W>) -> (u8, D)
+    ensures { Dumps D.tells (D.state disk) (told W.contents result.0 output.old output.new) (D.state result.1) }
 {
     let mut disk = disk;
     let header = match read_header(&mut disk) {
@@ -176,8 +243,10 @@ fn dump<D: Disk, W: Write>(alloc: Global, disk: D, output: &mut W) -> (u8, D)
         Ok(slots) => slots,
         Err(fault) => return (refuse_log(output, fault), disk),
     };
-    let said = write_dump(alloc, output, &header, slots.as_slice());
-    (status_of_dump(output, said), disk)
+    match dump_text(alloc, &header, slots.as_slice()) {
+        Ok(text) => (status_of(output.say(text.as_slice())), disk),
+        Err(_) => (refuse(output, Fault::NoMemory), disk),
+    }
 }
 
 /// Does what the words asked for. What was said may still be in the writer.
@@ -185,41 +254,31 @@ fn perform<D: Disk, R: LineInput, W: Write>(
     alloc: Global,
     action: Action<'_>,
     disk: D,
-    input: &mut R,
-    output: &mut W,
+    input: &mut Lines<R>,
+    output: &mut Answers<W>,
 ) -> (u8, D)
-    ensures done { result.0 ≡ 0 → Acts D.tells action.entry (D.state disk) (R.remaining input.old) (record { before = W.contents output.old; after = W.contents output.new }) (D.state result.1) }
-    ensures status { result.0 ≤ 1 }
+    ensures { Acts D.tells action.entry (D.state disk) (given R.remaining input.old input.new) (told W.contents result.0 output.old output.new) (D.state result.1) }
 {
     match action {
         Action::Example => run_example(alloc, disk, input, output),
         Action::Format { dir: _, slots } => make(alloc, disk, slots, output),
         Action::Run { dir: _ } => run_script(alloc, disk, input, output),
-        Action::At { dir: _, key, time } => match read_time(time.as_bytes()) {
-            Some(time) => ask(alloc, disk, Line::At(key, time), output),
-            None => (refuse(output, Fault::Time), disk),
-        },
+        Action::At { dir: _, key, time } => ask_at(alloc, disk, key, time, output),
         Action::Between {
             dir: _,
             key,
             from,
             to,
-        } => match (read_time(from.as_bytes()), read_time(to.as_bytes())) {
-            (Some(a), Some(b)) => ask(alloc, disk, Line::Between(key, a, b), output),
-            _ => (refuse(output, Fault::Time), disk),
-        },
+        } => ask_between(alloc, disk, key, from, to, output),
         Action::Dump { dir: _ } => dump(alloc, disk, output),
     }
 }
 
 /// Gives out what was said. What was not given out was not said.
-fn give_out<W: Write>(output: &mut W, status: u8) -> u8
-    requires { status ≤ 1 }
-    ensures done { result ≡ 0 → status ≡ 0 }
-    ensures status { result ≤ 1 }
-    ensures kept { Keeps (W.contents output.old) (W.contents output.new) }
+fn give_out<W: Write>(output: &mut Answers<W>, status: u8) -> u8
+    ensures { (before : Option Text) → GivesOut (record { status = status; before = before; after = text_said W.contents output.old; refused = is_output_refused output.old }) (record { status = result; before = before; after = text_said W.contents output.new; refused = is_output_refused output.new }) }
 {
-    match output.flush() {
+    match output.give_out() {
         Ok(()) => status,
         Err(_) => REFUSED,
     }
@@ -232,12 +291,12 @@ pub fn act<D: Disk, R: LineInput, W: Write>(
     alloc: Global,
     action: Action<'_>,
     disk: D,
-    input: &mut R,
-    output: &mut W,
+    input: &mut Lines<R>,
+    output: &mut Answers<W>,
 ) -> (u8, D)
-    ensures done { result.0 ≡ 0 → Acts D.tells action.entry (D.state disk) (R.remaining input.old) (record { before = W.contents output.old; after = W.contents output.new }) (D.state result.1) }
-    // Of a script, on a disk that tells its bytes: at every moment of its run whatever a stop may leave survives, with every commit of which a line `done` was written, and what is written is what a run of the machine answers.
-    ensures promise { IsTrue D.tells → result.0 ≡ 0 → KeepsPromise D.tells action.entry (D.state disk) (R.remaining input.old) (record { before = W.contents output.old; after = W.contents output.new }) (D.state result.1) }
+    ensures acts { Acts D.tells action.entry (D.state disk) (given R.remaining input.old input.new) (told W.contents result.0 output.old output.new) (D.state result.1) }
+    // Of a script, on a disk that tells its bytes: at every moment of its run whatever a stop may leave survives, with every commit of which a line `done` was written, and what is written is what a run of the machine answers. So it is whatever the status is.
+    ensures promise { IsTrue D.tells → KeepsPromise D.tells action.entry (D.state disk) (given R.remaining input.old input.new) (told W.contents result.0 output.old output.new) (D.state result.1) }
     ensures status { result.0 ≤ 1 }
 {
     let (status, disk) = perform(alloc, action, disk, input, output);
@@ -245,8 +304,8 @@ pub fn act<D: Disk, R: LineInput, W: Write>(
 }
 
 /// Says that a folder's store is not opened. The program's status is 1.
-pub fn refuse_folder<W: Write>(output: &mut W, fault: OpenFault) -> u8
-    ensures { result ≡ 1 }
+pub fn refuse_folder<W: Write>(output: &mut Answers<W>, fault: OpenFault) -> u8
+    ensures { IsRefused (told W.contents result output.old output.new) (open_line fault) }
 {
     let status = refuse(output, Fault::Open(fault));
     give_out(output, status)

@@ -4,7 +4,7 @@
 use clap::Error;
 use disk::MemDisk;
 use disk_file::{Access, FileDisk, FolderFault};
-use session::LineInput;
+use session::{Answers, LineInput, Lines};
 use shell::{Action, Need, OpenFault, WordsFault, act, folder_need, read_words, refuse_folder};
 use status::{LogFault, read_header};
 use std::alloc::Global;
@@ -55,8 +55,8 @@ fn act_in<R: Files<File = File> + AllocGlobal + Eprint, I: LineInput, W: Write>(
     action: Action<'_>,
     dir: &str,
     access: Access,
-    input: &mut I,
-    output: &mut W,
+    input: &mut Lines<I>,
+    output: &mut Answers<W>,
 ) -> u8 {
     match FileDisk::open(rt, dir, access) {
         Ok(disk) => {
@@ -80,8 +80,9 @@ fn main(rt: HostRuntime) -> io::Result<ExitCode> {
         Err(WordsFault::Usage(error)) => return print_usage(&rt, &error),
         Err(WordsFault::Unread) => return Ok(ExitCode::from(2)),
     };
-    let mut input = BufReader::with_capacity(alloc, BUFFER, rt.reader())?;
-    let mut output = BufWriter::with_capacity(alloc, BUFFER, io::writer(&rt))?;
+    let mut input = Lines::new(alloc, BufReader::with_capacity(alloc, BUFFER, rt.reader())?);
+    let writer = BufWriter::with_capacity(alloc, BUFFER, io::writer(&rt))?;
+    let mut output = Answers::new(alloc, writer);
     let status = match folder_need(&action) {
         Need::Nothing => act(alloc, action, MemDisk::new(alloc), &mut input, &mut output).0,
         Need::Make(dir) => act_in(&rt, action, dir, Access::Make, &mut input, &mut output),

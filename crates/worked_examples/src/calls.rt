@@ -233,15 +233,15 @@ fn a_strangers_tokens_are_only_spent(rt: HostRuntime) -> Result<(), Fail> {
 fn answered(
     rt: &impl Abort,
     alloc: Global,
-    session: Session<MemDisk>,
+    session: &mut Session<MemDisk>,
     line: &str,
-) -> (Session<MemDisk>, Reply) {
+) -> Reply {
     let Some(found) = parse(line.as_bytes()) else {
         panic!(rt; "no line");
     };
     match session.answer(alloc, found) {
-        Ok(answer) => answer,
-        Err(_) => panic!(rt; "not opened"),
+        Some(reply) => reply,
+        None => panic!(rt; "a reopening"),
     }
 }
 
@@ -260,21 +260,21 @@ fn new_session(rt: &impl Abort, alloc: Global) -> Result<Session<MemDisk>, Fail>
 #[test]
 fn a_session_answers_line_by_line(rt: HostRuntime) -> Result<(), Fail> {
     let alloc = rt.alloc();
-    let session = new_session(&rt, alloc)?;
-    let (session, reply) = answered(&rt, alloc, session, "begin t");
+    let mut session = new_session(&rt, alloc)?;
+    let reply = answered(&rt, alloc, &mut session, "begin t");
     assert!(rt; matches!(reply, Reply::Snapshot(0)));
-    let (session, reply) = answered(&rt, alloc, session, "put t 1 7 61");
+    let reply = answered(&rt, alloc, &mut session, "put t 1 7 61");
     assert!(rt; matches!(reply, Reply::Ok));
-    let (session, reply) = answered(&rt, alloc, session, "submit t 9 100");
+    let reply = answered(&rt, alloc, &mut session, "submit t 9 100");
     assert!(rt; matches!(reply, Reply::Queued));
-    let (session, reply) = answered(&rt, alloc, session, "flush");
+    let reply = answered(&rt, alloc, &mut session, "flush");
     assert!(rt; matches!(reply, Reply::Did(Did::Idle)));
     assert_eq!(rt; session.ends(), (100, 0));
-    let (session, reply) = answered(&rt, alloc, session, "archive 100");
+    let reply = answered(&rt, alloc, &mut session, "archive 100");
     assert!(rt; matches!(reply, Reply::Started));
-    let (session, reply) = answered(&rt, alloc, session, "job");
+    let reply = answered(&rt, alloc, &mut session, "job");
     assert!(rt; matches!(reply, Reply::JobDid(JobDid::RunSynced)));
-    let (session, reply) = answered(&rt, alloc, session, "finish");
+    let reply = answered(&rt, alloc, &mut session, "finish");
     assert!(rt; matches!(reply, Reply::JobDid(JobDid::Idle)));
     let _disk = session.close();
     Ok(())

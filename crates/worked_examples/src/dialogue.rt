@@ -1,6 +1,7 @@
 //! Scripts with their answers, run on a disk in memory.
 use disk::{Disk, MemDisk};
 use history::Key;
+use session::{Answers, Lines};
 use shell::{Action, act};
 use std::alloc::{AllocError, Global};
 use std::fmt::Write;
@@ -43,10 +44,10 @@ pub fn told<D: Disk + Drop>(
     disk: D,
     script: &str,
 ) -> Result<(String, u8, D), Fail> {
-    let mut said = Vec::new(alloc);
-    let mut input = script.as_bytes();
+    let mut input = Lines::new(alloc, script.as_bytes());
+    let mut said = Answers::new(alloc, Vec::new(alloc));
     let (status, disk) = act(alloc, action, disk, &mut input, &mut said);
-    Ok((String::from_utf8(said)?, status, disk))
+    Ok((String::from_utf8(said.into_writer())?, status, disk))
 }
 
 /// An empty store of this many slots.

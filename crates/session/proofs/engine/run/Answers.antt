@@ -1,34 +1,42 @@
-use Rattle.std.proofs.Common.{refl}
-use Rattle.session.proofs.RunLemmas.{known_end, known_whole, so_far_kept, so_far_next}
+use Rattle.std.proofs.Common.{refl, sym, ap, ◌∙◌, ◌+◌, ℕ}
+use Rattle.session.proofs.RunLemmas.{counted, ran-cut, ran-end, ran-whole, so_far_kept, so_far_next, so_far_start}
+use Rattle.session.specs.Streams.{lines_read}
 use Rattle.session.specs.declared.ending.Ending.TheVariants as ending
 use Rattle.session.proofs.engine.run.Goals as goal
 
-pub returns-in-Ok-false : goal.returns-in-Ok-false
-returns-in-Ok-false g c = λ _. known_whole g.D.Disk.tells (g.R.Read.remaining c.args.input.now) (g.R.Read.remaining c.loop-number.input)
-    (g.R.Read.remaining c.next_line.new.input) (g.W.Write.contents c.args.output.now) (g.W.Write.contents c.next_line.new.output)
-    c.loop-number.number c.args.session c.loop-number.session c.next_line.new.line.items c.in-Ok-false.field-0
-    (ending.Whole, g.D.Disk.state c.close.result)
-    (so_far_kept g.D.Disk.tells (g.R.Read.remaining c.args.input.now) (g.R.Read.remaining c.loop-number.input) (g.W.Write.contents c.args.output.now)
-    (g.W.Write.contents c.loop-number.output) (g.W.Write.contents c.next_line.new.output) c.loop-number.number c.args.session c.loop-number.session
-    c.loop-number.invariant c.next_line.ensures.kept)
+pub loop-session-init : goal.loop-session-init
+loop-session-init g c = so_far_start g.D.Disk.tells (g.R.Read.remaining c.args.input.now.reader) (g.W.Write.contents c.args.output.now.writer) (lines_read c.args.input.now + 1) c.args.session
+
+pub returns-in-Ok-false-clause-ran : goal.returns-in-Ok-false-clause-ran
+returns-in-Ok-false-clause-ran g c = ran-whole g.D.Disk.tells (g.R.Read.remaining c.args.input.now.reader) (g.R.Read.remaining c.loop-session.input.reader) (g.R.Read.remaining c.next_line.new.input.reader)
+    (g.W.Write.contents c.args.output.now.writer) (g.W.Write.contents c.next_line.new.output.writer) (lines_read c.args.input.now + 1) (lines_read c.loop-session.input + 1) c.args.session c.loop-session.session
+    c.next_line.new.input.line.items c.in-Ok-false.field-0 (ending.Whole, g.D.Disk.state c.close.result)
+    (so_far_kept g.D.Disk.tells (g.R.Read.remaining c.args.input.now.reader) (g.R.Read.remaining c.loop-session.input.reader) (g.W.Write.contents c.args.output.now.writer) (g.W.Write.contents c.loop-session.output.writer)
+    (g.W.Write.contents c.next_line.new.output.writer) (lines_read c.args.input.now + 1) (lines_read c.loop-session.input + 1) c.args.session c.loop-session.session c.loop-session.invariant c.next_line.ensures.kept)
     c.in-Ok-false.ensures.read c.in-Ok-false.field-0-test refl c.close.ensures
 
-pub returns-in-Err-turn : goal.returns-in-Err-turn
-returns-in-Err-turn g c = λ told. known_end g.D.Disk.tells (g.R.Read.remaining c.args.input.now) (g.R.Read.remaining c.loop-number.input)
-    (g.R.Read.remaining c.next_line.new.input) (g.W.Write.contents c.args.output.now) (g.W.Write.contents c.next_line.new.output)
-    (g.W.Write.contents c.turn.new.output) c.loop-number.number c.args.session c.loop-number.session c.next_line.new.line.items c.as_slice.result.now
-    c.in-Ok-true.field-0 (c.in-Err-turn.end.0, g.D.Disk.state c.in-Err-turn.end.1)
-    (so_far_kept g.D.Disk.tells (g.R.Read.remaining c.args.input.now) (g.R.Read.remaining c.loop-number.input) (g.W.Write.contents c.args.output.now)
-    (g.W.Write.contents c.loop-number.output) (g.W.Write.contents c.next_line.new.output) c.loop-number.number c.args.session c.loop-number.session
-    c.loop-number.invariant c.next_line.ensures.kept)
-    c.in-Ok-true.ensures.read c.in-Ok-true.field-0-test c.as_slice.ensures.value (c.in-Err-turn.ensures told)
+pub returns-in-Err-clause-ran : goal.returns-in-Err-clause-ran
+returns-in-Err-clause-ran g c = ran-cut g.D.Disk.tells (g.R.Read.remaining c.args.input.now.reader) (g.R.Read.remaining c.loop-session.input.reader) (g.W.Write.contents c.args.output.now.writer) (g.W.Write.contents c.next_line.new.output.writer)
+    (lines_read c.args.input.now + 1) (lines_read c.loop-session.input + 1) c.args.session c.loop-session.session (c.in-Err.ending, g.D.Disk.state c.close-in-Err.result)
+    (so_far_kept g.D.Disk.tells (g.R.Read.remaining c.args.input.now.reader) (g.R.Read.remaining c.loop-session.input.reader) (g.W.Write.contents c.args.output.now.writer) (g.W.Write.contents c.loop-session.output.writer)
+    (g.W.Write.contents c.next_line.new.output.writer) (lines_read c.args.input.now + 1) (lines_read c.loop-session.input + 1) c.args.session c.loop-session.session c.loop-session.invariant c.next_line.ensures.kept)
+    c.in-Err.ensures.cut c.close-in-Err.ensures
 
-pub loop-number-preserved : goal.loop-number-preserved
-loop-number-preserved g c = so_far_next g.D.Disk.tells (g.R.Read.remaining c.args.input.now) (g.R.Read.remaining c.loop-number.input)
-    (g.R.Read.remaining c.next_line.new.input) (g.W.Write.contents c.args.output.now) (g.W.Write.contents c.next_line.new.output)
-    (g.W.Write.contents c.turn.new.output) c.loop-number.number c.args.session c.loop-number.session c.in-Ok.next c.next_line.new.line.items
-    c.as_slice.result.now c.in-Ok-true.field-0
-    (so_far_kept g.D.Disk.tells (g.R.Read.remaining c.args.input.now) (g.R.Read.remaining c.loop-number.input) (g.W.Write.contents c.args.output.now)
-    (g.W.Write.contents c.loop-number.output) (g.W.Write.contents c.next_line.new.output) c.loop-number.number c.args.session c.loop-number.session
-    c.loop-number.invariant c.next_line.ensures.kept)
-    c.in-Ok-true.ensures.read c.in-Ok-true.field-0-test c.as_slice.ensures.value c.in-Ok.ensures
+pub loop-session-preserved : goal.loop-session-preserved
+loop-session-preserved g c = so_far_next g.D.Disk.tells (g.R.Read.remaining c.args.input.now.reader) (g.R.Read.remaining c.loop-session.input.reader) (g.R.Read.remaining c.next_line.new.input.reader)
+    (g.W.Write.contents c.args.output.now.writer) (g.W.Write.contents c.next_line.new.output.writer) (g.W.Write.contents c.turn.new.output.writer) (lines_read c.args.input.now + 1) (lines_read c.loop-session.input + 1) c.count.result (lines_read c.next_line.new.input + 1)
+    c.args.session c.loop-session.session c.in-Ok.next c.next_line.new.input.line.items c.line.result.now c.in-Ok-true.field-0
+    (so_far_kept g.D.Disk.tells (g.R.Read.remaining c.args.input.now.reader) (g.R.Read.remaining c.loop-session.input.reader) (g.W.Write.contents c.args.output.now.writer) (g.W.Write.contents c.loop-session.output.writer)
+    (g.W.Write.contents c.next_line.new.output.writer) (lines_read c.args.input.now + 1) (lines_read c.loop-session.input + 1) c.args.session c.loop-session.session c.loop-session.invariant c.next_line.ensures.kept)
+    (c.count.ensures ∙ counted c.in-Ok-true.field-0 (lines_read c.next_line.new.input) (lines_read c.loop-session.input) c.in-Ok-true.ensures.count c.in-Ok-true.field-0-test)
+    (ap (λ (k : ℕ). k + 1) (sym c.count.ensures))
+    c.in-Ok-true.ensures.read c.in-Ok-true.field-0-test c.line.ensures c.in-Ok.ensures.turned
+
+pub returns-in-Err-turn-clause-ran : goal.returns-in-Err-turn-clause-ran
+returns-in-Err-turn-clause-ran g c = ran-end g.D.Disk.tells (g.R.Read.remaining c.args.input.now.reader) (g.R.Read.remaining c.loop-session.input.reader) (g.R.Read.remaining c.next_line.new.input.reader)
+    (g.W.Write.contents c.args.output.now.writer) (g.W.Write.contents c.next_line.new.output.writer) (g.W.Write.contents c.turn.new.output.writer) (lines_read c.args.input.now + 1) (lines_read c.loop-session.input + 1) c.count.result
+    c.args.session c.loop-session.session c.next_line.new.input.line.items c.line.result.now c.in-Ok-true.field-0 (c.in-Err-turn.end.0, g.D.Disk.state c.in-Err-turn.end.1)
+    (so_far_kept g.D.Disk.tells (g.R.Read.remaining c.args.input.now.reader) (g.R.Read.remaining c.loop-session.input.reader) (g.W.Write.contents c.args.output.now.writer) (g.W.Write.contents c.loop-session.output.writer)
+    (g.W.Write.contents c.next_line.new.output.writer) (lines_read c.args.input.now + 1) (lines_read c.loop-session.input + 1) c.args.session c.loop-session.session c.loop-session.invariant c.next_line.ensures.kept)
+    (c.count.ensures ∙ counted c.in-Ok-true.field-0 (lines_read c.next_line.new.input) (lines_read c.loop-session.input) c.in-Ok-true.ensures.count c.in-Ok-true.field-0-test)
+    c.in-Ok-true.ensures.read c.in-Ok-true.field-0-test c.line.ensures c.in-Err-turn.ensures.turned

@@ -1,18 +1,21 @@
-use Rattle.std.proofs.Common.{subst}
+use Rattle.std.proofs.Common.{ap, subst, inl, inr, ◌∙◌}
 use Rattle.session.specs.Session.{State, Step}
-use Rattle.shell.proofs.Done.{on_ok}
+use Rattle.store.specs.Values.{StoreValue}
 use Rattle.shell.proofs.actions.ask.Goals as goal
 
-pub returns-in-Ok-answer-clause-done : goal.returns-in-Ok-answer-clause-done
-returns-in-Ok-answer-clause-done g c = λ zero.
-    let said = c.status_of-status.ensures.done zero in
-    record {
-      opened = c.in-Ok.store;
-      opens = c.in-Ok.ensures.ok;
-      answer = c.in-Ok-answer.reply;
-      asked = c.in-Ok-answer.session;
-      step = subst (λ (s : State). Step g.D.Disk.tells s c.args.line c.in-Ok-answer.reply c.in-Ok-answer.session) c.in-Ok-new.ensures.ok c.in-Ok-answer.ensures;
-      answered = c.status_of_reply.ensures.done said.1;
-      said = on_ok c.write_reply.result c.write_reply.ensures said.0;
-      closes = c.close-in-Ok-answer.ensures;
-    }
+pub returns-in-Err : goal.returns-in-Err
+returns-in-Err g c = inl (c.in-Err.fault, c.in-Err.ensures.err, c.refuse.ensures)
+
+pub returns-in-Err-new : goal.returns-in-Err-new
+returns-in-Err-new g c = inr (inl (c.in-Ok.store, c.in-Ok.ensures.ok, c.close.ensures ∙ ap (λ (s : StoreValue). s.disk) c.in-Err-new.ensures.err, c.refuse-in-Err-new.ensures))
+
+pub returns : goal.returns
+returns g c = inr (inr (record {
+  opened = c.in-Ok.store;
+  opens = c.in-Ok.ensures.ok;
+  answer = c.in-Some.reply;
+  asked = c.answer.new.self;
+  step = subst (λ (s : State). Step g.D.Disk.tells s c.args.line c.in-Some.reply c.answer.new.self) c.in-Ok-new.ensures.ok c.in-Some.ensures;
+  told = c.tell.ensures;
+  closes = c.close-in-Some.ensures;
+}))

@@ -1,0 +1,107 @@
+-- What was said, and the status.
+use Rattle.std.proofs.Common.{◌≡◌, ◌≢◌, ◌≤◌, ◌⊎◌, ◌∙◌, inl, inr, ℕ, ◌++◌, [], ap, Bool, true, false, Option, Some, None, Result, Ok, Err, refl, sym, subst, arith}
+use Rattle.std.specs.Prelude.{MatchBool, MatchOption, MatchResult}
+use Rattle.disk.specs.Calls.{DiskState}
+use Rattle.script.specs.Lines.{time_in}
+use Rattle.script.specs.declared.line.Line.{Line}
+use Rattle.script.specs.declared.line.Line.TheVariants as line
+use Rattle.session.specs.Streams.{Says}
+use Rattle.session.specs.Texts.{Text, text_of}
+use Rattle.session.specs.declared.ending.Ending.{Ending}
+use Rattle.session.specs.declared.ending.Ending.TheVariants.{Whole}
+use Rattle.session.specs.declared.reply.Reply.{Reply}
+use Rattle.words.specs.declared.action.Action.{Action}
+use Rattle.words.specs.declared.action.Action.TheVariants as action
+use Rattle.shell.specs.Acts.{Acts, Asks, HasStatusOf, Input, IsRefused, IsSaid, IsTold, Makes, Output, RefusesTime, RunsNew, RunsScript, SaysAll, SaysFront, is_refusal}
+
+-- a text was written where nothing was
+pub appended-none : (old new text : Text) → old ≡ [] → new ≡ old ++ text → new ≡ text
+appended-none old new text none is = is ∙ ap (λ (t : Text). t ++ text) none
+
+pub either-said : {T E : Type 0} (o : Output) (text : Text) (r : Result T E) → Says o.before text r o.after o.refused → SaysAll o text ⊎ SaysFront o text
+either-said o text (Ok u) says = inl says
+either-said o text (Err e) says = inr (says.1, says.0)
+
+pub said-by : {T E : Type 0} (o : Output) (text : Text) (r : Result T E) → Says o.before text r o.after o.refused → MatchResult r (λ _. o.status ≡ 0) (λ _. o.status ≡ 1) → IsSaid o text
+said-by o text (Ok u) says status = inl (status, says)
+said-by o text (Err e) says status = inr (status, (says.1, says.0))
+
+pub told-as : (b : Bool) (o : Output) (r : Reply) → b ≡ is_refusal r → MatchBool b (IsRefused o (text_of r)) (IsSaid o (text_of r)) → IsTold o r
+told-as b o r is told = subst (λ (x : Bool). MatchBool x (IsRefused o (text_of r)) (IsSaid o (text_of r))) is told
+
+pub told-refused : (b : Bool) (o : Output) (r : Reply) → b ≡ is_refusal r → b ≡ true → IsRefused o (text_of r) → IsTold o r
+told-refused b o r is yes' refused = told-as b o r is (subst (λ (x : Bool). MatchBool x (IsRefused o (text_of r)) (IsSaid o (text_of r))) (sym yes') refused)
+
+pub told-said : (b : Bool) (o : Output) (r : Reply) → b ≡ is_refusal r → b ≡ false → IsSaid o (text_of r) → IsTold o r
+told-said b o r is no' said = told-as b o r is (subst (λ (x : Bool). MatchBool x (IsRefused o (text_of r)) (IsSaid o (text_of r))) (sym no') said)
+
+pub has-status : (end : Ending) (o : Output) → (((o.status ≡ 0) × (end ≡ Whole)) ⊎ ((o.status ≡ 1) × (end ≢ Whole))) → HasStatusOf end o
+has-status end o (inl done) = inl done
+has-status end o (inr failed) = inr (failed.0, inl failed.1)
+
+-- ---- the status is 0 or 1
+
+zero-least : (n : ℕ) → n ≡ 0 → n ≤ 1
+zero-least n is = omega arith
+
+one-least : (n : ℕ) → n ≡ 1 → n ≤ 1
+one-least n is = omega arith
+
+said-status : (o : Output) (text : Text) → IsSaid o text → o.status ≤ 1
+said-status o text (inl done) = zero-least o.status done.0
+said-status o text (inr cut) = one-least o.status cut.0
+
+refused-status : (o : Output) (text : Text) → IsRefused o text → o.status ≤ 1
+refused-status o text refused = one-least o.status refused.0
+
+told-status : (o : Output) (r : Reply) → IsTold o r → o.status ≤ 1
+told-status o r told = by (is_refusal r) told
+  where
+    by : (b : Bool) → MatchBool b (IsRefused o (text_of r)) (IsSaid o (text_of r)) → o.status ≤ 1
+    by true refused = refused-status o (text_of r) refused
+    by false said = said-status o (text_of r) said
+
+ended-status : (end : Ending) (o : Output) → HasStatusOf end o → o.status ≤ 1
+ended-status end o (inl done) = zero-least o.status done.0
+ended-status end o (inr failed) = one-least o.status failed.0
+
+makes-status : (tells : Bool) (old new : DiskState) (slots : ℕ) (o : Output) → Makes tells old slots o new → o.status ≤ 1
+makes-status tells old new slots o (inl made) = said-status o _ made.said
+makes-status tells old new slots o (inr refused) = refused-status o _ refused.2
+
+runs-status : (tells : Bool) (old new : DiskState) (input : Input) (o : Output) → RunsScript tells old input o new → o.status ≤ 1
+runs-status tells old new input o (inl refused) = refused-status o _ refused.2
+runs-status tells old new input o (inr (inl lacks)) = refused-status o _ lacks.3
+runs-status tells old new input o (inr (inr runs)) = ended-status runs.end o runs.status
+
+runs_new-status : (tells : Bool) (old new : DiskState) (input : Input) (o : Output) → RunsNew tells old input o new → o.status ≤ 1
+runs_new-status tells old new input o (inl refused) = refused-status o _ refused.2
+runs_new-status tells old new input o (inr runs) = runs-status tells runs.made new input o runs.runs
+
+asks-status : (tells : Bool) (old new : DiskState) (asks : Line) (o : Output) → Asks tells old asks o new → o.status ≤ 1
+asks-status tells old new asks o (inl refused) = refused-status o _ refused.2
+asks-status tells old new asks o (inr (inl lacks)) = refused-status o _ lacks.3
+asks-status tells old new asks o (inr (inr asked)) = told-status o asked.answer asked.told
+
+time-status : (old new : DiskState) (o : Output) → RefusesTime old o new → o.status ≤ 1
+time-status old new o refused = refused-status o _ refused.1
+
+at-status : (tells : Bool) (old new : DiskState) (time : Option ℕ) (line : ℕ → Line) (o : Output) → MatchOption time (RefusesTime old o new) (λ t. Asks tells old (line t) o new) → o.status ≤ 1
+at-status tells old new None line o refused = time-status old new o refused
+at-status tells old new (Some t) line o asks = asks-status tells old new (line t) o asks
+
+between-status : (tells : Bool) (old new : DiskState) (from to : Option ℕ) (line : ℕ → ℕ → Line) (o : Output)
+    → MatchOption from (RefusesTime old o new) (λ s. MatchOption to (RefusesTime old o new) (λ t. Asks tells old (line s t) o new)) → o.status ≤ 1
+between-status tells old new None to line o refused = time-status old new o refused
+between-status tells old new (Some s) to line o asks = at-status tells old new to (line s) o asks
+
+pub acts-status : (tells : Bool) (a : Action) (old new : DiskState) (input : Input) (o : Output) → Acts tells a old input o new → o.status ≤ 1
+acts-status tells action.Example old new input o acts = runs_new-status tells old new input o acts
+acts-status tells (action.Format dir slots) old new input o acts = makes-status tells old new slots o acts
+acts-status tells (action.Run dir) old new input o acts = runs-status tells old new input o acts
+acts-status tells (action.At dir key time) old new input o acts = at-status tells old new (time_in time.now) (λ t. line.At key t) o acts
+acts-status tells (action.Between dir key from to) old new input o acts = between-status tells old new (time_in from.now) (time_in to.now) (λ s t. line.Between key s t) o acts
+acts-status tells (action.Dump dir) old new input o (inl (inl lacks)) = refused-status o _ lacks.said
+acts-status tells (action.Dump dir) old new input o (inl (inr lacks)) = refused-status o _ lacks.said
+acts-status tells (action.Dump dir) old new input o (inr (inl done)) = said-status o done.text done.said
+acts-status tells (action.Dump dir) old new input o (inr (inr lacks)) = refused-status o _ lacks.1
