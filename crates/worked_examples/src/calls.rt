@@ -230,12 +230,7 @@ fn a_strangers_tokens_are_only_spent(rt: HostRuntime) -> Result<(), Fail> {
 }
 
 /// A session answers a line with a reply, and goes on.
-fn answered(
-    rt: &impl Abort,
-    alloc: Global,
-    session: &mut Session<MemDisk>,
-    line: &str,
-) -> Reply {
+fn answered(rt: &impl Abort, alloc: Global, session: &mut Session<MemDisk>, line: &str) -> Reply {
     let Some(found) = parse(line.as_bytes()) else {
         panic!(rt; "no line");
     };
