@@ -9,3 +9,4 @@ pub mod Moves
 pub mod Telling
 pub mod Fresh
 pub mod Committing
+pub mod Moments
