@@ -56,7 +56,8 @@ impl<L: Opening> SharedView<L> {
         &self.view
     }
 
-    pub(crate) fn spend(self) -> View
+    /// The view without what its caller had seen.
+    pub fn spend(self) -> View
         ensures { result ≡ self.shown }
     {
         let SharedView { view, moment: _ } = self;

@@ -82,3 +82,4 @@ acts_kept tells (action.Dump dir) old input b m n new kept acts = record {
   said = Appends-kept b m n _ acts.said kept;
   same = acts.same;
 }
+acts_kept tells (action.Stress writers readers rounds) old input b m n new kept acts = acts

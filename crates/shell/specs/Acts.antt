@@ -96,3 +96,5 @@ Acts tells (action.Run dir) old input output new = Runs tells old input output n
 Acts tells (action.At dir key time) old input output new = MatchOption (time_in time.now) ⊥ (λ t. Asks tells old (line.At key t) output new)
 Acts tells (action.Between dir key from to) old input output new = MatchOption (time_in from.now) ⊥ (λ a. MatchOption (time_in to.now) ⊥ (λ b. Asks tells old (line.Between key a b) output new))
 Acts tells (action.Dump dir) old input output new = Dumps tells old output new
+-- of no disk
+Acts tells (action.Stress writers readers rounds) old input output new = ⊥

@@ -209,6 +209,12 @@ fn perform<D: Disk, R: LineInput, W: Write>(
             _ => (refuse(output, Fault::Time), disk),
         },
         Action::Dump { dir: _ } => dump(alloc, disk, output),
+        // It is of no disk: the program runs it in threads of its own.
+        Action::Stress {
+            writers: _,
+            readers: _,
+            rounds: _,
+        } => (REFUSED, disk),
     }
 }
 
