@@ -1,4 +1,5 @@
 pub mod Sending
+pub mod Carrying
 pub mod Fronts
 pub mod Passes
 pub mod Leaving
