@@ -1,4 +1,5 @@
 pub mod Sending
+pub mod Carrying
 pub mod Fronts
 pub mod Passes
 pub mod Leaving
@@ -9,3 +10,4 @@ pub mod Moves
 pub mod Telling
 pub mod Fresh
 pub mod Committing
+pub mod Moments

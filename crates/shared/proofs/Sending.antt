@@ -50,7 +50,7 @@ chain_send = search (sendable, crosses, knot.crosses, small_vec.the_send, small_
 chain_sync : IsSync Chain.the_row
 chain_sync = search (sendable, crosses, knot.crosses, small_vec.the_send, small_vec.the_sync, shared_value.the_send, shared_value.the_sync, timed_write.the_send, timed_write.the_sync) depth 40
 
-frozen_send : IsSend Frozen.the_row
+pub frozen_send : IsSend Frozen.the_row
 frozen_send = search (sendable, crosses, knot.crosses, chain_send, chain_sync) depth 12
 
 -- ---- the transactions

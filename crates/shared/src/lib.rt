@@ -10,6 +10,8 @@ mod noting;
 mod observer;
 mod opening;
 mod shared;
+mod shared_txn;
+mod shared_view;
 mod workers;
 mod workload;
 
@@ -21,5 +23,7 @@ pub use naming::Opening;
 pub use observer::Observer;
 pub use opening::Opened;
 pub use shared::{SharedStore, Vacuumed};
+pub use shared_txn::SharedTxn;
+pub use shared_view::SharedView;
 pub use workers::{Badge, Plan, Worked, read, run_workers};
 pub use workload::{fresh_store, stress, stress_on};

@@ -1,17 +1,17 @@
 //! The store that threads share.
-ghost use Rattle.std.specs.Prelude.{ℕ, ◌≡◌, ◌≤◌, ◌+◌, ◌<◌, ◌==◌, [], length, IfOk, OnOk, Err, MatchBool};
+ghost use Rattle.std.specs.Prelude.{◌≡◌, ◌≤◌, ◌+◌, ◌<◌, [], length, IfOk, OnOk};
 ghost use Rattle.history.specs.Answers as answers;
-ghost use Rattle.history.specs.Histories.{History, IsHistory, last};
+ghost use Rattle.history.specs.Histories.{IsHistory, last};
 ghost use Rattle.history.specs.Machine.{Machine};
 ghost use Rattle.image.specs.Values.{Value, IsValue};
 ghost use Rattle.snapshot.specs.Txn.{at_snapshot};
-ghost use Rattle.timequery.specs.declared.fault.QueryFault.TheVariants as query;
-ghost use Rattle.standing.specs.Laws.{ViewStands, SaysAt, SaysScanAt, SaysBetween, SaysScanBetween};
+ghost use Rattle.standing.specs.Laws.{SaysAt, SaysScanAt, SaysBetween, SaysScanBetween};
 ghost use Rattle.standing.specs.Stands.{Stands};
 ghost use Rattle.shared.specs.Counts.{unredeemed};
+ghost use Rattle.shared.specs.Moments.{OfSeen, begun_txn};
 ghost use Rattle.shared.specs.Reached.{Reached};
 ghost use Rattle.shared.specs.Seen.{IsLater, order_of};
-ghost use Rattle.shared.specs.Shared.{Shows, BeginHappens, SubmitHappens, SeenReached, PumpHappens, JobHappens, RedeemSays, WaitSays, CommitHappens, changed, done_in, commits_in};
+ghost use Rattle.shared.specs.Shared.{BeginHappens, SubmitHappens, SeenReached, PumpHappens, JobHappens, RedeemSays, WaitSays, CommitHappens, changed, done_in, commits_in};
 
 use crate::cell::PublishedCell;
 use crate::change::Change;
@@ -20,6 +20,8 @@ use crate::locked::Locked;
 use crate::naming::Opening;
 use crate::noting::{is_job_move, is_move};
 use crate::observer::Observer;
+use crate::shared_txn::SharedTxn;
+use crate::shared_view::SharedView;
 use chains::SharedValue;
 use disk::Disk;
 use history::{Key, Version};
@@ -28,7 +30,7 @@ use std::sync::ledger::Share;
 use std::sync::{Condvar, Mutex, Wait};
 use store::{
     BeginFault, Did, JobDid, PumpFault, QueryFault, Redeemed, StartFault, Store, SubmitFault,
-    Submitted, Ticket, Txn, TxnFault, View,
+    Submitted, Ticket, Txn, TxnFault,
 };
 
 /// What `run_vacuum` was answered.
@@ -78,28 +80,57 @@ impl<D: Disk, L: Opening> SharedStore<D, L> {
     }
 
     /// A view of all that is published. Its own reads take no lock.
-    pub fn view<R: Wait>(&self, rt: &R, me: &mut Observer<L>) -> Result<View, AllocError>
-        ensures shows { IfOk result (λ v. Shows L.start L.mark v me.new) }
+    pub fn view<R: Wait>(&self, rt: &R, me: &mut Observer<L>) -> Result<SharedView<L>, AllocError>
+        ensures moment { IfOk result (λ v. v.seen ≡ me.new) }
         ensures later { IsLater me.old me.new }
     {
-        self.locked.lock(rt).view(rt, &self.cell, me)
+        let taken = self.locked.lock(rt).view(rt, &self.cell, me);
+        match taken {
+            Ok(view) => Ok(SharedView::of(view, me.another(&self.cell))),
+            Err(AllocError) => Err(AllocError),
+        }
     }
 
-    /// A transaction on all that is published. Its own reads take no lock.
-    pub fn begin<R: Wait>(&self, rt: &R, me: &mut Observer<L>) -> Result<Txn, BeginFault>
+    /// A transaction on all that is published. Its own reads and writes take no lock.
+    pub fn begin<R: Wait>(&self, rt: &R, me: &mut Observer<L>) -> Result<SharedTxn<L>, BeginFault>
+        ensures happens { BeginHappens L.start L.mark (begun_txn result) me.new }
+        ensures moment { IfOk result (λ t. t.seen ≡ me.new) }
+        ensures later { IsLater me.old me.new }
+    {
+        match self.begin_txn(rt, me) {
+            Ok(txn) => Ok(SharedTxn::of(txn, me.another(&self.cell))),
+            Err(fault) => Err(fault),
+        }
+    }
+
+    /// Gives the transaction's snapshot up.
+    pub fn abort<R: Wait>(&self, rt: &R, txn: SharedTxn<L>) {
+        self.locked.lock(rt).abort(txn.spend());
+    }
+
+    /// Ends a transaction: its writes are queued as a commit, or it is refused.
+    pub fn submit<R: Wait>(
+        &self,
+        rt: &R,
+        txn: SharedTxn<L>,
+        label: u64,
+        now: u64,
+        me: &mut Observer<L>,
+    ) -> Result<Submitted, SubmitFault>
+        ensures happens { SubmitHappens L.start L.mark txn.txn label now result me.new }
+        ensures later { IsLater me.old me.new }
+    {
+        self.submit_txn(rt, txn.spend(), label, now, me)
+    }
+
+    fn begin_txn<R: Wait>(&self, rt: &R, me: &mut Observer<L>) -> Result<Txn, BeginFault>
         ensures happens { BeginHappens L.start L.mark result me.new }
         ensures later { IsLater me.old me.new }
     {
         self.locked.lock(rt).begin(rt, &self.cell, me)
     }
 
-    /// Gives the transaction's snapshot up.
-    pub fn abort<R: Wait>(&self, rt: &R, txn: Txn) {
-        self.locked.lock(rt).abort(txn);
-    }
-
-    /// Ends a transaction: its writes are queued as a commit, or it is refused.
-    pub fn submit<R: Wait>(
+    fn submit_txn<R: Wait>(
         &self,
         rt: &R,
         txn: Txn,
@@ -169,54 +200,58 @@ impl<D: Disk, L: Opening> SharedStore<D, L> {
     pub fn at<R: Wait>(
         &self,
         rt: &R,
-        view: &View,
+        view: &SharedView<L>,
         key: Key,
         time: u64,
     ) -> Result<Option<SharedValue>, QueryFault>
-        ensures { (h : History Value) (floors : ℕ → ℕ) → ViewStands view.now h floors → MatchBool (view.now.mark == L.mark) (SaysAt (answers.at_answer h floors key time) result) (result ≡ Err query.Stranger) }
+        ensures { OfSeen L.start view.now.seen (λ m. SaysAt (answers.at_answer m.published m.floors key time) result) }
     {
-        self.locked.lock(rt).at(view, key, time)
+        let shown = view.shown();
+        self.locked.lock(rt).at(shown, key, time)
     }
 
     /// The values of a relation at a time, as the view's moment knows them.
     pub fn scan_at<R: Wait>(
         &self,
         rt: &R,
-        view: &View,
+        view: &SharedView<L>,
         relation: u16,
         time: u64,
     ) -> Result<Vec<(u64, SharedValue)>, QueryFault>
-        ensures { (h : History Value) (floors : ℕ → ℕ) → ViewStands view.now h floors → MatchBool (view.now.mark == L.mark) (SaysScanAt h floors relation time result) (result ≡ Err query.Stranger) }
+        ensures { OfSeen L.start view.now.seen (λ m. SaysScanAt m.published m.floors relation time result) }
     {
-        self.locked.lock(rt).scan_at(view, relation, time)
+        let shown = view.shown();
+        self.locked.lock(rt).scan_at(shown, relation, time)
     }
 
     /// The rows of a key from `a` up to `b`, as the view's moment knows them.
     pub fn between<R: Wait>(
         &self,
         rt: &R,
-        view: &View,
+        view: &SharedView<L>,
         key: Key,
         a: u64,
         b: u64,
     ) -> Result<Vec<Version<SharedValue>>, QueryFault>
-        ensures { (h : History Value) (floors : ℕ → ℕ) → ViewStands view.now h floors → MatchBool (view.now.mark == L.mark) (SaysBetween h floors key a b result) (result ≡ Err query.Stranger) }
+        ensures { OfSeen L.start view.now.seen (λ m. SaysBetween m.published m.floors key a b result) }
     {
-        self.locked.lock(rt).between(view, key, a, b)
+        let shown = view.shown();
+        self.locked.lock(rt).between(shown, key, a, b)
     }
 
     /// The rows of a relation from `a` up to `b`, as the view's moment knows them.
     pub fn scan_between<R: Wait>(
         &self,
         rt: &R,
-        view: &View,
+        view: &SharedView<L>,
         relation: u16,
         a: u64,
         b: u64,
     ) -> Result<Vec<(u64, Version<SharedValue>)>, QueryFault>
-        ensures { (h : History Value) (floors : ℕ → ℕ) → ViewStands view.now h floors → MatchBool (view.now.mark == L.mark) (SaysScanBetween h floors relation a b result) (result ≡ Err query.Stranger) }
+        ensures { OfSeen L.start view.now.seen (λ m. SaysScanBetween m.published m.floors relation a b result) }
     {
-        self.locked.lock(rt).scan_between(view, relation, a, b)
+        let shown = view.shown();
+        self.locked.lock(rt).scan_between(shown, relation, a, b)
     }
 
     /// The times of the published commits with a label, rising, in microseconds since 1970.
@@ -234,8 +269,8 @@ impl<D: Disk, L: Opening> SharedStore<D, L> {
     }
 
     /// Ends a view.
-    pub fn end<R: Wait>(&self, rt: &R, view: View) {
-        self.locked.lock(rt).end(view);
+    pub fn end<R: Wait>(&self, rt: &R, view: SharedView<L>) {
+        self.locked.lock(rt).end(view.spend());
     }
 
     /// Commits these changes, and waits until they are published. With Done the caller has seen the
@@ -255,18 +290,18 @@ impl<D: Disk, L: Opening> SharedStore<D, L> {
         ensures amount { share.new.amount ≡ share.old.amount + commits_in result }
         ensures later { IsLater me.old me.new }
     {
-        let mut txn = match self.begin(rt, me) {
+        let mut txn = match self.begin_txn(rt, me) {
             Ok(txn) => txn,
             Err(fault) => return Err(CommitFault::Begin(fault)),
         };
         match apply(self.alloc, &mut txn, changes) {
             Ok(()) => {}
             Err(fault) => {
-                self.abort(rt, txn);
+                self.locked.lock(rt).abort(txn);
                 return Err(CommitFault::Txn(fault));
             }
         }
-        match self.submit(rt, txn, label, now, me) {
+        match self.submit_txn(rt, txn, label, now, me) {
             Ok(Submitted::Queued(ticket)) => self.wait_for(rt, ticket, share, me),
             Ok(Submitted::ReadOnly(snapshot)) => Ok(Committed::ReadOnly(snapshot)),
             Err(fault) => Err(CommitFault::Submit(fault)),

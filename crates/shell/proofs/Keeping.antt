@@ -50,3 +50,4 @@ keeps-acts tells (action.Format dir slots) old new input output told sound acts 
 keeps-acts tells (action.At dir key time) old new input output told sound acts = tt
 keeps-acts tells (action.Between dir key from to) old new input output told sound acts = tt
 keeps-acts tells (action.Dump dir) old new input output told sound acts = tt
+keeps-acts tells (action.Stress writers readers rounds) old new input output told sound acts = tt

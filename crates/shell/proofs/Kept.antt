@@ -152,3 +152,4 @@ acts-kept tells (action.Run dir) old new input o v gives acts = runs-kept tells 
 acts-kept tells (action.At dir key time) old new input o v gives acts = at-kept tells old new (time_in time.now) (λ t. line.At key t) o v gives acts
 acts-kept tells (action.Between dir key from to) old new input o v gives acts = between-kept tells old new (time_in from.now) (time_in to.now) (λ s t. line.Between key s t) o v gives acts
 acts-kept tells (action.Dump dir) old new input o v gives acts = dumps-kept tells old new o v gives acts
+acts-kept tells (action.Stress writers readers rounds) old new input o v gives acts = (acts.0, refused-kept o v [] gives acts.1)

@@ -154,6 +154,11 @@ pub record AsksStore (tells : Bool) (old : DiskState) (asks : Line) (output : Ou
 abbrev pub Asks : Bool → DiskState → Line → Output → DiskState → Type 0
 Asks tells old asks output new = DoesNotOpen tells old output new ⊎ (HasNoMemory tells old output new ⊎ AsksStore tells old asks output new)
 
+
+-- what is of no disk is not done, and nothing is said
+abbrev pub DoesNothing : DiskState → Output → DiskState → Type 0
+DoesNothing old output new = (new ≡ old) × IsRefused output []
+
 -- a time that is none is refused, and the disk is as it was
 abbrev pub RefusesTime : DiskState → Output → DiskState → Type 0
 RefusesTime old output new = (new ≡ old) × IsRefused output (refusal_line fault.Time)
@@ -213,3 +218,4 @@ Acts tells (action.At dir key time) old input output new = MatchOption (time_in 
 Acts tells (action.Between dir key from to) old input output new =
     MatchOption (time_in from.now) (RefusesTime old output new) (λ a. MatchOption (time_in to.now) (RefusesTime old output new) (λ b. Asks tells old (line.Between key a b) output new))
 Acts tells (action.Dump dir) old input output new = Dumps tells old output new
+Acts tells (action.Stress writers readers rounds) old input output new = DoesNothing old output new

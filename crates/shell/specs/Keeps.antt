@@ -52,3 +52,4 @@ KeepsPromise tells (action.Format dir slots) old input output new = Unit {0}
 KeepsPromise tells (action.At dir key time) old input output new = Unit {0}
 KeepsPromise tells (action.Between dir key from to) old input output new = Unit {0}
 KeepsPromise tells (action.Dump dir) old input output new = Unit {0}
+KeepsPromise tells (action.Stress writers readers rounds) old input output new = Unit {0}

@@ -271,6 +271,12 @@ fn perform<D: Disk, R: LineInput, W: Write>(
             to,
         } => ask_between(alloc, disk, key, from, to, output),
         Action::Dump { dir: _ } => dump(alloc, disk, output),
+        // It is of no disk: the program runs it in threads of its own.
+        Action::Stress {
+            writers: _,
+            readers: _,
+            rounds: _,
+        } => (REFUSED, disk),
     }
 }
 

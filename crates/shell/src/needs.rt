@@ -80,5 +80,10 @@ pub fn folder_need<'a>(action: &Action<'a>) -> Need<'a>
             to,
         } => change_if(are_times(from, to), dir),
         Action::Dump { dir } => Need::Read(dir),
+        Action::Stress {
+            writers: _,
+            readers: _,
+            rounds: _,
+        } => Need::Nothing,
     }
 }

@@ -1,10 +1,14 @@
 //! The program `timestore`.
 #![tactic(auto)]
 
+mod stress;
+
+use crate::stress::run_stress;
 use clap::Error;
 use disk::MemDisk;
 use disk_file::{Access, FileDisk, FolderFault};
 use session::{Answers, LineInput, Lines};
+use shared::Plan;
 use shell::{Action, Need, OpenFault, WordsFault, act, folder_need, read_words, refuse_folder};
 use status::{LogFault, read_header};
 use std::alloc::Global;
@@ -80,8 +84,21 @@ fn main(rt: HostRuntime) -> io::Result<ExitCode> {
         Err(WordsFault::Usage(error)) => return print_usage(&rt, &error),
         Err(WordsFault::Unread) => return Ok(ExitCode::from(2)),
     };
+    let mut writer = BufWriter::with_capacity(alloc, BUFFER, io::writer(&rt))?;
+    if let Action::Stress {
+        writers,
+        readers,
+        rounds,
+    } = action
+    {
+        let plan = Plan {
+            writers,
+            readers,
+            rounds,
+        };
+        return Ok(ExitCode::from(run_stress(&rt, alloc, plan, &mut writer)));
+    }
     let mut input = Lines::new(alloc, BufReader::with_capacity(alloc, BUFFER, rt.reader())?);
-    let writer = BufWriter::with_capacity(alloc, BUFFER, io::writer(&rt))?;
     let mut output = Answers::new(alloc, writer);
     let status = match folder_need(&action) {
         Need::Nothing => act(alloc, action, MemDisk::new(alloc), &mut input, &mut output).0,

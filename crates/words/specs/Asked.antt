@@ -37,13 +37,19 @@ abbrev pub AsksDump : List Row → Action → Type 0
 AsksDump rows (action.Dump dir) = first_of (codes "DIR") rows ≡ Some dir.now
 AsksDump rows _ = ⊥
 
+abbrev pub AsksStress : List Row → Action → Type 0
+AsksStress rows (action.Stress writers readers rounds) = HasNumber 8 (codes "WRITERS") rows writers
+    × HasNumber 8 (codes "READERS") rows readers × HasNumber 16 (codes "ROUNDS") rows rounds
+AsksStress rows _ = ⊥
+
 -- a subcommand's name, and the rows of its arguments
 abbrev pub AsksCommand : Text → List Row → Action → Type 0
 AsksCommand name rows a = MatchBool (bytes_eq name (codes "format")) (AsksFormat rows a)
     (MatchBool (bytes_eq name (codes "run")) (AsksRun rows a)
     (MatchBool (bytes_eq name (codes "at")) (AsksAt rows a)
     (MatchBool (bytes_eq name (codes "between")) (AsksBetween rows a)
-    (MatchBool (bytes_eq name (codes "dump")) (AsksDump rows a) ⊥))))
+    (MatchBool (bytes_eq name (codes "dump")) (AsksDump rows a)
+    (MatchBool (bytes_eq name (codes "stress")) (AsksStress rows a) ⊥)))))
 
 -- without a subcommand the example is asked for
 abbrev pub Asks : Option (Text × List Row) → Action → Type 0

@@ -44,6 +44,15 @@ slots = record (new_rule (codes "slots")) {
   defaults = codes "1024" ∷ [];
 }
 
+abbrev pub writers : Rule
+writers = record (text (codes "WRITERS")) { parser = Some (parser.Signed (pos 1) (pos 8)) }
+
+abbrev pub readers : Rule
+readers = record (text (codes "READERS")) { parser = Some (parser.Signed (pos 0) (pos 8)) }
+
+abbrev pub rounds : Rule
+rounds = record (text (codes "ROUNDS")) { parser = Some (parser.Signed (pos 1) (pos 1000)) }
+
 abbrev pub format : App
 format = with_rule (with_rule (new_app (codes "format")) dir) slots
 
@@ -63,9 +72,16 @@ between = with_rule (with_rule (of_record (codes "between")) from) to
 abbrev pub dump : App
 dump = with_rule (new_app (codes "dump")) dir
 
+abbrev pub stress : App
+stress = with_rule (with_rule (with_rule (new_app (codes "stress")) writers) readers) rounds
+
 -- the commands that make a store and run scripts
 abbrev pub making : App
 making = with_subcommand (with_subcommand (new_app (codes "timestore")) format.top) run.top
 
+-- these, and the commands that ask about a record
+abbrev pub asking : App
+asking = with_subcommand (with_subcommand making at.top) between.top
+
 abbrev pub timestore : App
-timestore = with_subcommand (with_subcommand (with_subcommand making at.top) between.top) dump.top
+timestore = with_subcommand (with_subcommand asking dump.top) stress.top

@@ -32,4 +32,10 @@ pub enum Action<'a> {
     Dump {
         dir: &'a str,
     },
+    /// Lets this many threads write and read a new store in memory, each so many times.
+    Stress {
+        writers: u8,
+        readers: u8,
+        rounds: u16,
+    },
 }

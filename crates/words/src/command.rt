@@ -5,6 +5,7 @@ ghost use Rattle.clap.specs.declared.builder.command.Command.TheViews.{out-Comma
 ghost use Rattle.words.specs.Commands as told;
 
 use crate::help;
+use clap::builder::ValueParser;
 use clap::{Arg, ArgMatches, Command, Error, value_parser};
 use std::alloc::{AllocError, Global};
 
@@ -76,6 +77,36 @@ fn slots<'a>(alloc: Global) -> Arg<'a>
         .help("The slots of the store's log, 16 to 65536")
 }
 
+/// How many threads write.
+fn writers<'a>(alloc: Global) -> Arg<'a>
+    ensures { told.IsArg result told.writers }
+{
+    Arg::new(alloc, "WRITERS")
+        .required(true)
+        .value_parser(ValueParser::Signed(1, 8))
+        .help("The threads that write, 1 to 8")
+}
+
+/// How many threads read.
+fn readers<'a>(alloc: Global) -> Arg<'a>
+    ensures { told.IsArg result told.readers }
+{
+    Arg::new(alloc, "READERS")
+        .required(true)
+        .value_parser(ValueParser::Signed(0, 8))
+        .help("The threads that read, 0 to 8")
+}
+
+/// How often each thread writes or reads.
+fn rounds<'a>(alloc: Global) -> Arg<'a>
+    ensures { told.IsArg result told.rounds }
+{
+    Arg::new(alloc, "ROUNDS")
+        .required(true)
+        .value_parser(ValueParser::Signed(1, 1000))
+        .help("How often each of them does, 1 to 1000")
+}
+
 /// A command with no argument yet. Its help begins with the first text, and ends with the other.
 fn command<'a>(alloc: Global, name: &'a str, about: &'a str, more: &'a str) -> Command<'a>
     ensures app { app_of result ≡ new_app name.entry.now }
@@ -143,6 +174,16 @@ fn dump<'a>(alloc: Global) -> Result<Command<'a>, AllocError>
     with_arg(command, dir(alloc))
 }
 
+fn stress<'a>(alloc: Global) -> Result<Command<'a>, AllocError>
+    ensures { IfOk result (λ c. told.IsCommand c told.stress) }
+{
+    let about = "Let threads write and read a new store in memory";
+    let command = command(alloc, "stress", about, help::STRESS);
+    let command = with_arg(command, writers(alloc))?;
+    let command = with_arg(command, readers(alloc))?;
+    with_arg(command, rounds(alloc))
+}
+
 /// The command with one more subcommand.
 fn with_command<'a>(command: Command<'a>, sub: Command<'a>) -> Result<Command<'a>, AllocError>
     requires { (fields_of sub).has_globals ≡ false }
@@ -174,13 +215,20 @@ fn making<'a>(alloc: Global) -> Result<Command<'a>, AllocError>
     with_command(command, run(alloc)?)
 }
 
+/// These, and the commands that ask about a record.
+fn asking<'a>(alloc: Global) -> Result<Command<'a>, AllocError>
+    ensures { IfOk result (λ c. told.IsCommand c told.asking) }
+{
+    let command = with_command(making(alloc)?, at(alloc)?)?;
+    with_command(command, between(alloc)?)
+}
+
 /// The whole command line.
 fn timestore<'a>(alloc: Global) -> Result<Command<'a>, AllocError>
     ensures { IfOk result (λ c. told.IsCommand c told.timestore) }
 {
-    let command = with_command(making(alloc)?, at(alloc)?)?;
-    let command = with_command(command, between(alloc)?)?;
-    with_command(command, dump(alloc)?)
+    let command = with_command(asking(alloc)?, dump(alloc)?)?;
+    with_command(command, stress(alloc)?)
 }
 
 /// What the words say, as `clap` reads them.

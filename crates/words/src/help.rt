@@ -61,3 +61,11 @@ pub const DUMP: &str = "The store is not opened, and nothing is written. The lin
   member LABEL TIME EXTENT EXTENTS RECORDS INSTANT
   slot N archived UPTO START LENGTH RECORDS
   used N of SLOTS: when all are used, commits are refused by `status full`";
+
+/// Of `stress`.
+pub const STRESS: &str =
+    "Each writer commits a record of its own, once a round, while the readers ask for
+them and a committer and a vacuum go on beside them. At the end each record has to
+have the value of its last round. The answer is:
+  commits N last N
+with N the writers times the rounds, or none, with status 1. No folder is used.";

@@ -4,7 +4,7 @@ ghost use Rattle.clap.specs.Words.{first_of, found_of, rows_of, subcommand_of, s
 ghost use Rattle.history.specs.declared.key.Key.{Key as AnyKey};
 ghost use Rattle.words.specs.declared.action.Action.{Action as Asked};
 ghost use Rattle.words.specs.Commands as told;
-ghost use Rattle.words.specs.Asked.{HasKey, HasNumber, Asks, AsksFormat, AsksNothing, AsksRun, AsksAt, AsksBetween, AsksDump};
+ghost use Rattle.words.specs.Asked.{HasKey, HasNumber, Asks, AsksFormat, AsksNothing, AsksRun, AsksAt, AsksBetween, AsksDump, AsksStress};
 ghost use Rattle.words.specs.Refused.{IsRefusal};
 
 use crate::action::Action;
@@ -28,6 +28,13 @@ fn text<'a>(matches: &ArgMatches<'a>, name: &str) -> Option<&'a str>
     ensures none { IfNone result (first_of name.now (rows_of (found_of matches.now)) ≡ None) }
 {
     matches.get_str(name)
+}
+
+fn u8_of(matches: &ArgMatches<'_>, name: &str) -> Option<u8>
+    ensures some { IfSome result (HasNumber 8 name.now (rows_of (found_of matches.now))) }
+    ensures none { IfNone result ((n : ℕ) → HasNumber 8 name.now (rows_of (found_of matches.now)) n → ⊥) }
+{
+    matches.get_one::<u8>(name)
 }
 
 fn u16_of(matches: &ArgMatches<'_>, name: &str) -> Option<u16>
@@ -113,6 +120,17 @@ fn dump<'a>(matches: &ArgMatches<'a>) -> Option<Action<'a>>
     })
 }
 
+fn stress<'a>(matches: &ArgMatches<'a>) -> Option<Action<'a>>
+    ensures some { IfSome result (AsksStress (rows_of (found_of matches.now))) }
+    ensures none { IfNone result ((a : Asked) → AsksStress (rows_of (found_of matches.now)) a → ⊥) }
+{
+    Some(Action::Stress {
+        writers: u8_of(matches, "WRITERS")?,
+        readers: u8_of(matches, "READERS")?,
+        rounds: u16_of(matches, "ROUNDS")?,
+    })
+}
+
 /// What the matches ask for.
 fn action<'a>(matches: &ArgMatches<'a>) -> Option<Action<'a>>
     ensures some { IfSome result (Asks (subcommand_rows_of matches.now)) }
@@ -131,6 +149,8 @@ fn action<'a>(matches: &ArgMatches<'a>) -> Option<Action<'a>>
         between(inner)
     } else if name == "dump" {
         dump(inner)
+    } else if name == "stress" {
+        stress(inner)
     } else {
         None
     }
