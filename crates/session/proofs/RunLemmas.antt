@@ -7,7 +7,7 @@ use Rattle.script.specs.declared.line.Line.TheVariants.{Reopen}
 use Rattle.std.specs.Io.KnownBytes.{Appends, Keeps}
 use Rattle.std.proofs.KnownBytes.{Appends-kept, Appends-nil, Appends-trans}
 use Rattle.session.specs.Lines.{AreLines, Reads, lines_of}
-use Rattle.session.specs.Run.{Answers, End, EndsBadly, EndsCut, IsCut, Run, Turn}
+use Rattle.session.specs.Run.{Answered, Answers, End, EndsBadly, EndsCut, IsCut, Run, Turn}
 use Rattle.session.specs.Session.{State, Closes}
 use Rattle.session.specs.Texts.{Text}
 use Rattle.session.specs.declared.ending.Ending.TheVariants as ending
@@ -120,16 +120,19 @@ ran-end tells i0 i j w0 w v n0 n number s0 s line slice some end so is_n reads i
 
 -- ---- one line
 
--- what a line left
-abbrev pub Turned : {E : Type 0} → (E → End) → (Text → Result State End → Type 0) → Option Text → Option Text → Result State E → Type 0
-Turned end_of P w v r = MatchResult r (λ new. (out : Text) × P out (Ok new) × Appends w v out) (λ e. (out : Text) × P out (Err (end_of e)) × Appends w v out)
+pub taken : (tells b : Bool) (n : ℕ) (s t : State) (line : Text) (w v : Option Text) → Answered tells b n s line t w v → b ≡ true → (out : Text) × Turn tells n s line out (Ok t) × Appends w v out
+taken tells true n s t line w v answers is = answers
+taken tells false n s t line w v answers is = absurd cc
 
-pub turned-by : {E : Type 0} (end_of : E → End) (P Q : Text → Result State End → Type 0) (w v : Option Text) (r : Result State E) → ((out : Text) (next : Result State End) → P out next → Q out next) → Turned end_of P w v r → Turned end_of Q w v r
-turned-by end_of P Q w v (Ok new) by turned = (turned.0, by turned.0 (Ok new) turned.1, turned.2)
-turned-by end_of P Q w v (Err e) by turned = (turned.0, by turned.0 (Err (end_of e)) turned.1, turned.2)
+pub not_taken : (tells b : Bool) (n : ℕ) (s t : State) (line : Text) (w v : Option Text) → Answered tells b n s line t w v → b ≡ false → Answered tells false n s line t w v
+not_taken tells b n s t line w v answers is = subst (λ (x : Bool). Answered tells x n s line t w v) is answers
 
-pub answers-turn : (tells : Bool) (n : ℕ) (s t : State) (line : Text) (l : Line) (out : Text) (next : Result State End) → said line ≡ Some l → l ≡ Reopen → t ≡ s → Answers tells t Reopen out next → Turn tells n s line out next
-answers-turn tells n s t line l out next found is same answers =
-    let here : Answers tells s Reopen out next = subst (λ (x : State). Answers tells x Reopen out next) same answers in
-    let there : Answers tells s l out next = subst (λ (x : Line). Answers tells s x out next) (sym is) here in
-    subst (λ (o : Option Line). MatchOption o (EndsBadly n s out next) (λ x. Answers tells s x out next)) (sym found) there
+-- a line that is a `reopen`
+pub reopen-turn : (tells : Bool) (n : ℕ) (s t : State) (line : Text) (w u v : Option Text) (next : Result State End) → Answered tells false n s line t w u
+    → ((out : Text) × Answers tells t Reopen out next × Appends u v out) → (out : Text) × Turn tells n s line out next × Appends w v out
+reopen-turn tells n s t line w u v next not answers =
+    let here : Answers tells s Reopen answers.0 next = subst (λ (x : State). Answers tells x Reopen answers.0 next) not.1 answers.1 in (
+      answers.0,
+      subst (λ (o : Option Line). MatchOption o (EndsBadly n s answers.0 next) (λ x. Answers tells s x answers.0 next)) (sym not.0) here,
+      subst (λ (x : Option Text). Appends x v answers.0) not.2 answers.2,
+    )

@@ -1,8 +1,10 @@
 -- The run of a script.
-use Rattle.std.specs.Prelude.{◌≡◌, ℕ, ◌+◌, Bool, List, [], ◌∷◌, ◌++◌, ◌⊎◌, Result, Ok, Err, MatchOption, MatchResult}
+use Rattle.std.specs.Prelude.{◌≡◌, ℕ, ◌+◌, Bool, true, false, Option, Some, List, [], ◌∷◌, ◌++◌, ◌⊎◌, Result, Ok, Err, MatchOption, MatchResult}
+use Rattle.std.specs.Io.KnownBytes.{Appends}
 use Rattle.disk.specs.Calls.{DiskState}
 use Rattle.script.specs.Lines.{said}
 use Rattle.script.specs.declared.line.Line.{Line}
+use Rattle.script.specs.declared.line.Line.TheVariants as form
 use Rattle.recovery.specs.declared.fault.OpenFault.{OpenFault}
 use Rattle.session.specs.declared.ending.Ending.{Ending}
 use Rattle.session.specs.declared.ending.Ending.TheVariants as ending
@@ -38,6 +40,15 @@ Answers tells old l out next = MatchResult next (λ new. (r : Reply) × Step tel
 -- so does the nth line
 abbrev pub Turn : Bool → ℕ → State → Text → Text → Result State End → Type 0
 Turn tells n old line out next = MatchOption (said line) (EndsBadly n old out next) (λ l. Answers tells old l out next)
+
+-- the nth line was answered; or it is a `reopen`, and nothing happened
+abbrev pub Answered : Bool → Bool → ℕ → State → Text → State → Option Text → Option Text → Type 0
+Answered tells true n old text new before after = (out : Text) × Turn tells n old text out (Ok new) × Appends before after out
+Answered tells false n old text new before after = (said text ≡ Some form.Reopen) × (new ≡ old) × (after ≡ before)
+
+-- the run ends so with the nth line, once the session is closed
+abbrev pub Ended : Bool → ℕ → State → Text → Ending → State → Option Text → Option Text → Type 0
+Ended tells n old line end new before after = (out : Text) × ((disk : DiskState) → Closes new disk → Turn tells n old line out (Err (end, disk))) × Appends before after out
 
 -- the input or the output was refused
 abbrev pub IsCut : Ending → Type 0

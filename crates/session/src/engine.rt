@@ -18,21 +18,6 @@ use disk::Disk;
 use std::alloc::Global;
 use std::io::Write;
 
-/// Ends a run at a line of no form.
-fn end_badly<D: Disk, W: Write>(
-    session: Session<D>,
-    number: u64,
-    output: &mut Answers<W>,
-) -> (Ending, D)
-    ensures ended { (out : Text) × told.EndsBadly number session out (Err (result.0, D.state result.1)) × Appends (text_said W.contents output.old) (text_said W.contents output.new) out }
-    ensures refused { result.0 ≡ Ending.OutputRefused → is_output_refused output.new ≡ true }
-{
-    match say_bad_line(output, number) {
-        Ok(()) => (Ending::BadLine, session.close()),
-        Err(_) => (Ending::OutputRefused, session.close()),
-    }
-}
-
 /// Opens the session's store again, and says so. Where the run ends with it, how it ended and the
 /// disk come back.
 fn reopen<D: Disk, W: Write>(
@@ -60,30 +45,35 @@ fn reopen<D: Disk, W: Write>(
     }
 }
 
-/// Answers one line. Where the run ends with it, how it ended and the disk come back.
+/// Answers one line, and says whether it was answered: a `reopen` is not, and nothing happens.
+///
+/// # Errors
+///
+/// How the run ends with the line; the session is to be closed.
 fn turn<D: Disk, W: Write>(
-    session: Session<D>,
+    session: &mut Session<D>,
     alloc: Global,
     number: u64,
     line: &[u8],
     output: &mut Answers<W>,
-) -> Result<Session<D>, (Ending, D)>
-    ensures turned { MatchResult result
-        (λ new. (out : Text) × told.Turn D.tells number session line.now out (Ok new) × Appends (text_said W.contents output.old) (text_said W.contents output.new) out)
-        (λ e. (out : Text) × told.Turn D.tells number session line.now out (Err (e.0, D.state e.1)) × Appends (text_said W.contents output.old) (text_said W.contents output.new) out) }
-    ensures refused { IfErr result (λ e. e.0 ≡ Ending.OutputRefused → is_output_refused output.new ≡ true) }
-    ensures read { IfErr result (λ e. e.0 ≢ Ending.InputRefused) }
+) -> Result<bool, Ending>
+    ensures turned { MatchResult result (λ some. told.Answered D.tells some number session.old line.now session.new (text_said W.contents output.old) (text_said W.contents output.new))
+        (λ ending. told.Ended D.tells number session.old line.now ending session.new (text_said W.contents output.old) (text_said W.contents output.new)) }
+    ensures refused { IfErr result (λ ending. ending ≡ Ending.OutputRefused → is_output_refused output.new ≡ true) }
+    ensures read { IfErr result (λ ending. ending ≢ Ending.InputRefused) }
 {
     let Some(found) = script::parse(line) else {
-        return Err(end_badly(session, number, output));
+        return match say_bad_line(output, number) {
+            Ok(()) => Err(Ending::BadLine),
+            Err(_) => Err(Ending::OutputRefused),
+        };
     };
-    let mut session = session;
     match session.answer(alloc, found) {
         Some(reply) => match write_reply(output, &reply) {
-            Ok(()) => Ok(session),
-            Err(_) => Err((Ending::OutputRefused, session.close())),
+            Ok(()) => Ok(true),
+            Err(_) => Err(Ending::OutputRefused),
         },
-        None => reopen(session, alloc, output),
+        None => Ok(false),
     }
 }
 
@@ -144,8 +134,13 @@ pub fn run<D: Disk, R: LineInput, W: Write>(
             Ok(false) => return (Ending::Whole, session.close()),
             Err(ending) => return (ending, session.close()),
         }
-        match turn(session, alloc, input.count(), input.line(), output) {
-            Ok(next) => session = next,
+        match turn(&mut session, alloc, input.count(), input.line(), output) {
+            Ok(true) => continue,
+            Ok(false) => {}
+            Err(ending) => return (ending, session.close()),
+        }
+        match reopen(session, alloc, output) {
+            Ok(opened) => session = opened,
             Err(end) => return end,
         }
     }
