@@ -154,7 +154,6 @@ pub record AsksStore (tells : Bool) (old : DiskState) (asks : Line) (output : Ou
 abbrev pub Asks : Bool → DiskState → Line → Output → DiskState → Type 0
 Asks tells old asks output new = DoesNotOpen tells old output new ⊎ (HasNoMemory tells old output new ⊎ AsksStore tells old asks output new)
 
-
 -- what is of no disk is not done, and nothing is said
 abbrev pub DoesNothing : DiskState → Output → DiskState → Type 0
 DoesNothing old output new = (new ≡ old) × IsRefused output []
