@@ -2,3 +2,4 @@ pub mod Opened
 pub mod Made
 pub mod JobSteps
 pub mod InStep
+pub mod ReclaimStarts

@@ -16,7 +16,7 @@ use Rattle.group.specs.declared.answers.PumpFault.{PumpFault}
 use Rattle.group.specs.declared.answers.PumpFault.TheVariants as fault
 use Rattle.group.specs.declared.queued.StoredExtent.{StoredExtent}
 use Rattle.transactions.specs.Values.{TransactionsValue}
-use Rattle.transactions.specs.Steps.{next_step, grouped, next_extent, wrote_extent, at_stage, entries, IsCommitOf, published, broken}
+use Rattle.transactions.specs.Steps.{next_step, grouped, next_extent, wrote_extent, is_stale, freshened, at_stage, entries, IsCommitOf, published, broken}
 use Rattle.transactions.specs.declared.stage.GroupStage.TheVariants as stages
 use Rattle.transactions.specs.declared.stage.NextStep.{NextStep}
 use Rattle.transactions.specs.declared.stage.NextStep.TheVariants as step
@@ -86,13 +86,17 @@ pub record TurnsSlot (tells : Bool) (turn : TurnState) (old : StoreValue) (resul
 
 -- the group's slot is in the writing
 abbrev pub begun : StoreValue → StoreValue
-begun v = record v { transactions = at_stage stages.Turning v.transactions; log = record v.log { writing = true } }
+begun v = record v { transactions = at_stage stages.Turning (freshened v.transactions); log = record v.log { writing = true } }
 
 -- the slot that comes next is begun: it names the group's commits
 pub record BeginsSlot (tells : Bool) (old : StoreValue) (result : Result Did PumpFault) (new : StoreValue) : Type 0 where
   pub body : Body
   pub commit : IsCommitOf (entries old.transactions) body
   pub turns : TurnsSlot tells (record { number = old.log.used; body = spelling old.log.profile (record { number = old.log.used; body = body }); stage = slots.Begun }) (begun old) result new
+
+-- where the group's versions are to forget what a reclaim has ended, they are made beforehand; there may be no memory for that: then nothing has changed
+abbrev pub MayBeginSlot : Bool → StoreValue → Result Did PumpFault → StoreValue → Type 0
+MayBeginSlot tells old result new = ((is_stale old.transactions ≡ true) × (result ≡ Err fault.NoMemory) × (new ≡ old)) ⊎ BeginsSlot tells old result new
 
 -- where no group stands and commits wait, one begins
 abbrev pub started : StoreValue → StoreValue
@@ -102,7 +106,7 @@ abbrev pub TakesStep : Bool → NextStep → StoreValue → Result Did PumpFault
 TakesStep tells step.Idle old result new = (result ≡ Ok did.Idle) × (new ≡ old)
 TakesStep tells step.WriteExtent old result new = MatchOption (next_extent old.transactions) ⊥ (λ stored. WritesExtent tells stored old result new)
 TakesStep tells step.SyncHeap old result new = SyncsHeap tells old result new
-TakesStep tells step.BeginSlot old result new = MatchBool (is_some (turn_of old.job)) ((result ≡ Err fault.Busy) × (new ≡ old)) (BeginsSlot tells old result new)
+TakesStep tells step.BeginSlot old result new = MatchBool (is_some (turn_of old.job)) ((result ≡ Err fault.Busy) × (new ≡ old)) (MayBeginSlot tells old result new)
 TakesStep tells step.AdvanceSlot old result new = MatchOption old.turn ⊥ (λ turn. TurnsSlot tells turn old result new)
 
 -- a failed store writes nothing; any other takes the next step. While a job's slot is in the writing a group begins none.

@@ -3,7 +3,7 @@ ghost use Rattle.std.specs.Prelude.{◌≡◌, ◌<◌, false, is_some, IsTrue, 
 ghost use Rattle.store.specs.Values.{turn_of};
 ghost use Rattle.disk.specs.Areas.{AreSound};
 ghost use Rattle.transactions.specs.Steps.{due, next_extent};
-ghost use Rattle.store.specs.Pumps.{Pumps, TakesStep, SyncsHeap, BeginsSlot, TurnsSlot, store_of, did_at};
+ghost use Rattle.store.specs.Pumps.{Pumps, TakesStep, SyncsHeap, MayBeginSlot, TurnsSlot, store_of, did_at};
 
 use crate::job::JobStage;
 use crate::store::Store;
@@ -100,10 +100,13 @@ impl<D: Disk> Store<D> {
         requires works { self.old.transactions.failed ≡ false }
         requires room { self.old.transactions.used < self.old.transactions.slots }
         requires free { is_some (turn_of self.old.job) ≡ false }
-        ensures is { BeginsSlot D.tells self.old result self.new }
+        ensures is { MayBeginSlot D.tells self.old result self.new }
         ensures sound { IsTrue D.tells → AreSound self.new.disk.areas }
     {
         let body = self.transactions.slot_body();
+        if self.transactions.freshen(self.alloc).is_err() {
+            return Err(PumpFault::NoMemory);
+        }
         match self.log.begin_slot(body) {
             Err(_) => unreachable!(),
             Ok(turn) => {
