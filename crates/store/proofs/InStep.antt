@@ -5,15 +5,15 @@ use Rattle.status.specs.SlotCalls as slots
 use Rattle.status.specs.TurnState.{TurnState}
 use Rattle.group.specs.declared.answers.PumpFault.{PumpFault}
 use Rattle.group.specs.declared.answers.PumpFault.TheVariants as fault
-use Rattle.transactions.specs.Values.{is_turning, with_slot_used}
+use Rattle.transactions.specs.Values.{is_turning}
 use Rattle.disk.specs.declared.area.Area.{Area}
 use Rattle.disk.specs.declared.area.Area.TheVariants as areas
 use Rattle.archive.specs.Pieces.{InWriting}
 use Rattle.vacuum.specs.Anchors.{Sourced}
 use Rattle.wire.specs.declared.slot.Run.{Run}
 use Rattle.wire.specs.declared.slot.Anchors.{Anchors}
-use Rattle.transactions.specs.Reclaims.{prepared, reclaimed_to}
-use Rattle.store.specs.Values.{StoreValue, IsInStep, TurnsOne, IsOnItsWay, turn_in}
+use Rattle.transactions.specs.Reclaims.{prepared}
+use Rattle.store.specs.Values.{StoreValue, IsInStep, IsOnItsWay, turn_in}
 use Rattle.store.specs.Parts.{IsInPlace, IsInRange}
 use Rattle.store.specs.Jobs.{TakesJobStep, Stores, WritesOrSyncs, AnchorsOrSync, SyncsStored, BeginsJobSlot, TurnsJob, IsJobTurned, JobTurnFails, JobMoves, with_job, job_fails, work_done, slot_opened, slot_taken, made_ready, first_turn}
 use Rattle.store.specs.declared.job.Job.{Job}
@@ -52,7 +52,7 @@ none-there (Some turn) out = absurd (let is : true ≡ false = out in cc)
 fails : (v : StoreValue) (job made : Job) (new : StoreValue) → (IsInPlace job.work → IsInPlace made.work) → Counts v job → Holds (job_fails (running v job) made new)
 fails v job made new run_is c = record {
   in_step = record { slots = c.slots; used = c.used; turns = λ works. absurd (let is : true ≡ false = works in cc) };
-  in_range = record { slots = c.few; run = rw run_is c.run };
+  in_range = record { slots = c.few; run = run_is c.run };
 }
 
 -- the job's slot is what it was
@@ -68,7 +68,7 @@ goes-on v job made new run_is turn_is holds = record {
       job = rw turn_is (holds.in_step.turns works).job;
     };
   };
-  in_range = record { slots = holds.in_range.slots; run = rw run_is holds.in_range.run };
+  in_range = record { slots = holds.in_range.slots; run = run_is holds.in_range.run };
 }
 
 -- the job's slot is in the writing
@@ -88,23 +88,18 @@ turns v job next new c number way none writing turning = record {
   in_range = record { slots = c.few; run = c.run };
 }
 
--- no slot is in the writing once the job's is open
-opened : (v : StoreValue) (turn : TurnState) → turn.number ≡ v.log.used → v.turn ≡ None → is_turning v.transactions.stage ≡ is_some v.turn
-    → TurnsOne (record v { transactions = with_slot_used v.transactions; log = record v.log { used = turn.number + 1; writing = false }; job = None })
-opened v turn number none turning = record {
-  turning = turning;
-  writing = sym (ap (λ (o : Option TurnState). is_some o || false) none);
-  turn = subst (λ (o : Option TurnState). MatchOption o (Unit {0}) (λ t. (t.number ≡ turn.number + 1) × IsOnItsWay t.stage)) (sym none) tt;
-  job = tt;
-}
-
 -- the job is done
 ends : (work : JobWork) (v : StoreValue) (job : Job) (turn : TurnState) (new : StoreValue) → Counts v job → turn.number ≡ v.log.used → v.turn ≡ None → is_turning v.transactions.stage ≡ is_some v.turn → Holds (slot_opened (work_done work (running v job)) turn new)
 ends (Archive run writer) v job turn new c number none turning = record {
   in_step = record {
     slots = omega (arith, c.slots);
     used = omega (arith, c.used, number);
-    turns = λ works. opened v turn number none turning;
+    turns = λ works. record {
+      turning = turning;
+      writing = sym (ap (λ (o : Option TurnState). is_some o || false) none);
+      turn = subst (λ (o : Option TurnState). MatchOption o (Unit {0}) (λ t. (t.number ≡ turn.number + 1) × IsOnItsWay t.stage)) (sym none) tt;
+      job = tt;
+    };
   };
   in_range = record { slots = c.few; run = tt };
 }
@@ -112,7 +107,12 @@ ends (Reclaim anchors source written) v job turn new c number none turning = rec
   in_step = record {
     slots = omega (arith, c.slots);
     used = omega (arith, c.used, number);
-    turns = λ works. opened (record v { transactions = reclaimed_to v.transactions anchors.upto }) turn number none turning;
+    turns = λ works. record {
+      turning = turning;
+      writing = sym (ap (λ (o : Option TurnState). is_some o || false) none);
+      turn = subst (λ (o : Option TurnState). MatchOption o (Unit {0}) (λ t. (t.number ≡ turn.number + 1) × IsOnItsWay t.stage)) (sym none) tt;
+      job = tt;
+    };
   };
   in_range = record { slots = c.few; run = tt };
 }
@@ -153,7 +153,7 @@ turned slots.Opened own v job what new is way c number none writing turning = ab
 
 advances : (own : TurnState) (v : StoreValue) (job : Job) (result : Result JobDid PumpFault) (new : StoreValue) → job.stage ≡ stages.Turning own → v.transactions.failed ≡ false
     → MatchResult result (λ what. IsJobTurned own.stage own job (running v job) what new) (λ why. JobTurnFails job (running v job) why new) → Holds (running v job) → Holds new
-advances own v job (Err why) new is works answer holds = subst Holds (sym answer.1) (fails v job _ new refl (counts v job holds))
+advances own v job (Err why) new is works answer holds = subst Holds (sym answer.1) (fails v job (record job { stage = stages.Stored }) new (λ place. place) (counts v job holds))
 advances own v job (Ok what) new is works answer holds =
     let turns = holds.in_step.turns works in
     let turn_is : turn_in job.stage ≡ Some own = ap turn_in is in

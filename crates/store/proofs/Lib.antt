@@ -3,3 +3,4 @@ pub mod Made
 pub mod JobSteps
 pub mod InStep
 pub mod ReclaimStarts
+pub mod Begins

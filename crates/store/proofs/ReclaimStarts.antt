@@ -1,5 +1,5 @@
 -- A reclaim begins.
-use Rattle.std.proofs.Common.{◌≡◌, ℕ, zero, suc, ◌+◌, ◌-◌, ◌*◌, ◌^◌, ◌<◌, ◌≤◌, ◌==◌, nat_le, nat_lt, true, false, List, [], ◌∷◌, ◌++◌, length, map, Option, None, Some, refl, arith, ap, sym, subst, ◌∙◌, inl, inr, length-append}
+use Rattle.std.proofs.Common.{◌≡◌, ℕ, zero, suc, ◌+◌, ◌-◌, ◌*◌, ◌^◌, ◌<◌, ◌≤◌, ◌==◌, nat_le, nat_lt, true, false, List, [], ◌∷◌, ◌++◌, length, map, Option, None, Some, Result, Err, refl, arith, ap, sym, subst, ◌∙◌, inl, inr, length-append}
 use Rattle.std.specs.List.{AllByRecursion}
 use Rattle.std.proofs.lemmas.Bool.{cases_lt}
 use Rattle.std.proofs.lemmas.Bool.Decides.{nat_tests}
@@ -7,7 +7,10 @@ use Rattle.wire.specs.Numbers.{u16_bytes, u64_bytes}
 use Rattle.deltas.specs.declared.«record».Record.{Record}
 use Rattle.deltas.specs.Packing.{bodies, bodies_from}
 use Rattle.deltas.specs.Records.{spelling}
-use Rattle.extents.specs.declared.usage.Usage.{Usage}
+use Rattle.transactions.specs.Submits.{free_count}
+use Rattle.store.specs.Values.{StoreValue}
+use Rattle.store.specs.Reclaims.{StartsReclaim, reclaim_refusal, anchors_of}
+use Rattle.store.specs.declared.job.StartFault.TheVariants as fault
 
 -- a record has at least so many bytes
 low_len : (r : Record) → 11 ≤ length (spelling r)
@@ -47,9 +50,15 @@ length_map [] = refl
 length_map (r ∷ rs) = ap suc (length_map rs)
 
 -- more records than a count holds need more extents than there are
-pub too_many : (records : List Record) (free : ℕ) → 2 ^ 32 ≤ length records → free ≤ 65536 → nat_lt free (length (bodies (map spelling records))) ≡ true
+too_many : (records : List Record) (free : ℕ) → 2 ^ 32 ≤ length records → free ≤ 65536 → nat_lt free (length (bodies (map spelling records))) ≡ true
 too_many records free many few =
     let low = many_bodies (map spelling records) (all_long records) in
     let same = length_map records in
     let less : free < length (bodies (map spelling records)) = omega (arith, low, same, many, few) in
     grind (arith, nat_tests)
+
+-- where there are so many, the heap has no room for them
+pub too-full : (v : StoreValue) (left : List Record) → reclaim_refusal v ≡ None → left ≡ anchors_of v → 2 ^ 32 ≤ length left → StartsReclaim v (Err fault.HeapFull) v
+too-full v left none is many =
+    let all : 2 ^ 32 ≤ length (anchors_of v) = subst (λ (rs : List Record). 2 ^ 32 ≤ length rs) is many in
+    rw none (too_many (anchors_of v) (free_count v.transactions) all (omega arith), refl)

@@ -314,9 +314,9 @@ fn begin_slot<D: Disk>(
     ensures { (turn : Option TurnState)
         → BeginsJobSlot D.tells job (parts_of transactions.old log.old turn (Some job) archived.old runs_end.old (D.state disk.old)) result.0 (parts_of transactions.new log.new turn result.1 archived.new runs_end.new (D.state disk.new)) }
 {
-    if make_ready(alloc, transactions, &job.work).is_err() {
+    let Ok(()) = make_ready(alloc, transactions, &job.work) else {
         return (Err(PumpFault::NoMemory), Some(job));
-    }
+    };
     match log.begin_slot(slot_body(&job.work)) {
         Err(_) => unreachable!(),
         Ok(turn) => turn_slot(alloc, transactions, log, disk, archived, runs_end, job, turn),
