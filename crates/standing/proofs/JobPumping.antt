@@ -245,8 +245,8 @@ module _ (tells : Bool) (v new : StoreValue) (m : Machine Value) (parts : Parts 
       }
 
   module _ (writing : j.stage ≡ job.Writing) where
-    behind-it : ArchiveJob
-    behind-it = record j { writer = behind_piece j.writer }
+    abbrev one-behind : ArchiveJob
+    one-behind = record j { writer = behind_piece j.writer }
 
     abbrev piece : List ℕ
     piece = take 8192 j.writer.left
@@ -278,13 +278,13 @@ module _ (tells : Bool) (v new : StoreValue) (m : Machine Value) (parts : Parts 
 
     wrote : (answer : Result JobDid PumpFault) → WritesRun tells j.run j.writer (job_of j) v answer new → Ends tells m answer new
     wrote (Ok said) takes =
-        stays tells new (with_job v (job_of behind-it) new) m said takes.moves.1
-        (moved behind-it (ap turn_of is ∙ ap turn_in writing) (ap turn_in writing) (λ told.
+        stays tells new (with_job v (job_of one-behind) new) m said takes.moves.1
+        (moved one-behind (ap turn_of is ∙ ap turn_in writing) (ap turn_in writing) (λ told.
         let d = parts.disk told in
         let w = d.works works in
         let has = own d.header v m w j is in
         let archive : AreaState = written j.writer.at piece v.disk.areas.archive in
-        works-with d.header v m w j is new behind-it (ap turn_of is ∙ ap turn_in writing) (ap turn_in writing) (sound told) archive (takes.call.areas told).written
+        works-with d.header v m w j is new one-behind (ap turn_of is ∙ ap turn_in writing) (ap turn_in writing) (sound told) archive (takes.call.areas told).written
         (behind d.header v m w j is j.writer.at (length piece) archive (past told) (written_is j.writer.at piece v.disk.areas.archive (w.sound Archive)))
         (record {
           run = has.run;
@@ -293,7 +293,7 @@ module _ (tells : Bool) (v new : StoreValue) (m : Machine Value) (parts : Parts 
           at = subst (λ (s : JobStage). IsAtJob d.header w.layout has.run (behind_piece j.writer) s (record v.disk.areas { archive = archive })) (sym writing) (written-on told);
         })))
     wrote (Err why) takes =
-        fails tells v new m why v.log behind-it parts works takes.moves.0 refl refl refl lent takes.moves.1 (λ told image left.
+        fails tells v new m why v.log one-behind parts works takes.moves.0 refl refl refl lent takes.moves.1 (λ told image left.
         let d = parts.disk told in
         let w = d.works works in
         let archive : AreaState = loosened j.writer.at (length piece) v.disk.areas.archive.bytes v.disk.areas.archive in
