@@ -9,6 +9,8 @@ pub record QueuedValue : Type 0 where
   pub entry : Member
   -- the versions after it
   pub after : List KeyWrites
+  -- the mark up to which these versions have forgotten what ended
+  pub reclaimed : ℕ
   -- its extents with their bytes, in the order of its chain
   pub stored : List StoredExtent
 

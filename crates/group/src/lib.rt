@@ -16,5 +16,5 @@ pub use conflict::first_conflict;
 pub use queued::{Queued, QueuedParts, StoredExtent};
 pub use records::records_of;
 pub use sealing::seal_all;
-pub use taking::{give_back_all, keep_all, take_extents};
+pub use taking::{give_back_all, keep_all, keep_taken, take_extents};
 pub use ticket::Ticket;

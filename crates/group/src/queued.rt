@@ -18,6 +18,8 @@ pub struct StoredExtent {
 pub struct Queued {
     entry: Member,
     after: Frozen,
+    // Up to which mark the versions have forgotten what ended, in microseconds since 1970.
+    reclaimed: u64,
     stored: Vec<StoredExtent>,
 }
 
@@ -33,17 +35,19 @@ impl Model for Queued {
 
     ghost Value = { QueuedValue };
 
-    ghost view = { λ q. record { entry = q.entry; after = q.after; stored = q.stored.items } };
+    ghost view = { λ q. record { entry = q.entry; after = q.after; reclaimed = q.reclaimed; stored = q.stored.items } };
 }
 
 impl Queued {
-    /// A commit with these versions after it, stored in these extents.
-    pub fn new(entry: Member, after: Frozen, stored: Vec<StoredExtent>) -> Self
-        ensures { result ≡ record { entry = entry; after = after; stored = stored.items } }
+    /// A commit with these versions after it, which have forgotten what ended by the mark `reclaimed`
+    /// in microseconds since 1970, stored in these extents.
+    pub fn new(entry: Member, after: Frozen, reclaimed: u64, stored: Vec<StoredExtent>) -> Self
+        ensures { result ≡ record { entry = entry; after = after; reclaimed = reclaimed; stored = stored.items } }
     {
         Queued {
             entry,
             after,
+            reclaimed,
             stored,
         }
     }
@@ -62,6 +66,21 @@ impl Queued {
         &self.after
     }
 
+    /// The mark up to which these versions have forgotten what ended, in microseconds since 1970.
+    pub fn reclaimed(&self) -> u64
+        ensures { result ≡ self.now.reclaimed }
+    {
+        self.reclaimed
+    }
+
+    /// The versions after it are these, which have forgotten what ended by the mark.
+    pub fn forget(&mut self, after: Frozen, mark: u64)
+        ensures { self.new ≡ record self.old { after = after; reclaimed = mark } }
+    {
+        self.after = after;
+        self.reclaimed = mark;
+    }
+
     /// Its extents with their bytes, in the order of its chain.
     pub fn stored(&self) -> &[StoredExtent]
         ensures { result.now ≡ self.now.stored }
@@ -78,6 +97,7 @@ impl Queued {
         let Queued {
             entry,
             after,
+            reclaimed: _,
             stored,
         } = self;
         QueuedParts {

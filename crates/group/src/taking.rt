@@ -38,6 +38,17 @@ pub fn give_back_all(extents: &mut Extents, taken: Vec<Extent>)
     taken.destroy_empty();
 }
 
+/// Keeps extents that were taken.
+pub fn keep_taken(extents: &mut Extents, taken: Vec<Extent>)
+    ensures { AreOut extents.old taken.items → extents.new ≡ with_usages extents.old taken.items Kept }
+{
+    let mut taken = taken.into_iter();
+    while let Some(extent) = taken.next() {
+        extents.keep(extent);
+    }
+    taken.destroy_empty();
+}
+
 /// Keeps the extents of a commit that is published.
 pub fn keep_all(extents: &mut Extents, stored: Vec<StoredExtent>)
     ensures { AreOut extents.old (map (λ s. s.extent) stored.items) → extents.new ≡ with_usages extents.old (map (λ s. s.extent) stored.items) Kept }

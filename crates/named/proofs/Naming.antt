@@ -19,8 +19,8 @@ use Rattle.transactions.specs.Values.{TransactionsValue}
 use Rattle.transactions.specs.declared.stage.GroupStage.{GroupStage}
 use Rattle.transactions.specs.declared.stage.GroupStage.TheVariants.{NoGroup, Storing, Stored, Turning}
 use Rattle.store.specs.Values.{StoreValue, KeepsJob}
-use Rattle.store.specs.declared.job.ArchiveJob.{ArchiveJob}
-use Rattle.named.specs.Named.{IsInKept, IsNamed, IsLeft, LeavesNamed, WritesBehind}
+use Rattle.store.specs.declared.job.Job.{Job}
+use Rattle.named.specs.Named.{IsInKept, IsNamed, IsLeft, LeavesNamed, IsBehindRuns, WritesBehind}
 use Rattle.named.proofs.Places.{same_left, left_twice}
 
 -- ---- extents
@@ -128,12 +128,12 @@ leaves_twice tells a b c one next = record {
 
 -- ---- jobs
 
-pub behind_by : (new : StoreValue) (o : Option ArchiveJob) (end : ℕ) → new.job ≡ o → new.runs_end ≡ end
-    → MatchOption o (Unit {0}) (λ (job : ArchiveJob). (end ≤ job.run.start) × (end ≤ job.writer.at)) → WritesBehind new
+pub behind_by : (new : StoreValue) (o : Option Job) (end : ℕ) → new.job ≡ o → new.runs_end ≡ end
+    → MatchOption o (Unit {0}) (λ (job : Job). IsBehindRuns end job.work) → WritesBehind new
 behind_by new o end job_is end_is behind =
-    let at_end : MatchOption o (Unit {0}) (λ (job : ArchiveJob). (new.runs_end ≤ job.run.start) × (new.runs_end ≤ job.writer.at)) =
-    subst (λ (x : ℕ). MatchOption o (Unit {0}) (λ (job : ArchiveJob). (x ≤ job.run.start) × (x ≤ job.writer.at))) (sym end_is) behind in
-    subst (λ (x : Option ArchiveJob). MatchOption x (Unit {0}) (λ (job : ArchiveJob). (new.runs_end ≤ job.run.start) × (new.runs_end ≤ job.writer.at))) (sym job_is) at_end
+    let at_end : MatchOption o (Unit {0}) (λ (job : Job). IsBehindRuns new.runs_end job.work) =
+    subst (λ (x : ℕ). MatchOption o (Unit {0}) (λ (job : Job). IsBehindRuns x job.work)) (sym end_is) behind in
+    subst (λ (x : Option Job). MatchOption x (Unit {0}) (λ (job : Job). IsBehindRuns new.runs_end job.work)) (sym job_is) at_end
 
 pub behind_kept : (old new : StoreValue) → KeepsJob old new → WritesBehind old → WritesBehind new
 behind_kept old new keeps behind = behind_by new old.job old.runs_end keeps.job keeps.runs_end behind

@@ -1,5 +1,5 @@
 -- What a slot names that is open now.
-use Rattle.std.proofs.Common.{◌≡◌, ℕ, zero, suc, Bool, true, false, is_some, List, [], ◌∷◌, ◌++◌, take, drop, append_assoc, Option, Some, None, Result, Ok, Err, MatchBool, MatchOption, refl, sym, ap, subst, ◌∙◌, arith}
+use Rattle.std.proofs.Common.{◌≡◌, ℕ, zero, suc, Bool, true, false, is_some, List, [], ◌∷◌, ◌++◌, take, drop, append_assoc, Option, Some, None, Result, Ok, Err, MatchBool, MatchOption, refl, sym, ap, subst, ◌∙◌, arith, inl, inr}
 use Rattle.std.specs.List.{AllByRecursion, flat_map}
 use Rattle.extents.specs.declared.usage.Usage.{Usage}
 use Rattle.extents.specs.declared.usage.Usage.TheVariants.{Out, Kept}
@@ -20,9 +20,10 @@ use Rattle.transactions.specs.Steps.{next_step, next_extent, grouped}
 use Rattle.transactions.specs.declared.stage.NextStep.{NextStep}
 use Rattle.transactions.specs.declared.stage.NextStep.TheVariants as step
 use Rattle.store.specs.Values.{StoreValue, IsOnItsWay, turn_of, turn_in}
-use Rattle.store.specs.Pumps.{Pumps, TakesStep, WritesExtent, BeginsSlot, TurnsSlot, IsTurned, started}
+use Rattle.store.specs.Pumps.{Pumps, TakesStep, WritesExtent, MayBeginSlot, TurnsSlot, IsTurned, started}
 use Rattle.store.specs.Jobs.{PumpsJob, TakesJobStep, WritesOrSyncs, BeginsJobSlot, IsJobTurned}
-use Rattle.store.specs.declared.job.ArchiveJob.{ArchiveJob}
+use Rattle.store.specs.Archives.{ArchiveJob, job_of}
+use Rattle.store.specs.declared.job.Job.{Job}
 use Rattle.store.specs.declared.job.JobStage.{JobStage}
 use Rattle.store.specs.declared.job.JobStage.TheVariants as stages
 use Rattle.store.specs.declared.job.JobDid.{JobDid}
@@ -67,9 +68,10 @@ wrote_none : (tells : Bool) (v new : StoreValue) (count : ℕ) (o : Option Store
 wrote_none tells v new count None is = is
 wrote_none tells v new count (Some stored) is = let wrong : ◌≡◌ {A = Did} (group.Published count) group.WroteExtent = (is.steps).answer.0 in cc
 
-begun_none : (tells : Bool) (v new : StoreValue) (count : ℕ) (b : Bool) → MatchBool b ((◌≡◌ {A = Result Did PumpFault} (Ok (group.Published count)) (Err fault.Busy)) × (new ≡ v)) (BeginsSlot tells v (Ok (group.Published count)) new) → ⊥
+begun_none : (tells : Bool) (v new : StoreValue) (count : ℕ) (b : Bool) → MatchBool b ((◌≡◌ {A = Result Did PumpFault} (Ok (group.Published count)) (Err fault.Busy)) × (new ≡ v)) (MayBeginSlot tells v (Ok (group.Published count)) new) → ⊥
 begun_none tells v new count true is = let wrong = is.0 in cc
-begun_none tells v new count false is = let wrong : ◌≡◌ {A = Did} (group.Published count) group.BodyWritten = (is.turns).answer.0 in cc
+begun_none tells v new count false (inl short) = let wrong = short.1 in cc
+begun_none tells v new count false (inr is) = let wrong : ◌≡◌ {A = Did} (group.Published count) group.BodyWritten = (is.turns).answer.0 in cc
 
 turn_published : (tells : Bool) (v new : StoreValue) (count : ℕ) (o : Option TurnState) → AreOut v.transactions.usages (flat_map numbers_of v.transactions.queue) → MatchOption o (Unit {0}) (λ t. (t.number ≡ v.log.used) × IsOnItsWay t.stage)
     → MatchOption o ⊥ (λ t. TurnsSlot tells t v (Ok (group.Published count)) new) → HasPublished v count new
@@ -90,7 +92,7 @@ by_failed tells true v new count failed typed is = absurd (let wrong = is.0 in c
 by_failed tells false v new count works typed is =
     let out : AreOut (grouped v.transactions).usages (flat_map numbers_of (grouped v.transactions).queue) =
     subst (λ (us : List Usage). AreOut us (flat_map numbers_of (grouped v.transactions).queue)) (sym (grouped_usages v.transactions))
-    (subst (λ (q : List QueuedValue). AreOut v.transactions.usages (flat_map numbers_of q)) (sym (grouped_queue v.transactions)) (typed.order).out) in
+    (subst (λ (q : List QueuedValue). AreOut v.transactions.usages (flat_map numbers_of q)) (sym (grouped_queue v.transactions)) (out-front v.transactions.usages (flat_map numbers_of v.transactions.queue) v.transactions.reserved (typed.order).out)) in
     let has = takes_published tells (next_step v.transactions) (started v) new count out (((typed.in_step).turns works).turn) is in
     record { extents = subst (λ (q : List QueuedValue). AllByRecursion (IsKept new.transactions.usages) (flat_map numbers_of (take count q))) (grouped_queue v.transactions) has.extents; slots = has.slots }
 
@@ -99,22 +101,23 @@ group_named tells old new count typed pumps = by_failed tells old.transactions.f
 
 -- ---- a job
 
-job_turned : (stage : SlotStage) (t : TurnState) (job : ArchiveJob) (v new : StoreValue) → t.number ≡ v.log.used → IsJobTurned stage t job v did.JobDone new → HasArchived v job new
+job_turned : (stage : SlotStage) (t : TurnState) (job : ArchiveJob) (v new : StoreValue) → t.number ≡ v.log.used → IsJobTurned stage t (job_of job) v did.JobDone new → HasArchived v job new
 job_turned slots.Begun t job v new number is = absurd (let wrong = is.0 in cc)
 job_turned slots.BodyWritten t job v new number is = absurd (let wrong = is.0 in cc)
 job_turned slots.BodySynced t job v new number is = absurd (let wrong = is.0 in cc)
 job_turned slots.GateWritten t job v new number is = record { run = ap (λ (s : StoreValue). s.runs_end) is.2; slots = omega (arith, ap (λ (s : StoreValue). s.log.used) is.2, number) }
 job_turned slots.Opened t job v new number is = absurd is
 
-left_none : (tells : Bool) (left : List ℕ) (job : ArchiveJob) (v new : StoreValue) → WritesOrSyncs tells left job v (Ok did.JobDone) new → ⊥
+left_none : (tells : Bool) (left : List ℕ) (job : ArchiveJob) (v new : StoreValue) → WritesOrSyncs tells left job.run job.writer (job_of job) v (Ok did.JobDone) new → ⊥
 left_none tells [] job v new is = let wrong : ◌≡◌ {A = JobDid} did.JobDone did.RunSynced = (is.moves).0 in cc
 left_none tells (b ∷ bs) job v new is = let wrong : ◌≡◌ {A = JobDid} did.JobDone did.WroteRun = (is.moves).0 in cc
 
-job_begun_none : (tells : Bool) (v new : StoreValue) (job : ArchiveJob) (b : Bool) → MatchBool b ((◌≡◌ {A = Result JobDid PumpFault} (Ok did.JobDone) (Err fault.Busy)) × (new ≡ v)) (BeginsJobSlot tells job v (Ok did.JobDone) new) → ⊥
+job_begun_none : (tells : Bool) (v new : StoreValue) (job : ArchiveJob) (b : Bool) → MatchBool b ((◌≡◌ {A = Result JobDid PumpFault} (Ok did.JobDone) (Err fault.Busy)) × (new ≡ v)) (BeginsJobSlot tells (job_of job) v (Ok did.JobDone) new) → ⊥
 job_begun_none tells v new job true is = let wrong = is.0 in cc
-job_begun_none tells v new job false is = let wrong : ◌≡◌ {A = JobDid} did.JobDone did.BodyWritten = is.answer.0 in cc
+job_begun_none tells v new job false (inl is) = absurd is.0
+job_begun_none tells v new job false (inr is) = let wrong : ◌≡◌ {A = JobDid} did.JobDone did.BodyWritten = is.answer.0 in cc
 
-job_takes : (tells : Bool) (stage : JobStage) (v new : StoreValue) (job : ArchiveJob) → MatchOption (turn_in stage) (Unit {0}) (λ t. t.number ≡ v.log.used) → TakesJobStep tells stage job v (Ok did.JobDone) new → HasArchived v job new
+job_takes : (tells : Bool) (stage : JobStage) (v new : StoreValue) (job : ArchiveJob) → MatchOption (turn_in stage) (Unit {0}) (λ t. t.number ≡ v.log.used) → TakesJobStep tells stage (job_of job) v (Ok did.JobDone) new → HasArchived v job new
 job_takes tells stages.Writing v new job number is = absurd (left_none tells job.writer.left job v new is)
 job_takes tells stages.Stored v new job number is = absurd (job_begun_none tells v new job (is_some v.turn) is)
 job_takes tells (stages.Turning t) v new job number is = job_turned t.stage t job v new number is.answer
@@ -123,14 +126,14 @@ job_number : (v : StoreValue) (o : Option TurnState) → MatchOption o (Unit {0}
 job_number v None is = tt
 job_number v (Some t) is = is.0
 
-job_by_failed : (tells b : Bool) (v new : StoreValue) (job : ArchiveJob) → v.job ≡ Some job → v.transactions.failed ≡ b → IsTyped tells v
+job_by_failed : (tells b : Bool) (v new : StoreValue) (job : ArchiveJob) → v.job ≡ Some (job_of job) → v.transactions.failed ≡ b → IsTyped tells v
     → MatchBool b ((◌≡◌ {A = Result JobDid PumpFault} (Ok did.JobDone) (Err fault.Failed)) × (new ≡ v)) (MatchOption v.job ((◌≡◌ {A = Result JobDid PumpFault} (Ok did.JobDone) (Ok did.Idle)) × (new ≡ v)) (λ j. TakesJobStep tells j.stage j v (Ok did.JobDone) new)) → HasArchived v job new
 job_by_failed tells true v new job there failed typed is = absurd (let wrong = is.0 in cc)
 job_by_failed tells false v new job there works typed is =
     let number = job_number v (turn_of v.job) (((typed.in_step).turns works).job) in
     job_takes tells job.stage v new job
-    (subst (λ (o : Option ArchiveJob). MatchOption (turn_of o) (Unit {0}) (λ (t : TurnState). t.number ≡ v.log.used)) there number)
-    (subst (λ (o : Option ArchiveJob). MatchOption o ((◌≡◌ {A = Result JobDid PumpFault} (Ok did.JobDone) (Ok did.Idle)) × (new ≡ v)) (λ (j : ArchiveJob). TakesJobStep tells j.stage j v (Ok did.JobDone) new)) there is)
+    (subst (λ (o : Option Job). MatchOption (turn_of o) (Unit {0}) (λ (t : TurnState). t.number ≡ v.log.used)) there number)
+    (subst (λ (o : Option Job). MatchOption o ((◌≡◌ {A = Result JobDid PumpFault} (Ok did.JobDone) (Ok did.Idle)) × (new ≡ v)) (λ (j : Job). TakesJobStep tells j.stage j v (Ok did.JobDone) new)) there is)
 
-pub run_named : (tells : Bool) (old new : StoreValue) (job : ArchiveJob) → IsTyped tells old → old.job ≡ Some job → PumpsJob tells old (Ok did.JobDone) new → HasArchived old job new
+pub run_named : (tells : Bool) (old new : StoreValue) (job : ArchiveJob) → IsTyped tells old → old.job ≡ Some (job_of job) → PumpsJob tells old (Ok did.JobDone) new → HasArchived old job new
 run_named tells old new job typed there pumps = job_by_failed tells old.transactions.failed old new job there refl typed pumps

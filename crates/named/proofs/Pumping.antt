@@ -1,5 +1,5 @@
 -- The steps of a group.
-use Rattle.std.proofs.Common.{◌≡◌, ℕ, Bool, true, false, is_some, IsTrue, List, take, Option, Some, None, Result, Ok, Err, MatchBool, MatchOption, MatchResult, refl, sym, ap, subst, ◌∙◌, arith}
+use Rattle.std.proofs.Common.{◌≡◌, ℕ, zero, suc, ◌-◌, nat_lt, cond, slice_get, slice_set, map, Bool, true, false, is_some, IsTrue, List, [], ◌∷◌, ◌++◌, take, Option, Some, None, Result, Ok, Err, MatchBool, MatchOption, MatchResult, refl, sym, ap, subst, ◌∙◌, arith, inl, inr}
 use Rattle.std.specs.List.{AllByRecursion, flat_map}
 use Rattle.disk.specs.Areas.{AreSound}
 use Rattle.disk.specs.declared.area.Area.{Area}
@@ -16,14 +16,16 @@ use Rattle.group.specs.declared.answers.Did.{Did}
 use Rattle.group.specs.declared.answers.PumpFault.{PumpFault}
 use Rattle.group.specs.declared.answers.PumpFault.TheVariants as fault
 use Rattle.transactions.specs.Values.{TransactionsValue}
-use Rattle.transactions.specs.Steps.{next_step, next_extent, grouped}
+use Rattle.transactions.specs.Steps.{next_step, next_extent, grouped, fresh_at}
 use Rattle.transactions.specs.declared.stage.NextStep.{NextStep}
 use Rattle.transactions.specs.declared.stage.NextStep.TheVariants as step
 use Rattle.store.specs.Values.{StoreValue, KeepsJob, IsOnItsWay, turn_of}
-use Rattle.store.specs.Pumps.{Pumps, TakesStep, WritesExtent, SyncsHeap, BeginsSlot, TurnsSlot, IsTurned, TurnFails, Steps, started, begun, disk_answer}
+use Rattle.store.specs.Pumps.{Pumps, TakesStep, WritesExtent, SyncsHeap, MayBeginSlot, TurnsSlot, IsTurned, TurnFails, Steps, started, begun, disk_answer}
 use Rattle.named.specs.Named.{IsNamed, LeavesNamed, WritesBehind, IsTyped}
 use Rattle.named.proofs.Places.{left_by_write, left_by_sync, left_by_slot}
-use Rattle.named.proofs.Naming.{kept_published, others_of, kept_same, heap_apart, out_next, out_first, named_by, carried, leaves_itself, behind_kept, grouped_usages, grouped_queue}
+use Rattle.std.proofs.lemmas.List.Concat.{flat_map-cons}
+use Rattle.chains.specs.KeyWrites.{forgotten}
+use Rattle.named.proofs.Naming.{all_front, kept_published, others_of, kept_same, heap_apart, out_next, out_first, named_by, carried, leaves_itself, behind_kept, grouped_usages, grouped_queue}
 
 -- what a group's step goes by
 record Goes (tells : Bool) (v : StoreValue) : Type 0 where
@@ -112,10 +114,27 @@ takes_extent : (tells : Bool) (v new : StoreValue) (result : Result Did PumpFaul
 takes_extent tells v new result None found goes is = absurd is
 takes_extent tells v new result (Some stored) found goes is = writes tells v new result stored goes found is
 
-begins : (tells : Bool) (v new : StoreValue) (result : Result Did PumpFault) (b : Bool) → Goes tells v → MatchBool b ((result ≡ Err fault.Busy) × (new ≡ v)) (BeginsSlot tells v result new) → Ends tells v new
+-- a commit whose versions are made anew has the extents that it had
+set_numbers : (qs : List QueuedValue) (place : ℕ) (q n : QueuedValue) → slice_get qs place ≡ Some q → n.stored ≡ q.stored → flat_map numbers_of (slice_set qs place n) ≡ flat_map numbers_of qs
+set_numbers [] place q n found same = refl
+set_numbers (x ∷ xs) zero q n found same =
+    let is : x ≡ q = cc in
+    let numbers : numbers_of n ≡ numbers_of x = ap (λ (ss : List StoredExtent). map (λ (s : StoredExtent). s.extent) ss) (same ∙ ap (λ (z : QueuedValue). z.stored) (sym is)) in
+    flat_map-cons numbers_of n xs ∙ ap (λ (ns : List ℕ). ns ++ flat_map numbers_of xs) numbers ∙ sym (flat_map-cons numbers_of x xs)
+set_numbers (x ∷ xs) (suc k) q n found same =
+    flat_map-cons numbers_of x (slice_set xs k n) ∙ ap (λ (ns : List ℕ). numbers_of x ++ ns) (set_numbers xs k q n found same) ∙ sym (flat_map-cons numbers_of x xs)
+
+fresh_numbers : (mark place : ℕ) (queue : List QueuedValue) (o : Option QueuedValue) → slice_get queue place ≡ o → flat_map numbers_of (fresh_at mark place queue o) ≡ flat_map numbers_of queue
+fresh_numbers mark place queue None found = refl
+fresh_numbers mark place queue (Some q) found =
+    let anew : QueuedValue = record q { after = forgotten mark q.after; reclaimed = mark } in
+    elim (nat_lt q.reclaimed mark) as (λ (b : Bool). flat_map numbers_of (cond b (slice_set queue place anew) queue) ≡ flat_map numbers_of queue) [ true ↦ set_numbers queue place q anew found refl | false ↦ refl ]
+
+begins : (tells : Bool) (v new : StoreValue) (result : Result Did PumpFault) (b : Bool) → Goes tells v → MatchBool b ((result ≡ Err fault.Busy) × (new ≡ v)) (MayBeginSlot tells v result new) → Ends tells v new
 begins tells v new result true goes is = ends_same tells v new is.1
-begins tells v new result false goes is =
-    let ends = turns tells (begun v) new _ result goes.out goes.sound refl is.turns in record {
+begins tells v new result false goes (inl short) = ends_same tells v new short.2
+begins tells v new result false goes (inr is) =
+    let ends = turns tells (begun v) new _ result (subst (λ (ns : List ℕ). AllByRecursion (IsOut v.transactions.usages) ns) (sym (fresh_numbers v.transactions.reclaimed (v.transactions.group - 1) v.transactions.queue (slice_get v.transactions.queue (v.transactions.group - 1)) refl)) goes.out) goes.sound refl is.turns in record {
       leaves = carried tells v (begun v) new (named_by v (begun v) (λ n kept. kept) (omega arith) (omega arith)) refl ends.leaves;
       job = record { job = (ends.job).job; archived = (ends.job).archived; runs_end = (ends.job).runs_end };
     }
@@ -149,7 +168,7 @@ by_failed : (tells b : Bool) (v new : StoreValue) (result : Result Did PumpFault
     → MatchBool b ((result ≡ Err fault.Failed) × (new ≡ v)) (TakesStep tells (next_step v.transactions) (started v) result new) → Ends tells v new
 by_failed tells true v new result failed typed is = ends_same tells v new is.1
 by_failed tells false v new result works typed is =
-    let goes : Goes tells v = record { out = ((typed.order).out).each; turn = turn_number v.turn v.log.used (((typed.in_step).turns works).turn); sound = typed.sound } in
+    let goes : Goes tells v = record { out = all_front (IsOut v.transactions.usages) (flat_map numbers_of v.transactions.queue) v.transactions.reserved ((typed.order).out).each; turn = turn_number v.turn v.log.used (((typed.in_step).turns works).turn); sound = typed.sound } in
     let ends = takes tells (next_step v.transactions) (started v) new result (goes_started tells v goes) is in record {
       leaves = carried tells v (started v) new (named_by v (started v) (kept_same v.transactions.usages (grouped v.transactions).usages (grouped_usages v.transactions)) (omega arith) (omega arith)) refl ends.leaves;
       job = record { job = (ends.job).job; archived = (ends.job).archived; runs_end = (ends.job).runs_end };

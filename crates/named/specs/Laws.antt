@@ -22,12 +22,11 @@ use Rattle.reading.specs.Layouts.{Layout, live}
 use Rattle.recovery.specs.ReadsImage.{IsOpening}
 use Rattle.store.specs.Values.{StoreValue}
 use Rattle.store.specs.Calls.{Begins, Aborts, Submits, Redeems}
-use Rattle.store.specs.Archives.{StartsArchive}
+use Rattle.store.specs.Archives.{ArchiveJob, job_of, StartsArchive}
 use Rattle.store.specs.Pumps.{Pumps}
 use Rattle.store.specs.Jobs.{PumpsJob}
 use Rattle.store.specs.Opens.{Opens}
 use Rattle.store.specs.declared.job.StartFault.{StartFault}
-use Rattle.store.specs.declared.job.ArchiveJob.{ArchiveJob}
 use Rattle.store.specs.declared.job.JobDid.{JobDid}
 use Rattle.store.specs.declared.job.JobDid.TheVariants as did
 use Rattle.named.specs.Named.{IsNamed, LeavesNamed, WritesBehind, IsTyped, bytes_in}
@@ -95,4 +94,4 @@ pub record HasArchived (old : StoreValue) (job : ArchiveJob) (new : StoreValue) 
   pub slots : new.log.used ≡ old.log.used + 1
 
 abbrev pub ArchivedNamed : Type 0
-ArchivedNamed = (tells : Bool) (old new : StoreValue) (job : ArchiveJob) → IsTyped tells old → old.job ≡ Some job → PumpsJob tells old (Ok did.JobDone) new → HasArchived old job new
+ArchivedNamed = (tells : Bool) (old new : StoreValue) (job : ArchiveJob) → IsTyped tells old → old.job ≡ Some (job_of job) → PumpsJob tells old (Ok did.JobDone) new → HasArchived old job new

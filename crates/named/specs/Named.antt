@@ -2,12 +2,15 @@
 use Rattle.std.specs.Prelude.{◌≡◌, ℕ, ◌+◌, ◌<◌, ◌≤◌, Bool, IsTrue, List, length, slice_index, MatchOption}
 use Rattle.disk.specs.Areas.{AreaState, Image, AreSound, area_of, IsUntouched}
 use Rattle.disk.specs.declared.area.Area.{Area}
-use Rattle.disk.specs.declared.area.Area.TheVariants.{Status, Heap, Archive}
+use Rattle.disk.specs.declared.area.Area.TheVariants.{Status, Heap}
+use Rattle.disk.specs.declared.area.Area.TheVariants as areas
 use Rattle.deltas.specs.Extents.{extent_start}
 use Rattle.extents.specs.Usages.{IsKept}
 use Rattle.status.specs.Log.{slot_start}
 use Rattle.transactions.specs.Order.{IsInOrder}
 use Rattle.store.specs.Values.{StoreValue, IsInStep}
+use Rattle.store.specs.declared.job.JobWork.{JobWork}
+use Rattle.store.specs.declared.job.JobWork.TheVariants.{Archive, Reclaim}
 
 -- the place lies in an extent that is kept
 pub record IsInKept (v : StoreValue) (k : ℕ) : Type 0 where
@@ -20,7 +23,7 @@ pub record IsInKept (v : StoreValue) (k : ℕ) : Type 0 where
 abbrev pub IsNamed : StoreValue → Area → ℕ → Type 0
 IsNamed v Status k = k < slot_start v.log.used
 IsNamed v Heap k = IsInKept v k
-IsNamed v Archive k = k < v.runs_end
+IsNamed v areas.Archive k = k < v.runs_end
 
 -- a place of an area is as it was: what a read gives there, and whether a stop may change it
 pub record IsLeft (k : ℕ) (old new : AreaState) : Type 0 where
@@ -34,9 +37,14 @@ pub record LeavesNamed (tells : Bool) (old new : StoreValue) : Type 0 where
   pub left : IsTrue tells → (area : Area) (k : ℕ) → IsNamed old area k → IsLeft k (area_of old.disk.areas area) (area_of new.disk.areas area)
   pub named : (area : Area) (k : ℕ) → IsNamed old area k → IsNamed new area k
 
--- the run of a job lies behind the runs of the log, and is written there
+-- a run lies behind the runs of the log, and is written there; while nothing is said of reclaims, none is being made
+abbrev pub IsBehindRuns : ℕ → JobWork → Type 0
+IsBehindRuns end (Archive run writer) = (end ≤ run.start) × (end ≤ writer.at)
+IsBehindRuns end (Reclaim anchors source written) = ⊥
+
+-- so it is of the job
 abbrev pub WritesBehind : StoreValue → Type 0
-WritesBehind v = MatchOption v.job (Unit {0}) (λ job. (v.runs_end ≤ job.run.start) × (v.runs_end ≤ job.writer.at))
+WritesBehind v = MatchOption v.job (Unit {0}) (λ job. IsBehindRuns v.runs_end job.work)
 
 -- what the types of a store and of its disk keep
 pub record IsTyped (tells : Bool) (v : StoreValue) : Type 0 where
@@ -48,4 +56,4 @@ pub record IsTyped (tells : Bool) (v : StoreValue) : Type 0 where
 abbrev pub bytes_in : Image → Area → List ℕ
 bytes_in image Status = image.status
 bytes_in image Heap = image.heap
-bytes_in image Archive = image.archive
+bytes_in image areas.Archive = image.archive

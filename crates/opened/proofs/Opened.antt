@@ -176,7 +176,8 @@ module _ (old : DiskState) (mark : ℕ) (disk : DiskState) (r : Recovered) (head
   order : IsInOrder (opened_on mark r disk).transactions
   order = record {
     split = omega (arith, length-map r.commits.items head_as);
-    latest = let upto = latest-upto (last h) r.chains ordered (last-held versions_held rising) in omega (arith, upto, heads_last);
+    pending = tt;
+    latest = (let upto = latest-upto (last h) r.chains ordered (last-held versions_held rising) in omega (arith, upto, heads_last), tt);
     group_within = omega arith;
     group_few = omega arith;
     stage_fits = refl;
@@ -236,6 +237,7 @@ module _ (old : DiskState) (mark : ℕ) (disk : DiskState) (r : Recovered) (head
     order = order;
     in_step = in_step;
     gate = λ works. refl;
+    plain = (is.reclaimed ∙ unmarked, tt);
     disk = λ tells_so. on_disk;
   }
 

@@ -1,5 +1,5 @@
 -- The beginning of an archive, and the steps of a job.
-use Rattle.std.proofs.Common.{◌≡◌, ℕ, ◌+◌, ◌<◌, ◌≤◌, ◌==◌, nat_lt, nat_le, Bool, true, false, cond, List, [], ◌∷◌, ◌++◌, Some, None, Option, is_some, Result, Ok, Err, MatchBool, MatchOption, refl, sym, ◌∙◌, ap, subst, inl, inr, arith}
+use Rattle.std.proofs.Common.{◌≡◌, ℕ, ◌+◌, ◌<◌, ◌≤◌, ◌==◌, nat_lt, nat_le, Bool, true, false, cond, List, [], ◌∷◌, ◌++◌, Some, None, Option, is_some, Result, Ok, Err, MatchBool, MatchOption, slice_get, refl, sym, ◌∙◌, ap, subst, inl, inr, arith}
 use Rattle.std.specs.Prelude.{IsTrue, IfErr}
 use Rattle.std.proofs.lemmas.Bool.Decides.{nat_tests}
 use Rattle.disk.specs.Areas.{AreSound}
@@ -17,8 +17,14 @@ use Rattle.transactions.specs.Steps as groups
 use Rattle.store.specs.Values.{StoreValue}
 use Rattle.store.specs.Calls as stores
 use Rattle.store.specs.Archives.{refusal_now, BeginsRun, StartsArchive, IsRunRefusal}
-use Rattle.store.specs.Jobs.{PumpsJob, TakesJobStep, WritesOrSyncs, TurnsJob, IsJobTurned, JobMoves, first_turn, slot_taken}
-use Rattle.store.specs.declared.job.ArchiveJob.{ArchiveJob}
+use Rattle.store.specs.Jobs.{PumpsJob, TakesJobStep, Stores, WritesOrSyncs, AnchorsOrSync, BeginsJobSlot, TurnsJob, IsJobTurned, JobMoves, work_done, slot_opened, made_ready, first_turn, slot_taken}
+use Rattle.archive.specs.Pieces.{InWriting}
+use Rattle.vacuum.specs.Anchors.{Sourced}
+use Rattle.wire.specs.declared.slot.Anchors.{Anchors}
+use Rattle.wire.specs.declared.slot.Run.{Run as WireRun}
+use Rattle.store.specs.declared.job.Job.{Job}
+use Rattle.store.specs.declared.job.JobWork.{JobWork}
+use Rattle.store.specs.declared.job.JobWork.TheVariants.{Archive, Reclaim}
 use Rattle.store.specs.declared.job.JobStage.{JobStage}
 use Rattle.store.specs.declared.job.JobStage.TheVariants as stages
 use Rattle.store.specs.declared.job.JobDid.{JobDid}
@@ -26,7 +32,7 @@ use Rattle.store.specs.declared.job.JobDid.TheVariants as did
 use Rattle.store.specs.declared.job.StartFault.{StartFault}
 use Rattle.store.specs.declared.job.StartFault.TheVariants as start
 use Rattle.standing.specs.Laws.{job_ends_in}
-use Rattle.standing.specs.Stands.{Stands}
+use Rattle.standing.specs.Stands.{IsArchive, IsNoReclaim, Stands}
 use Rattle.standing.proofs.Archiving.{archive-start-stands}
 use Rattle.standing.proofs.JobPumping.{job-pump-stands}
 use Rattle.standing.proofs.Memory.{last-is}
@@ -95,6 +101,8 @@ start-says tells v v' w upto r stands starts =
     begins on early (Err start.NothingToDo) is = absurd is.0
     begins on early (Err (start.NotYet time)) is = absurd is.0
     begins on early (Err start.StatusFull) is = absurd is.0
+    begins on early (Err (start.InUse time)) is = absurd is.0
+    begins on early (Err start.HeapFull) is = absurd is.0
 
     by-tests : (a : Bool) → v.transactions.failed ≡ a → (b c d : Bool) → nat_lt (stores.last v) upto ≡ d → (e : Bool)
         → MatchOption (cond a (Some start.Failed) (cond b (Some start.JobBusy) (cond c (Some start.NothingToDo) (cond d (Some (start.NotYet (stores.last v))) (cond e (Some start.StatusFull) None))))) (BeginsRun v upto r v') (λ why. (r ≡ Err why) × (v' ≡ v))
@@ -121,38 +129,57 @@ start-goes tells v v' xs upto r starts w is = (
 
 -- ---- a step
 
-moves-leave : (what : JobDid) (made refused : ArchiveJob) (old new : StoreValue) (r : Result JobDid PumpFault) → JobMoves what made refused old r new → Leaves old.transactions new.transactions
+moves-leave : (what : JobDid) (made refused : Job) (old new : StoreValue) (r : Result JobDid PumpFault) → JobMoves what made refused old r new → Leaves old.transactions new.transactions
 moves-leave what made refused old new (Ok said) is = same-leaves old.transactions _ new (record { mark = refl; opened = refl; heads = refl }) is.1
 moves-leave what made refused old new (Err why) is = same-leaves old.transactions _ new (record { mark = refl; opened = refl; heads = refl }) is.1
 
-turned-leave : (stage : SlotStage) (turn : TurnState) (j : ArchiveJob) (old new : StoreValue) (what : JobDid) → IsJobTurned stage turn j old what new → Leaves old.transactions new.transactions
+done-leaves : (work : JobWork) (turn : TurnState) (old new : StoreValue) → Leaves old.transactions (slot_opened (work_done work old) turn new).transactions
+done-leaves (Archive run writer) turn old new = record { mark = refl; opened = refl; heads = refl }
+done-leaves (Reclaim anchors source written) turn old new = record { mark = refl; opened = refl; heads = refl }
+
+turned-leave : (stage : SlotStage) (turn : TurnState) (j : Job) (old new : StoreValue) (what : JobDid) → IsJobTurned stage turn j old what new → Leaves old.transactions new.transactions
 turned-leave slots.Begun turn j old new what is = same-leaves old.transactions _ new (record { mark = refl; opened = refl; heads = refl }) is.1
 turned-leave slots.BodyWritten turn j old new what is = same-leaves old.transactions _ new (record { mark = refl; opened = refl; heads = refl }) is.1
 turned-leave slots.BodySynced turn j old new what is = same-leaves old.transactions _ new (record { mark = refl; opened = refl; heads = refl }) is.1
-turned-leave slots.GateWritten turn j old new what is = same-leaves old.transactions _ new (record { mark = refl; opened = refl; heads = refl }) is.2
+turned-leave slots.GateWritten turn j old new what is = same-leaves old.transactions _ new (done-leaves j.work turn old new) is.2
 turned-leave slots.Opened turn j old new what is = absurd is
 
-turn-leaves : (tells : Bool) (j : ArchiveJob) (turn : TurnState) (old new : StoreValue) (r : Result JobDid PumpFault) → TurnsJob tells j turn old r new → Leaves old.transactions new.transactions
+turn-leaves : (tells : Bool) (j : Job) (turn : TurnState) (old new : StoreValue) (r : Result JobDid PumpFault) → TurnsJob tells j turn old r new → Leaves old.transactions new.transactions
 turn-leaves tells j turn old new (Ok what) is = turned-leave turn.stage turn j old new what is.answer
 turn-leaves tells j turn old new (Err why) is = same-leaves old.transactions _ new (record { mark = refl; opened = refl; heads = refl }) is.answer.1
 
-write-leaves : (tells : Bool) (left : List ℕ) (j : ArchiveJob) (old new : StoreValue) (r : Result JobDid PumpFault) → WritesOrSyncs tells left j old r new → Leaves old.transactions new.transactions
-write-leaves tells [] j old new r is = moves-leave _ _ _ old new r is.moves
-write-leaves tells (b ∷ bs) j old new r is = moves-leave _ _ _ old new r is.moves
+write-leaves : (tells : Bool) (left : List ℕ) (run : WireRun) (writer : InWriting) (j : Job) (old new : StoreValue) (r : Result JobDid PumpFault) → WritesOrSyncs tells left run writer j old r new → Leaves old.transactions new.transactions
+write-leaves tells [] run writer j old new r is = moves-leave _ _ _ old new r is.moves
+write-leaves tells (b ∷ bs) run writer j old new r is = moves-leave _ _ _ old new r is.moves
 
-job-leaves : (tells : Bool) (s : JobStage) (j : ArchiveJob) (old new : StoreValue) (r : Result JobDid PumpFault) → TakesJobStep tells s j old r new → Leaves old.transactions new.transactions
-job-leaves tells stages.Writing j old new r is = write-leaves tells j.writer.left j old new r is
+anchors-leave : (tells : Bool) (o : Option ℕ) (anchors : Anchors) (source : Sourced) (written : ℕ) (j : Job) (old new : StoreValue) (r : Result JobDid PumpFault) → AnchorsOrSync tells o anchors source written j old r new → Leaves old.transactions new.transactions
+anchors-leave tells None anchors source written j old new r is = moves-leave _ _ _ old new r is.moves
+anchors-leave tells (Some number) anchors source written j old new r is = moves-leave _ _ _ old new r is.moves
+
+stores-leave : (tells : Bool) (work : JobWork) (j : Job) (old new : StoreValue) (r : Result JobDid PumpFault) → Stores tells work j old r new → Leaves old.transactions new.transactions
+stores-leave tells (Archive run writer) j old new r is = write-leaves tells writer.left run writer j old new r is
+stores-leave tells (Reclaim anchors source written) j old new r is = anchors-leave tells _ anchors source written j old new r is
+
+begun-leaves : (tells : Bool) (work : JobWork) (j : Job) (old new : StoreValue) (r : Result JobDid PumpFault) → TurnsJob tells j (first_turn old j) (slot_taken (made_ready work old)) r new → Leaves old.transactions new.transactions
+begun-leaves tells (Archive run writer) j old new r is = turn-leaves tells j (first_turn old j) (slot_taken old) new r is
+begun-leaves tells (Reclaim anchors source written) j old new r is =
+    let left = turn-leaves tells j (first_turn old j) (slot_taken (made_ready (Reclaim anchors source written) old)) new r is in
+    record { mark = left.mark; opened = left.opened; heads = left.heads }
+
+job-leaves : (tells : Bool) (s : JobStage) (j : Job) (old new : StoreValue) (r : Result JobDid PumpFault) → TakesJobStep tells s j old r new → Leaves old.transactions new.transactions
+job-leaves tells stages.Writing j old new r is = stores-leave tells j.work j old new r is
 job-leaves tells stages.Stored j old new r is = by-turn (is_some old.turn) is
   where
-    by-turn : (b : Bool) → MatchBool b ((r ≡ Err pump.Busy) × (new ≡ old)) (TurnsJob tells j (first_turn old j) (slot_taken old) r new) → Leaves old.transactions new.transactions
+    by-turn : (b : Bool) → MatchBool b ((r ≡ Err pump.Busy) × (new ≡ old)) (BeginsJobSlot tells j old r new) → Leaves old.transactions new.transactions
     by-turn true busy = nothing-left old new busy.1
-    by-turn false first = turn-leaves tells j (first_turn old j) (slot_taken old) new r first
+    by-turn false (inl short) = nothing-left old new short.2
+    by-turn false (inr first) = begun-leaves tells j.work j old new r first
 job-leaves tells (stages.Turning turn) j old new r is = turn-leaves tells j turn old new r is
 
 pumped-leaves : (tells : Bool) (old new : StoreValue) (r : Result JobDid PumpFault) → PumpsJob tells old r new → Leaves old.transactions new.transactions
 pumped-leaves tells old new r pumps = by-failure old.transactions.failed pumps
   where
-    by-job : (o : Option ArchiveJob) → MatchOption o ((r ≡ Ok did.Idle) × (new ≡ old)) (λ j. TakesJobStep tells j.stage j old r new) → Leaves old.transactions new.transactions
+    by-job : (o : Option Job) → MatchOption o ((r ≡ Ok did.Idle) × (new ≡ old)) (λ j. TakesJobStep tells j.stage j old r new) → Leaves old.transactions new.transactions
     by-job None is = nothing-left old new is.1
     by-job (Some j) is = job-leaves tells j.stage j old new r is
 
@@ -165,51 +192,69 @@ pumped-leaves tells old new r pumps = by-failure old.transactions.failed pumps
 refused-so : (r : Result JobDid PumpFault) (why : PumpFault) → r ≡ Err why → IsStepFault why → IfErr r IsStepFault
 refused-so r why is fault = subst (λ (x : Result JobDid PumpFault). IfErr x IsStepFault) (sym is) fault
 
-moves-refused : (what : JobDid) (made refused : ArchiveJob) (old new : StoreValue) (r : Result JobDid PumpFault) → JobMoves what made refused old r new → IfErr r IsStepFault
+moves-refused : (what : JobDid) (made refused : Job) (old new : StoreValue) (r : Result JobDid PumpFault) → JobMoves what made refused old r new → IfErr r IsStepFault
 moves-refused what made refused old new (Ok said) is = tt
 moves-refused what made refused old new (Err why) is = inl is.0
 
-turn-refused : (tells : Bool) (j : ArchiveJob) (turn : TurnState) (old new : StoreValue) (r : Result JobDid PumpFault) → TurnsJob tells j turn old r new → IfErr r IsStepFault
+turn-refused : (tells : Bool) (j : Job) (turn : TurnState) (old new : StoreValue) (r : Result JobDid PumpFault) → TurnsJob tells j turn old r new → IfErr r IsStepFault
 turn-refused tells j turn old new (Ok what) is = tt
 turn-refused tells j turn old new (Err why) is = inl is.answer.0
 
-job-refused : (tells : Bool) (s : JobStage) (j : ArchiveJob) (old new : StoreValue) (r : Result JobDid PumpFault) → TakesJobStep tells s j old r new → IfErr r IsStepFault
-job-refused tells stages.Writing j old new r is = by-left j.writer.left is
+job-refused : (tells : Bool) (s : JobStage) (run : WireRun) (writer : InWriting) (old new : StoreValue) (r : Result JobDid PumpFault) → TakesJobStep tells s (record { work = Archive run writer; stage = s }) old r new → IfErr r IsStepFault
+job-refused tells stages.Writing run writer old new r is = by-left writer.left is
   where
-    by-left : (left : List ℕ) → WritesOrSyncs tells left j old r new → IfErr r IsStepFault
+    by-left : (left : List ℕ) → WritesOrSyncs tells left run writer (record { work = Archive run writer; stage = stages.Writing }) old r new → IfErr r IsStepFault
     by-left [] syncs = moves-refused _ _ _ old new r syncs.moves
     by-left (b ∷ bs) writes = moves-refused _ _ _ old new r writes.moves
-job-refused tells stages.Stored j old new r is = by-turn (is_some old.turn) is
+job-refused tells stages.Stored run writer old new r is = by-turn (is_some old.turn) is
   where
-    by-turn : (b : Bool) → MatchBool b ((r ≡ Err pump.Busy) × (new ≡ old)) (TurnsJob tells j (first_turn old j) (slot_taken old) r new) → IfErr r IsStepFault
+    by-turn : (b : Bool) → MatchBool b ((r ≡ Err pump.Busy) × (new ≡ old)) (BeginsJobSlot tells (record { work = Archive run writer; stage = stages.Stored }) old r new) → IfErr r IsStepFault
     by-turn true busy = refused-so r pump.Busy busy.0 (inr refl)
-    by-turn false first = turn-refused tells j (first_turn old j) (slot_taken old) new r first
-job-refused tells (stages.Turning turn) j old new r is = turn-refused tells j turn old new r is
+    by-turn false (inl short) = absurd short.0
+    by-turn false (inr first) = turn-refused tells (record { work = Archive run writer; stage = stages.Stored }) (first_turn old (record { work = Archive run writer; stage = stages.Stored })) (slot_taken old) new r first
+job-refused tells (stages.Turning turn) run writer old new r is = turn-refused tells (record { work = Archive run writer; stage = stages.Turning turn }) turn old new r is
 
-pumped-refused : (tells : Bool) (old new : StoreValue) (r : Result JobDid PumpFault) → PumpsJob tells old r new → IfErr r IsStepFault
-pumped-refused tells old new r pumps = by-failure old.transactions.failed pumps
+pumped-refused : (tells : Bool) (old new : StoreValue) (r : Result JobDid PumpFault) → IsNoReclaim old.job → PumpsJob tells old r new → IfErr r IsStepFault
+pumped-refused tells old new r archives pumps = by-failure old.transactions.failed pumps
   where
-    by-job : (o : Option ArchiveJob) → MatchOption o ((r ≡ Ok did.Idle) × (new ≡ old)) (λ j. TakesJobStep tells j.stage j old r new) → IfErr r IsStepFault
-    by-job None is = subst (λ (x : Result JobDid PumpFault). IfErr x IsStepFault) (sym is.0) tt
-    by-job (Some j) is = job-refused tells j.stage j old new r is
+    by-work : (w : JobWork) (s : JobStage) → IsArchive w → TakesJobStep tells s (record { work = w; stage = s }) old r new → IfErr r IsStepFault
+    by-work (Archive run writer) s plain is = job-refused tells s run writer old new r is
+    by-work (Reclaim anchors source written) s plain is = absurd plain
+
+    by-job : (o : Option Job) → IsNoReclaim o → MatchOption o ((r ≡ Ok did.Idle) × (new ≡ old)) (λ j. TakesJobStep tells j.stage j old r new) → IfErr r IsStepFault
+    by-job None plain is = subst (λ (x : Result JobDid PumpFault). IfErr x IsStepFault) (sym is.0) tt
+    by-job (Some j) plain is = by-work j.work j.stage plain is
 
     by-failure : (b : Bool) → MatchBool b ((r ≡ Err pump.Failed) × (new ≡ old)) (MatchOption old.job ((r ≡ Ok did.Idle) × (new ≡ old)) (λ j. TakesJobStep tells j.stage j old r new)) → IfErr r IsStepFault
     by-failure true is = refused-so r pump.Failed is.0 (inl refl)
-    by-failure false is = by-job old.job is
+    by-failure false is = by-job old.job archives is
 
 -- ---- device calls
 
-job-few : (tells : Bool) (s : JobStage) (j : ArchiveJob) (old new : StoreValue) (r : Result JobDid PumpFault) → TakesJobStep tells s j old r new → new.disk.made ≤ old.disk.made + 1
-job-few tells stages.Writing j old new r is = by-left j.writer.left is
+stores-few : (tells : Bool) (work : JobWork) (j : Job) (old new : StoreValue) (r : Result JobDid PumpFault) → Stores tells work j old r new → new.disk.made ≤ old.disk.made + 1
+stores-few tells (Archive run writer) j old new r is = by-left writer.left is
   where
-    by-left : (left : List ℕ) → WritesOrSyncs tells left j old r new → new.disk.made ≤ old.disk.made + 1
+    by-left : (left : List ℕ) → WritesOrSyncs tells left run writer j old r new → new.disk.made ≤ old.disk.made + 1
     by-left [] syncs = omega (arith, syncs.call.counts.made, counted-few old.disk.made)
     by-left (b ∷ bs) writes = omega (arith, writes.call.counts.made, counted-few old.disk.made)
+stores-few tells (Reclaim anchors source written) j old new r is = by-extent (slice_get old.transactions.reserved written) is
+  where
+    by-extent : (o : Option ℕ) → AnchorsOrSync tells o anchors source written j old r new → new.disk.made ≤ old.disk.made + 1
+    by-extent None syncs = omega (arith, syncs.call.counts.made, counted-few old.disk.made)
+    by-extent (Some number) writes = omega (arith, writes.call.counts.made, counted-few old.disk.made)
+
+begun-few : (tells : Bool) (work : JobWork) (j : Job) (old new : StoreValue) (r : Result JobDid PumpFault) → TurnsJob tells j (first_turn old j) (slot_taken (made_ready work old)) r new → new.disk.made ≤ old.disk.made + 1
+begun-few tells (Archive run writer) j old new r first = omega (arith, first.call.counts.made, counted-few old.disk.made)
+begun-few tells (Reclaim anchors source written) j old new r first = omega (arith, first.call.counts.made, counted-few old.disk.made)
+
+job-few : (tells : Bool) (s : JobStage) (j : Job) (old new : StoreValue) (r : Result JobDid PumpFault) → TakesJobStep tells s j old r new → new.disk.made ≤ old.disk.made + 1
+job-few tells stages.Writing j old new r is = stores-few tells j.work j old new r is
 job-few tells stages.Stored j old new r is = by-turn (is_some old.turn) is
   where
-    by-turn : (b : Bool) → MatchBool b ((r ≡ Err pump.Busy) × (new ≡ old)) (TurnsJob tells j (first_turn old j) (slot_taken old) r new) → new.disk.made ≤ old.disk.made + 1
+    by-turn : (b : Bool) → MatchBool b ((r ≡ Err pump.Busy) × (new ≡ old)) (BeginsJobSlot tells j old r new) → new.disk.made ≤ old.disk.made + 1
     by-turn true busy = let same = ap (λ (v : StoreValue). v.disk.made) busy.1 in omega (arith, same)
-    by-turn false first = omega (arith, first.call.counts.made, counted-few old.disk.made)
+    by-turn false (inl short) = let same = ap (λ (v : StoreValue). v.disk.made) short.2 in omega (arith, same)
+    by-turn false (inr first) = begun-few tells j.work j old new r first
 job-few tells (stages.Turning turn) j old new r is = omega (arith, is.call.counts.made, counted-few old.disk.made)
 
 pub pumped-few : (tells : Bool) (old new : StoreValue) (r : Result JobDid PumpFault) → PumpsJob tells old r new → new.disk.made ≤ old.disk.made + 1
@@ -218,7 +263,7 @@ pumped-few tells old new r pumps = by-failure old.transactions.failed pumps
     at-rest : new ≡ old → new.disk.made ≤ old.disk.made + 1
     at-rest is = let same = ap (λ (v : StoreValue). v.disk.made) is in omega (arith, same)
 
-    by-job : (o : Option ArchiveJob) → MatchOption o ((r ≡ Ok did.Idle) × (new ≡ old)) (λ j. TakesJobStep tells j.stage j old r new) → new.disk.made ≤ old.disk.made + 1
+    by-job : (o : Option Job) → MatchOption o ((r ≡ Ok did.Idle) × (new ≡ old)) (λ j. TakesJobStep tells j.stage j old r new) → new.disk.made ≤ old.disk.made + 1
     by-job None is = at-rest is.1
     by-job (Some j) is = job-few tells j.stage j old new r is
 
@@ -230,7 +275,7 @@ pumped-few tells old new r pumps = by-failure old.transactions.failed pumps
 
 pub pumped-goes : (tells : Bool) (v v' : StoreValue) (xs : List Held) (r : Result JobDid PumpFault) → (IsTrue tells → AreSound v'.disk.areas) → PumpsJob tells v r v' → Goes tells v xs call.JobPump (answer.JobPump r) v' (xs ++ held.Nothing ∷ [])
 pumped-goes tells v v' xs r sound pumps w is =
-    by-failure w.machine.failed refl (pumped-refused tells v v' r pumps) (job-pump-stands tells v v' r w.machine is.stands sound pumps)
+    by-failure w.machine.failed refl (pumped-refused tells v v' r is.stands.plain.1 pumps) (job-pump-stands tells v v' r w.machine is.stands sound pumps)
   where
     places : (h' : History Value) → GoesOn w.machine.published h' → ArePlaces v'.transactions h' (xs ++ held.Nothing ∷ []) (w.places ++ Free ∷ [])
     places h' goes = push_nothing v'.transactions h' xs w.places

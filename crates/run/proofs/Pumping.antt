@@ -24,10 +24,10 @@ use Rattle.transactions.specs.declared.stage.GroupStage.TheVariants as stages
 use Rattle.transactions.specs.declared.stage.NextStep.{NextStep}
 use Rattle.transactions.specs.declared.stage.NextStep.TheVariants as next
 use Rattle.store.specs.Values.{StoreValue, turn_of}
-use Rattle.store.specs.Pumps.{Pumps, TakesStep, WritesExtent, BeginsSlot, TurnsSlot, IsTurned, Steps, started, begun}
+use Rattle.store.specs.Pumps.{Pumps, TakesStep, WritesExtent, MayBeginSlot, TurnsSlot, IsTurned, Steps, started, begun}
 use Rattle.standing.specs.Laws.{begins_in, ends_in}
 use Rattle.standing.specs.Stands.{Stands}
-use Rattle.standing.proofs.Pumping.{pump-stands}
+use Rattle.standing.proofs.Pumping.{grouped-mark, never-stale, pump-stands}
 use Rattle.run.specs.declared.calls.Call.TheVariants as call
 use Rattle.run.specs.declared.calls.Answer.TheVariants as answer
 use Rattle.run.specs.declared.held.Held.{Held}
@@ -91,9 +91,10 @@ step-leaves tells next.WriteExtent old new r takes = wrote-leaves tells (groups.
 step-leaves tells next.SyncHeap old new r takes = synced-leaves old new _ r takes.steps
 step-leaves tells next.BeginSlot old new r takes = by-job (is_some (turn_of old.job)) takes
   where
-    by-job : (b : Bool) → MatchBool b ((r ≡ Err pump.Busy) × (new ≡ old)) (BeginsSlot tells old r new) → Leaves old.transactions new.transactions
+    by-job : (b : Bool) → MatchBool b ((r ≡ Err pump.Busy) × (new ≡ old)) (MayBeginSlot tells old r new) → Leaves old.transactions new.transactions
     by-job true is = leaves-so old.transactions old.transactions new.transactions (record { mark = refl; opened = refl; heads = refl }) (ap (λ (v : StoreValue). v.transactions) is.1)
-    by-job false first = leaves-then old.transactions (begun old).transactions new.transactions (record { mark = refl; opened = refl; heads = refl }) (slot-leaves tells _ (begun old) new r first.turns)
+    by-job false (inl short) = leaves-so old.transactions old.transactions new.transactions (record { mark = refl; opened = refl; heads = refl }) (ap (λ (v : StoreValue). v.transactions) short.2)
+    by-job false (inr first) = leaves-then old.transactions (begun old).transactions new.transactions (record { mark = refl; opened = refl; heads = refl }) (slot-leaves tells _ (begun old) new r first.turns)
 step-leaves tells next.AdvanceSlot old new r takes = advance-leaves tells old.turn old new r takes
 
 pump-leaves : (tells : Bool) (old new : StoreValue) (r : Result Did PumpFault) → Pumps tells old r new → Leaves old.transactions new.transactions
@@ -113,24 +114,25 @@ advance-refused : (tells : Bool) (o : Option TurnState) (old new : StoreValue) (
 advance-refused tells None old new why takes = absurd takes
 advance-refused tells (Some turn) old new why takes = takes.answer.fault
 
-step-refused : (tells : Bool) (s : NextStep) (old new : StoreValue) (why : PumpFault) → TakesStep tells s old (Err why) new → IsStepFault why
-step-refused tells next.Idle old new why takes = let is : Path (Result Did PumpFault) (Err why) (Ok did.Idle) = takes.0 in absurd cc
-step-refused tells next.WriteExtent old new why takes = inl (wrote-refused tells (groups.next_extent old.transactions) old new why takes)
-step-refused tells next.SyncHeap old new why takes = inl takes.steps.answer.0
-step-refused tells next.BeginSlot old new why takes = by-job (is_some (turn_of old.job)) takes
+step-refused : (tells : Bool) (s : NextStep) (old new : StoreValue) (why : PumpFault) → (groups.is_stale old.transactions ≡ true → ⊥) → TakesStep tells s old (Err why) new → IsStepFault why
+step-refused tells next.Idle old new why fresh takes = let is : Path (Result Did PumpFault) (Err why) (Ok did.Idle) = takes.0 in absurd cc
+step-refused tells next.WriteExtent old new why fresh takes = inl (wrote-refused tells (groups.next_extent old.transactions) old new why takes)
+step-refused tells next.SyncHeap old new why fresh takes = inl takes.steps.answer.0
+step-refused tells next.BeginSlot old new why fresh takes = by-job (is_some (turn_of old.job)) takes
   where
-    by-job : (b : Bool) → MatchBool b (Path (Result Did PumpFault) (Err why) (Err pump.Busy) × (new ≡ old)) (BeginsSlot tells old (Err why) new) → IsStepFault why
+    by-job : (b : Bool) → MatchBool b (Path (Result Did PumpFault) (Err why) (Err pump.Busy) × (new ≡ old)) (MayBeginSlot tells old (Err why) new) → IsStepFault why
     by-job true is = let same = is.0 in inr cc
-    by-job false first = inl first.turns.answer.fault
-step-refused tells next.AdvanceSlot old new why takes = inl (advance-refused tells old.turn old new why takes)
+    by-job false (inl short) = absurd (fresh short.0)
+    by-job false (inr first) = inl first.turns.answer.fault
+step-refused tells next.AdvanceSlot old new why fresh takes = inl (advance-refused tells old.turn old new why takes)
 
-pump-refused : (tells : Bool) (old new : StoreValue) (r : Result Did PumpFault) → Pumps tells old r new → IfErr r IsStepFault
-pump-refused tells old new (Ok what) pumps = tt
-pump-refused tells old new (Err why) pumps = by-failure old.transactions.failed pumps
+pump-refused : (tells : Bool) (old new : StoreValue) (r : Result Did PumpFault) → old.transactions.reclaimed ≡ 0 → Pumps tells old r new → IfErr r IsStepFault
+pump-refused tells old new (Ok what) none pumps = tt
+pump-refused tells old new (Err why) none pumps = by-failure old.transactions.failed pumps
   where
     by-failure : (b : Bool) → MatchBool b (Path (Result Did PumpFault) (Err why) (Err pump.Failed) × (new ≡ old)) (TakesStep tells (groups.next_step old.transactions) (started old) (Err why) new) → IsStepFault why
     by-failure true is = let same = is.0 in inl cc
-    by-failure false takes = step-refused tells (groups.next_step old.transactions) (started old) new why takes
+    by-failure false takes = step-refused tells (groups.next_step old.transactions) (started old) new why (never-stale (started old).transactions (grouped-mark old.transactions ∙ none)) takes
 
 -- ---- device calls
 
@@ -151,9 +153,10 @@ step-few tells next.WriteExtent old new r takes = wrote-few tells (groups.next_e
 step-few tells next.SyncHeap old new r takes = omega (arith, takes.call.counts.made, counted-few old.disk.made)
 step-few tells next.BeginSlot old new r takes = by-job (is_some (turn_of old.job)) takes
   where
-    by-job : (b : Bool) → MatchBool b ((r ≡ Err pump.Busy) × (new ≡ old)) (BeginsSlot tells old r new) → new.disk.made ≤ old.disk.made + 1
+    by-job : (b : Bool) → MatchBool b ((r ≡ Err pump.Busy) × (new ≡ old)) (MayBeginSlot tells old r new) → new.disk.made ≤ old.disk.made + 1
     by-job true is = let same = ap (λ (v : StoreValue). v.disk.made) is.1 in omega (arith, same)
-    by-job false first = omega (arith, first.turns.call.counts.made, counted-few old.disk.made)
+    by-job false (inl short) = let same = ap (λ (v : StoreValue). v.disk.made) short.2 in omega (arith, same)
+    by-job false (inr first) = omega (arith, first.turns.call.counts.made, counted-few old.disk.made)
 step-few tells next.AdvanceSlot old new r takes = advance-few tells old.turn old new r takes
 
 pub pump-few : (tells : Bool) (old new : StoreValue) (r : Result Did PumpFault) → Pumps tells old r new → new.disk.made ≤ old.disk.made + 1
@@ -171,7 +174,7 @@ pump-keeps v v' (held.View t) leaves = leaves.mark
 
 pub pump-goes : (tells : Bool) (v v' : StoreValue) (xs : List Held) (r : Result Did PumpFault) → (IsTrue tells → AreSound v'.disk.areas) → Pumps tells v r v' → Goes tells v xs call.Pump (answer.Pump r) v' (xs ++ held.Nothing ∷ [])
 pump-goes tells v v' xs r sound pumps w is =
-    by-failure w.machine.failed refl (pump-refused tells v v' r pumps) (pump-stands tells v v' r w.machine is.stands sound pumps)
+    by-failure w.machine.failed refl (pump-refused tells v v' r is.stands.plain.0 pumps) (pump-stands tells v v' r w.machine is.stands sound pumps)
   where
     places : (h' : History Value) → GoesOn w.machine.published h' → ArePlaces v'.transactions h' (xs ++ held.Nothing ∷ []) (w.places ++ Free ∷ [])
     places h' goes = push_nothing v'.transactions h' xs w.places

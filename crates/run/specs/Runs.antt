@@ -182,6 +182,8 @@ Archives w upto (Err start.NothingToDo) next = next ≡ same w
 Archives w upto (Err (start.NotYet time)) next = (time ≡ last w.machine.published) × (time < upto) × (next ≡ same w)
 Archives w upto (Err start.StatusFull) next = next ≡ same w
 Archives w upto (Err start.ArchiveFull) next = next ≡ same w
+Archives w upto (Err (start.InUse time)) next = ⊥
+Archives w upto (Err start.HeapFull) next = ⊥
 Archives w upto (Err start.NoMemory) next = next ≡ same w
 
 -- nor does a step of it, but for one that the device refuses

@@ -91,6 +91,8 @@ abbrev pub job_step_text : JobDid → Text
 job_step_text job.Idle = codes "idle\n"
 job_step_text job.WroteRun = codes "wrote run\n"
 job_step_text job.RunSynced = codes "run synced\n"
+job_step_text job.WroteExtent = codes "wrote extent\n"
+job_step_text job.HeapSynced = codes "heap synced\n"
 job_step_text job.BodyWritten = codes "body written\n"
 job_step_text job.BodySynced = codes "body synced\n"
 job_step_text job.GateWritten = codes "gate written\n"
@@ -141,6 +143,8 @@ start_line start.NothingToDo = codes "refused: nothing to do\n"
 start_line (start.NotYet last) = codes "refused: not yet " ++ decimal last ++ codes "\n"
 start_line start.StatusFull = codes "refused: status full\n"
 start_line start.ArchiveFull = codes "refused: archive full\n"
+start_line (start.InUse oldest) = codes "refused: in use " ++ decimal oldest ++ codes "\n"
+start_line start.HeapFull = codes "refused: heap full\n"
 start_line start.NoMemory = codes "refused: no memory\n"
 
 abbrev pub query_line : QueryFault → Text

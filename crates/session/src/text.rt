@@ -167,6 +167,8 @@ pub fn write_job_step<W: Write>(output: &mut W, step: JobDid) -> io::Result<()>
         JobDid::Idle => writeln!(output, "idle"),
         JobDid::WroteRun => writeln!(output, "wrote run"),
         JobDid::RunSynced => writeln!(output, "run synced"),
+        JobDid::WroteExtent => writeln!(output, "wrote extent"),
+        JobDid::HeapSynced => writeln!(output, "heap synced"),
         JobDid::BodyWritten => writeln!(output, "body written"),
         JobDid::BodySynced => writeln!(output, "body synced"),
         JobDid::GateWritten => writeln!(output, "gate written"),
@@ -249,7 +251,9 @@ fn write_start_fault<W: Write>(output: &mut W, fault: StartFault) -> io::Result<
         StartFault::JobBusy => writeln!(output, "refused: job busy"),
         StartFault::NothingToDo => writeln!(output, "refused: nothing to do"),
         StartFault::NotYet(last) => writeln!(output, "refused: not yet {last}"),
+        StartFault::InUse(oldest) => writeln!(output, "refused: in use {oldest}"),
         StartFault::StatusFull => writeln!(output, "refused: status full"),
+        StartFault::HeapFull => writeln!(output, "refused: heap full"),
         StartFault::ArchiveFull => writeln!(output, "refused: archive full"),
         StartFault::NoMemory => writeln!(output, "refused: no memory"),
     }

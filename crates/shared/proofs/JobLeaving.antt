@@ -1,5 +1,5 @@
 -- What a job leaves alone of the transactions.
-use Rattle.std.proofs.Common.{◌≡◌, ℕ, Bool, true, false, List, [], ◌∷◌, Some, None, Option, is_some, Result, Ok, Err, MatchBool, MatchOption, refl, ap}
+use Rattle.std.proofs.Common.{◌≡◌, ℕ, Bool, true, false, List, [], ◌∷◌, Some, None, Option, is_some, Result, Ok, Err, MatchBool, MatchOption, refl, ap, inl, inr}
 use Rattle.status.specs.SlotCalls.{SlotStage}
 use Rattle.status.specs.SlotCalls as slots
 use Rattle.status.specs.TurnState.{TurnState}
@@ -8,8 +8,14 @@ use Rattle.group.specs.declared.answers.PumpFault.TheVariants as pump
 use Rattle.transactions.specs.Values.{TransactionsValue}
 use Rattle.store.specs.Values.{StoreValue}
 use Rattle.store.specs.Archives.{refusal_now, BeginsRun, StartsArchive}
-use Rattle.store.specs.Jobs.{PumpsJob, TakesJobStep, WritesOrSyncs, TurnsJob, IsJobTurned, JobMoves, first_turn, slot_taken}
-use Rattle.store.specs.declared.job.ArchiveJob.{ArchiveJob}
+use Rattle.store.specs.Jobs.{PumpsJob, TakesJobStep, Stores, WritesOrSyncs, AnchorsOrSync, BeginsJobSlot, TurnsJob, IsJobTurned, JobMoves, work_done, slot_opened, made_ready, first_turn, slot_taken}
+use Rattle.archive.specs.Pieces.{InWriting}
+use Rattle.vacuum.specs.Anchors.{Sourced}
+use Rattle.wire.specs.declared.slot.Anchors.{Anchors}
+use Rattle.wire.specs.declared.slot.Run.{Run as WireRun}
+use Rattle.store.specs.declared.job.Job.{Job}
+use Rattle.store.specs.declared.job.JobWork.{JobWork}
+use Rattle.store.specs.declared.job.JobWork.TheVariants.{Archive, Reclaim}
 use Rattle.store.specs.declared.job.JobStage.{JobStage}
 use Rattle.store.specs.declared.job.JobStage.TheVariants as stages
 use Rattle.store.specs.declared.job.JobDid.{JobDid}
@@ -39,38 +45,57 @@ start-leaves old new upto r starts = by-refusal (refusal_now old upto) starts
 
 -- ---- a step
 
-moves-leave : (what : JobDid) (made refused : ArchiveJob) (old new : StoreValue) (r : Result JobDid PumpFault) → JobMoves what made refused old r new → Leaves old.transactions new.transactions
+moves-leave : (what : JobDid) (made refused : Job) (old new : StoreValue) (r : Result JobDid PumpFault) → JobMoves what made refused old r new → Leaves old.transactions new.transactions
 moves-leave what made refused old new (Ok said) is = same-leaves old.transactions _ new (record { mark = refl; opened = refl; heads = refl }) is.1
 moves-leave what made refused old new (Err why) is = same-leaves old.transactions _ new (record { mark = refl; opened = refl; heads = refl }) is.1
 
-turned-leave : (stage : SlotStage) (turn : TurnState) (j : ArchiveJob) (old new : StoreValue) (what : JobDid) → IsJobTurned stage turn j old what new → Leaves old.transactions new.transactions
+done-leaves : (work : JobWork) (turn : TurnState) (old new : StoreValue) → Leaves old.transactions (slot_opened (work_done work old) turn new).transactions
+done-leaves (Archive run writer) turn old new = record { mark = refl; opened = refl; heads = refl }
+done-leaves (Reclaim anchors source written) turn old new = record { mark = refl; opened = refl; heads = refl }
+
+turned-leave : (stage : SlotStage) (turn : TurnState) (j : Job) (old new : StoreValue) (what : JobDid) → IsJobTurned stage turn j old what new → Leaves old.transactions new.transactions
 turned-leave slots.Begun turn j old new what is = same-leaves old.transactions _ new (record { mark = refl; opened = refl; heads = refl }) is.1
 turned-leave slots.BodyWritten turn j old new what is = same-leaves old.transactions _ new (record { mark = refl; opened = refl; heads = refl }) is.1
 turned-leave slots.BodySynced turn j old new what is = same-leaves old.transactions _ new (record { mark = refl; opened = refl; heads = refl }) is.1
-turned-leave slots.GateWritten turn j old new what is = same-leaves old.transactions _ new (record { mark = refl; opened = refl; heads = refl }) is.2
+turned-leave slots.GateWritten turn j old new what is = same-leaves old.transactions _ new (done-leaves j.work turn old new) is.2
 turned-leave slots.Opened turn j old new what is = absurd is
 
-turn-leaves : (tells : Bool) (j : ArchiveJob) (turn : TurnState) (old new : StoreValue) (r : Result JobDid PumpFault) → TurnsJob tells j turn old r new → Leaves old.transactions new.transactions
+turn-leaves : (tells : Bool) (j : Job) (turn : TurnState) (old new : StoreValue) (r : Result JobDid PumpFault) → TurnsJob tells j turn old r new → Leaves old.transactions new.transactions
 turn-leaves tells j turn old new (Ok what) is = turned-leave turn.stage turn j old new what is.answer
 turn-leaves tells j turn old new (Err why) is = same-leaves old.transactions _ new (record { mark = refl; opened = refl; heads = refl }) is.answer.1
 
-write-leaves : (tells : Bool) (left : List ℕ) (j : ArchiveJob) (old new : StoreValue) (r : Result JobDid PumpFault) → WritesOrSyncs tells left j old r new → Leaves old.transactions new.transactions
-write-leaves tells [] j old new r is = moves-leave _ _ _ old new r is.moves
-write-leaves tells (b ∷ bs) j old new r is = moves-leave _ _ _ old new r is.moves
+write-leaves : (tells : Bool) (left : List ℕ) (run : WireRun) (writer : InWriting) (j : Job) (old new : StoreValue) (r : Result JobDid PumpFault) → WritesOrSyncs tells left run writer j old r new → Leaves old.transactions new.transactions
+write-leaves tells [] run writer j old new r is = moves-leave _ _ _ old new r is.moves
+write-leaves tells (b ∷ bs) run writer j old new r is = moves-leave _ _ _ old new r is.moves
 
-job-leaves : (tells : Bool) (s : JobStage) (j : ArchiveJob) (old new : StoreValue) (r : Result JobDid PumpFault) → TakesJobStep tells s j old r new → Leaves old.transactions new.transactions
-job-leaves tells stages.Writing j old new r is = write-leaves tells j.writer.left j old new r is
+anchors-leave : (tells : Bool) (o : Option ℕ) (anchors : Anchors) (source : Sourced) (written : ℕ) (j : Job) (old new : StoreValue) (r : Result JobDid PumpFault) → AnchorsOrSync tells o anchors source written j old r new → Leaves old.transactions new.transactions
+anchors-leave tells None anchors source written j old new r is = moves-leave _ _ _ old new r is.moves
+anchors-leave tells (Some number) anchors source written j old new r is = moves-leave _ _ _ old new r is.moves
+
+stores-leave : (tells : Bool) (work : JobWork) (j : Job) (old new : StoreValue) (r : Result JobDid PumpFault) → Stores tells work j old r new → Leaves old.transactions new.transactions
+stores-leave tells (Archive run writer) j old new r is = write-leaves tells writer.left run writer j old new r is
+stores-leave tells (Reclaim anchors source written) j old new r is = anchors-leave tells _ anchors source written j old new r is
+
+begun-leaves : (tells : Bool) (work : JobWork) (j : Job) (old new : StoreValue) (r : Result JobDid PumpFault) → TurnsJob tells j (first_turn old j) (slot_taken (made_ready work old)) r new → Leaves old.transactions new.transactions
+begun-leaves tells (Archive run writer) j old new r is = turn-leaves tells j (first_turn old j) (slot_taken old) new r is
+begun-leaves tells (Reclaim anchors source written) j old new r is =
+    let left = turn-leaves tells j (first_turn old j) (slot_taken (made_ready (Reclaim anchors source written) old)) new r is in
+    record { mark = left.mark; opened = left.opened; heads = left.heads }
+
+job-leaves : (tells : Bool) (s : JobStage) (j : Job) (old new : StoreValue) (r : Result JobDid PumpFault) → TakesJobStep tells s j old r new → Leaves old.transactions new.transactions
+job-leaves tells stages.Writing j old new r is = stores-leave tells j.work j old new r is
 job-leaves tells stages.Stored j old new r is = by-turn (is_some old.turn) is
   where
-    by-turn : (b : Bool) → MatchBool b ((r ≡ Err pump.Busy) × (new ≡ old)) (TurnsJob tells j (first_turn old j) (slot_taken old) r new) → Leaves old.transactions new.transactions
+    by-turn : (b : Bool) → MatchBool b ((r ≡ Err pump.Busy) × (new ≡ old)) (BeginsJobSlot tells j old r new) → Leaves old.transactions new.transactions
     by-turn true busy = nothing-left old new busy.1
-    by-turn false first = turn-leaves tells j (first_turn old j) (slot_taken old) new r first
+    by-turn false (inl short) = nothing-left old new short.2
+    by-turn false (inr first) = begun-leaves tells j.work j old new r first
 job-leaves tells (stages.Turning turn) j old new r is = turn-leaves tells j turn old new r is
 
 pub pumped-leaves : (tells : Bool) (old new : StoreValue) (r : Result JobDid PumpFault) → PumpsJob tells old r new → Leaves old.transactions new.transactions
 pumped-leaves tells old new r pumps = by-failure old.transactions.failed pumps
   where
-    by-job : (o : Option ArchiveJob) → MatchOption o ((r ≡ Ok did.Idle) × (new ≡ old)) (λ j. TakesJobStep tells j.stage j old r new) → Leaves old.transactions new.transactions
+    by-job : (o : Option Job) → MatchOption o ((r ≡ Ok did.Idle) × (new ≡ old)) (λ j. TakesJobStep tells j.stage j old r new) → Leaves old.transactions new.transactions
     by-job None is = nothing-left old new is.1
     by-job (Some j) is = job-leaves tells j.stage j old new r is
 

@@ -1,5 +1,5 @@
 -- What a step of a group leaves alone of the transactions.
-use Rattle.std.proofs.Common.{◌≡◌, ◌==◌, ◌&&◌, nat_lt, min, length, Bool, true, false, cond, Some, None, Option, is_some, Result, Ok, Err, MatchBool, MatchOption, refl, sym, ◌∙◌, ap, subst}
+use Rattle.std.proofs.Common.{◌≡◌, ◌==◌, ◌&&◌, nat_lt, min, length, Bool, true, false, cond, Some, None, Option, is_some, Result, Ok, Err, MatchBool, MatchOption, refl, sym, ◌∙◌, ap, subst, inl, inr}
 use Rattle.status.specs.SlotCalls.{SlotStage}
 use Rattle.status.specs.SlotCalls as slots
 use Rattle.status.specs.TurnState.{TurnState}
@@ -13,7 +13,7 @@ use Rattle.transactions.specs.declared.stage.GroupStage.TheVariants as stages
 use Rattle.transactions.specs.declared.stage.NextStep.{NextStep}
 use Rattle.transactions.specs.declared.stage.NextStep.TheVariants as next
 use Rattle.store.specs.Values.{StoreValue, turn_of}
-use Rattle.store.specs.Pumps.{Pumps, TakesStep, WritesExtent, BeginsSlot, TurnsSlot, IsTurned, Steps, started, begun}
+use Rattle.store.specs.Pumps.{Pumps, TakesStep, WritesExtent, MayBeginSlot, TurnsSlot, IsTurned, Steps, started, begun}
 
 -- what a step leaves alone
 pub record Leaves (old new : TransactionsValue) : Type 0 where
@@ -68,9 +68,10 @@ step-leaves tells next.WriteExtent old new r takes = wrote-leaves tells (groups.
 step-leaves tells next.SyncHeap old new r takes = synced-leaves old new _ r takes.steps
 step-leaves tells next.BeginSlot old new r takes = by-job (is_some (turn_of old.job)) takes
   where
-    by-job : (b : Bool) → MatchBool b ((r ≡ Err pump.Busy) × (new ≡ old)) (BeginsSlot tells old r new) → Leaves old.transactions new.transactions
+    by-job : (b : Bool) → MatchBool b ((r ≡ Err pump.Busy) × (new ≡ old)) (MayBeginSlot tells old r new) → Leaves old.transactions new.transactions
     by-job true is = leaves-so old.transactions old.transactions new.transactions (record { mark = refl; opened = refl; heads = refl }) (ap (λ (v : StoreValue). v.transactions) is.1)
-    by-job false first = leaves-then old.transactions (begun old).transactions new.transactions (record { mark = refl; opened = refl; heads = refl }) (slot-leaves tells _ (begun old) new r first.turns)
+    by-job false (inl short) = leaves-so old.transactions old.transactions new.transactions (record { mark = refl; opened = refl; heads = refl }) (ap (λ (v : StoreValue). v.transactions) short.2)
+    by-job false (inr first) = leaves-then old.transactions (begun old).transactions new.transactions (record { mark = refl; opened = refl; heads = refl }) (slot-leaves tells _ (begun old) new r first.turns)
 step-leaves tells next.AdvanceSlot old new r takes = advance-leaves tells old.turn old new r takes
 
 pub pump-leaves : (tells : Bool) (old new : StoreValue) (r : Result Did PumpFault) → Pumps tells old r new → Leaves old.transactions new.transactions

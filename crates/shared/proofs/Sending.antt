@@ -1,7 +1,7 @@
 -- A store may go to another thread where its disk may.
 use denote.RattleType.{RattleType}
 use denote.Param.Send.{IsSend, IsSync, view_send, sendable}
-use denote.Param.SendFields.{declared_send, declared_sync}
+use denote.Param.SendFields.{declared_send, declared_sync, variants_send}
 use Rattle.std.proofs.Crossing.{crosses}
 use Rattle.smallvec.proofs.small_vec.SmallVec.TheSendSync as small_vec
 use Rattle.std.proofs.option.Option.TheSendSync as option
@@ -15,6 +15,9 @@ use Rattle.crossbeam_utils.proofs.atomic.seq_cell.Wide.TheSendSync as wide
 use Rattle.disk.specs.declared.device.Disk as devices
 use Rattle.history.proofs.time.TimedWrite.TheSendSync as timed_write
 use Rattle.wire.proofs.slot.Run.TheSendSync as run
+use Rattle.wire.proofs.slot.Anchors.TheSendSync as anchors
+use Rattle.extents.proofs.chain_times.ChainTimes.TheSendSync as chain_times
+use Rattle.extents.proofs.extent.Extent.TheSendSync as extent
 use Rattle.extents.proofs.extents.Extents.TheSendSync as extents
 use Rattle.chains.proofs.tree.Tree.TheLaws.TheKnot as knot
 use Rattle.chains.proofs.shared_value.SharedValue.TheSendSync as shared_value
@@ -31,10 +34,14 @@ use Rattle.transactions.specs.contracts.transactions.Transactions as Transaction
 use Rattle.transactions.specs.contracts.transactions.Transactions.TheInside as transactions
 use Rattle.archive.proofs.writer.RunWriter.TheSendSync as run_writer
 use Rattle.vacuum.proofs.archive_walk.Place.TheSendSync as place
+use Rattle.chains.proofs.bound.Bound.TheSendSync as bound
+use Rattle.vacuum.specs.contracts.anchor_source.AnchorSource as AnchorSource
+use Rattle.vacuum.specs.contracts.anchor_source.AnchorSource.TheInside as source
 use Rattle.vacuum.specs.contracts.archive_walk.ArchiveWalk as ArchiveWalk
 use Rattle.vacuum.specs.contracts.archive_walk.ArchiveWalk.TheInside as walk
 use Rattle.store.proofs.job.JobStage.TheSendSync as job_stage
-use Rattle.store.specs.contracts.job.ArchiveJob as ArchiveJob
+use Rattle.store.specs.contracts.job.Job as Job
+use Rattle.store.specs.contracts.job.JobWork as JobWork
 use Rattle.store.specs.contracts.store.Store as Store
 use Rattle.store.specs.contracts.store.Store.TheInside as store
 use Rattle.shared.specs.declared.naming.Opening as openings
@@ -68,20 +75,35 @@ transactions_inside = declared_send transactions.the_type (
       (
         search (sendable, frozen_send),
         (
-          search (sendable, crosses, queued_send),
+          search (sendable, option.the_send, frozen_send),
           (
-            search (sendable, extents.the_send),
+            search (sendable, crosses, queued_send),
             (
-              search sendable,
+              search (sendable, extents.the_send),
               (
-                search sendable,
+                search (sendable, chain_times.the_send),
                 (
-                  search sendable,
+                  search (sendable, crosses, extent.the_send),
                   (
-                    search (sendable, group_stage.the_send),
+                    search sendable,
                     (
                       search sendable,
-                      (search sendable, (search sendable, tt)),
+                      (
+                        search sendable,
+                        (
+                          search (sendable, group_stage.the_send),
+                          (
+                            search sendable,
+                            (
+                              search sendable,
+                              (
+                                search sendable,
+                                tt,
+                              ),
+                            ),
+                          ),
+                        ),
+                      ),
                     ),
                   ),
                 ),
@@ -105,8 +127,20 @@ walk_inside = declared_send walk.the_type (search (sendable, frozen_send), (sear
 walk_send : IsSend ArchiveWalk.the_row
 walk_send = view_send walk.the_row _ _ _ _ walk_inside
 
-job_send : IsSend ArchiveJob.the_row
-job_send = declared_send ArchiveJob.the_type (search (sendable, run.the_send), (search (sendable, run_writer.the_send, walk_send), (search (sendable, job_stage.the_send), tt)))
+source_inside : IsSend source.the_row
+source_inside = declared_send source.the_type (search (sendable, frozen_send), (search sendable, (search (sendable, bound.the_send), tt)))
+
+source_send : IsSend AnchorSource.the_row
+source_send = view_send source.the_row _ _ _ _ source_inside
+
+work_send : IsSend JobWork.the_row
+work_send = variants_send JobWork.the_type (
+  (search (sendable, run.the_send), (search (sendable, run_writer.the_send, walk_send), tt)),
+  ((search (sendable, anchors.the_send), (search (sendable, source_send), (search sendable, tt))), tt),
+)
+
+job_send : IsSend Job.the_row
+job_send = declared_send Job.the_type (search (sendable, work_send), (search (sendable, job_stage.the_send), tt))
 
 -- ---- the store
 

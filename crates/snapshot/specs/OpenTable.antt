@@ -1,5 +1,5 @@
 -- Which transactions are open: the snapshot of each, at the place of its number.
-use Rattle.std.specs.Prelude.{ℕ, ◌≡◌, List, [], ◌∷◌, ◌++◌, length, slice_get, slice_set, nat_lt, Option, None, Some, if◌then◌else◌}
+use Rattle.std.specs.Prelude.{ℕ, ◌≡◌, List, [], ◌∷◌, ◌++◌, length, slice_get, slice_set, nat_lt, min, Option, None, Some, if◌then◌else◌}
 
 -- what stands at a place that may be none
 abbrev pub joined : Option (Option ℕ) → Option ℕ
@@ -17,3 +17,18 @@ with_opened places number snapshot = if nat_lt number (length places) then slice
 -- that of this number is open no longer
 abbrev pub with_closed : List (Option ℕ) → ℕ → List (Option ℕ)
 with_closed places number = slice_set places number None
+
+-- the lesser of two snapshots, of which either may be none
+abbrev pub lesser : Option ℕ → Option ℕ → Option ℕ
+lesser None other = other
+lesser (Some a) None = Some a
+lesser (Some a) (Some b) = Some (min a b)
+
+-- the least snapshot of these places and one more
+abbrev pub least_with : Option ℕ → List (Option ℕ) → Option ℕ
+least_with least [] = least
+least_with least (p ∷ ps) = least_with (lesser least p) ps
+
+-- the least snapshot of the open transactions
+abbrev pub least_open : List (Option ℕ) → Option ℕ
+least_open places = least_with None places

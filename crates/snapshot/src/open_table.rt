@@ -1,6 +1,6 @@
 //! The open transactions of a store.
 ghost use Rattle.std.specs.Prelude.{◌≡◌, ◌≤◌, [], length, IfOk, OnErr, None};
-ghost use Rattle.snapshot.specs.OpenTable.{snapshot_of, with_opened, with_closed};
+ghost use Rattle.snapshot.specs.OpenTable.{snapshot_of, with_opened, with_closed, lesser, least_open};
 
 use std::alloc::{AllocError, Global};
 use std::marker::Model;
@@ -74,5 +74,29 @@ impl OpenTable {
                 self.free.push_reserved(place);
             }
         }
+    }
+
+    /// The least snapshot of the open transactions.
+    pub fn least(&self) -> Option<u64>
+        ensures { result ≡ least_open self.now }
+    {
+        let mut least = None;
+        let mut rest = self.places.as_slice();
+        while let [place, after @ ..] = rest {
+            least = lesser(least, *place);
+            rest = after;
+        }
+        least
+    }
+}
+
+// The lesser of two snapshots, of which either may be none.
+fn lesser(a: Option<u64>, b: Option<u64>) -> Option<u64>
+    ensures { result ≡ lesser a b }
+{
+    match (a, b) {
+        (None, other) => other,
+        (Some(a), None) => Some(a),
+        (Some(a), Some(b)) => Some(a.min(b)),
     }
 }

@@ -48,7 +48,7 @@ use Rattle.transactions.specs.Values.{TransactionsValue, spare, claimed, with_sl
 use Rattle.store.specs.Calls as stores
 use Rattle.store.specs.Archives.{refusal_now, archive_of, with_archive, BeginsRun, StartsArchive}
 use Rattle.store.specs.Values.{StoreValue, IsInStep, IsOnItsWay, turn_of, lent_to}
-use Rattle.store.specs.declared.job.ArchiveJob.{ArchiveJob}
+use Rattle.store.specs.declared.job.Job.{Job}
 use Rattle.store.specs.declared.job.JobStage.TheVariants as job
 use Rattle.store.specs.declared.job.StartFault.{StartFault}
 use Rattle.store.specs.declared.job.StartFault.TheVariants as fault
@@ -220,6 +220,7 @@ lent-memory v m stands = record {
 lent-order : (v : TransactionsValue) → 0 < spare v → IsInOrder v → IsInOrder (with_slot_lent v)
 lent-order v room order = record {
   split = order.split;
+  pending = order.pending;
   latest = order.latest;
   group_within = order.group_within;
   group_few = order.group_few;
@@ -285,7 +286,7 @@ module _ (header : Header) (v : StoreValue) (m : Machine Value) (memory : Stands
     archived = w.archived;
     runs_end = w.runs_end;
     rested = w.rested;
-    rests = subst (λ (o : Option ArchiveJob). IsRested header w.layout (turn_of o) w.rested v.disk.areas.status) may.free w.rests;
+    rests = subst (λ (o : Option Job). IsRested header w.layout (turn_of o) w.rested v.disk.areas.status) may.free w.rests;
     at = w.at;
     job = record {
       run = record { entry = run_of upto v.runs_end (archive_of v upto); records = archive_of v upto };
@@ -318,7 +319,7 @@ archive-start-stands tells old new upto answer m stands starts = by-refusal (ref
           turns = λ on.
               let was = stands.in_step.turns on in record {
                 turning = was.turning;
-                writing = was.writing ∙ ap (λ (o : Option ArchiveJob). is_some old.turn || is_some (turn_of o)) may.free;
+                writing = was.writing ∙ ap (λ (o : Option Job). is_some old.turn || is_some (turn_of o)) may.free;
                 turn = was.turn;
                 job = tt;
               };
@@ -329,6 +330,7 @@ archive-start-stands tells old new upto answer m stands starts = by-refusal (ref
           order = order;
           in_step = in_step;
           gate = stands.gate;
+          plain = (stands.plain.0, tt);
           disk = λ told.
               let d = stands.disk told in record {
                 header = d.header;

@@ -1,5 +1,5 @@
 -- The calls that ask nothing of the disk keep what the store stands for.
-use Rattle.std.proofs.Common.{◌≡◌, ℕ, suc, ◌+◌, ◌<◌, ◌≤◌, ◌^◌, ◌==◌, nat_lt, nat_le, Bool, true, false, cond, List, [], ◌∷◌, ◌++◌, length, take, drop, map, Option, None, Some, Result, Ok, Err, MatchBool, refl, arith, ap, sym, subst, ◌∙◌, inl, inr}
+use Rattle.std.proofs.Common.{◌≡◌, ℕ, suc, ◌+◌, ◌<◌, ◌≤◌, ◌^◌, ◌==◌, nat_lt, nat_le, Bool, true, false, cond, List, [], ◌∷◌, ◌++◌, length, take, drop, map, Option, None, Some, Result, Ok, Err, MatchBool, MatchOption, refl, arith, ap, sym, subst, ◌∙◌, inl, inr}
 use Rattle.std.specs.List.{flat_map}
 use Rattle.std.proofs.lemmas.List.{take-append-le}
 use Rattle.std.proofs.lemmas.Bool.Decides.{nat_tests}
@@ -45,13 +45,14 @@ use Rattle.group.specs.declared.answers.SubmitFault.{SubmitFault}
 use Rattle.group.specs.declared.answers.SubmitFault.TheVariants as refused
 use Rattle.group.proofs.Sealed.{length-sealed}
 use Rattle.transactions.specs.Values.{TransactionsValue, ordered, is_own, over, spare}
-use Rattle.transactions.specs.Order.{IsInOrder, StageFits}
+use Rattle.transactions.specs.Order.{AreBy, IsInOrder, StageFits}
 use Rattle.transactions.specs.Calls as calls
 use Rattle.transactions.specs.Submits.{Verdict, Queues, verdict, verdict_on_clock, verdict_on_conflict, first_conflict, free_count, bodies_for, time_now, queued_as, with_queued, JoinsQueue, SubmitsOwn, Submits}
 use Rattle.transactions.specs.Submits as verdicts
 use Rattle.transactions.specs.declared.stage.GroupStage.{GroupStage}
 use Rattle.transactions.specs.declared.stage.GroupStage.TheVariants.{NoGroup, Storing, Stored, Turning}
 use Rattle.transactions.proofs.Publishing.{numbers-stored, length-stored}
+use Rattle.transactions.proofs.Kept.{by-last}
 use Rattle.transactions.proofs.Queueing.{keeps-queued}
 use Rattle.store.specs.Calls as stores
 use Rattle.store.specs.Values.{StoreValue, HasRest}
@@ -104,6 +105,7 @@ same-disk v m opened heads snapshots d = record {
 opened-order : (v : TransactionsValue) (opened : List (Option ℕ)) → IsInOrder v → IsInOrder (record v { opened = opened })
 opened-order v opened order = record {
   split = order.split;
+  pending = order.pending;
   latest = order.latest;
   group_within = order.group_within;
   group_few = order.group_few;
@@ -130,6 +132,7 @@ opened-stands tells v m opened snapshots stands memory machine = record {
   order = opened-order v.transactions opened stands.order;
   in_step = record { slots = stands.in_step.slots; used = stands.in_step.used; turns = λ on. let was = stands.in_step.turns on in record { turning = was.turning; writing = was.writing; turn = was.turn; job = was.job } };
   gate = stands.gate;
+  plain = stands.plain;
   disk = λ told. same-disk v m opened v.transactions.heads snapshots (stands.disk told);
 }
 
@@ -177,7 +180,8 @@ abort-stands tells old new txn m stands aborts =
 redeemed-order : (v : TransactionsValue) (time : ℕ) → IsInOrder v → IsInOrder (record v { heads = orders.redeemed time v.heads })
 redeemed-order v time order = record {
   split = order.split ∙ sym (redeemed-many time v.heads);
-  latest = subst (λ (t : ℕ). latest (ordered v) ≤ t) (sym (redeemed-last time 0 v.heads)) order.latest;
+  pending = subst (λ (t : ℕ). MatchOption v.pending (Unit {0}) (λ versions. latest versions ≤ t)) (sym (redeemed-last time 0 v.heads)) order.pending;
+  latest = subst (λ (t : ℕ). AreBy t v.versions v.queue) (sym (redeemed-last time 0 v.heads)) order.latest;
   group_within = order.group_within;
   group_few = order.group_few;
   stage_fits = order.stage_fits;
@@ -209,6 +213,7 @@ redeemed-stands tells v m time stands memory = record {
   order = redeemed-order v.transactions time stands.order;
   in_step = record { slots = stands.in_step.slots; used = stands.in_step.used; turns = λ on. let was = stands.in_step.turns on in record { turning = was.turning; writing = was.writing; turn = was.turn; job = was.job } };
   gate = stands.gate;
+  plain = stands.plain;
   disk = λ told. same-disk v m v.transactions.opened (orders.redeemed time v.transactions.heads) m.snapshots (stands.disk told);
 }
 
@@ -372,9 +377,10 @@ queued-stands tells v m label time numbers snapshots opened c stands may least m
   memory = memory;
   machine = machine;
   order = opened-order (with_queued v.transactions label time c.writes numbers) opened (keeps-queued v.transactions label time c.writes numbers stands.order least many may.some
-      (latest-with_commit time (ordered v.transactions) c.writes (omega (arith, stands.order.latest, may.later))) may.room);
+      (latest-with_commit time (ordered v.transactions) c.writes (let last = by-last (orders.last_time v.transactions.heads) v.transactions.versions v.transactions.queue stands.order.latest in omega (arith, last, may.later))) (let after = may.later in omega (arith, after)) may.room);
   in_step = record { slots = stands.in_step.slots; used = stands.in_step.used; turns = λ on. let was = stands.in_step.turns on in record { turning = was.turning; writing = was.writing; turn = was.turn; job = was.job } };
   gate = stands.gate;
+  plain = stands.plain;
   disk = λ told.
       same-disk (with_transactions v (with_queued v.transactions label time c.writes numbers)) (record m { queue = m.queue ++ c ∷ [] }) opened (with_queued v.transactions label time c.writes numbers).heads snapshots
       (queued-disk v m label time numbers m.snapshots c stands.order stands.memory stands.machine least many (stands.disk told));

@@ -55,15 +55,18 @@ use Rattle.transactions.specs.Steps as groups
 use Rattle.transactions.specs.declared.stage.GroupStage.{GroupStage}
 use Rattle.transactions.specs.declared.stage.GroupStage.TheVariants.{NoGroup, Storing, Stored, Turning}
 use Rattle.store.specs.Values.{StoreValue, IsInStep, IsOnItsWay, turn_in, turn_of, lent_to}
-use Rattle.store.specs.declared.job.ArchiveJob.{ArchiveJob}
+use Rattle.store.specs.declared.job.Job.{Job}
+use Rattle.store.specs.declared.job.JobWork.{JobWork}
+use Rattle.store.specs.declared.job.JobWork.TheVariants.{Archive as ArchiveWork, Reclaim}
 use Rattle.store.specs.declared.job.JobStage.{JobStage}
 use Rattle.store.specs.declared.job.JobStage.TheVariants as job
 use Rattle.store.specs.declared.job.JobDid.{JobDid}
 use Rattle.store.specs.declared.job.JobDid.TheVariants as did
-use Rattle.store.specs.Jobs.{PumpsJob, TakesJobStep, WritesOrSyncs, WritesRun, SyncsRun, TurnsJob, IsJobTurned, with_job, job_fails, job_done, behind_piece, first_turn, slot_taken}
+use Rattle.store.specs.Jobs.{PumpsJob, TakesJobStep, WritesOrSyncs, WritesRun, SyncsStored, BeginsJobSlot, TurnsJob, IsJobTurned, with_job, job_fails, job_done, behind_piece, first_turn, slot_taken}
+use Rattle.store.specs.Archives.{ArchiveJob, job_of}
 use Rattle.standing.specs.Standing.{StandsInMemory}
 use Rattle.standing.specs.OnDisk.{IsImageOf, group_of, IsAtStage, IsTurnOf, IsNextRun, IsWritten, slot_of_run, IsTurnOfRun, IsAtJob, JobIsAt, HasJob, IsRested, Works, StandsOnDisk}
-use Rattle.standing.specs.Stands.{Stands}
+use Rattle.standing.specs.Stands.{IsNoReclaim, Stands}
 use Rattle.standing.specs.Laws.{job_ends_in}
 use Rattle.standing.proofs.Publishing.{breaks}
 use Rattle.standing.proofs.Jobs.{resting, archives-built, laid-after, stands-after, built-after, run-leaves-within, run-leads}
@@ -126,7 +129,7 @@ stays tells new to m said is parts = (m, refl, subst (λ (x : StoreValue). Parts
 
 -- a refused call
 fails : (tells : Bool) (v new : StoreValue) (m : Machine Value) (why : PumpFault) (log : LogState) (j : ArchiveJob) → (parts : Parts tells v m) → (works : m.failed ≡ false) → why ≡ pump.Failed → log.profile ≡ v.log.profile → log.slots ≡ v.log.slots → log.used ≡ v.log.used → lent_to v.job ≡ 1
-    → new ≡ record v { transactions = groups.broken v.transactions; log = log; job = Some j; disk = new.disk }
+    → new ≡ record v { transactions = groups.broken v.transactions; log = log; job = Some (job_of j); disk = new.disk }
     → ((told : IsTrue tells) (image : Image) → LeavesImage new.disk.areas image → OnFront (IsImageOf (parts.disk told).header image) m) → Ends tells m (Err why) new
 fails tells v new m why log j parts works said profile many used lent is leaves =
     subst (λ (e : PumpFault). Ends tells m (Err e) new) (sym said) (
@@ -137,6 +140,7 @@ fails tells v new m why log j parts works said profile many used lent is leaves 
         order = broken-order v.transactions parts.order;
         in_step = record { slots = omega (arith, many, parts.in_step.slots, lent); used = used ∙ parts.in_step.used; turns = λ no. absurd cc };
         gate = λ no. absurd cc;
+        plain = (parts.plain.0, tt);
         disk = λ told.
             let d = parts.disk told in record {
               header = d.header;
@@ -158,9 +162,9 @@ keeps-parts header v m w =
     record { extents = k.extents; runs = k.runs }
 
 -- what a store keeps of the job that it has
-module _ (header : Header) (v : StoreValue) (m : Machine Value) (w : Works header v m) (j : ArchiveJob) (is : v.job ≡ Some j) where
+module _ (header : Header) (v : StoreValue) (m : Machine Value) (w : Works header v m) (j : ArchiveJob) (is : v.job ≡ Some (job_of j)) where
   pub own : JobIsAt header w.layout w.reading m.published j v.disk.areas
-  own = subst (λ (o : Option ArchiveJob). HasJob header w.layout w.reading m.published o v.disk.areas) is w.job
+  own = subst (λ (o : Option Job). HasJob header w.layout w.reading m.published o v.disk.areas) is w.job
 
   still : (s : JobStage) → j.stage ≡ s → turn_in s ≡ None → turn_of v.job ≡ None
   still s at none = ap turn_of is ∙ ap turn_in at ∙ none
@@ -171,7 +175,7 @@ module _ (header : Header) (v : StoreValue) (m : Machine Value) (w : Works heade
 
   -- the works of the store with another job, where no slot of a job is in the writing
   works-with : (new : StoreValue) (j' : ArchiveJob) → turn_of v.job ≡ None → turn_in j'.stage ≡ None → AreSound new.disk.areas → (archive : AreaState) → new.disk.areas ≡ record v.disk.areas { archive = archive }
-      → KeepsRuns w.layout.runs archive → JobIsAt header w.layout w.reading m.published j' (record v.disk.areas { archive = archive }) → Works header (with_job v j' new) m
+      → KeepsRuns w.layout.runs archive → JobIsAt header w.layout w.reading m.published j' (record v.disk.areas { archive = archive }) → Works header (with_job v (job_of j') new) m
   works-with new j' none none' sound archive areas kept has = record {
     layout = w.layout;
     reading = w.reading;
@@ -194,9 +198,9 @@ module _ (header : Header) (v : StoreValue) (m : Machine Value) (w : Works heade
   }
 
 -- the store is in step with another job whose slot is not in the writing
-in-step-with : (v new : StoreValue) (j j' : ArchiveJob) → v.job ≡ Some j → turn_of v.job ≡ None → turn_in j'.stage ≡ None → IsInStep v → IsInStep (with_job v j' new)
+in-step-with : (v new : StoreValue) (j j' : ArchiveJob) → v.job ≡ Some (job_of j) → turn_of v.job ≡ None → turn_in j'.stage ≡ None → IsInStep v → IsInStep (with_job v (job_of j') new)
 in-step-with v new j j' is none none' in_step = record {
-  slots = in_step.slots ∙ ap (λ (o : Option ArchiveJob). v.transactions.slots + lent_to o) is;
+  slots = in_step.slots ∙ ap (λ (o : Option Job). v.transactions.slots + lent_to o) is;
   used = in_step.used;
   turns = λ on.
       let was = in_step.turns on in record {
@@ -207,7 +211,7 @@ in-step-with v new j j' is none none' in_step = record {
       };
 }
 
-module _ (tells : Bool) (v new : StoreValue) (m : Machine Value) (parts : Parts tells v m) (machine : IsMachine IsValue m) (works : m.failed ≡ false) (sound : IsTrue tells → AreSound new.disk.areas) (j : ArchiveJob) (is : v.job ≡ Some j) where
+module _ (tells : Bool) (v new : StoreValue) (m : Machine Value) (parts : Parts tells v m) (machine : IsMachine IsValue m) (works : m.failed ≡ false) (sound : IsTrue tells → AreSound new.disk.areas) (j : ArchiveJob) (is : v.job ≡ Some (job_of j)) where
   lent : lent_to v.job ≡ 1
   lent = ap lent_to is
 
@@ -227,7 +231,7 @@ module _ (tells : Bool) (v new : StoreValue) (m : Machine Value) (parts : Parts 
       (stage-beside d.header w.layout (group_of w.layout v.transactions m) v.transactions.queue v.transactions.stage v.turn v.disk.areas archive kept (now-at d.header v m w none)) image left
 
   -- the store with another job
-  moved : (j' : ArchiveJob) → turn_of v.job ≡ None → turn_in j'.stage ≡ None → ((told : IsTrue tells) → Works (parts.disk told).header (with_job v j' new) m) → Parts tells (with_job v j' new) m
+  moved : (j' : ArchiveJob) → turn_of v.job ≡ None → turn_in j'.stage ≡ None → ((told : IsTrue tells) → Works (parts.disk told).header (with_job v (job_of j') new) m) → Parts tells (with_job v (job_of j') new) m
   moved j' none none' working =
       let in_step = in-step-with v new j j' is none none' parts.in_step in
       record {
@@ -235,12 +239,16 @@ module _ (tells : Bool) (v new : StoreValue) (m : Machine Value) (parts : Parts 
         order = parts.order;
         in_step = in_step;
         gate = parts.gate;
+        plain = (parts.plain.0, tt);
         disk = λ told.
             let d = parts.disk told in
-            on-disk d.header (with_job v j' new) m parts.memory machine parts.order in_step d.profile d.slots d.profile_built (parts.gate works) (working told);
+            on-disk d.header (with_job v (job_of j') new) m parts.memory machine parts.order in_step d.profile d.slots d.profile_built (parts.gate works) (working told);
       }
 
   module _ (writing : j.stage ≡ job.Writing) where
+    abbrev one-behind : ArchiveJob
+    one-behind = record j { writer = behind_piece j.writer }
+
     abbrev piece : List ℕ
     piece = take 8192 j.writer.left
 
@@ -257,7 +265,7 @@ module _ (tells : Bool) (v new : StoreValue) (m : Machine Value) (parts : Parts 
         let at = at-writing told in
         omega (arith, at.place, has.next.behind)
 
-    written-on : (told : IsTrue tells) → IsWritten (own (parts.disk told).header v m ((parts.disk told).works works) j is).run (behind_piece j).writer (written j.writer.at piece v.disk.areas.archive)
+    written-on : (told : IsTrue tells) → IsWritten (own (parts.disk told).header v m ((parts.disk told).works works) j is).run (behind_piece j.writer) (written j.writer.at piece v.disk.areas.archive)
     written-on told =
         let d = parts.disk told in
         let has = own d.header v m (d.works works) j is in
@@ -269,24 +277,24 @@ module _ (tells : Bool) (v new : StoreValue) (m : Machine Value) (parts : Parts 
           held = subst (λ (n : ℕ). HoldsPart has.run.entry.start (at.front ++ piece) (overlaid v.disk.areas.archive.bytes n piece)) (sym at.place) (front-grows has.run.entry.start at.front piece v.disk.areas.archive.bytes at.held);
         }
 
-    wrote : (answer : Result JobDid PumpFault) → WritesRun tells j v answer new → Ends tells m answer new
+    wrote : (answer : Result JobDid PumpFault) → WritesRun tells j.run j.writer (job_of j) v answer new → Ends tells m answer new
     wrote (Ok said) takes =
-        stays tells new (with_job v (behind_piece j) new) m said takes.moves.1
-        (moved (behind_piece j) (ap turn_of is ∙ ap turn_in writing) (ap turn_in writing) (λ told.
+        stays tells new (with_job v (job_of one-behind) new) m said takes.moves.1
+        (moved one-behind (ap turn_of is ∙ ap turn_in writing) (ap turn_in writing) (λ told.
         let d = parts.disk told in
         let w = d.works works in
         let has = own d.header v m w j is in
         let archive : AreaState = written j.writer.at piece v.disk.areas.archive in
-        works-with d.header v m w j is new (behind_piece j) (ap turn_of is ∙ ap turn_in writing) (ap turn_in writing) (sound told) archive (takes.call.areas told).written
+        works-with d.header v m w j is new one-behind (ap turn_of is ∙ ap turn_in writing) (ap turn_in writing) (sound told) archive (takes.call.areas told).written
         (behind d.header v m w j is j.writer.at (length piece) archive (past told) (written_is j.writer.at piece v.disk.areas.archive (w.sound Archive)))
         (record {
           run = has.run;
           entry = has.entry;
           next = has.next;
-          at = subst (λ (s : JobStage). IsAtJob d.header w.layout has.run (behind_piece j).writer s (record v.disk.areas { archive = archive })) (sym writing) (written-on told);
+          at = subst (λ (s : JobStage). IsAtJob d.header w.layout has.run (behind_piece j.writer) s (record v.disk.areas { archive = archive })) (sym writing) (written-on told);
         })))
     wrote (Err why) takes =
-        fails tells v new m why v.log (behind_piece j) parts works takes.moves.0 refl refl refl lent takes.moves.1 (λ told image left.
+        fails tells v new m why v.log one-behind parts works takes.moves.0 refl refl refl lent takes.moves.1 (λ told image left.
         let d = parts.disk told in
         let w = d.works works in
         let archive : AreaState = loosened j.writer.at (length piece) v.disk.areas.archive.bytes v.disk.areas.archive in
@@ -294,9 +302,9 @@ module _ (tells : Bool) (v new : StoreValue) (m : Machine Value) (parts : Parts 
         (behind d.header v m w j is j.writer.at (length piece) archive (past told) (loosened_is j.writer.at (length piece) v.disk.areas.archive)) image
         ((left_by_write Archive j.writer.at piece (Err (record {})) v.disk.areas new.disk.areas (takes.call.areas told) w.sound).each image left))
 
-    synced-run : (answer : Result JobDid PumpFault) → j.writer.left ≡ [] → SyncsRun tells j v answer new → Ends tells m answer new
+    synced-run : (answer : Result JobDid PumpFault) → j.writer.left ≡ [] → SyncsStored tells Archive did.RunSynced (job_of j) v answer new → Ends tells m answer new
     synced-run (Ok said) all takes =
-        stays tells new (with_job v (record j { stage = job.Stored }) new) m said takes.moves.1
+        stays tells new (with_job v (job_of (record j { stage = job.Stored })) new) m said takes.moves.1
         (moved (record j { stage = job.Stored }) (ap turn_of is ∙ ap turn_in writing) refl (λ told.
         let d = parts.disk told in
         let w = d.works works in
@@ -315,7 +323,7 @@ module _ (tells : Bool) (v new : StoreValue) (m : Machine Value) (parts : Parts 
     synced-run (Err why) all takes =
         fails tells v new m why v.log j parts works takes.moves.0 refl refl refl lent takes.moves.1 (λ told image left. same told (takes.call.areas told).same image left)
 
-    write-step : (left : List ℕ) → j.writer.left ≡ left → (answer : Result JobDid PumpFault) → WritesOrSyncs tells left j v answer new → Ends tells m answer new
+    write-step : (left : List ℕ) → j.writer.left ≡ left → (answer : Result JobDid PumpFault) → WritesOrSyncs tells left j.run j.writer (job_of j) v answer new → Ends tells m answer new
     write-step [] all answer takes = synced-run answer all takes
     write-step (b ∷ bs) all answer takes = wrote answer takes
 
@@ -331,7 +339,7 @@ archive-long profile number run = let front = archive-front profile number run i
 
 -- the first call of the slot, and every other one
 module _ (header : Header) (v new : StoreValue) (m : Machine Value) (order : IsInOrder v.transactions) (in_step : IsInStep v) (slots_are : v.log.slots ≡ total header) (built : IsTrue (is_built header.profile 1)) (w : Works header v m)
-    (j : ArchiveJob) (is : v.job ≡ Some j) where
+    (j : ArchiveJob) (is : v.job ≡ Some (job_of j)) where
   abbrev mine : JobIsAt header w.layout w.reading m.published j v.disk.areas
   mine = own header v m w j is
 
@@ -339,7 +347,7 @@ module _ (header : Header) (v new : StoreValue) (m : Machine Value) (order : IsI
   place = job-room header v m order in_step slots_are w (ap lent_to is)
 
   -- the slot is begun: its run is kept, and the status area rests
-  begun : j.stage ≡ job.Stored → v.transactions.failed ≡ false → v.turn ≡ None → v.log.profile ≡ header.profile → IsTurnOfRun header w.layout mine.run (first_turn v j) v.disk.areas
+  begun : j.stage ≡ job.Stored → v.transactions.failed ≡ false → v.turn ≡ None → v.log.profile ≡ header.profile → IsTurnOfRun header w.layout mine.run (first_turn v (job_of j)) v.disk.areas
   begun stored on free profile =
       let run = mine.run in
       let kept : KeepsRun v.disk.areas.archive run = subst (λ (s : JobStage). IsAtJob header w.layout run j.writer s v.disk.areas) stored mine.at in
@@ -388,7 +396,7 @@ module _ (header : Header) (v new : StoreValue) (m : Machine Value) (order : IsI
     turning-works : (log : LogState) → log.used ≡ v.log.used → AreSound new.disk.areas → (rested : AreaState) → StatusRests header w.layout.slots rested → IsSound rested
         → IsAtStage header w.layout (group_of w.layout v.transactions m) v.transactions.queue v.transactions.stage v.turn (record v.disk.areas { status = rested })
         → IsSlotCall t.number t.body t.stage (Ok tt) v.disk.areas new.disk.areas
-        → Works header (record v { log = log; job = Some (record j { stage = job.Turning (record t { stage = slots.slot_stage_after t.stage }) }); disk = new.disk }) m
+        → Works header (record v { log = log; job = Some (job_of (record j { stage = job.Turning (record t { stage = slots.slot_stage_after t.stage }) })); disk = new.disk }) m
     turning-works log used sound rested rests whole stands call =
         let areas = slot-alone t.stage t.number t.body v.disk.areas new.disk.areas call in
         record {
@@ -413,7 +421,7 @@ module _ (header : Header) (v new : StoreValue) (m : Machine Value) (order : IsI
     -- and once it is open
     done-works : t.stage ≡ slots.GateWritten → AreSound new.disk.areas → is_turning v.transactions.stage ≡ false
         → IsAtStage header w.layout (group_of w.layout v.transactions m) v.transactions.queue v.transactions.stage v.turn (record v.disk.areas { status = w.rested })
-        → IsSlotCall t.number t.body t.stage (Ok tt) v.disk.areas new.disk.areas → Works header (job_done v j t new) m
+        → IsSlotCall t.number t.body t.stage (Ok tt) v.disk.areas new.disk.areas → Works header (job_done v (job_of j) t new) m
     done-works last sound free stands call =
         let areas = slot-alone t.stage t.number t.body v.disk.areas new.disk.areas call in
         let opened : IsTurnAt header w.layout slot behind-it slots.Opened new.disk.areas = subst (λ (s : SlotStage). IsTurnAt header w.layout slot behind-it (slots.slot_stage_after s) new.disk.areas) last (turn-leads call) in
@@ -462,6 +470,7 @@ used-memory v m stands = record {
 used-order : (v : TransactionsValue) → v.slots < 65536 → IsInOrder v → IsInOrder (with_slot_used v)
 used-order v few order = record {
   split = order.split;
+  pending = order.pending;
   latest = order.latest;
   group_within = order.group_within;
   group_few = order.group_few;
@@ -472,7 +481,7 @@ used-order v few order = record {
   slots_few = omega (arith, few);
 }
 
-module _ (tells : Bool) (v new : StoreValue) (m : Machine Value) (parts : Parts tells v m) (machine : IsMachine IsValue m) (works : m.failed ≡ false) (sound : IsTrue tells → AreSound new.disk.areas) (j : ArchiveJob) (is : v.job ≡ Some j) where
+module _ (tells : Bool) (v new : StoreValue) (m : Machine Value) (parts : Parts tells v m) (machine : IsMachine IsValue m) (works : m.failed ≡ false) (sound : IsTrue tells → AreSound new.disk.areas) (j : ArchiveJob) (is : v.job ≡ Some (job_of j)) where
   on : v.transactions.failed ≡ false
   on = parts.memory.failed ∙ works
 
@@ -481,12 +490,12 @@ module _ (tells : Bool) (v new : StoreValue) (m : Machine Value) (parts : Parts 
 
   -- the slot goes on, and another call of it is to come
   goes-on : (t : TurnState) (log : LogState) → log.profile ≡ v.log.profile → log.slots ≡ v.log.slots → log.used ≡ v.log.used → log.writing ≡ true → t.number ≡ v.log.used → v.turn ≡ None → IsOnItsWay (slots.slot_stage_after t.stage)
-      → ((told : IsTrue tells) → Works (parts.disk told).header (record v { log = log; job = Some (record j { stage = job.Turning (record t { stage = slots.slot_stage_after t.stage }) }); disk = new.disk }) m)
-      → Parts tells (record v { log = log; job = Some (record j { stage = job.Turning (record t { stage = slots.slot_stage_after t.stage }) }); disk = new.disk }) m
+      → ((told : IsTrue tells) → Works (parts.disk told).header (record v { log = log; job = Some (job_of (record j { stage = job.Turning (record t { stage = slots.slot_stage_after t.stage }) })); disk = new.disk }) m)
+      → Parts tells (record v { log = log; job = Some (job_of (record j { stage = job.Turning (record t { stage = slots.slot_stage_after t.stage }) })); disk = new.disk }) m
   goes-on t log profile many used writing number free way working =
-      let after : StoreValue = record v { log = log; job = Some (record j { stage = job.Turning (record t { stage = slots.slot_stage_after t.stage }) }); disk = new.disk } in
+      let after : StoreValue = record v { log = log; job = Some (job_of (record j { stage = job.Turning (record t { stage = slots.slot_stage_after t.stage }) })); disk = new.disk } in
       let was = parts.in_step.turns on in
-      let in_step : IsInStep (record v { log = log; job = Some (record j { stage = job.Turning (record t { stage = slots.slot_stage_after t.stage }) }); disk = new.disk }) = record {
+      let in_step : IsInStep (record v { log = log; job = Some (job_of (record j { stage = job.Turning (record t { stage = slots.slot_stage_after t.stage }) })); disk = new.disk }) = record {
         slots = omega (arith, many, parts.in_step.slots, one);
         used = used ∙ parts.in_step.used;
         turns = λ _. record {
@@ -501,29 +510,30 @@ module _ (tells : Bool) (v new : StoreValue) (m : Machine Value) (parts : Parts 
         order = parts.order;
         in_step = in_step;
         gate = parts.gate;
+        plain = (parts.plain.0, tt);
         disk = λ told.
             let d = parts.disk told in
-            on-disk d.header (record v { log = log; job = Some (record j { stage = job.Turning (record t { stage = slots.slot_stage_after t.stage }) }); disk = new.disk }) m parts.memory machine parts.order in_step (profile ∙ d.profile) (many ∙ d.slots) d.profile_built (parts.gate works) (working told);
+            on-disk d.header (record v { log = log; job = Some (job_of (record j { stage = job.Turning (record t { stage = slots.slot_stage_after t.stage }) })); disk = new.disk }) m parts.memory machine parts.order in_step (profile ∙ d.profile) (many ∙ d.slots) d.profile_built (parts.gate works) (working told);
       }
 
   -- ---- the first call
 
-  begin-step : j.stage ≡ job.Stored → v.turn ≡ None → (answer : Result JobDid PumpFault) → TurnsJob tells j (first_turn v j) (slot_taken v) answer new → Ends tells m answer new
+  begin-step : j.stage ≡ job.Stored → v.turn ≡ None → (answer : Result JobDid PumpFault) → TurnsJob tells (job_of j) (first_turn v (job_of j)) (slot_taken v) answer new → Ends tells m answer new
   begin-step stored free (Ok said) takes =
       let log : LogState = record v.log { writing = true } in
-      stays tells new (record v { log = log; job = Some (record j { stage = job.Turning (record (first_turn v j) { stage = slots.BodyWritten }) }); disk = new.disk }) m said takes.answer.1
-      (goes-on (first_turn v j) log refl refl refl refl refl free tt (λ told.
+      stays tells new (record v { log = log; job = Some (job_of (record j { stage = job.Turning (record (first_turn v (job_of j)) { stage = slots.BodyWritten }) })); disk = new.disk }) m said takes.answer.1
+      (goes-on (first_turn v (job_of j)) log refl refl refl refl refl free tt (λ told.
       let d = parts.disk told in
       let w = d.works works in
       let none : turn_of v.job ≡ None = ap turn_of is ∙ ap turn_in stored in
       let at = begun d.header v new m parts.order parts.in_step d.slots d.profile_built w j is stored on free d.profile in
-      turning-works d.header v new m parts.order parts.in_step d.slots d.profile_built w j is (first_turn v j) at log refl (sound told) v.disk.areas.status at.at.status (w.sound Status) (now-at d.header v m w none) (takes.call.areas told)))
+      turning-works d.header v new m parts.order parts.in_step d.slots d.profile_built w j is (first_turn v (job_of j)) at log refl (sound told) v.disk.areas.status at.at.status (w.sound Status) (now-at d.header v m w none) (takes.call.areas told)))
   begin-step stored free (Err why) takes =
       fails tells v new m why (record v.log { writing = true }) (record j { stage = job.Stored }) parts works takes.answer.0 refl refl refl one takes.answer.1 (λ told image left.
       let d = parts.disk told in
       let w = d.works works in
       let at = begun d.header v new m parts.order parts.in_step d.slots d.profile_built w j is stored on free d.profile in
-      turn-leaves d.header v new m parts.order parts.in_step d.slots d.profile_built w j is (first_turn v j) at (takes.call.areas told) image left)
+      turn-leaves d.header v new m parts.order parts.in_step d.slots d.profile_built w j is (first_turn v (job_of j)) at (takes.call.areas told) image left)
 
   -- ---- the others
 
@@ -547,24 +557,24 @@ module _ (tells : Bool) (v new : StoreValue) (m : Machine Value) (parts : Parts 
     log-writes = (parts.in_step.turns on).writing ∙ ap (λ (o : Option TurnState). is_some o || is_some (turn_of v.job)) was-turning.2 ∙ ap (λ (o : Option TurnState). is_some o) (ap turn_of is ∙ ap turn_in turning)
 
     next-step : (stage : SlotStage) → t.stage ≡ stage → IsOnItsWay (slots.slot_stage_after stage) → (said : JobDid) → (call : (told : IsTrue tells) → IsSlotCall t.number t.body t.stage (Ok tt) v.disk.areas new.disk.areas)
-        → new ≡ with_job v (record j { stage = job.Turning (record t { stage = slots.slot_stage_after stage }) }) new → Ends tells m (Ok said) new
+        → new ≡ with_job v (job_of (record j { stage = job.Turning (record t { stage = slots.slot_stage_after stage }) })) new → Ends tells m (Ok said) new
     next-step stage at way said call to =
-        let same : with_job v (record j { stage = job.Turning (record t { stage = slots.slot_stage_after stage }) }) new ≡ with_job v (record j { stage = job.Turning (record t { stage = slots.slot_stage_after t.stage }) }) new =
-        ap (λ (s : SlotStage). with_job v (record j { stage = job.Turning (record t { stage = slots.slot_stage_after s }) }) new) (sym at) in
-        stays tells new (with_job v (record j { stage = job.Turning (record t { stage = slots.slot_stage_after t.stage }) }) new) m said (to ∙ same)
+        let same : with_job v (job_of (record j { stage = job.Turning (record t { stage = slots.slot_stage_after stage }) })) new ≡ with_job v (job_of (record j { stage = job.Turning (record t { stage = slots.slot_stage_after t.stage }) })) new =
+        ap (λ (s : SlotStage). with_job v (job_of (record j { stage = job.Turning (record t { stage = slots.slot_stage_after s }) })) new) (sym at) in
+        stays tells new (with_job v (job_of (record j { stage = job.Turning (record t { stage = slots.slot_stage_after t.stage }) })) new) m said (to ∙ same)
         (goes-on t v.log refl refl refl log-writes was-turning.0 was-turning.2 (subst (λ (s : SlotStage). IsOnItsWay (slots.slot_stage_after s)) (sym at) way) (λ told.
         let d = parts.disk told in
         let w = d.works works in
         let rest = at-rest told in
         turning-works d.header v new m parts.order parts.in_step d.slots d.profile_built w j is t (at-turn told) v.log refl (sound told) w.rested rest.0 rest.1 w.at (call told)))
 
-    last-step : t.stage ≡ slots.GateWritten → (said : JobDid) → ((told : IsTrue tells) → IsSlotCall t.number t.body t.stage (Ok tt) v.disk.areas new.disk.areas) → v.transactions.slots < 65536 → new ≡ job_done v j t new → Ends tells m (Ok said) new
+    last-step : t.stage ≡ slots.GateWritten → (said : JobDid) → ((told : IsTrue tells) → IsSlotCall t.number t.body t.stage (Ok tt) v.disk.areas new.disk.areas) → v.transactions.slots < 65536 → new ≡ job_done v (job_of j) t new → Ends tells m (Ok said) new
     last-step last said call few to =
         let memory = used-memory v.transactions m parts.memory in
         let order = used-order v.transactions few parts.order in
         let was = parts.in_step.turns on in
         let free : v.turn ≡ None = was-turning.2 in
-        let in_step : IsInStep (job_done v j t new) = record {
+        let in_step : IsInStep (job_done v (job_of j) t new) = record {
           slots = omega (arith, parts.in_step.slots, one);
           used = omega (arith, was-turning.0, parts.in_step.used);
           turns = λ _. record {
@@ -574,26 +584,27 @@ module _ (tells : Bool) (v new : StoreValue) (m : Machine Value) (parts : Parts 
             job = tt;
           };
         } in
-        stays tells new (job_done v j t new) m said to (record {
+        stays tells new (job_done v (job_of j) t new) m said to (record {
           memory = memory;
           order = order;
           in_step = in_step;
           gate = parts.gate;
+          plain = (parts.plain.0, tt);
           disk = λ told.
               let d = parts.disk told in
               let w = d.works works in
-              on-disk d.header (job_done v j t new) m memory machine order in_step d.profile d.slots d.profile_built (parts.gate works)
+              on-disk d.header (job_done v (job_of j) t new) m memory machine order in_step d.profile d.slots d.profile_built (parts.gate works)
               (done-works d.header v new m parts.order parts.in_step d.slots d.profile_built w j is t (at-turn told) last (sound told) (was.turning ∙ ap (λ (o : Option TurnState). is_some o) free) w.at (call told));
         })
 
-    turned : (stage : SlotStage) → t.stage ≡ stage → ((told : IsTrue tells) → IsSlotCall t.number t.body t.stage (Ok tt) v.disk.areas new.disk.areas) → (said : JobDid) → IsJobTurned stage t j v said new → Ends tells m (Ok said) new
+    turned : (stage : SlotStage) → t.stage ≡ stage → ((told : IsTrue tells) → IsSlotCall t.number t.body t.stage (Ok tt) v.disk.areas new.disk.areas) → (said : JobDid) → IsJobTurned stage t (job_of j) v said new → Ends tells m (Ok said) new
     turned slots.Begun at call said to = next-step slots.Begun at tt said call to.1
     turned slots.BodyWritten at call said to = next-step slots.BodyWritten at tt said call to.1
     turned slots.BodySynced at call said to = next-step slots.BodySynced at tt said call to.1
     turned slots.GateWritten at call said to = last-step at said call to.1 to.2
     turned slots.Opened at call said to = absurd to
 
-    turn-step : (answer : Result JobDid PumpFault) → TurnsJob tells j t v answer new → Ends tells m answer new
+    turn-step : (answer : Result JobDid PumpFault) → TurnsJob tells (job_of j) t v answer new → Ends tells m answer new
     turn-step (Ok said) takes = turned t.stage refl takes.call.areas said takes.answer
     turn-step (Err why) takes =
         fails tells v new m why v.log (record j { stage = job.Stored }) parts works takes.answer.0 refl refl refl one takes.answer.1 (λ told image left.
@@ -602,19 +613,24 @@ module _ (tells : Bool) (v new : StoreValue) (m : Machine Value) (parts : Parts 
 
   -- ---- every step
 
-  waits-or-begins : j.stage ≡ job.Stored → (o : Option TurnState) → v.turn ≡ o → (answer : Result JobDid PumpFault) → MatchBool (is_some o) ((answer ≡ Err pump.Busy) × (new ≡ v)) (TurnsJob tells j (first_turn v j) (slot_taken v) answer new) → Ends tells m answer new
+  waits-or-begins : j.stage ≡ job.Stored → (o : Option TurnState) → v.turn ≡ o → (answer : Result JobDid PumpFault) → MatchBool (is_some o) ((answer ≡ Err pump.Busy) × (new ≡ v)) (BeginsJobSlot tells (job_of j) v answer new) → Ends tells m answer new
   waits-or-begins stored (Some t) at answer busy = subst (λ (r : Result JobDid PumpFault). Ends tells m r new) (sym busy.0) (m, refl, subst (λ (x : StoreValue). Parts tells x m) (sym busy.1) parts)
-  waits-or-begins stored None free answer first = begin-step stored free answer first
+  waits-or-begins stored None free answer (inl short) = absurd short.0
+  waits-or-begins stored None free answer (inr first) = begin-step stored free answer first
 
-  job-step : (s : JobStage) → j.stage ≡ s → (answer : Result JobDid PumpFault) → TakesJobStep tells s j v answer new → Ends tells m answer new
+  job-step : (s : JobStage) → j.stage ≡ s → (answer : Result JobDid PumpFault) → TakesJobStep tells s (job_of j) v answer new → Ends tells m answer new
   job-step job.Writing at answer takes = write-step tells v new m parts machine works sound j is at j.writer.left refl answer takes
   job-step job.Stored at answer takes = waits-or-begins at v.turn refl answer takes
   job-step (job.Turning t) at answer takes = turn-step t at answer takes
 
-step : (tells : Bool) (v new : StoreValue) (answer : Result JobDid PumpFault) (m : Machine Value) (parts : Parts tells v m) → IsMachine IsValue m → m.failed ≡ false → (IsTrue tells → AreSound new.disk.areas) → (o : Option ArchiveJob) → v.job ≡ o
+step : (tells : Bool) (v new : StoreValue) (answer : Result JobDid PumpFault) (m : Machine Value) (parts : Parts tells v m) → IsMachine IsValue m → m.failed ≡ false → (IsTrue tells → AreSound new.disk.areas) → (o : Option Job) → v.job ≡ o
     → MatchOption o ((answer ≡ Ok did.Idle) × (new ≡ v)) (λ j. TakesJobStep tells j.stage j v answer new) → Ends tells m answer new
 step tells v new answer m parts machine works sound None is idle = subst (λ (r : Result JobDid PumpFault). Ends tells m r new) (sym idle.0) (m, refl, subst (λ (x : StoreValue). Parts tells x m) (sym idle.1) parts)
-step tells v new answer m parts machine works sound (Some j) is takes = job-step tells v new m parts machine works sound j is j.stage refl answer takes
+step tells v new answer m parts machine works sound (Some j) is takes = by-work j.work j.stage is takes
+  where
+    by-work : (w : JobWork) (s : JobStage) → v.job ≡ Some (record { work = w; stage = s }) → TakesJobStep tells s (record { work = w; stage = s }) v answer new → Ends tells m answer new
+    by-work (ArchiveWork run writer) s is takes = job-step tells v new m parts machine works sound (record { run = run; writer = writer; stage = s }) is s refl answer takes
+    by-work (Reclaim anchors source written) s is takes = absurd (subst IsNoReclaim is parts.plain.1)
 
 pub job-pump-stands : (tells : Bool) (old new : StoreValue) (answer : Result JobDid PumpFault) (m : Machine Value) → Stands tells old m → (IsTrue tells → AreSound new.disk.areas) → PumpsJob tells old answer new
     → MatchBool m.failed ((answer ≡ Err pump.Failed) × Stands tells new m) ((after : Machine Value) × steps.Run IsValue m (job_ends_in answer) after × Stands tells new after)
@@ -626,7 +642,7 @@ job-pump-stands tells old new answer m stands sound pumps =
         → MatchBool b ((answer ≡ Err pump.Failed) × Stands tells new m) ((after : Machine Value) × steps.Run IsValue m (job_ends_in answer) after × Stands tells new after)
     by-failure true failed is = (is.0, subst (λ (x : StoreValue). Stands tells x m) (sym is.1) stands)
     by-failure false works takes =
-        let parts : Parts tells old m = record { memory = stands.memory; order = stands.order; in_step = stands.in_step; gate = stands.gate; disk = stands.disk } in
+        let parts : Parts tells old m = record { memory = stands.memory; order = stands.order; in_step = stands.in_step; gate = stands.gate; plain = stands.plain; disk = stands.disk } in
         let ends = step tells old new answer m parts stands.machine works sound old.job refl takes in (
           ends.0,
           ends.1,
@@ -636,6 +652,7 @@ job-pump-stands tells old new answer m stands sound pumps =
             order = ends.2.order;
             in_step = ends.2.in_step;
             gate = ends.2.gate;
+            plain = ends.2.plain;
             disk = ends.2.disk;
           },
         )

@@ -37,11 +37,13 @@ use Rattle.reading.specs.SlotTurns.{Adds, IsTurnAt, MayAt, MayWithin}
 use Rattle.reading.proofs.Jobs.{archive_laid}
 use Rattle.reading.proofs.RunWays.{row-more, run-beside}
 use Rattle.reading.proofs.SlotTurns.{turn_holds, turn_call_holds, turn_call_leads}
-use Rattle.store.specs.declared.job.ArchiveJob.{ArchiveJob}
+use Rattle.store.specs.declared.job.Job.{Job}
+use Rattle.store.specs.declared.job.JobWork.{JobWork}
+use Rattle.store.specs.declared.job.JobWork.TheVariants.{Archive as ArchiveWork, Reclaim}
 use Rattle.store.specs.declared.job.JobStage.{JobStage}
 use Rattle.store.specs.declared.job.JobStage.TheVariants as job
 use Rattle.store.specs.Values.{turn_in, turn_of}
-use Rattle.standing.specs.OnDisk.{IsImageOf, IsNextRun, IsWritten, slot_of_run, IsTurnOfRun, IsAtJob, JobIsAt, HasJob, IsRested}
+use Rattle.standing.specs.OnDisk.{IsImageOf, IsNextRun, IsWritten, slot_of_run, IsTurnOfRun, IsAtJob, JobIsAt, HasWork, HasJob, IsRested}
 use Rattle.standing.proofs.Joining.{built-more}
 
 -- where commits are built archives are
@@ -69,43 +71,55 @@ sound-at areas rested sound is Archive = sound Archive
 -- ---- what a job keeps while others write
 
 -- the heap is written beside the live chains
-pub job-beside-heap : (header : Header) (layout : Layout) (reading : Reading) (h : History Value) (o : Option ArchiveJob) (areas : Areas) (heap : AreaState) → KeepsExtents (live layout) heap
+pub job-beside-heap : (header : Header) (layout : Layout) (reading : Reading) (h : History Value) (o : Option Job) (areas : Areas) (heap : AreaState) → KeepsExtents (live layout) heap
     → HasJob header layout reading h o areas → HasJob header layout reading h o (record areas { heap = heap })
 job-beside-heap header layout reading h None areas heap keeps has = tt
-job-beside-heap header layout reading h (Some j) areas heap keeps has = record { run = has.run; entry = has.entry; next = has.next; at = moved j.stage has.at }
+job-beside-heap header layout reading h (Some j) areas heap keeps has = by-work j.work j.stage has
   where
-    moved : (s : JobStage) → IsAtJob header layout has.run j.writer s areas → IsAtJob header layout has.run j.writer s (record areas { heap = heap })
-    moved job.Writing at = at
-    moved job.Stored at = at
-    moved (job.Turning t) at = record {
+    moved : (run : StoredRun) (writer : InWriting) (s : JobStage) → IsAtJob header layout run writer s areas → IsAtJob header layout run writer s (record areas { heap = heap })
+    moved run writer job.Writing at = at
+    moved run writer job.Stored at = at
+    moved run writer (job.Turning t) at = record {
       number = at.number;
       long = at.long;
       spelled = at.spelled;
-      at = run-beside header layout (slot_of_run (length layout.slots) has.run) has.run t.stage areas heap keeps at.at;
+      at = run-beside header layout (slot_of_run (length layout.slots) run) run t.stage areas heap keeps at.at;
     }
 
+    by-work : (w : JobWork) (s : JobStage) → HasWork header layout reading h w s areas → HasWork header layout reading h w s (record areas { heap = heap })
+    by-work (ArchiveWork run writer) s has = record { run = has.run; entry = has.entry; next = has.next; at = moved has.run writer s has.at }
+    by-work (Reclaim anchors source written) s has = absurd has
+
 -- a job whose slot is not in the writing does not ask for the status area
-pub job-beside-status : (header : Header) (layout : Layout) (reading : Reading) (h : History Value) (o : Option ArchiveJob) (areas : Areas) (status : AreaState) → turn_of o ≡ None
+pub job-beside-status : (header : Header) (layout : Layout) (reading : Reading) (h : History Value) (o : Option Job) (areas : Areas) (status : AreaState) → turn_of o ≡ None
     → HasJob header layout reading h o areas → HasJob header layout reading h o (record areas { status = status })
 job-beside-status header layout reading h None areas status none has = tt
-job-beside-status header layout reading h (Some j) areas status none has = record { run = has.run; entry = has.entry; next = has.next; at = moved j.stage none has.at }
+job-beside-status header layout reading h (Some j) areas status none has = by-work j.work j.stage none has
   where
-    moved : (s : JobStage) → turn_in s ≡ None → IsAtJob header layout has.run j.writer s areas → IsAtJob header layout has.run j.writer s (record areas { status = status })
-    moved job.Writing none at = at
-    moved job.Stored none at = at
-    moved (job.Turning t) none at = absurd cc
+    moved : (run : StoredRun) (writer : InWriting) (s : JobStage) → turn_in s ≡ None → IsAtJob header layout run writer s areas → IsAtJob header layout run writer s (record areas { status = status })
+    moved run writer job.Writing none at = at
+    moved run writer job.Stored none at = at
+    moved run writer (job.Turning t) none at = absurd cc
+
+    by-work : (w : JobWork) (s : JobStage) → turn_in s ≡ None → HasWork header layout reading h w s areas → HasWork header layout reading h w s (record areas { status = status })
+    by-work (ArchiveWork run writer) s none has = record { run = has.run; entry = has.entry; next = has.next; at = moved has.run writer s none has.at }
+    by-work (Reclaim anchors source written) s none has = absurd has
 
 -- nor for the layout, but that its run may come next
-pub job-moves : (header : Header) (layout layout' : Layout) (reading reading' : Reading) (h h' : History Value) (o : Option ArchiveJob) (areas : Areas) → turn_of o ≡ None
+pub job-moves : (header : Header) (layout layout' : Layout) (reading reading' : Reading) (h h' : History Value) (o : Option Job) (areas : Areas) → turn_of o ≡ None
     → ((run : StoredRun) → IsNextRun layout reading h run → IsNextRun layout' reading' h' run)
     → HasJob header layout reading h o areas → HasJob header layout' reading' h' o areas
 job-moves header layout layout' reading reading' h h' None areas none next has = tt
-job-moves header layout layout' reading reading' h h' (Some j) areas none next has = record { run = has.run; entry = has.entry; next = next has.run has.next; at = moved j.stage none has.at }
+job-moves header layout layout' reading reading' h h' (Some j) areas none next has = by-work j.work j.stage none has
   where
-    moved : (s : JobStage) → turn_in s ≡ None → IsAtJob header layout has.run j.writer s areas → IsAtJob header layout' has.run j.writer s areas
-    moved job.Writing none at = at
-    moved job.Stored none at = at
-    moved (job.Turning t) none at = absurd cc
+    moved : (run : StoredRun) (writer : InWriting) (s : JobStage) → turn_in s ≡ None → IsAtJob header layout run writer s areas → IsAtJob header layout' run writer s areas
+    moved run writer job.Writing none at = at
+    moved run writer job.Stored none at = at
+    moved run writer (job.Turning t) none at = absurd cc
+
+    by-work : (w : JobWork) (s : JobStage) → turn_in s ≡ None → HasWork header layout reading h w s areas → HasWork header layout' reading' h' w s areas
+    by-work (ArchiveWork run writer) s none has = record { run = has.run; entry = has.entry; next = next has.run has.next; at = moved has.run writer s none has.at }
+    by-work (Reclaim anchors source written) s none has = absurd has
 
 -- ---- the slot of a run
 

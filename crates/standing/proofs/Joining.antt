@@ -153,7 +153,7 @@ module _ (header : Header) (v : TransactionsValue) (m : Machine Value) (layout :
       may_follow-front IsValue m.published (take v.group m.queue) (drop v.group m.queue) (subst (λ (l : History Value). MayAllFollow IsValue m.published l) (sym (taken-and-rest v.group m.queue)) behind)
 
   pub out : AreOut v.usages (flat_map numbers_of taken)
-  out = out-front v.usages (flat_map numbers_of (take v.group v.queue)) (flat_map numbers_of (drop v.group v.queue)) (subst (λ (l : List ℕ). AreOut v.usages l) (numbers-split v.group v.queue) order.out)
+  out = out-front v.usages (flat_map numbers_of (take v.group v.queue)) (flat_map numbers_of (drop v.group v.queue)) (subst (λ (l : List ℕ). AreOut v.usages l) (numbers-split v.group v.queue) (out-front v.usages (flat_map numbers_of v.queue) v.reserved order.out))
 
   pub in_range : AllByRecursion IsNumber (flat_map numbers_of taken)
   in_range = numbered v.usages (flat_map numbers_of taken) out.each

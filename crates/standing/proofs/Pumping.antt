@@ -1,5 +1,5 @@
 -- A step of a group keeps what the store stands for, in memory and on its disk.
-use Rattle.std.proofs.Common.{◌≡◌, cond, slice_get, ℕ, suc, ◌+◌, ◌<◌, ◌≤◌, ◌==◌, nat_lt, Bool, true, false, List, [], ◌∷◌, ◌++◌, length, take, drop, Option, None, Some, is_some, ◌||◌, Result, Ok, Err, MatchBool, MatchOption, refl, arith, ap, sym, subst, ◌∙◌, inl, inr, length-append}
+use Rattle.std.proofs.Common.{◌≡◌, cond, slice_get, ℕ, suc, ◌+◌, ◌-◌, ◌<◌, ◌≤◌, ◌==◌, ◌&&◌, min, nat_lt, Bool, true, false, List, [], ◌∷◌, ◌++◌, length, take, drop, Option, None, Some, is_some, ◌||◌, Result, Ok, Err, MatchBool, MatchOption, refl, arith, ap, sym, subst, ◌∙◌, inl, inr, length-append}
 use Rattle.std.specs.Prelude.{IsTrue, min}
 use Rattle.std.specs.List.{flat_map}
 use Rattle.std.proofs.lemmas.Bool.{cases_lt}
@@ -63,15 +63,19 @@ use Rattle.transactions.specs.declared.stage.GroupStage.TheVariants.{NoGroup, St
 use Rattle.transactions.specs.declared.stage.NextStep.{NextStep}
 use Rattle.transactions.specs.declared.stage.NextStep.TheVariants as next
 use Rattle.transactions.proofs.Kept.{advance-is, keeps-grouped, keeps-wrote, keeps-synced, keeps-begun, keeps-published}
-use Rattle.transactions.proofs.Publishing.{out-rest}
+use Rattle.transactions.proofs.Publishing.{out-beside}
+use Rattle.transactions.proofs.Reclaiming.{none-fresh}
 use Rattle.store.specs.Values.{StoreValue, KeepsJob, IsInStep, IsOnItsWay, turn_in, turn_of, lent_to}
-use Rattle.store.specs.declared.job.ArchiveJob.{ArchiveJob}
+use Rattle.store.specs.declared.job.Job.{Job}
+use Rattle.store.specs.declared.job.JobWork.{JobWork}
+use Rattle.store.specs.declared.job.JobWork.TheVariants.{Archive as ArchiveWork, Reclaim}
 use Rattle.store.specs.declared.job.JobStage.{JobStage}
 use Rattle.store.specs.declared.job.JobStage.TheVariants as job
-use Rattle.store.specs.Pumps.{Pumps, TakesStep, WritesExtent, BeginsSlot, TurnsSlot, IsTurned, started, begun, SyncsHeap}
+use Rattle.store.specs.Pumps.{Pumps, TakesStep, WritesExtent, MayBeginSlot, TurnsSlot, IsTurned, started, SyncsHeap}
 use Rattle.standing.specs.Standing.{StandsInMemory}
-use Rattle.standing.specs.OnDisk.{IsImageOf, AllPacked, written_before, group_of, IsAtStage, IsTurnOf, IsNextRun, IsAtJob, HasJob, IsRested, Works, StandsOnDisk}
-use Rattle.standing.specs.Stands.{Stands, HasGate, gate_at, gate_of}
+use Rattle.standing.specs.OnDisk.{IsImageOf, AllPacked, written_before, group_of, IsAtStage, IsTurnOf, IsNextRun, IsAtJob, HasWork, HasJob, IsRested, Works, StandsOnDisk}
+use Rattle.archive.specs.Pieces.{InWriting}
+use Rattle.standing.specs.Stands.{Stands, IsUnreclaimed, HasGate, gate_at, gate_of}
 use Rattle.standing.specs.Laws.{begins_in, breaks_in, ends_in}
 use Rattle.standing.proofs.Conflicts.{writes-behind}
 use Rattle.standing.proofs.Packed.{packed-rest, wait-front, length-mapped}
@@ -169,16 +173,20 @@ job-room header v m order in_step slots_are w lent = omega (arith, lent, order.r
 
 -- what is left while a job's slot is in the writing, or by what else is so
 pub by-job : (header : Header) (v : StoreValue) (m : Machine Value) → IsInOrder v.transactions → IsInStep v → v.log.slots ≡ total header → IsTrue (is_built header.profile 1) → IsTrue (is_built header.profile 2)
-    → (w : Works header v m) (areas : Areas) (image : Image) → (o : Option ArchiveJob) → v.job ≡ o → HasJob header w.layout w.reading m.published o areas → LeavesImage areas image
+    → (w : Works header v m) (areas : Areas) (image : Image) → (o : Option Job) → v.job ≡ o → HasJob header w.layout w.reading m.published o areas → LeavesImage areas image
     → (turn_of v.job ≡ None → OnFront (IsImageOf header image) m) → OnFront (IsImageOf header image) m
 by-job header v m order in_step slots_are built archives w areas image None is has left other = other (ap turn_of is)
-by-job header v m order in_step slots_are built archives w areas image (Some j) is has left other = by-stage j.stage refl has.at
+by-job header v m order in_step slots_are built archives w areas image (Some j) is has left other = by-work j.work has
   where
-    by-stage : (s : JobStage) → j.stage ≡ s → IsAtJob header w.layout has.run j.writer s areas → OnFront (IsImageOf header image) m
-    by-stage job.Writing at _ = other (ap turn_of is ∙ ap turn_in at)
-    by-stage job.Stored at _ = other (ap turn_of is ∙ ap turn_in at)
-    by-stage (job.Turning t) at turn =
-        run-leaves header m w.layout w.reading w.laid w.stands built archives w.built (job-room header v m order in_step slots_are w (ap lent_to is)) has.run has.next t.stage areas image turn.at left
+    by-stage : (run : StoredRun) (writer : InWriting) → IsNextRun w.layout w.reading m.published run → (s : JobStage) → j.stage ≡ s → IsAtJob header w.layout run writer s areas → OnFront (IsImageOf header image) m
+    by-stage run writer next job.Writing at _ = other (ap turn_of is ∙ ap turn_in at)
+    by-stage run writer next job.Stored at _ = other (ap turn_of is ∙ ap turn_in at)
+    by-stage run writer next (job.Turning t) at turn =
+        run-leaves header m w.layout w.reading w.laid w.stands built archives w.built (job-room header v m order in_step slots_are w (ap lent_to is)) run next t.stage areas image turn.at left
+
+    by-work : (work : JobWork) → HasWork header w.layout w.reading m.published work j.stage areas → OnFront (IsImageOf header image) m
+    by-work (ArchiveWork run writer) has = by-stage has.run writer has.next j.stage refl has.at
+    by-work (Reclaim anchors source written) has = absurd has
 
 pub works-leave : (header : Header) (v : StoreValue) (m : Machine Value) → StandsInMemory v.transactions m → IsMachine IsValue m → IsInOrder v.transactions → IsInStep v → v.log.slots ≡ total header
     → IsTrue (is_built header.profile 1) → IsTrue (is_built header.profile 2) → m.gate ≡ gate_of v.turn → (w : Works header v m) → (image : Image) → LeavesImage v.disk.areas image → OnFront (IsImageOf header image) m
@@ -203,6 +211,7 @@ pub record Parts (tells : Bool) (v : StoreValue) (m : Machine Value) : Type 0 wh
   pub order : IsInOrder v.transactions
   pub in_step : IsInStep v
   pub gate : HasGate v m
+  pub plain : IsUnreclaimed v
   pub disk : IsTrue tells → StandsOnDisk v m
 
 -- ---- a group begins
@@ -594,6 +603,7 @@ same-store v new transactions log turn keeps a b c =
 pub broken-order : (v : TransactionsValue) → IsInOrder v → IsInOrder (groups.broken v)
 broken-order v order = record {
   split = order.split;
+  pending = order.pending;
   latest = order.latest;
   group_within = order.group_within;
   group_few = order.group_few;
@@ -612,6 +622,7 @@ fails-parts tells v new m parts machine works gate log turn same many used leave
   order = broken-order v.transactions parts.order;
   in_step = record { slots = many ∙ parts.in_step.slots; used = used ∙ parts.in_step.used; turns = λ no. absurd cc };
   gate = λ no. absurd cc;
+  plain = parts.plain;
   disk = λ told.
       let d = parts.disk told in
       breaks-disk d.header v new m parts.memory machine parts.order parts.in_step d.profile d.slots d.profile_built (d.works works) gate log turn (leaves told) same many;
@@ -702,6 +713,7 @@ wrote-step tells v new answer m parts machine works asks sound (Some stored) fou
           order = order;
           in_step = in_step;
           gate = parts.gate;
+          plain = parts.plain;
           disk = λ told.
               let d = parts.disk told in
               let w = d.works works in
@@ -759,6 +771,7 @@ synced-step tells v new answer m parts machine works asks sound takes =
           order = order;
           in_step = in_step;
           gate = parts.gate;
+          plain = parts.plain;
           disk = λ told.
               let d = parts.disk told in
               let w = d.works works in
@@ -825,6 +838,7 @@ module _ (tells : Bool) (v new : StoreValue) (m : Machine Value) (t : TurnState)
         order = parts.order;
         in_step = in_step;
         gate = λ on. refl;
+        plain = parts.plain;
         disk = λ told.
             let d = parts.disk told in
             let w = d.works works in
@@ -858,10 +872,10 @@ module _ (tells : Bool) (v new : StoreValue) (m : Machine Value) (t : TurnState)
   opens is call asks said same a b c =
       let log : LogState = record v.log { used = t.number + 1; writing = false } in
       let memory = publishes v.transactions m parts.memory machine in
-      let rest : AreOut v.transactions.usages (flat_map numbers_of (take v.transactions.group v.transactions.queue) ++ flat_map numbers_of (drop v.transactions.group v.transactions.queue)) =
-      subst (λ (l : List ℕ). AreOut v.transactions.usages l) (numbers-split v.transactions.group v.transactions.queue) parts.order.out in
+      let rest : AreOut v.transactions.usages ((flat_map numbers_of (take v.transactions.group v.transactions.queue) ++ flat_map numbers_of (drop v.transactions.group v.transactions.queue)) ++ v.transactions.reserved) =
+      subst (λ (l : List ℕ). AreOut v.transactions.usages (l ++ v.transactions.reserved)) (numbers-split v.transactions.group v.transactions.queue) parts.order.out in
       let order = keeps-published v.transactions parts.order asks
-      (out-rest v.transactions.usages (flat_map numbers_of (take v.transactions.group v.transactions.queue)) (flat_map numbers_of (drop v.transactions.group v.transactions.queue)) Kept rest) in
+      (out-beside v.transactions.usages (flat_map numbers_of (take v.transactions.group v.transactions.queue)) (flat_map numbers_of (drop v.transactions.group v.transactions.queue)) v.transactions.reserved Kept rest) in
       let step : steps.Step IsValue m (steps.Published v.transactions.group) (steps.group_published m) = (works, group-some, parts.memory.group, gate-now ∙ ap gate_at is, refl) in
       let machine' : IsMachine IsValue (steps.group_published m) = run-machine IsValue m (steps.group_published m) (steps.Published v.transactions.group ∷ []) machine (steps.group_published m, step, refl) in
       let in_step : IsInStep (with_parts v new (groups.published v.transactions) log None) = record {
@@ -874,6 +888,7 @@ module _ (tells : Bool) (v new : StoreValue) (m : Machine Value) (t : TurnState)
         order = order;
         in_step = in_step;
         gate = λ on. refl;
+        plain = parts.plain;
         disk = λ told.
             let d = parts.disk told in
             let w = d.works works in
@@ -911,6 +926,25 @@ begin-is Turning group asks = absurd cc
 begin-is (Storing member extent) group asks =
     elim (nat_lt member group) as (λ (b : Bool). cond b next.WriteExtent next.SyncHeap ≡ next.BeginSlot → Storing member extent ≡ Stored) [ true ↦ λ no. absurd cc | false ↦ λ no. absurd cc ] asks
 
+-- where nothing was reclaimed, a group leaves the versions that its last commit was queued with
+pub never-stale : (t : TransactionsValue) → t.reclaimed ≡ 0 → groups.is_stale t ≡ true → ⊥
+never-stale t none stale = by-commit (slice_get t.queue (t.group - 1)) stale
+  where
+    by-commit : (o : Option QueuedValue) → groups.is_older t.reclaimed o ≡ true → ⊥
+    by-commit None is = absurd cc
+    by-commit (Some q) is = let less : q.reclaimed < t.reclaimed = grind (arith, nat_tests) in absurd (omega (arith, less, none))
+
+fresh-same : (t : TransactionsValue) → t.reclaimed ≡ 0 → groups.freshened t ≡ t
+fresh-same t none = ap (λ (qs : List QueuedValue). record t { queue = qs }) (none-fresh t.reclaimed (t.group - 1) t.queue (slice_get t.queue (t.group - 1)) (none-stale (slice_get t.queue (t.group - 1))))
+  where
+    none-stale : (o : Option QueuedValue) → MatchOption o (Unit {0}) (λ q. nat_lt q.reclaimed t.reclaimed ≡ false)
+    none-stale None = tt
+    none-stale (Some q) = grind (arith, nat_tests)
+
+-- the group's slot is in the writing
+abbrev plainly : StoreValue → StoreValue
+plainly v = record v { transactions = groups.at_stage Turning v.transactions; log = record v.log { writing = true } }
+
 -- the group's slot is in the writing, and no call of it is made: the store is on its way to the first one
 module _ (tells : Bool) (v new : StoreValue) (m : Machine Value) (parts : Parts tells v m) (machine : IsMachine IsValue m) (works : m.failed ≡ false) (stored : v.transactions.stage ≡ Stored)
     (sound : IsTrue tells → AreSound new.disk.areas) (body : Body) (commit : IsCommitOf (groups.entries v.transactions) body) (still : turn_of v.job ≡ None) (keeps : KeepsJob v new) where
@@ -935,7 +969,7 @@ module _ (tells : Bool) (v new : StoreValue) (m : Machine Value) (parts : Parts 
       let d = parts.disk told in
       slot-goes d.header v new m parts.memory machine parts.order parts.in_step d.profile d.slots d.profile_built (d.works works) answer first (first-turn told) some-stored call
 
-  begun-step : groups.due v.transactions ≡ next.BeginSlot → (answer : Result Did PumpFault) → TurnsSlot tells first (begun v) answer new → Ends tells m answer new
+  begun-step : groups.due v.transactions ≡ next.BeginSlot → (answer : Result Did PumpFault) → TurnsSlot tells first (plainly v) answer new → Ends tells m answer new
   begun-step asks (Ok what) to =
       let after : Option TurnState = Some (record first { stage = slots.BodyWritten }) in
       let log : LogState = record v.log { writing = true } in
@@ -956,6 +990,7 @@ module _ (tells : Bool) (v new : StoreValue) (m : Machine Value) (parts : Parts 
         order = order;
         in_step = in_step;
         gate = λ on. shut;
+        plain = parts.plain;
         disk = λ told.
             let d = parts.disk told in
             let w = d.works works in
@@ -984,6 +1019,7 @@ module _ (tells : Bool) (v new : StoreValue) (m : Machine Value) (parts : Parts 
               order = broken-order (groups.at_stage Turning v.transactions) (keeps-begun v.transactions parts.order asks);
               in_step = record { slots = parts'.in_step.slots; used = parts'.in_step.used; turns = λ no. absurd cc };
               gate = λ no. absurd cc;
+              plain = parts'.plain;
               disk = λ told.
                   let d = parts'.disk told in record { header = d.header; profile = d.profile; slots = d.slots; profile_built = d.profile_built; leaves = d.leaves; works = λ no. absurd cc };
             }),
@@ -1029,12 +1065,19 @@ step tells next.WriteExtent v new answer m parts machine works asks sound takes 
 step tells next.SyncHeap v new answer m parts machine works asks sound takes = synced-step tells v new answer m parts machine works asks sound takes
 step tells next.BeginSlot v new answer m parts machine works asks sound takes = by-job-turn (turn_of v.job) refl takes
   where
-    by-job-turn : (o : Option TurnState) → turn_of v.job ≡ o → MatchBool (is_some o) ((answer ≡ Err pump.Busy) × (new ≡ v)) (BeginsSlot tells v answer new) → Ends tells m answer new
+    by-job-turn : (o : Option TurnState) → turn_of v.job ≡ o → MatchBool (is_some o) ((answer ≡ Err pump.Busy) × (new ≡ v)) (MayBeginSlot tells v answer new) → Ends tells m answer new
     by-job-turn (Some u) at busy = subst (λ (r : Result Did PumpFault). Ends tells m r new) (sym busy.0) (m, refl, subst (λ (x : StoreValue). Parts tells x m) (sym busy.1) parts)
-    by-job-turn None still first =
+    by-job-turn None still (inl short) = subst (λ (r : Result Did PumpFault). Ends tells m r new) (sym short.1) (m, refl, subst (λ (x : StoreValue). Parts tells x m) (sym short.2) parts)
+    by-job-turn None still (inr first) =
+        let turns = subst (λ (t : TransactionsValue). TurnsSlot tells (record { number = v.log.used; body = spelling v.log.profile (record { number = v.log.used; body = first.body }); stage = slots.Begun }) (record v { transactions = groups.at_stage Turning t; log = record v.log { writing = true } }) answer new)
+        (fresh-same v.transactions parts.plain.0) first.turns in
         let keeps : KeepsJob v new = (let k = first.turns.job in record { job = k.job; archived = k.archived; runs_end = k.runs_end }) in
-        begun-step tells v new m parts machine works (begin-is v.transactions.stage v.transactions.group asks) sound first.body first.commit still keeps asks answer first.turns
+        begun-step tells v new m parts machine works (begin-is v.transactions.stage v.transactions.group asks) sound first.body first.commit still keeps asks answer turns
 step tells next.AdvanceSlot v new answer m parts machine works asks sound takes = advance-step tells v new m parts machine works asks sound answer takes
+
+-- a group that begins changes nothing of the mark
+pub grouped-mark : (t : TransactionsValue) → (groups.grouped t).reclaimed ≡ t.reclaimed
+grouped-mark t = elim ((t.group == 0) && nat_lt 0 (length t.queue)) as (λ (b : Bool). (cond b (record t { group = min (length t.queue) 16; stage = Storing 0 0 }) t).reclaimed ≡ t.reclaimed) [ true ↦ refl | false ↦ refl ]
 
 -- the store whose group may have begun
 started-parts : (tells : Bool) (v : StoreValue) (m : Machine Value) (size : ℕ) → Stands tells v m → m.failed ≡ false → StandsInMemory (groups.grouped v.transactions) (record m { group = size }) → IsMachine IsValue (record m { group = size }) → Parts tells (started v) (record m { group = size })
@@ -1046,6 +1089,7 @@ started-parts tells v m size stands works memory machine =
       order = order;
       in_step = in_step;
       gate = stands.gate;
+      plain = (grouped-mark v.transactions ∙ stands.plain.0, stands.plain.1);
       disk = λ told.
           let d = stands.disk told in
           on-disk d.header (started v) (record m { group = size }) memory machine order in_step d.profile d.slots d.profile_built (stands.gate works) (begun-works d.header v m size stands.order (d.works works) memory);
@@ -1078,6 +1122,7 @@ pump-stands tells old new answer m stands sound pumps =
             order = ends.2.order;
             in_step = ends.2.in_step;
             gate = ends.2.gate;
+            plain = ends.2.plain;
             disk = ends.2.disk;
           },
         )

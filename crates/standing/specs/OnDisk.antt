@@ -39,7 +39,10 @@ use Rattle.transactions.specs.Values.{TransactionsValue}
 use Rattle.transactions.specs.declared.stage.GroupStage.{GroupStage}
 use Rattle.transactions.specs.declared.stage.GroupStage.TheVariants.{NoGroup, Storing, Stored, Turning}
 use Rattle.archive.specs.Pieces.{InWriting}
-use Rattle.store.specs.declared.job.ArchiveJob.{ArchiveJob}
+use Rattle.store.specs.Archives.{ArchiveJob}
+use Rattle.store.specs.declared.job.Job.{Job}
+use Rattle.store.specs.declared.job.JobWork.{JobWork}
+use Rattle.store.specs.declared.job.JobWork.TheVariants.{Archive, Reclaim}
 use Rattle.store.specs.declared.job.JobStage.{JobStage}
 use Rattle.store.specs.declared.job.JobStage.TheVariants as job
 use Rattle.store.specs.Values.{StoreValue, turn_of}
@@ -158,9 +161,14 @@ pub record JobIsAt (header : Header) (layout : Layout) (reading : Reading) (h : 
   pub next : IsNextRun layout reading h run
   pub at : IsAtJob header layout run j.writer j.stage areas
 
-abbrev pub HasJob : Header → Layout → Reading → History Value → Option ArchiveJob → Areas → Type 0
+-- while nothing is said of reclaims, no reclaim is being made
+abbrev pub HasWork : Header → Layout → Reading → History Value → JobWork → JobStage → Areas → Type 0
+HasWork header layout reading h (Archive run writer) stage areas = JobIsAt header layout reading h (record { run = run; writer = writer; stage = stage }) areas
+HasWork header layout reading h (Reclaim anchors source written) stage areas = ⊥
+
+abbrev pub HasJob : Header → Layout → Reading → History Value → Option Job → Areas → Type 0
 HasJob header layout reading h None areas = Unit {0}
-HasJob header layout reading h (Some j) areas = JobIsAt header layout reading h j areas
+HasJob header layout reading h (Some j) areas = HasWork header layout reading h j.work j.stage areas
 
 -- while a job's slot is in the writing, a group goes its way as if the status area rested; this is what it would be
 abbrev pub IsRested : Header → Layout → Option TurnState → AreaState → AreaState → Type 0

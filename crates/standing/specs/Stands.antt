@@ -6,6 +6,9 @@ use Rattle.transactions.specs.Order.{IsInOrder}
 use Rattle.status.specs.SlotCalls.{SlotStage, Begun, BodyWritten, BodySynced, GateWritten, Opened}
 use Rattle.status.specs.TurnState.{TurnState}
 use Rattle.store.specs.Values.{StoreValue, IsInStep}
+use Rattle.store.specs.declared.job.Job.{Job}
+use Rattle.store.specs.declared.job.JobWork.{JobWork}
+use Rattle.store.specs.declared.job.JobWork.TheVariants.{Archive, Reclaim}
 use Rattle.standing.specs.Standing.{StandsInMemory}
 use Rattle.standing.specs.OnDisk.{StandsOnDisk}
 
@@ -26,6 +29,19 @@ gate_of (Some turn) = gate_at turn.stage
 abbrev pub HasGate : StoreValue → Machine Value → Type 0
 HasGate v m = m.failed ≡ false → m.gate ≡ gate_of v.turn
 
+-- while nothing is said of reclaims, none is being made
+abbrev pub IsArchive : JobWork → Type 0
+IsArchive (Archive run writer) = Unit {0}
+IsArchive (Reclaim anchors source written) = ⊥
+
+abbrev pub IsNoReclaim : Option Job → Type 0
+IsNoReclaim None = Unit {0}
+IsNoReclaim (Some job) = IsArchive job.work
+
+-- nor was one: nothing is reclaimed
+abbrev pub IsUnreclaimed : StoreValue → Type 0
+IsUnreclaimed v = (v.transactions.reclaimed ≡ 0) × IsNoReclaim v.job
+
 -- What is said of the disk is said where it tells its bytes.
 pub record Stands (tells : Bool) (v : StoreValue) (m : Machine Value) : Type 0 where
   pub memory : StandsInMemory v.transactions m
@@ -33,4 +49,5 @@ pub record Stands (tells : Bool) (v : StoreValue) (m : Machine Value) : Type 0 w
   pub order : IsInOrder v.transactions
   pub in_step : IsInStep v
   pub gate : HasGate v m
+  pub plain : IsUnreclaimed v
   pub disk : IsTrue tells → StandsOnDisk v m

@@ -1,18 +1,28 @@
 -- A store stays in step when its job goes on.
-use Rattle.std.proofs.Common.{◌≡◌, ◌<◌, ◌≤◌, ◌^◌, ℕ, ◌+◌, ◌||◌, Bool, true, false, is_some, List, [], ◌∷◌, Option, Some, None, Result, Ok, Err, MatchBool, MatchOption, MatchResult, refl, sym, ◌∙◌, ap, subst, arith}
+use Rattle.std.proofs.Common.{◌≡◌, ◌<◌, ◌≤◌, ◌^◌, ℕ, ◌+◌, ◌||◌, Bool, true, false, is_some, List, [], ◌∷◌, Option, Some, None, Result, Ok, Err, MatchBool, MatchOption, MatchResult, slice_get, refl, sym, ◌∙◌, ap, subst, arith, inl, inr}
 use Rattle.status.specs.SlotCalls.{SlotStage}
 use Rattle.status.specs.SlotCalls as slots
 use Rattle.status.specs.TurnState.{TurnState}
 use Rattle.group.specs.declared.answers.PumpFault.{PumpFault}
 use Rattle.group.specs.declared.answers.PumpFault.TheVariants as fault
 use Rattle.transactions.specs.Values.{is_turning}
+use Rattle.disk.specs.declared.area.Area.{Area}
+use Rattle.disk.specs.declared.area.Area.TheVariants as areas
+use Rattle.archive.specs.Pieces.{InWriting}
+use Rattle.vacuum.specs.Anchors.{Sourced}
+use Rattle.wire.specs.declared.slot.Run.{Run}
+use Rattle.wire.specs.declared.slot.Anchors.{Anchors}
+use Rattle.transactions.specs.Reclaims.{prepared}
 use Rattle.store.specs.Values.{StoreValue, IsInStep, IsOnItsWay, turn_in}
-use Rattle.store.specs.Parts.{IsInRange}
-use Rattle.store.specs.Jobs.{TakesJobStep, WritesOrSyncs, BeginsJobSlot, IsJobTurned, JobTurnFails, JobMoves, with_job, job_fails, job_done, slot_taken}
-use Rattle.store.specs.declared.job.ArchiveJob.{ArchiveJob}
+use Rattle.store.specs.Parts.{IsInPlace, IsInRange}
+use Rattle.store.specs.Jobs.{TakesJobStep, Stores, WritesOrSyncs, AnchorsOrSync, SyncsStored, BeginsJobSlot, TurnsJob, IsJobTurned, JobTurnFails, JobMoves, with_job, job_fails, work_done, slot_opened, slot_taken, made_ready, first_turn}
+use Rattle.store.specs.declared.job.Job.{Job}
+use Rattle.store.specs.declared.job.JobWork.{JobWork}
+use Rattle.store.specs.declared.job.JobWork.TheVariants.{Archive, Reclaim}
 use Rattle.store.specs.declared.job.JobStage.{JobStage}
 use Rattle.store.specs.declared.job.JobStage.TheVariants as stages
 use Rattle.store.specs.declared.job.JobDid.{JobDid}
+use Rattle.store.specs.declared.job.JobDid.TheVariants as did
 
 -- what a store's own invariant says
 pub record Holds (v : StoreValue) : Type 0 where
@@ -20,17 +30,17 @@ pub record Holds (v : StoreValue) : Type 0 where
   pub in_range : IsInRange v
 
 -- the same of its counts alone, while a job runs
-record Counts (v : StoreValue) (job : ArchiveJob) : Type 0 where
+record Counts (v : StoreValue) (job : Job) : Type 0 where
   slots : v.log.slots ≡ v.transactions.slots + 1
   used : v.log.used ≡ v.transactions.used
   few : v.log.slots ≤ 65536
-  run : job.run.start + job.run.len < 2 ^ 63
+  run : IsInPlace job.work
 
 -- a store on which this job runs
-abbrev pub running : StoreValue → ArchiveJob → StoreValue
+abbrev pub running : StoreValue → Job → StoreValue
 running v job = record v { job = Some job }
 
-counts : (v : StoreValue) (job : ArchiveJob) → Holds (running v job) → Counts v job
+counts : (v : StoreValue) (job : Job) → Holds (running v job) → Counts v job
 counts v job holds = record { slots = holds.in_step.slots; used = holds.in_step.used; few = holds.in_range.slots; run = holds.in_range.run }
 
 none-there : (o : Option TurnState) → is_some o ≡ false → o ≡ None
@@ -39,14 +49,14 @@ none-there (Some turn) out = absurd (let is : true ≡ false = out in cc)
 
 -- ---- one step
 
-fails : (v : StoreValue) (job made : ArchiveJob) (new : StoreValue) → made.run ≡ job.run → Counts v job → Holds (job_fails (running v job) made new)
+fails : (v : StoreValue) (job made : Job) (new : StoreValue) → (IsInPlace job.work → IsInPlace made.work) → Counts v job → Holds (job_fails (running v job) made new)
 fails v job made new run_is c = record {
   in_step = record { slots = c.slots; used = c.used; turns = λ works. absurd (let is : true ≡ false = works in cc) };
-  in_range = record { slots = c.few; run = rw run_is c.run };
+  in_range = record { slots = c.few; run = run_is c.run };
 }
 
 -- the job's slot is what it was
-goes-on : (v : StoreValue) (job made : ArchiveJob) (new : StoreValue) → made.run ≡ job.run → turn_in made.stage ≡ turn_in job.stage → Holds (running v job) → Holds (with_job (running v job) made new)
+goes-on : (v : StoreValue) (job made : Job) (new : StoreValue) → (IsInPlace job.work → IsInPlace made.work) → turn_in made.stage ≡ turn_in job.stage → Holds (running v job) → Holds (with_job (running v job) made new)
 goes-on v job made new run_is turn_is holds = record {
   in_step = record {
     slots = holds.in_step.slots;
@@ -58,11 +68,11 @@ goes-on v job made new run_is turn_is holds = record {
       job = rw turn_is (holds.in_step.turns works).job;
     };
   };
-  in_range = record { slots = holds.in_range.slots; run = rw run_is holds.in_range.run };
+  in_range = record { slots = holds.in_range.slots; run = run_is holds.in_range.run };
 }
 
 -- the job's slot is in the writing
-turns : (v : StoreValue) (job : ArchiveJob) (next : TurnState) (new : StoreValue) → Counts v job → next.number ≡ v.log.used → IsOnItsWay next.stage → v.turn ≡ None → v.log.writing ≡ true → is_turning v.transactions.stage ≡ is_some v.turn
+turns : (v : StoreValue) (job : Job) (next : TurnState) (new : StoreValue) → Counts v job → next.number ≡ v.log.used → IsOnItsWay next.stage → v.turn ≡ None → v.log.writing ≡ true → is_turning v.transactions.stage ≡ is_some v.turn
     → Holds (with_job (running v job) (record job { stage = stages.Turning next }) new)
 turns v job next new c number way none writing turning = record {
   in_step = record {
@@ -79,8 +89,21 @@ turns v job next new c number way none writing turning = record {
 }
 
 -- the job is done
-ends : (v : StoreValue) (job : ArchiveJob) (turn : TurnState) (new : StoreValue) → Counts v job → turn.number ≡ v.log.used → v.turn ≡ None → is_turning v.transactions.stage ≡ is_some v.turn → Holds (job_done (running v job) job turn new)
-ends v job turn new c number none turning = record {
+ends : (work : JobWork) (v : StoreValue) (job : Job) (turn : TurnState) (new : StoreValue) → Counts v job → turn.number ≡ v.log.used → v.turn ≡ None → is_turning v.transactions.stage ≡ is_some v.turn → Holds (slot_opened (work_done work (running v job)) turn new)
+ends (Archive run writer) v job turn new c number none turning = record {
+  in_step = record {
+    slots = omega (arith, c.slots);
+    used = omega (arith, c.used, number);
+    turns = λ works. record {
+      turning = turning;
+      writing = sym (ap (λ (o : Option TurnState). is_some o || false) none);
+      turn = subst (λ (o : Option TurnState). MatchOption o (Unit {0}) (λ t. (t.number ≡ turn.number + 1) × IsOnItsWay t.stage)) (sym none) tt;
+      job = tt;
+    };
+  };
+  in_range = record { slots = c.few; run = tt };
+}
+ends (Reclaim anchors source written) v job turn new c number none turning = record {
   in_step = record {
     slots = omega (arith, c.slots);
     used = omega (arith, c.used, number);
@@ -96,26 +119,41 @@ ends v job turn new c number none turning = record {
 
 -- ---- what becomes of it
 
-moves : (what : JobDid) (v : StoreValue) (job made refused : ArchiveJob) (result : Result JobDid PumpFault) (new : StoreValue) → made.run ≡ job.run → refused.run ≡ job.run → turn_in made.stage ≡ turn_in job.stage
+moves : (what : JobDid) (v : StoreValue) (job made refused : Job) (result : Result JobDid PumpFault) (new : StoreValue) → (IsInPlace job.work → IsInPlace made.work) → (IsInPlace job.work → IsInPlace refused.work) → turn_in made.stage ≡ turn_in job.stage
     → JobMoves what made refused (running v job) result new → Holds (running v job) → Holds new
 moves what v job made refused (Ok said) new run_is refused_is turn_is done holds = subst Holds (sym done.1) (goes-on v job made new run_is turn_is holds)
 moves what v job made refused (Err why) new run_is refused_is turn_is done holds = subst Holds (sym done.1) (fails v job refused new refused_is (counts v job holds))
 
-runs : (tells : Bool) (left : List ℕ) (v : StoreValue) (job : ArchiveJob) (result : Result JobDid PumpFault) (new : StoreValue) → job.stage ≡ stages.Writing → WritesOrSyncs tells left job (running v job) result new → Holds (running v job) → Holds new
-runs tells [] v job result new is syncs holds = moves _ v job _ _ result new refl refl (sym (ap turn_in is)) syncs.moves holds
-runs tells (b ∷ bs) v job result new is writes holds = moves _ v job _ _ result new refl refl refl writes.moves holds
+syncs : (tells : Bool) (area : Area) (what : JobDid) (v : StoreValue) (job : Job) (result : Result JobDid PumpFault) (new : StoreValue) → job.stage ≡ stages.Writing → SyncsStored tells area what job (running v job) result new → Holds (running v job) → Holds new
+syncs tells area what v job result new is does holds = moves what v job _ _ result new (λ place. place) (λ place. place) (sym (ap turn_in is)) does.moves holds
 
-turned : (stage : SlotStage) (own : TurnState) (v : StoreValue) (job : ArchiveJob) (what : JobDid) (new : StoreValue) → IsJobTurned stage own job (running v job) what new → IsOnItsWay stage
+runs : (tells : Bool) (left : List ℕ) (run : Run) (writer : InWriting) (v : StoreValue) (job : Job) (result : Result JobDid PumpFault) (new : StoreValue) → job.stage ≡ stages.Writing → job.work ≡ Archive run writer
+    → WritesOrSyncs tells left run writer job (running v job) result new → Holds (running v job) → Holds new
+runs tells [] run writer v job result new is work does holds = syncs tells areas.Archive did.RunSynced v job result new is does holds
+runs tells (b ∷ bs) run writer v job result new is work does holds =
+    let place : IsInPlace job.work → IsInPlace (Archive run writer) = subst IsInPlace work in
+    moves did.WroteRun v job _ _ result new place place refl does.moves holds
+
+anchors-or-sync : (tells : Bool) (o : Option ℕ) (anchors : Anchors) (source : Sourced) (written : ℕ) (v : StoreValue) (job : Job) (result : Result JobDid PumpFault) (new : StoreValue) → job.stage ≡ stages.Writing
+    → AnchorsOrSync tells o anchors source written job (running v job) result new → Holds (running v job) → Holds new
+anchors-or-sync tells None anchors source written v job result new is does holds = syncs tells areas.Heap did.HeapSynced v job result new is does holds
+anchors-or-sync tells (Some number) anchors source written v job result new is does holds = moves did.WroteExtent v job _ _ result new (λ place. tt) (λ place. tt) refl does.moves holds
+
+stores : (tells : Bool) (work : JobWork) (v : StoreValue) (job : Job) (result : Result JobDid PumpFault) (new : StoreValue) → job.stage ≡ stages.Writing → job.work ≡ work → Stores tells work job (running v job) result new → Holds (running v job) → Holds new
+stores tells (Archive run writer) v job result new is work does holds = runs tells writer.left run writer v job result new is work does holds
+stores tells (Reclaim anchors source written) v job result new is work does holds = anchors-or-sync tells (slice_get v.transactions.reserved written) anchors source written v job result new is does holds
+
+turned : (stage : SlotStage) (own : TurnState) (v : StoreValue) (job : Job) (what : JobDid) (new : StoreValue) → IsJobTurned stage own job (running v job) what new → IsOnItsWay stage
     → Counts v job → own.number ≡ v.log.used → v.turn ≡ None → v.log.writing ≡ true → is_turning v.transactions.stage ≡ is_some v.turn → Holds new
 turned slots.Begun own v job what new is way c number none writing turning = absurd way
 turned slots.BodyWritten own v job what new is way c number none writing turning = subst Holds (sym is.1) (turns v job _ new c number tt none writing turning)
 turned slots.BodySynced own v job what new is way c number none writing turning = subst Holds (sym is.1) (turns v job _ new c number tt none writing turning)
-turned slots.GateWritten own v job what new is way c number none writing turning = subst Holds (sym is.2) (ends v job own new c number none turning)
+turned slots.GateWritten own v job what new is way c number none writing turning = subst Holds (sym is.2) (ends job.work v job own new c number none turning)
 turned slots.Opened own v job what new is way c number none writing turning = absurd way
 
-advances : (own : TurnState) (v : StoreValue) (job : ArchiveJob) (result : Result JobDid PumpFault) (new : StoreValue) → job.stage ≡ stages.Turning own → v.transactions.failed ≡ false
+advances : (own : TurnState) (v : StoreValue) (job : Job) (result : Result JobDid PumpFault) (new : StoreValue) → job.stage ≡ stages.Turning own → v.transactions.failed ≡ false
     → MatchResult result (λ what. IsJobTurned own.stage own job (running v job) what new) (λ why. JobTurnFails job (running v job) why new) → Holds (running v job) → Holds new
-advances own v job (Err why) new is works answer holds = subst Holds (sym answer.1) (fails v job _ new refl (counts v job holds))
+advances own v job (Err why) new is works answer holds = subst Holds (sym answer.1) (fails v job (record job { stage = stages.Stored }) new (λ place. place) (counts v job holds))
 advances own v job (Ok what) new is works answer holds =
     let turns = holds.in_step.turns works in
     let turn_is : turn_in job.stage ≡ Some own = ap turn_in is in
@@ -124,19 +162,30 @@ advances own v job (Ok what) new is works answer holds =
     let writing : v.log.writing ≡ true = turns.writing ∙ ap (λ (o : Option TurnState). is_some v.turn || is_some o) turn_is ∙ ap (λ (o : Option TurnState). is_some o || true) slot.2 in
     turned own.stage own v job what new answer slot.1 (counts v job holds) slot.0 slot.2 writing turns.turning
 
-begins : (tells b : Bool) (v : StoreValue) (job : ArchiveJob) (result : Result JobDid PumpFault) (new : StoreValue) → is_some v.turn ≡ b → v.transactions.failed ≡ false
+first-call : (v : StoreValue) (job : Job) (turn : TurnState) (result : Result JobDid PumpFault) (new : StoreValue) → turn.number ≡ v.log.used → v.turn ≡ None → is_turning v.transactions.stage ≡ is_some v.turn → Counts v job
+    → MatchResult result (λ what. IsJobTurned slots.Begun turn job (running (slot_taken v) job) what new) (λ why. JobTurnFails job (running (slot_taken v) job) why new) → Holds new
+first-call v job turn (Err why) new number none turning c answer = subst Holds (sym answer.1) (fails (slot_taken v) job _ new (λ place. place) (record { slots = c.slots; used = c.used; few = c.few; run = c.run }))
+first-call v job turn (Ok what) new number none turning c answer =
+    subst Holds (sym answer.1) (turns (slot_taken v) job _ new (record { slots = c.slots; used = c.used; few = c.few; run = c.run }) number tt none refl turning)
+
+by-work : (tells : Bool) (work : JobWork) (v : StoreValue) (job : Job) (result : Result JobDid PumpFault) (new : StoreValue) → v.turn ≡ None → is_turning v.transactions.stage ≡ is_some v.turn → Counts v job
+    → TurnsJob tells job (first_turn (running v job) job) (slot_taken (made_ready work (running v job))) result new → Holds new
+by-work tells (Archive run writer) v job result new none turning c takes = first-call v job (first_turn (running v job) job) result new refl none turning c takes.answer
+by-work tells (Reclaim anchors source written) v job result new none turning c takes =
+    first-call (record v { transactions = prepared v.transactions anchors.upto }) job (first_turn (running v job) job) result new refl none turning (record { slots = c.slots; used = c.used; few = c.few; run = c.run }) takes.answer
+
+begins : (tells b : Bool) (v : StoreValue) (job : Job) (result : Result JobDid PumpFault) (new : StoreValue) → is_some v.turn ≡ b → v.transactions.failed ≡ false
     → MatchBool b (Path (Result JobDid PumpFault) result (Err fault.Busy) × (new ≡ running v job)) (BeginsJobSlot tells job (running v job) result new) → Holds (running v job) → Holds new
 begins tells true v job result new is works takes holds = subst Holds (sym takes.1) holds
-begins tells false v job (Err why) new is works takes holds = subst Holds (sym takes.answer.1) (fails (slot_taken v) job _ new refl (let c = counts v job holds in record { slots = c.slots; used = c.used; few = c.few; run = c.run }))
-begins tells false v job (Ok what) new is works takes holds =
-    let c = counts v job holds in
-    subst Holds (sym takes.answer.1) (turns (slot_taken v) job _ new (record { slots = c.slots; used = c.used; few = c.few; run = c.run }) refl tt (none-there v.turn is) refl (holds.in_step.turns works).turning)
+begins tells false v job result new is works (inl short) holds = subst Holds (sym short.2) holds
+begins tells false v job result new is works (inr takes) holds =
+    by-work tells job.work v job result new (none-there v.turn is) (holds.in_step.turns works).turning (counts v job holds) takes
 
-takes-at : (tells : Bool) (stage : JobStage) (v : StoreValue) (job : ArchiveJob) (result : Result JobDid PumpFault) (new : StoreValue) → job.stage ≡ stage → v.transactions.failed ≡ false
+takes-at : (tells : Bool) (stage : JobStage) (v : StoreValue) (job : Job) (result : Result JobDid PumpFault) (new : StoreValue) → job.stage ≡ stage → v.transactions.failed ≡ false
     → TakesJobStep tells stage job (running v job) result new → Holds (running v job) → Holds new
-takes-at tells stages.Writing v job result new is works takes holds = runs tells job.writer.left v job result new is takes holds
+takes-at tells stages.Writing v job result new is works takes holds = stores tells job.work v job result new is refl takes holds
 takes-at tells stages.Stored v job result new is works takes holds = begins tells (is_some v.turn) v job result new refl works takes holds
 takes-at tells (stages.Turning own) v job result new is works takes holds = advances own v job result new is works takes.answer holds
 
-pub stays-in-step : (tells : Bool) (v : StoreValue) (job : ArchiveJob) (result : Result JobDid PumpFault) (new : StoreValue) → v.transactions.failed ≡ false → TakesJobStep tells job.stage job (running v job) result new → Holds (running v job) → Holds new
+pub stays-in-step : (tells : Bool) (v : StoreValue) (job : Job) (result : Result JobDid PumpFault) (new : StoreValue) → v.transactions.failed ≡ false → TakesJobStep tells job.stage job (running v job) result new → Holds (running v job) → Holds new
 stays-in-step tells v job result new works takes holds = takes-at tells job.stage v job result new refl works takes holds

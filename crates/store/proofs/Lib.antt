@@ -2,3 +2,5 @@ pub mod Opened
 pub mod Made
 pub mod JobSteps
 pub mod InStep
+pub mod ReclaimStarts
+pub mod Begins

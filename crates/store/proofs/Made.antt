@@ -1,5 +1,5 @@
 -- Each step that does something makes one device call.
-use Rattle.std.proofs.Common.{◌≡◌, ◌≢◌, Bool, true, false, is_some, Option, Some, None, Result, Ok, Err, MatchBool, MatchOption}
+use Rattle.std.proofs.Common.{◌≡◌, ◌≢◌, Bool, true, false, is_some, Option, Some, None, Result, Ok, Err, MatchBool, MatchOption, inl, inr}
 use Rattle.disk.specs.Calls.{DiskState, Counts, counted, top}
 use Rattle.disk.specs.declared.area.DeviceFault.{DeviceFault}
 use Rattle.status.specs.TurnState.{TurnState}
@@ -12,7 +12,7 @@ use Rattle.transactions.specs.Steps.{next_step, next_extent}
 use Rattle.transactions.specs.declared.stage.NextStep.{NextStep}
 use Rattle.transactions.specs.declared.stage.NextStep.TheVariants as step
 use Rattle.store.specs.Values.{StoreValue, turn_of}
-use Rattle.store.specs.Pumps.{Pumps, TakesStep, WritesExtent, BeginsSlot, TurnsSlot, started}
+use Rattle.store.specs.Pumps.{Pumps, TakesStep, WritesExtent, MayBeginSlot, TurnsSlot, started}
 
 pub record MakesOne (old new : DiskState) : Type 0 where
   pub made : new.made ≡ counted old.made
@@ -29,9 +29,10 @@ turned-one : (tells : Bool) (o : Option TurnState) (old new : StoreValue) (what 
 turned-one tells None old new what takes = absurd takes
 turned-one tells (Some turn) old new what takes = made-one old.disk new.disk takes.call.counts
 
-begun-one : (tells b : Bool) (old new : StoreValue) (what : Did) → MatchBool b (Path (Result Did PumpFault) (Ok what) (Err fault.Busy) × (new ≡ old)) (BeginsSlot tells old (Ok what) new) → MakesOne old.disk new.disk
+begun-one : (tells b : Bool) (old new : StoreValue) (what : Did) → MatchBool b (Path (Result Did PumpFault) (Ok what) (Err fault.Busy) × (new ≡ old)) (MayBeginSlot tells old (Ok what) new) → MakesOne old.disk new.disk
 begun-one tells true old new what takes = absurd (let is = takes.0 in cc)
-begun-one tells false old new what takes = made-one old.disk new.disk takes.turns.call.counts
+begun-one tells false old new what (inl short) = absurd (let is = short.1 in cc)
+begun-one tells false old new what (inr takes) = made-one old.disk new.disk takes.turns.call.counts
 
 step-one : (tells : Bool) (s : NextStep) (old new : StoreValue) (what : Did) → TakesStep tells s old (Ok what) new → what ≢ did.Idle → MakesOne old.disk new.disk
 step-one tells step.Idle old new what takes some = absurd (some (let is : Path (Result Did PumpFault) (Ok what) (Ok did.Idle) = takes.0 in cc))

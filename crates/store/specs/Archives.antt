@@ -7,9 +7,24 @@ use Rattle.vacuum.specs.Archives.{records_of, run_of, unwritten}
 use Rattle.transactions.specs.Values.{spare, with_slot_lent}
 use Rattle.store.specs.Calls.{last, floor}
 use Rattle.store.specs.Values.{StoreValue}
+use Rattle.wire.specs.declared.slot.Run.{Run}
+use Rattle.archive.specs.Pieces.{InWriting}
+use Rattle.store.specs.declared.job.Job.{Job}
+use Rattle.store.specs.declared.job.JobStage.{JobStage}
 use Rattle.store.specs.declared.job.JobStage.TheVariants.{Writing}
+use Rattle.store.specs.declared.job.JobWork.TheVariants.{Archive}
 use Rattle.store.specs.declared.job.StartFault.{StartFault}
 use Rattle.store.specs.declared.job.StartFault.TheVariants as fault
+
+-- An archive that is being made: its run as the slot will name it, what is left of it to be written, and what is done of it.
+pub record ArchiveJob : Type 0 where
+  pub run : Run
+  pub writer : InWriting
+  pub stage : JobStage
+
+-- the job that makes it
+abbrev pub job_of : ArchiveJob → Job
+job_of j = record { work = Archive j.run j.writer; stage = j.stage }
 
 -- why no archive up to a time begins, by what is known before its run is counted: the first reason in this order
 abbrev pub refusal_now : StoreValue → ℕ → Option StartFault
@@ -32,7 +47,7 @@ IsPastEnd v upto = 2 ^ 63 ≤ v.runs_end + length (run_bytes (archive_of v upto)
 abbrev pub with_archive : StoreValue → ℕ → StoreValue
 with_archive v upto = record v {
   transactions = with_slot_lent v.transactions;
-  job = Some (record { run = run_of upto v.runs_end (archive_of v upto); writer = unwritten v.runs_end (archive_of v upto); stage = Writing });
+  job = Some (record { work = Archive (run_of upto v.runs_end (archive_of v upto)) (unwritten v.runs_end (archive_of v upto)); stage = Writing });
 }
 
 abbrev pub IsRunRefusal : StoreValue → ℕ → StartFault → Type 0
@@ -42,7 +57,9 @@ IsRunRefusal v upto fault.Failed = ⊥
 IsRunRefusal v upto fault.JobBusy = ⊥
 IsRunRefusal v upto fault.NothingToDo = ⊥
 IsRunRefusal v upto (fault.NotYet time) = ⊥
+IsRunRefusal v upto (fault.InUse time) = ⊥
 IsRunRefusal v upto fault.StatusFull = ⊥
+IsRunRefusal v upto fault.HeapFull = ⊥
 
 abbrev pub BeginsRun : StoreValue → ℕ → Result (Unit {0}) StartFault → StoreValue → Type 0
 BeginsRun v upto (Ok done) new = (v.runs_end + length (run_bytes (archive_of v upto)) < 2 ^ 63) × (upto < 2 ^ 63 → IsRun (run_of upto v.runs_end (archive_of v upto))) × (new ≡ with_archive v upto)

@@ -6,3 +6,4 @@ pub mod Opens
 pub mod Archives
 pub mod Jobs
 pub mod Parts
+pub mod Reclaims

@@ -1,5 +1,5 @@
 -- What an opened store holds, and why none is opened.
-use Rattle.std.specs.Prelude.{ℕ, ◌≡◌, Bool, false, IsTrue, [], length, map, None, Err}
+use Rattle.std.specs.Prelude.{ℕ, ◌≡◌, Bool, false, IsTrue, List, [], ◌∷◌, length, map, replicate, None, Err}
 use Rattle.disk.specs.Areas.{image_of, settled_on, LeavesNoMore}
 use Rattle.disk.specs.Calls.{DiskState}
 use Rattle.chains.specs.KeyWrites.{IsOrdered}
@@ -10,15 +10,25 @@ use Rattle.recovery.specs.Names.{refusals_at_opening}
 use Rattle.recovery.specs.ReadsImage.{IsReadFrom}
 use Rattle.recovery.specs.Settling.{Settles, CountsMore, CountsAtMost}
 use Rattle.recovery.specs.declared.fault.OpenFault.{OpenFault}
+use Rattle.extents.specs.Times.{with_times}
+use Rattle.recovery.specs.declared.recovered.LiveChain.{LiveChain}
 use Rattle.recovery.specs.declared.recovered.Recovered.{Recovered}
 use Rattle.transactions.specs.declared.stage.GroupStage.TheVariants.{NoGroup}
 use Rattle.store.specs.Heads.{head_as}
 use Rattle.store.specs.Values.{StoreValue}
 
+-- the extents of each chain of a commit are in the chain of its time
+abbrev pub with_live : List ℕ → List LiveChain → List ℕ
+with_live times [] = times
+with_live times (chain ∷ chains) = with_live (with_times times chain.extents.items chain.time) chains
+
+abbrev pub times_of : List LiveChain → List ℕ
+times_of live = with_live (replicate 65536 0) live
+
 -- the store on what was read: all commits of the log are published, and nothing waits
 abbrev pub opened_on : ℕ → Recovered → DiskState → StoreValue
 opened_on mark r disk = record {
-  transactions = record { mark = mark; opened = []; heads = map head_as r.commits.items; published = length r.commits.items; versions = r.chains; queue = []; usages = r.extents; slots = total r.header; used = r.used; group = 0; stage = NoGroup; floor = r.floor; reclaimed = r.reclaimed; failed = false };
+  transactions = record { mark = mark; opened = []; heads = map head_as r.commits.items; published = length r.commits.items; versions = r.chains; pending = None; queue = []; usages = r.extents; times = times_of r.live.items; reserved = []; slots = total r.header; used = r.used; group = 0; stage = NoGroup; floor = r.floor; reclaimed = r.reclaimed; failed = false };
   log = record { profile = r.header.profile; slots = total r.header; used = r.used; writing = false };
   turn = None;
   job = None;

@@ -1,5 +1,5 @@
 -- The steps of a group to the disk.
-use Rattle.std.specs.Prelude.{◌≡◌, ◌+◌, Bool, true, false, is_some, IsTrue, length, Option, Some, None, Result, Ok, Err, MatchBool, MatchOption, MatchResult}
+use Rattle.std.specs.Prelude.{◌≡◌, ◌+◌, ◌⊎◌, Bool, true, false, is_some, IsTrue, length, Option, Some, None, Result, Ok, Err, MatchBool, MatchOption, MatchResult}
 use Rattle.disk.specs.Areas.{Areas}
 use Rattle.disk.specs.Calls.{DiskState, Writes, Syncs, Counts, refused_answer}
 use Rattle.disk.specs.declared.area.Area.TheVariants.{Heap}
@@ -16,7 +16,7 @@ use Rattle.group.specs.declared.answers.PumpFault.{PumpFault}
 use Rattle.group.specs.declared.answers.PumpFault.TheVariants as fault
 use Rattle.group.specs.declared.queued.StoredExtent.{StoredExtent}
 use Rattle.transactions.specs.Values.{TransactionsValue}
-use Rattle.transactions.specs.Steps.{next_step, grouped, next_extent, wrote_extent, at_stage, entries, IsCommitOf, published, broken}
+use Rattle.transactions.specs.Steps.{next_step, grouped, next_extent, wrote_extent, is_stale, freshened, at_stage, entries, IsCommitOf, published, broken}
 use Rattle.transactions.specs.declared.stage.GroupStage.TheVariants as stages
 use Rattle.transactions.specs.declared.stage.NextStep.{NextStep}
 use Rattle.transactions.specs.declared.stage.NextStep.TheVariants as step
@@ -85,14 +85,29 @@ pub record TurnsSlot (tells : Bool) (turn : TurnState) (old : StoreValue) (resul
   pub job : KeepsJob old new
 
 -- the group's slot is in the writing
-abbrev pub begun : StoreValue → StoreValue
-begun v = record v { transactions = at_stage stages.Turning v.transactions; log = record v.log { writing = true } }
+abbrev pub taken : StoreValue → StoreValue
+taken v = record v { transactions = at_stage stages.Turning v.transactions; log = record v.log { writing = true } }
 
--- the slot that comes next is begun: it names the group's commits
+-- the slot that comes next is begun with this body
+abbrev pub TakesSlot : Bool → Body → StoreValue → Result Did PumpFault → StoreValue → Type 0
+TakesSlot tells body old result new = TurnsSlot tells (record { number = old.log.used; body = spelling old.log.profile (record { number = old.log.used; body = body }); stage = slots.Begun }) (taken old) result new
+
+-- the group's versions have forgotten what a reclaim has ended
+abbrev pub freshly : StoreValue → StoreValue
+freshly v = record v { transactions = freshened v.transactions }
+
+abbrev pub begun : StoreValue → StoreValue
+begun v = taken (freshly v)
+
+-- it names the group's commits
 pub record BeginsSlot (tells : Bool) (old : StoreValue) (result : Result Did PumpFault) (new : StoreValue) : Type 0 where
   pub body : Body
   pub commit : IsCommitOf (entries old.transactions) body
-  pub turns : TurnsSlot tells (record { number = old.log.used; body = spelling old.log.profile (record { number = old.log.used; body = body }); stage = slots.Begun }) (begun old) result new
+  pub turns : TakesSlot tells body (freshly old) result new
+
+-- where the group's versions are to forget what a reclaim has ended, they are made beforehand; there may be no memory for that: then nothing has changed
+abbrev pub MayBeginSlot : Bool → StoreValue → Result Did PumpFault → StoreValue → Type 0
+MayBeginSlot tells old result new = ((is_stale old.transactions ≡ true) × (result ≡ Err fault.NoMemory) × (new ≡ old)) ⊎ BeginsSlot tells old result new
 
 -- where no group stands and commits wait, one begins
 abbrev pub started : StoreValue → StoreValue
@@ -102,7 +117,7 @@ abbrev pub TakesStep : Bool → NextStep → StoreValue → Result Did PumpFault
 TakesStep tells step.Idle old result new = (result ≡ Ok did.Idle) × (new ≡ old)
 TakesStep tells step.WriteExtent old result new = MatchOption (next_extent old.transactions) ⊥ (λ stored. WritesExtent tells stored old result new)
 TakesStep tells step.SyncHeap old result new = SyncsHeap tells old result new
-TakesStep tells step.BeginSlot old result new = MatchBool (is_some (turn_of old.job)) ((result ≡ Err fault.Busy) × (new ≡ old)) (BeginsSlot tells old result new)
+TakesStep tells step.BeginSlot old result new = MatchBool (is_some (turn_of old.job)) ((result ≡ Err fault.Busy) × (new ≡ old)) (MayBeginSlot tells old result new)
 TakesStep tells step.AdvanceSlot old result new = MatchOption old.turn ⊥ (λ turn. TurnsSlot tells turn old result new)
 
 -- a failed store writes nothing; any other takes the next step. While a job's slot is in the writing a group begins none.

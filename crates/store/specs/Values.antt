@@ -4,7 +4,7 @@ use Rattle.disk.specs.Calls.{DiskState}
 use Rattle.status.specs.SlotCalls.{SlotStage, Begun, BodyWritten, BodySynced, GateWritten, Opened}
 use Rattle.status.specs.TurnState.{TurnState, LogState}
 use Rattle.transactions.specs.Values.{TransactionsValue, is_turning}
-use Rattle.store.specs.declared.job.ArchiveJob.{ArchiveJob}
+use Rattle.store.specs.declared.job.Job.{Job}
 use Rattle.store.specs.declared.job.JobStage.{JobStage}
 use Rattle.store.specs.declared.job.JobStage.TheVariants.{Writing, Stored, Turning}
 
@@ -13,8 +13,8 @@ pub record StoreValue : Type 0 where
   pub log : LogState
   -- the group's slot while it is in the writing
   pub turn : Option TurnState
-  -- the archive that is being made
-  pub job : Option ArchiveJob
+  -- the job that runs
+  pub job : Option Job
   -- the archive mark, and where the last run of the log ends
   pub archived : ℕ
   pub runs_end : ℕ
@@ -39,12 +39,12 @@ turn_in Writing = None
 turn_in Stored = None
 turn_in (Turning turn) = Some turn
 
-abbrev pub turn_of : Option ArchiveJob → Option TurnState
+abbrev pub turn_of : Option Job → Option TurnState
 turn_of None = None
 turn_of (Some job) = turn_in job.stage
 
 -- the slots that a job holds for its own
-abbrev pub lent_to : Option ArchiveJob → ℕ
+abbrev pub lent_to : Option Job → ℕ
 lent_to None = 0
 lent_to (Some job) = 1
 

@@ -4,35 +4,46 @@ ghost use Rattle.std.specs.Prelude.{◌≡◌};
 use archive::RunWriter;
 use status::SlotTurn;
 use std::mem;
-use vacuum::ArchiveWalk;
-use wire::Run;
+use vacuum::{AnchorSource, ArchiveWalk};
+use wire::{Anchors, Run};
 
 /// What is done of a job.
 pub enum JobStage {
-    /// Its run is being written.
+    /// What its slot is to name is being written.
     Writing,
-    /// The run is written and synced.
+    /// That is written and synced.
     Stored,
     /// Its slot is in the writing.
     Turning(SlotTurn),
 }
 
-/// An archive that is being made: its run as the slot will name it, and what is left of the run to
-/// be written.
-pub struct ArchiveJob {
-    pub(crate) run: Run,
-    pub(crate) writer: RunWriter<ArchiveWalk>,
+/// What a job makes before its slot.
+#[derive(Drop)]
+pub enum JobWork {
+    /// A run of the archive: as the slot will name it, and what is left of it to be written.
+    Archive {
+        run: Run,
+        writer: RunWriter<ArchiveWalk>,
+    },
+    /// A chain of anchors in the extents that are out for the job: as the slot will name it, the
+    /// records that are left, and how many extents are written.
+    Reclaim {
+        anchors: Anchors,
+        source: AnchorSource,
+        written: usize,
+    },
+}
+
+/// A job that runs: an archive or a reclaim.
+pub struct Job {
+    pub(crate) work: JobWork,
     pub(crate) stage: JobStage,
 }
 
-impl ArchiveJob {
+impl Job {
     /// Gives the job up: what it has of a slot stays in the writing.
     pub(crate) fn give_up(self) {
-        let ArchiveJob {
-            run: _,
-            writer: _,
-            stage,
-        } = self;
+        let Job { work: _, stage } = self;
         match stage {
             JobStage::Writing | JobStage::Stored => {}
             JobStage::Turning(turn) => turn.give_up(),
@@ -41,7 +52,7 @@ impl ArchiveJob {
 }
 
 /// Puts a job into its place, and gives up the one that stood there.
-pub(crate) fn put_job(place: &mut Option<ArchiveJob>, job: Option<ArchiveJob>)
+pub(crate) fn put_job(place: &mut Option<Job>, job: Option<Job>)
     ensures { place.new ≡ job }
 {
     if let Some(before) = mem::replace(place, job) {
@@ -56,14 +67,19 @@ pub enum StartFault {
     Failed,
     /// A job runs.
     JobBusy,
-    /// All versions that ended by then are archived.
+    /// All versions that ended by then are archived, or the heap has nothing that is archived.
     NothingToDo,
     /// No commit is as late: the time of the last one, in microseconds since 1970.
     NotYet(u64),
+    /// A transaction is open that reads below the archive mark: the least snapshot of those that are
+    /// open, in microseconds since 1970.
+    InUse(u64),
     /// No slot of the status log is left for it.
     StatusFull,
     /// The run would end past byte 2^63 - 1 of the archive.
     ArchiveFull,
+    /// The anchors need more extents than are free.
+    HeapFull,
     NoMemory,
 }
 
@@ -75,6 +91,9 @@ pub enum JobDid {
     /// The next piece of the run is written.
     WroteRun,
     RunSynced,
+    /// The next extent of the anchors is written.
+    WroteExtent,
+    HeapSynced,
     BodyWritten,
     BodySynced,
     GateWritten,

@@ -1,26 +1,39 @@
 //! The steps of a job to the disk.
-ghost use Rattle.std.specs.Prelude.{◌≡◌, ◌+◌, ◌<◌, ◌^◌, false, is_some, length, IsTrue, ℕ, Option, Some};
+ghost use Rattle.std.specs.Prelude.{◌≡◌, ◌+◌, ◌<◌, ◌≤◌, ◌^◌, false, slice_get, IfSome, OnOk, OnErr, is_some, length, drop, IsTrue, ℕ, Option, None, Some, MatchOption};
 ghost use Rattle.disk.specs.Areas.{AreSound};
 ghost use Rattle.status.specs.TurnState.{LogState, TurnState};
-ghost use Rattle.store.specs.Jobs.{PumpsJob, TakesJobStep, WritesOrSyncs, WritesRun, SyncsRun, BeginsJobSlot, TurnsJob};
-ghost use Rattle.store.specs.Parts.{parts_of, job_did_at};
-ghost use Rattle.store.specs.declared.job.ArchiveJob.{ArchiveJob};
+ghost use Rattle.deltas.specs.Chains.{first_number};
+ghost use Rattle.store.specs.Jobs.{PumpsJob, TakesJobStep, Stores, writing, WritesOrSyncs, WritesRun, WritesAnchors, AnchorsOrSync, SyncsStored, BeginsJobSlot, TurnsJob, slot_body, made_ready, work_done, TakesMemory};
+ghost use Rattle.disk.specs.Calls.{DiskState};
+ghost use Rattle.transactions.specs.Values.{KeepsSlots};
+ghost use Rattle.store.specs.Parts.{parts_of, job_did_at, IsInPlace};
+ghost use Rattle.store.specs.declared.job.Job.{Job};
 
-use crate::job::{ArchiveJob, JobDid, JobStage, put_job};
+use crate::job::{Job, JobDid, JobStage, JobWork, put_job};
+use crate::starting::first_number;
 use crate::store::Store;
+use archive::RunWriter;
+use deltas::{EXTENT_LEN, fill_extent};
 use disk::{Area, DeviceFault, Disk};
+use extents::Extent;
 use group::PumpFault;
 use status::{SlotTurn, Stage, StatusLog, Step};
+use std::alloc::{AllocError, Global};
 use std::mem;
 use transactions::Transactions;
-use wire::Body;
+use vacuum::{AnchorSource, ArchiveWalk};
+use wire::{Anchors, Body, Run};
+
+/// What a step of a job answers, and the job after it.
+type Stepped = (Result<JobDid, PumpFault>, Option<Job>);
 
 impl<D: Disk> Store<D> {
-    /// One step of the job that runs: it writes the next 8,192 bytes of its run, syncs the archive, or
-    /// makes the next device call of its slot. `Idle` is answered where no job runs.
+    /// One step of the job that runs: it writes the next 8,192 bytes of its run or of its anchors, syncs
+    /// them, or makes the next device call of its slot. `Idle` is answered where no job runs.
     ///
     /// Answers `Failed` once a write or sync of the device was refused, and `Busy`, with nothing done,
-    /// where the job would begin its slot while a group's is in the writing.
+    /// where the job would begin its slot while a group's is in the writing. `NoMemory`, with nothing
+    /// done, is answered where a reclaim would begin its slot.
     pub fn job_pump(&mut self) -> Result<JobDid, PumpFault>
         ensures is { PumpsJob D.tells self.old result self.new }
         ensures sound { IsTrue D.tells → AreSound self.new.disk.areas }
@@ -33,6 +46,7 @@ impl<D: Disk> Store<D> {
             None => Ok(JobDid::Idle),
             Some(job) => {
                 let (answer, next) = step_job(
+                    self.alloc,
                     &mut self.transactions,
                     &mut self.log,
                     &mut self.disk,
@@ -56,69 +70,78 @@ impl<D: Disk> Store<D> {
 }
 
 // The next step of a job, where a group's slot is in the writing or none is, and the job after it.
+#[allow(clippy::too_many_arguments)]
 fn step_job<D: Disk>(
+    alloc: Global,
     transactions: &mut Transactions,
     log: &mut StatusLog,
     disk: &mut D,
     archived: &mut u64,
     runs_end: &mut u64,
     is_turning: bool,
-    job: ArchiveJob,
-) -> (Result<JobDid, PumpFault>, Option<ArchiveJob>)
+    job: Job,
+) -> Stepped
     requires slots { transactions.old.slots < 65536 }
-    requires end { job.run.start + job.run.len < 2 ^ 63 }
+    requires end { IsInPlace job.work }
     requires free { is_turning ≡ false → job.stage ≡ JobStage.Stored → log.old.writing ≡ false }
     requires room { log.old.used < log.old.slots }
     ensures { (turn : Option TurnState) → is_some turn ≡ is_turning
         → TakesJobStep D.tells job.stage job (parts_of transactions.old log.old turn (Some job) archived.old runs_end.old (D.state disk.old)) result.0 (parts_of transactions.new log.new turn result.1 archived.new runs_end.new (D.state disk.new)) }
 {
-    let ArchiveJob { run, writer, stage } = job;
+    let Job { work, stage } = job;
     match stage {
-        JobStage::Writing => write_or_sync(
-            transactions,
-            disk,
-            ArchiveJob {
-                run,
-                writer,
-                stage: JobStage::Writing,
-            },
-        ),
+        JobStage::Writing => store_next(transactions, disk, work),
         JobStage::Stored => {
-            let job = ArchiveJob {
-                run,
-                writer,
+            let job = Job {
+                work,
                 stage: JobStage::Stored,
             };
             if is_turning {
                 return (Err(PumpFault::Busy), Some(job));
             }
-            begin_slot(transactions, log, disk, archived, runs_end, job)
+            begin_slot(alloc, transactions, log, disk, archived, runs_end, job)
         }
         JobStage::Turning(turn) => {
-            let job = ArchiveJob {
-                run,
-                writer,
+            let job = Job {
+                work,
                 stage: JobStage::Stored,
             };
-            turn_slot(transactions, log, disk, archived, runs_end, job, turn)
+            turn_slot(alloc, transactions, log, disk, archived, runs_end, job, turn)
         }
     }
 }
 
+// ---- before the slot
+
+// Writes the next piece of what the slot is to name; where all is written it is synced.
+fn store_next<D: Disk>(transactions: &mut Transactions, disk: &mut D, work: JobWork) -> Stepped
+    ensures { (log : LogState) (turn : Option TurnState) (archived runs_end : ℕ)
+        → Stores D.tells work (writing work) (parts_of transactions.old log turn (Some (writing work)) archived runs_end (D.state disk.old)) result.0 (parts_of transactions.new log turn result.1 archived runs_end (D.state disk.new)) }
+{
+    match work {
+        JobWork::Archive { run, writer } => store_run(transactions, disk, run, writer),
+        JobWork::Reclaim {
+            anchors,
+            source,
+            written,
+        } => store_anchors(transactions, disk, anchors, source, written),
+    }
+}
+
 // Writes the next piece of the run; where all is written the archive is synced.
-fn write_or_sync<D: Disk>(
+fn store_run<D: Disk>(
     transactions: &mut Transactions,
     disk: &mut D,
-    job: ArchiveJob,
-) -> (Result<JobDid, PumpFault>, Option<ArchiveJob>)
-    requires { job.stage ≡ JobStage.Writing }
+    run: Run,
+    writer: RunWriter<ArchiveWalk>,
+) -> Stepped
     ensures { (log : LogState) (turn : Option TurnState) (archived runs_end : ℕ)
-        → WritesOrSyncs D.tells job.writer.left job (parts_of transactions.old log turn (Some job) archived runs_end (D.state disk.old)) result.0 (parts_of transactions.new log turn result.1 archived runs_end (D.state disk.new)) }
+        → WritesOrSyncs D.tells writer.left run writer (writing (JobWork.Archive run writer)) (parts_of transactions.old log turn (Some (writing (JobWork.Archive run writer))) archived runs_end (D.state disk.old)) result.0 (parts_of transactions.new log turn result.1 archived runs_end (D.state disk.new)) }
 {
-    if job.writer.left() == 0 {
-        sync_run(transactions, disk, job)
+    if writer.left() == 0 {
+        sync_stored(transactions, disk, Area::Archive, JobDid::RunSynced, JobWork::Archive { run, writer })
     } else {
-        write_run(transactions, disk, job)
+        write_run(transactions, disk, run, writer)
     }
 }
 
@@ -126,14 +149,20 @@ fn write_or_sync<D: Disk>(
 fn write_run<D: Disk>(
     transactions: &mut Transactions,
     disk: &mut D,
-    job: ArchiveJob,
-) -> (Result<JobDid, PumpFault>, Option<ArchiveJob>)
-    requires { 0 < length job.writer.left }
+    run: Run,
+    writer: RunWriter<ArchiveWalk>,
+) -> Stepped
+    requires { 0 < length writer.left }
     ensures { (log : LogState) (turn : Option TurnState) (archived runs_end : ℕ)
-        → WritesRun D.tells job (parts_of transactions.old log turn (Some job) archived runs_end (D.state disk.old)) result.0 (parts_of transactions.new log turn result.1 archived runs_end (D.state disk.new)) }
+        → WritesRun D.tells run writer (writing (JobWork.Archive run writer)) (parts_of transactions.old log turn (Some (writing (JobWork.Archive run writer))) archived runs_end (D.state disk.old)) result.0 (parts_of transactions.new log turn result.1 archived runs_end (D.state disk.new)) }
 {
-    let mut job = job;
-    match job.writer.write_piece(disk) {
+    let mut writer = writer;
+    let written = writer.write_piece(disk);
+    let job = Job {
+        work: JobWork::Archive { run, writer },
+        stage: JobStage::Writing,
+    };
+    match written {
         Err(DeviceFault) => {
             transactions.fail();
             (Err(PumpFault::Failed), Some(job))
@@ -142,27 +171,93 @@ fn write_run<D: Disk>(
     }
 }
 
-// Syncs the archive, once all of the run is written.
-fn sync_run<D: Disk>(
+// Writes the next extent of the anchors; where all are written the heap is synced.
+fn store_anchors<D: Disk>(
     transactions: &mut Transactions,
     disk: &mut D,
-    job: ArchiveJob,
-) -> (Result<JobDid, PumpFault>, Option<ArchiveJob>)
-    requires { job.stage ≡ JobStage.Writing }
+    anchors: Anchors,
+    source: AnchorSource,
+    written: usize,
+) -> Stepped
     ensures { (log : LogState) (turn : Option TurnState) (archived runs_end : ℕ)
-        → SyncsRun D.tells job (parts_of transactions.old log turn (Some job) archived runs_end (D.state disk.old)) result.0 (parts_of transactions.new log turn result.1 archived runs_end (D.state disk.new)) }
+        → AnchorsOrSync D.tells (slice_get transactions.old.reserved written) anchors source written (writing (JobWork.Reclaim anchors source written)) (parts_of transactions.old log turn (Some (writing (JobWork.Reclaim anchors source written))) archived runs_end (D.state disk.old)) result.0 (parts_of transactions.new log turn result.1 archived runs_end (D.state disk.new)) }
 {
-    match disk.sync(Area::Archive) {
+    let Some((number, next)) = next_extent(transactions.reserved(), written) else {
+        let work = JobWork::Reclaim {
+            anchors,
+            source,
+            written,
+        };
+        return sync_stored(transactions, disk, Area::Heap, JobDid::HeapSynced, work);
+    };
+    let mut source = source;
+    let mut image = [0; EXTENT_LEN];
+    let _filled = fill_extent(&mut source, number, next, &mut image);
+    let job = Job {
+        work: JobWork::Reclaim {
+            anchors,
+            source,
+            written: written + 1,
+        },
+        stage: JobStage::Writing,
+    };
+    match disk.write_at(Area::Heap, 8192 * u64::from(number - 1), &image) {
         Err(DeviceFault) => {
             transactions.fail();
             (Err(PumpFault::Failed), Some(job))
         }
-        Ok(()) => (Ok(JobDid::RunSynced), Some(at_stage(job, JobStage::Stored))),
+        Ok(()) => (Ok(JobDid::WroteExtent), Some(job)),
     }
 }
 
+// The number of the extent at this place, and of the one behind it, 0 for none.
+fn next_extent(reserved: &[Extent], place: usize) -> Option<(u32, u32)>
+    ensures is { MatchOption result (slice_get reserved.now place ≡ None) (λ r. (slice_get reserved.now place ≡ Some r.0) × (r.1 ≡ first_number (drop (place + 1) reserved.now))) }
+    ensures low { IfSome result (λ r. 1 ≤ r.0) }
+    ensures high { IfSome result (λ r. r.0 ≤ 65536) }
+    ensures within { IfSome result (λ r. place < length reserved.now) }
+    ensures fits { length reserved.now < 2 ^ 63 }
+{
+    match reserved.get(place) {
+        None => None,
+        Some(extent) => Some((extent.number(), first_number(&reserved[place + 1..]))),
+    }
+}
+
+// Syncs what the job made.
+fn sync_stored<D: Disk>(
+    transactions: &mut Transactions,
+    disk: &mut D,
+    area: Area,
+    did: JobDid,
+    work: JobWork,
+) -> Stepped
+    ensures { (log : LogState) (turn : Option TurnState) (archived runs_end : ℕ)
+        → SyncsStored D.tells area did (writing work) (parts_of transactions.old log turn (Some (writing work)) archived runs_end (D.state disk.old)) result.0 (parts_of transactions.new log turn result.1 archived runs_end (D.state disk.new)) }
+{
+    match disk.sync(area) {
+        Err(DeviceFault) => {
+            transactions.fail();
+            let job = Job {
+                work,
+                stage: JobStage::Writing,
+            };
+            (Err(PumpFault::Failed), Some(job))
+        }
+        Ok(()) => {
+            let job = Job {
+                work,
+                stage: JobStage::Stored,
+            };
+            (Ok(did), Some(job))
+        }
+    }
+}
+
+// ---- the slot
+
 // The job at another stage; what it has of a slot is given up.
-fn at_stage(job: ArchiveJob, stage: JobStage) -> ArchiveJob
+fn at_stage(job: Job, stage: JobStage) -> Job
     ensures { result ≡ record job { stage = stage } }
 {
     let mut job = job;
@@ -173,44 +268,101 @@ fn at_stage(job: ArchiveJob, stage: JobStage) -> ArchiveJob
     job
 }
 
-// Begins the slot of the job's run, and writes its body.
+// What the job's slot says.
+fn slot_body(work: &JobWork) -> Body
+    ensures { result ≡ slot_body work.now }
+{
+    match work {
+        JobWork::Archive { run, .. } => Body::Archived(*run),
+        JobWork::Reclaim { anchors, .. } => Body::Reclaimed(*anchors),
+    }
+}
+
+// Makes in memory what has to be made before the slot is begun.
+fn make_ready(
+    alloc: Global,
+    transactions: &mut Transactions,
+    work: &JobWork,
+) -> Result<(), AllocError>
+    ensures ok { OnOk result ((log : LogState) (turn : Option TurnState) (job : Option Job) (archived runs_end : ℕ) (disk : DiskState)
+        → parts_of transactions.new log turn job archived runs_end disk ≡ made_ready work.now (parts_of transactions.old log turn job archived runs_end disk)) }
+    ensures err { OnErr result (TakesMemory work.now × (transactions.new ≡ transactions.old)) }
+    ensures slots { KeepsSlots transactions.old transactions.new }
+{
+    match work {
+        JobWork::Archive { .. } => Ok(()),
+        JobWork::Reclaim { anchors, .. } => transactions.prepare_reclaim(alloc, anchors.upto),
+    }
+}
+
+// Begins the slot of what the job made, and writes its body.
+#[allow(clippy::too_many_arguments)]
 fn begin_slot<D: Disk>(
+    alloc: Global,
     transactions: &mut Transactions,
     log: &mut StatusLog,
     disk: &mut D,
     archived: &mut u64,
     runs_end: &mut u64,
-    job: ArchiveJob,
-) -> (Result<JobDid, PumpFault>, Option<ArchiveJob>)
+    job: Job,
+) -> Stepped
     requires slots { transactions.old.slots < 65536 }
-    requires end { job.run.start + job.run.len < 2 ^ 63 }
+    requires end { IsInPlace job.work }
     requires stage { job.stage ≡ JobStage.Stored }
     requires free { log.old.writing ≡ false }
     requires room { log.old.used < log.old.slots }
     ensures { (turn : Option TurnState)
         → BeginsJobSlot D.tells job (parts_of transactions.old log.old turn (Some job) archived.old runs_end.old (D.state disk.old)) result.0 (parts_of transactions.new log.new turn result.1 archived.new runs_end.new (D.state disk.new)) }
 {
-    match log.begin_slot(Body::Archived(job.run)) {
+    let Ok(()) = make_ready(alloc, transactions, &job.work) else {
+        return (Err(PumpFault::NoMemory), Some(job));
+    };
+    match log.begin_slot(slot_body(&job.work)) {
         Err(_) => unreachable!(),
-        Ok(turn) => turn_slot(transactions, log, disk, archived, runs_end, job, turn),
+        Ok(turn) => turn_slot(alloc, transactions, log, disk, archived, runs_end, job, turn),
     }
 }
 
-// The next device call of the job's slot. The last one raises the archive mark; a refused one spends
-// the turn, and the store has failed.
+// What the job made stands: an archive's run is the log's, and raises the archive mark; a reclaim
+// raises the reclaim mark.
+fn finish(
+    alloc: Global,
+    transactions: &mut Transactions,
+    archived: &mut u64,
+    runs_end: &mut u64,
+    work: &JobWork,
+)
+    requires { IsInPlace work.now }
+    ensures is { (log : LogState) (turn : Option TurnState) (job : Option Job) (disk : DiskState)
+        → parts_of transactions.new log turn job archived.new runs_end.new disk ≡ work_done work.now (parts_of transactions.old log turn job archived.old runs_end.old disk) }
+    ensures slots { KeepsSlots transactions.old transactions.new }
+{
+    match work {
+        JobWork::Archive { run, .. } => {
+            *archived = run.upto;
+            *runs_end = run.start + run.len;
+        }
+        JobWork::Reclaim { anchors, .. } => transactions.reclaim(alloc, anchors.upto),
+    }
+}
+
+// The next device call of the job's slot. Once the last one is made what the job made stands; a
+// refused one spends the turn, and the store has failed.
+#[allow(clippy::too_many_arguments)]
 fn turn_slot<D: Disk>(
+    alloc: Global,
     transactions: &mut Transactions,
     log: &mut StatusLog,
     disk: &mut D,
     archived: &mut u64,
     runs_end: &mut u64,
-    job: ArchiveJob,
+    job: Job,
     turn: SlotTurn,
-) -> (Result<JobDid, PumpFault>, Option<ArchiveJob>)
+) -> Stepped
     requires slots { transactions.old.slots < 65536 }
-    requires end { job.run.start + job.run.len < 2 ^ 63 }
+    requires end { IsInPlace job.work }
     requires stage { job.stage ≡ JobStage.Stored }
-    ensures { (other : Option TurnState) (before : Option ArchiveJob)
+    ensures { (other : Option TurnState) (before : Option Job)
         → TurnsJob D.tells job turn (parts_of transactions.old log.old other before archived.old runs_end.old (D.state disk.old)) result.0 (parts_of transactions.new log.new other result.1 archived.new runs_end.new (D.state disk.new)) }
 {
     match log.advance(turn, disk) {
@@ -219,9 +371,8 @@ fn turn_slot<D: Disk>(
             (Err(PumpFault::Failed), Some(job))
         }
         Ok(Step::Open(_)) => {
+            finish(alloc, transactions, archived, runs_end, &job.work);
             transactions.slot_used();
-            *archived = job.run.upto;
-            *runs_end = job.run.start + job.run.len;
             job.give_up();
             (Ok(JobDid::JobDone), None)
         }

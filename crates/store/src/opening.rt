@@ -4,14 +4,16 @@ ghost use Rattle.std.specs.List.{AllByRecursion};
 ghost use Rattle.wire.specs.Spelling.{IsRun};
 ghost use Rattle.status.specs.Rules.{row_end};
 ghost use Rattle.store.specs.Heads.{head_as};
-ghost use Rattle.store.specs.Opens.{Opens, OpenRefuses};
+ghost use Rattle.extents.specs.Times.{with_times};
+ghost use Rattle.store.specs.Opens.{Opens, OpenRefuses, times_of};
 
 use crate::store::Store;
 use chains::Bound;
 use disk::Disk;
 use group::CommitHead;
 use history::Key;
-use recovery::{CommitName, OpenFault, Recovered, read_image};
+use extents::ChainTimes;
+use recovery::{CommitName, LiveChain, OpenFault, Recovered, read_image};
 use status::StatusLog;
 use std::alloc::{AllocError, Global};
 use transactions::Transactions;
@@ -45,6 +47,30 @@ fn end_of(runs: &[Run]) -> u64
     end
 }
 
+// The time of the commit whose chain has each extent, by the live chains.
+fn times_of(alloc: Global, live: &[LiveChain]) -> Result<ChainTimes, AllocError>
+    ensures { IfOk result (λ times. times ≡ times_of live.now) }
+{
+    let mut times = ChainTimes::new(alloc)?;
+    let mut rest = live;
+    while let [chain, after @ ..] = rest {
+        set_chain(&mut times, &chain.extents, chain.time);
+        rest = after;
+    }
+    Ok(times)
+}
+
+// These extents are in the chain of the commit of this time.
+fn set_chain(times: &mut ChainTimes, numbers: &[u32], time: u64)
+    ensures { times.new ≡ with_times times.old numbers.now time }
+{
+    let mut rest = numbers;
+    while let [number, after @ ..] = rest {
+        times.set(*number, time);
+        rest = after;
+    }
+}
+
 impl<D: Disk> Store<D> {
     /// Opens the store that the disk holds. It first syncs the three areas, and then only reads. The
     /// mark is a number of the caller's, which the store's transactions, tickets and views carry.
@@ -60,6 +86,10 @@ impl<D: Disk> Store<D> {
         };
         let heads = match heads_of(alloc, &recovered.commits) {
             Ok(heads) => heads,
+            Err(_) => return Err((OpenFault::NoMemory, disk)),
+        };
+        let times = match times_of(alloc, &recovered.live) {
+            Ok(times) => times,
             Err(_) => return Err((OpenFault::NoMemory, disk)),
         };
         let log = StatusLog::new(&recovered.header, recovered.used);
@@ -86,7 +116,7 @@ impl<D: Disk> Store<D> {
         Ok(Store {
             alloc,
             transactions: Transactions::of_recovered(
-                alloc, mark, heads, chains, extents, slots, used, floor, reclaimed,
+                alloc, mark, heads, chains, extents, times, slots, used, floor, reclaimed,
             ),
             log,
             turn: None,

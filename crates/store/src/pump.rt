@@ -3,7 +3,7 @@ ghost use Rattle.std.specs.Prelude.{◌≡◌, ◌<◌, false, is_some, IsTrue, 
 ghost use Rattle.store.specs.Values.{turn_of};
 ghost use Rattle.disk.specs.Areas.{AreSound};
 ghost use Rattle.transactions.specs.Steps.{due, next_extent};
-ghost use Rattle.store.specs.Pumps.{Pumps, TakesStep, SyncsHeap, BeginsSlot, TurnsSlot, store_of, did_at};
+ghost use Rattle.store.specs.Pumps.{Pumps, TakesStep, SyncsHeap, MayBeginSlot, TakesSlot, TurnsSlot, store_of, did_at};
 
 use crate::job::JobStage;
 use crate::store::Store;
@@ -12,6 +12,7 @@ use group::{Did, PumpFault};
 use status::{SlotTurn, Stage, StatusLog, Step};
 use std::mem;
 use transactions::{NextStep, Transactions};
+use wire::Body;
 
 /// The bytes of an extent.
 const EXTENT_LEN: u64 = 8192;
@@ -95,15 +96,31 @@ impl<D: Disk> Store<D> {
     }
 
     // Begins the slot of the group's commits, and writes its body.
+    #[tactic(auto, using(crate::proofs::Begins::may_begin, crate::proofs::Begins::lacks))]
     fn begin_slot(&mut self) -> Result<Did, PumpFault>
         requires due { due self.old.transactions ≡ NextStep.BeginSlot }
         requires works { self.old.transactions.failed ≡ false }
         requires room { self.old.transactions.used < self.old.transactions.slots }
         requires free { is_some (turn_of self.old.job) ≡ false }
-        ensures is { BeginsSlot D.tells self.old result self.new }
+        ensures is { MayBeginSlot D.tells self.old result self.new }
         ensures sound { IsTrue D.tells → AreSound self.new.disk.areas }
     {
         let body = self.transactions.slot_body();
+        let Ok(()) = self.transactions.freshen(self.alloc) else {
+            return Err(PumpFault::NoMemory);
+        };
+        self.take_slot(body)
+    }
+
+    // Begins the next slot with this body, and writes it.
+    fn take_slot(&mut self, body: Body) -> Result<Did, PumpFault>
+        requires due { due self.old.transactions ≡ NextStep.BeginSlot }
+        requires works { self.old.transactions.failed ≡ false }
+        requires room { self.old.transactions.used < self.old.transactions.slots }
+        requires free { is_some (turn_of self.old.job) ≡ false }
+        ensures is { TakesSlot D.tells body self.old result self.new }
+        ensures sound { IsTrue D.tells → AreSound self.new.disk.areas }
+    {
         match self.log.begin_slot(body) {
             Err(_) => unreachable!(),
             Ok(turn) => {

@@ -1,11 +1,17 @@
-//! The beginning of an archive.
+//! The beginning of a job.
 ghost use Rattle.std.specs.Prelude.{◌≡◌};
+ghost use Rattle.deltas.specs.Chains.{first_number};
 ghost use Rattle.store.specs.Archives.{StartsArchive, refusal_now};
+ghost use Rattle.store.specs.Reclaims.{StartsReclaim, reclaim_refusal};
 
-use crate::job::{ArchiveJob, JobStage, StartFault, put_job};
+use crate::job::{Job, JobStage, JobWork, StartFault, put_job};
 use crate::store::Store;
+use deltas::count_extents;
 use disk::Disk;
-use vacuum::archive_run;
+use extents::Extent;
+use transactions::ReserveFault;
+use vacuum::{AnchorSource, archive_run};
+use wire::Anchors;
 
 impl<D: Disk> Store<D> {
     /// Begins an archive of the versions that ended by `upto`, in microseconds since 1970, and that
@@ -25,9 +31,8 @@ impl<D: Disk> Store<D> {
             None => Err(StartFault::ArchiveFull),
             Some((run, writer)) => {
                 self.transactions.lend_slot();
-                let job = ArchiveJob {
-                    run,
-                    writer,
+                let job = Job {
+                    work: JobWork::Archive { run, writer },
                     stage: JobStage::Writing,
                 };
                 put_job(&mut self.job, Some(job));
@@ -57,5 +62,84 @@ impl<D: Disk> Store<D> {
             return Some(StartFault::StatusFull);
         }
         None
+    }
+
+    /// Begins a reclaim: the heap is to hold only what ended after the archive mark, and so is
+    /// memory. It takes a slot and an extent for each 8,176 bytes of anchors, the versions that stand
+    /// at the mark, and `job_pump` writes them. No call of the disk is made. Where it is refused
+    /// nothing changes.
+    pub fn reclaim_start(&mut self) -> Result<(), StartFault>
+        ensures { StartsReclaim self.old result self.new }
+    {
+        if let Some(fault) = self.reclaim_refusal() {
+            return Err(fault);
+        }
+        let Ok(versions) = self.transactions.versions() else {
+            return Err(StartFault::NoMemory);
+        };
+        let Ok(counted) = self.transactions.versions() else {
+            return Err(StartFault::NoMemory);
+        };
+        let mut counter = AnchorSource::new(counted, self.archived);
+        let Some(count) = count_extents(&mut counter) else {
+            return Err(StartFault::HeapFull);
+        };
+        match self.transactions.reserve(self.alloc, count.extents) {
+            Err(ReserveFault::HeapFull) => Err(StartFault::HeapFull),
+            Err(ReserveFault::NoMemory) => Err(StartFault::NoMemory),
+            Ok(()) => {
+                self.transactions.lend_slot();
+                let anchors = Anchors {
+                    upto: self.archived,
+                    first: first_number(self.transactions.reserved()),
+                    extents: count.extents,
+                    records: count.records,
+                };
+                let job = Job {
+                    work: JobWork::Reclaim {
+                        anchors,
+                        source: AnchorSource::new(versions, self.archived),
+                        written: 0,
+                    },
+                    stage: JobStage::Writing,
+                };
+                put_job(&mut self.job, Some(job));
+                Ok(())
+            }
+        }
+    }
+
+    // Why no reclaim begins, by what is known before its anchors are counted.
+    fn reclaim_refusal(&self) -> Option<StartFault>
+        ensures { result ≡ reclaim_refusal self.now }
+    {
+        if self.transactions.has_failed() {
+            return Some(StartFault::Failed);
+        }
+        if self.job.is_some() {
+            return Some(StartFault::JobBusy);
+        }
+        if self.archived == self.transactions.reclaimed() {
+            return Some(StartFault::NothingToDo);
+        }
+        if let Some(oldest) = self.transactions.oldest() {
+            if oldest < self.archived {
+                return Some(StartFault::InUse(oldest));
+            }
+        }
+        if self.transactions.spare() == 0 {
+            return Some(StartFault::StatusFull);
+        }
+        None
+    }
+}
+
+// The number of the first of these extents, 0 for none.
+pub(crate) fn first_number(extents: &[Extent]) -> u32
+    ensures { result ≡ first_number extents.now }
+{
+    match extents {
+        [] => 0,
+        [first, ..] => first.number(),
     }
 }

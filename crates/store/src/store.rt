@@ -2,7 +2,7 @@
 ghost use Rattle.std.specs.Prelude.{◌≡◌, IfOk};
 ghost use Rattle.store.specs.Calls.{Begins, Aborts, Submits, Redeems, IsViewOf, IsTimesOf, last, floor};
 
-use crate::job::ArchiveJob;
+use crate::job::Job;
 use disk::Disk;
 use group::{BeginFault, Redeemed, SubmitFault, Submitted, Ticket};
 use snapshot::Txn;
@@ -19,7 +19,7 @@ pub struct Store<D: Disk> {
     pub(crate) transactions: Transactions,
     pub(crate) log: StatusLog,
     pub(crate) turn: Option<SlotTurn>,
-    pub(crate) job: Option<ArchiveJob>,
+    pub(crate) job: Option<Job>,
     // The archive mark, and where the last run of the log ends.
     pub(crate) archived: u64,
     pub(crate) runs_end: u64,

@@ -1,5 +1,5 @@
 -- What each step keeps of the order of the transactions.
-use Rattle.std.proofs.Common.{◌≡◌, ℕ, zero, suc, ◌+◌, ◌-◌, ◌<◌, ◌≤◌, ◌==◌, nat_lt, min, cond, true, false, List, [], ◌∷◌, ◌++◌, length, take, drop, slice_get, Option, None, Some, IsSome, refl, arith, ap, sym, subst, inl, inr}
+use Rattle.std.proofs.Common.{◌≡◌, ℕ, zero, suc, ◌+◌, ◌-◌, ◌<◌, ◌≤◌, ◌==◌, nat_lt, min, cond, true, false, List, [], ◌∷◌, ◌++◌, length, take, drop, slice_get, Option, None, Some, IsSome, MatchOption, refl, arith, ap, sym, subst, inl, inr}
 use Rattle.std.specs.List.{AllByRecursion, flat_map}
 use Rattle.std.proofs.lemmas.Bool.{cases_lt}
 use Rattle.std.proofs.lemmas.Bool.Decides.{nat_tests}
@@ -12,7 +12,7 @@ use Rattle.transactions.specs.declared.stage.GroupStage.{GroupStage}
 use Rattle.transactions.specs.declared.stage.GroupStage.TheVariants.{NoGroup, Storing, Stored, Turning}
 use Rattle.transactions.specs.declared.stage.NextStep.TheVariants as steps
 use Rattle.transactions.specs.Values.{TransactionsValue, versions_after, claimed, claimed_by, is_turning}
-use Rattle.transactions.specs.Order.{StageFits, HasExtent, IsInOrder}
+use Rattle.transactions.specs.Order.{StageFits, HasExtent, AreBy, IsInOrder}
 use Rattle.transactions.specs.Steps.{step_of, due, grouped, next_extent, extent_of, extent_at, place_behind, stage_behind, wrote_extent, at_stage, published}
 
 -- ---- commits that wait
@@ -31,10 +31,29 @@ pub all-push : (queue : List QueuedValue) (q : QueuedValue) → AllByRecursion H
 all-push [] q all last = (last, tt)
 all-push (x ∷ xs) q all last = (all.0, all-push xs q all.1 last)
 
-pub versions_after-split : (v : List KeyWrites) (n : ℕ) (qs : List QueuedValue) → versions_after (versions_after v (take n qs)) (drop n qs) ≡ versions_after v qs
-versions_after-split v zero qs = refl
-versions_after-split v (suc n) [] = refl
-versions_after-split v (suc n) (x ∷ xs) = versions_after-split x.after n xs
+pub by-rest : (n time : ℕ) (versions : List KeyWrites) (qs : List QueuedValue) → AreBy time versions qs → AreBy time (versions_after versions (take n qs)) (drop n qs)
+by-rest zero time versions qs by = by
+by-rest (suc n) time versions [] by = by
+by-rest (suc n) time versions (x ∷ xs) by = by-rest n time x.after xs (by.1.0, by.1.1)
+
+pub by-last : (time : ℕ) (versions : List KeyWrites) (qs : List QueuedValue) → AreBy time versions qs → latest (versions_after versions qs) ≤ time
+by-last time versions [] by = by.0
+by-last time versions (x ∷ xs) by = by-last time x.after xs (by.1.0, by.1.1)
+
+all-later : (time later : ℕ) (qs : List QueuedValue) → time ≤ later → AllByRecursion (λ (q : QueuedValue). latest q.after ≤ time) qs → AllByRecursion (λ (q : QueuedValue). latest q.after ≤ later) qs
+all-later time later [] le all = tt
+all-later time later (x ∷ xs) le all = (let first = all.0 in omega (arith, first, le), all-later time later xs le all.1)
+
+all-with : (time : ℕ) (qs : List QueuedValue) (q : QueuedValue) → AllByRecursion (λ (q : QueuedValue). latest q.after ≤ time) qs → latest q.after ≤ time → AllByRecursion (λ (q : QueuedValue). latest q.after ≤ time) (qs ++ q ∷ [])
+all-with time [] q all last = (last, tt)
+all-with time (x ∷ xs) q all last = (all.0, all-with time xs q all.1 last)
+
+pub by-push : (time later : ℕ) (versions : List KeyWrites) (qs : List QueuedValue) (q : QueuedValue) → time ≤ later → AreBy time versions qs → latest q.after ≤ later → AreBy later versions (qs ++ q ∷ [])
+by-push time later versions qs q le by last = (let first = by.0 in omega (arith, first, le), all-with later qs q (all-later time later qs le by.1) last)
+
+pub pending-later : (time later : ℕ) (o : Option (List KeyWrites)) → time ≤ later → MatchOption o (Unit {0}) (λ versions. latest versions ≤ time) → MatchOption o (Unit {0}) (λ versions. latest versions ≤ later)
+pending-later time later None le by = tt
+pending-later time later (Some versions) le by = omega (arith, le, by)
 
 some_at : {A : Type 0} (xs : List A) (k : ℕ) → k < length xs → IsSome (slice_get xs k)
 some_at [] k low = absurd (omega arith)
@@ -154,6 +173,7 @@ group_begins v order none some =
     let claims = no_group-claims v.stage v.group v.queue order.stage_fits none in record {
       split = order.split;
       latest = order.latest;
+      pending = order.pending;
       group_within = omega arith;
       group_few = omega arith;
       stage_fits = (omega arith, omega arith, λ low q there. has_extent v.queue 0 q order.stored there);
@@ -180,6 +200,7 @@ keeps-wrote v order asks =
     let claims = claimed-behind v.queue v.stage v.group (length v.queue) in record {
       split = order.split;
       latest = order.latest;
+      pending = order.pending;
       group_within = order.group_within;
       group_few = order.group_few;
       stage_fits = wrote-fits v.stage v.group v.queue order.stored order.stage_fits asks;
@@ -194,6 +215,7 @@ keeps-synced v order asks =
     let claims = sync-claimed v.stage v.group (length v.queue) asks in record {
       split = order.split;
       latest = order.latest;
+      pending = order.pending;
       group_within = order.group_within;
       group_few = order.group_few;
       stage_fits = sync-fits v.stage v.group v.queue order.stage_fits asks;
@@ -210,6 +232,7 @@ keeps-begun v order asks =
     let claims : claimed v ≡ length v.queue = ap (λ (s : GroupStage). claimed_by s v.group (length v.queue)) is in record {
       split = order.split;
       latest = order.latest;
+      pending = order.pending;
       group_within = order.group_within;
       group_few = order.group_few;
       stage_fits = fits;
@@ -219,13 +242,14 @@ keeps-begun v order asks =
       slots_few = order.slots_few;
     }
 
-pub keeps-published : (v : TransactionsValue) → IsInOrder v → due v ≡ steps.AdvanceSlot → AreOut (published v).usages (flat_map numbers_of (drop v.group v.queue)) → IsInOrder (published v)
+pub keeps-published : (v : TransactionsValue) → IsInOrder v → due v ≡ steps.AdvanceSlot → AreOut (published v).usages (flat_map numbers_of (drop v.group v.queue) ++ v.reserved) → IsInOrder (published v)
 keeps-published v order asks out =
     let is : v.stage ≡ Turning = advance-is v.stage v.group asks in
     let claims : claimed v ≡ 1 + (length v.queue - v.group) = ap (λ (s : GroupStage). claimed_by s v.group (length v.queue)) is in
     let rest = length-drop v.group v.queue in record {
       split = omega (arith, order.split, rest, order.group_within);
-      latest = subst (λ (m : List KeyWrites). latest m ≤ orders.last_time v.heads) (sym (versions_after-split v.versions v.group v.queue)) order.latest;
+      latest = by-rest v.group (orders.last_time v.heads) v.versions v.queue order.latest;
+      pending = order.pending;
       group_within = omega arith;
       group_few = omega arith;
       stage_fits = refl;

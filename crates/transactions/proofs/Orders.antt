@@ -5,7 +5,7 @@ use Rattle.group.specs.declared.commit_order.CommitHead.{CommitHead}
 use Rattle.group.specs.CommitOrder.{CommitOrderValue, last_time_after, last_time, redeemed, after_redeem, is_awaited, last_published}
 use Rattle.group.specs.Queued.{QueuedValue}
 use Rattle.group.proofs.Heads.{length-redeemed}
-use Rattle.transactions.specs.Values.{versions_after}
+use Rattle.transactions.specs.Values.{versions_after, mark_after}
 
 pub versions_after-last : (v : List KeyWrites) (qs : List QueuedValue) (n : ℕ) (q : QueuedValue) → suc n ≡ length qs → q ≡ get_or qs n q → q.after ≡ versions_after v qs
 versions_after-last v [] n q e is = absurd (omega arith)
@@ -13,6 +13,13 @@ versions_after-last v (x ∷ []) zero q e is = ap (λ (z : QueuedValue). z.after
 versions_after-last v (x ∷ []) (suc n) q e is = absurd (omega arith)
 versions_after-last v (x ∷ y ∷ ys) zero q e is = absurd (omega arith)
 versions_after-last v (x ∷ y ∷ ys) (suc n) q e is = versions_after-last x.after (y ∷ ys) n q (omega arith) is
+
+pub mark_after-last : (mark : ℕ) (qs : List QueuedValue) (n : ℕ) (q : QueuedValue) → suc n ≡ length qs → q ≡ get_or qs n q → q.reclaimed ≡ mark_after mark qs
+mark_after-last mark [] n q e is = absurd (omega arith)
+mark_after-last mark (x ∷ []) zero q e is = ap (λ (z : QueuedValue). z.reclaimed) is
+mark_after-last mark (x ∷ []) (suc n) q e is = absurd (omega arith)
+mark_after-last mark (x ∷ y ∷ ys) zero q e is = absurd (omega arith)
+mark_after-last mark (x ∷ y ∷ ys) (suc n) q e is = mark_after-last x.reclaimed (y ∷ ys) n q (omega arith) is
 
 pub versions_after-push : (v : List KeyWrites) (qs : List QueuedValue) (q : QueuedValue) → versions_after v (qs ++ q ∷ []) ≡ q.after
 versions_after-push v [] q = refl

@@ -1,7 +1,7 @@
 -- Commits published one after another, and extents that change together.
 use Rattle.std.proofs.Common.{◌≡◌, ◌≢◌, ℕ, zero, suc, ◌-◌, ◌≤◌, List, [], ◌∷◌, ◌++◌, length, take, drop, map, get_or, slice_set, refl, arith, ap, sym, subst, ◌∙◌}
 use Rattle.std.specs.List.{AllByRecursion, flat_map}
-use Rattle.std.proofs.lemmas.List.{append_assoc, get_or-set_other}
+use Rattle.std.proofs.lemmas.List.{append_assoc, append-nil, get_or-set_other}
 use Rattle.std.proofs.lemmas.List.Concat.{flat_map-cons}
 use Rattle.chains.specs.KeyWrites.{KeyWrites}
 use Rattle.extents.specs.declared.usage.Usage.{Usage}
@@ -12,6 +12,8 @@ use Rattle.group.specs.Queued.{QueuedValue, numbers_of, stored_as}
 use Rattle.group.specs.declared.queued.StoredExtent.{StoredExtent}
 use Rattle.group.specs.Taking.{AreLeastFree}
 use Rattle.transactions.specs.Values.{versions_after}
+use Rattle.transactions.specs.Steps.{with_chains}
+use Rattle.extents.specs.Times.{with_times}
 
 -- ---- usages of many
 
@@ -43,6 +45,67 @@ out-taken usages ms [] out least = subst (λ (xs : List ℕ). AreOut usages xs) 
 out-taken usages ms (n ∷ ns) out least =
     subst (λ (xs : List ℕ). AreOut (with_usages (with_usage usages n Out) ns Out) xs) (append_assoc ms (n ∷ []) ns)
     (out-taken (with_usage usages n Out) (ms ++ n ∷ []) ns (list_taken usages ms n out least.0.free) least.1)
+
+-- ---- the same extents in another order
+
+all-both : (P : ℕ → Type 0) (xs ys : List ℕ) → AllByRecursion P xs → AllByRecursion P ys → AllByRecursion P (xs ++ ys)
+all-both P [] ys front rest = rest
+all-both P (x ∷ xs) ys front rest = (front.0, all-both P xs ys front.1 rest)
+
+all-rest : (P : ℕ → Type 0) (xs ys : List ℕ) → AllByRecursion P (xs ++ ys) → AllByRecursion P ys
+all-rest P [] ys all = all
+all-rest P (x ∷ xs) ys all = all-rest P xs ys all.1
+
+all-moved : (P : ℕ → Type 0) (x : ℕ) (xs ys : List ℕ) → AllByRecursion P (x ∷ xs ++ ys) → AllByRecursion P (xs ++ x ∷ ys)
+all-moved P x xs ys all = all-both P xs (x ∷ ys) (all-front P xs ys all.1) (all.0, all-rest P xs ys all.1)
+
+distinct-moved : (x : ℕ) (xs ys : List ℕ) → AreDistinct (x ∷ xs ++ ys) → AreDistinct (xs ++ x ∷ ys)
+distinct-moved x [] ys distinct = distinct
+distinct-moved x (z ∷ zs) ys distinct =
+    (all-moved (λ n. n ≢ z) x zs ys ((λ e. distinct.0.0 (sym e)), distinct.1.0), distinct-moved x zs ys (distinct.0.1, distinct.1.1))
+
+-- the first one may come behind others
+out-moved : (usages : List Usage) (x : ℕ) (xs ys : List ℕ) → AreOut usages (x ∷ xs ++ ys) → AreOut usages (xs ++ x ∷ ys)
+out-moved usages x xs ys out = record { each = all-moved (IsOut usages) x xs ys out.each; distinct = distinct-moved x xs ys out.distinct }
+
+pub out-swapped : (usages : List Usage) (xs ys : List ℕ) → AreOut usages (xs ++ ys) → AreOut usages (ys ++ xs)
+out-swapped usages [] ys out = subst (λ (ns : List ℕ). AreOut usages ns) (sym (nil-behind ys)) out
+  where
+    nil-behind : (zs : List ℕ) → zs ++ [] ≡ zs
+    nil-behind [] = refl
+    nil-behind (z ∷ zs) = ap (λ ns. z ∷ ns) (nil-behind zs)
+out-swapped usages (x ∷ xs) ys out =
+    let behind : AreOut usages (xs ++ (ys ++ x ∷ [])) = subst (λ (ns : List ℕ). AreOut usages ns) (append_assoc xs ys (x ∷ [])) (moved-last (xs ++ ys) out) in
+    subst (λ (ns : List ℕ). AreOut usages ns) (append_assoc ys (x ∷ []) xs) (out-swapped usages xs (ys ++ x ∷ []) behind)
+  where
+    moved-last : (zs : List ℕ) → AreOut usages (x ∷ zs) → AreOut usages (zs ++ x ∷ [])
+    moved-last zs first = out-moved usages x zs [] (subst (λ (ns : List ℕ). AreOut usages (x ∷ ns)) (sym (append-nil zs)) first)
+
+-- those of the queue and those of a job, once the first of the queue are kept
+pub out-beside : (usages : List Usage) (xs ys zs : List ℕ) (usage : Usage) → AreOut usages ((xs ++ ys) ++ zs) → AreOut (with_usages usages xs usage) (ys ++ zs)
+out-beside usages xs ys zs usage out = out-rest usages xs (ys ++ zs) usage (subst (λ (ns : List ℕ). AreOut usages ns) (append_assoc xs ys zs) out)
+
+-- more are out for those that wait
+pub out-joined : (usages : List Usage) (xs zs ns : List ℕ) → AreOut usages (xs ++ zs) → AreLeastFree usages ns → AreOut (with_usages usages ns Out) ((xs ++ ns) ++ zs)
+out-joined usages xs zs ns out least =
+    let taken : AreOut (with_usages usages ns Out) ((zs ++ xs) ++ ns) = out-taken usages (zs ++ xs) ns (out-swapped usages xs zs out) least in
+    out-swapped (with_usages usages ns Out) zs (xs ++ ns) (subst (λ (ks : List ℕ). AreOut (with_usages usages ns Out) ks) (append_assoc zs xs ns) taken)
+
+-- others are out for a job
+pub out-reserved : (usages : List Usage) (xs zs ns : List ℕ) → AreOut usages (xs ++ zs) → AreLeastFree usages ns
+    → AreOut (with_usages usages ns Out) zs × AreOut (with_usages (with_usages usages ns Out) zs Free) (xs ++ ns)
+out-reserved usages xs zs ns out least =
+    let taken : AreOut (with_usages usages ns Out) ((zs ++ xs) ++ ns) = out-taken usages (zs ++ xs) ns (out-swapped usages xs zs out) least in
+    let apart : AreOut (with_usages usages ns Out) (zs ++ (xs ++ ns)) = subst (λ (ks : List ℕ). AreOut (with_usages usages ns Out) ks) (append_assoc zs xs ns) taken in
+    (out-front (with_usages usages ns Out) zs (xs ++ ns) apart, out-rest (with_usages usages ns Out) zs (xs ++ ns) Free apart)
+
+-- what is out stays out where no such usage changes
+pub out-still : (usages after : List Usage) (ns : List ℕ) → ((n : ℕ) → IsOut usages n → IsOut after n) → AreOut usages ns → AreOut after ns
+out-still usages after ns stays out = record { each = each ns out.each; distinct = out.distinct }
+  where
+    each : (ks : List ℕ) → AllByRecursion (IsOut usages) ks → AllByRecursion (IsOut after) ks
+    each [] all = tt
+    each (k ∷ ks) all = (stays k all.0, each ks all.1)
 
 -- ---- extents that are given back at once
 
@@ -108,25 +171,27 @@ now_out usages ns least = out-taken usages [] ns (record { each = tt; distinct =
 
 -- ---- commits that are still to be published
 
-pub record AreLeft (versions : List KeyWrites) (usages : List Usage) (queue : List QueuedValue) (left : ℕ) (all_versions : List KeyWrites) (all_usages : List Usage) (rest : List QueuedValue) : Type 0 where
+pub record AreLeft (versions : List KeyWrites) (usages : List Usage) (queue : List QueuedValue) (left : ℕ) (times all_times : List ℕ) (all_versions : List KeyWrites) (all_usages : List Usage) (rest : List QueuedValue) : Type 0 where
   pub within : left ≤ length queue
   pub queue_is : drop left queue ≡ rest
   pub versions_are : versions_after versions (take left queue) ≡ all_versions
   pub usages_are : with_usages usages (flat_map numbers_of (take left queue)) Kept ≡ all_usages
+  pub times_are : with_chains times (take left queue) ≡ all_times
   pub out : AreOut usages (flat_map numbers_of queue)
 
 -- the extents of the first one are out
-pub first-out : {versions : List KeyWrites} {usages : List Usage} {q : QueuedValue} {qs : List QueuedValue} {left : ℕ} {all_versions : List KeyWrites} {all_usages : List Usage} {rest : List QueuedValue}
-    → AreLeft versions usages (q ∷ qs) left all_versions all_usages rest → AreOut usages (numbers_of q)
+pub first-out : {versions : List KeyWrites} {usages : List Usage} {q : QueuedValue} {qs : List QueuedValue} {left : ℕ} {times all_times : List ℕ} {all_versions : List KeyWrites} {all_usages : List Usage} {rest : List QueuedValue}
+    → AreLeft versions usages (q ∷ qs) left times all_times all_versions all_usages rest → AreOut usages (numbers_of q)
 first-out {versions} {usages} {q} {qs} are = out-front usages (numbers_of q) (flat_map numbers_of qs) (subst (λ (ns : List ℕ). AreOut usages ns) (flat_map-cons numbers_of q qs) are.out)
 
 -- one of them is published
-pub one_less : {versions : List KeyWrites} {usages : List Usage} {q : QueuedValue} {qs : List QueuedValue} (left : ℕ) {all_versions : List KeyWrites} {all_usages : List Usage} {rest : List QueuedValue}
-    → AreLeft versions usages (q ∷ qs) (suc left) all_versions all_usages rest → AreLeft q.after (with_usages usages (numbers_of q) Kept) qs left all_versions all_usages rest
+pub one_less : {versions : List KeyWrites} {usages : List Usage} {q : QueuedValue} {qs : List QueuedValue} (left : ℕ) {times all_times : List ℕ} {all_versions : List KeyWrites} {all_usages : List Usage} {rest : List QueuedValue}
+    → AreLeft versions usages (q ∷ qs) (suc left) times all_times all_versions all_usages rest → AreLeft q.after (with_usages usages (numbers_of q) Kept) qs left (with_times times (numbers_of q) q.entry.time) all_times all_versions all_usages rest
 one_less {versions} {usages} {q} {qs} left are = record {
   within = omega (arith, are.within);
   queue_is = are.queue_is;
   versions_are = are.versions_are;
+  times_are = are.times_are;
   usages_are = sym (with_usages-append usages (numbers_of q) (flat_map numbers_of (take left qs)) Kept)
       ∙ ap (λ (ns : List ℕ). with_usages usages ns Kept) (sym (flat_map-cons numbers_of q (take left qs))) ∙ are.usages_are;
   out = out-rest usages (numbers_of q) (flat_map numbers_of qs) Kept (subst (λ (ns : List ℕ). AreOut usages ns) (flat_map-cons numbers_of q qs) are.out);

@@ -1,5 +1,5 @@
 -- A commit joins those that wait.
-use Rattle.std.proofs.Common.{◌≡◌, ℕ, zero, suc, ◌+◌, ◌<◌, ◌≤◌, nat_le, cond, true, false, List, [], ◌∷◌, ◌++◌, length, map, slice_get, length-append, refl, arith, ap, sym, subst, ◌∙◌}
+use Rattle.std.proofs.Common.{◌≡◌, ℕ, zero, suc, ◌+◌, ◌<◌, ◌≤◌, nat_le, cond, true, false, List, [], ◌∷◌, ◌++◌, length, map, slice_get, MatchOption, length-append, refl, arith, ap, sym, subst, ◌∙◌}
 use Rattle.std.specs.List.{flat_map}
 use Rattle.std.proofs.lemmas.List.{append-nil}
 use Rattle.std.proofs.lemmas.List.Concat.{flat_map-cons}
@@ -14,6 +14,7 @@ use Rattle.deltas.specs.Records.{spelling, record_of}
 use Rattle.chains.specs.KeyWrites.{KeyWrites, latest, writes_of, with_commit}
 use Rattle.extents.specs.declared.usage.Usage.TheVariants.{Out}
 use Rattle.extents.specs.Usages.{AreOut, with_usages}
+use Rattle.group.specs.CommitOrder.{last_time}
 use Rattle.group.specs.Queued.{QueuedValue, numbers_of, stored_as}
 use Rattle.group.specs.Sealing.{chain_of, first_number}
 use Rattle.group.specs.declared.queued.StoredExtent.{StoredExtent}
@@ -21,12 +22,12 @@ use Rattle.group.specs.Taking.{AreLeastFree}
 use Rattle.group.proofs.Sealed.{length-sealed}
 use Rattle.transactions.specs.declared.stage.GroupStage.{GroupStage}
 use Rattle.transactions.specs.declared.stage.GroupStage.TheVariants.{NoGroup, Storing, Stored, Turning}
-use Rattle.transactions.specs.Values.{TransactionsValue, ordered, claimed_by, spare}
-use Rattle.transactions.specs.Order.{StageFits, IsInOrder}
+use Rattle.transactions.specs.Values.{TransactionsValue, ordered, ordered_mark, claimed_by, spare}
+use Rattle.transactions.specs.Order.{StageFits, AreBy, IsInOrder}
 use Rattle.transactions.specs.Submits.{Reads, verdict, verdict_on_writes, bodies_for, bodies_over, queued_as, with_queued}
-use Rattle.transactions.proofs.Kept.{all-push}
-use Rattle.transactions.proofs.Orders.{versions_after-push, last_time-push}
-use Rattle.transactions.proofs.Publishing.{numbers-stored, length-stored, out-taken}
+use Rattle.transactions.proofs.Kept.{all-push, by-push, pending-later}
+use Rattle.transactions.proofs.Orders.{last_time-push}
+use Rattle.transactions.proofs.Publishing.{numbers-stored, length-stored, out-joined}
 
 some_bodies : (body : List ℕ) (rs : List (List ℕ)) → 0 < length (bodies_from body rs)
 some_bodies body [] = omega arith
@@ -59,8 +60,8 @@ claimed-push Turning group waiting within = omega arith
 claimed-push (Storing member extent) group waiting within = refl
 
 pub keeps-queued : (v : TransactionsValue) (label time : ℕ) (writes : List (KeyWrite Value)) (numbers : List ℕ) → IsInOrder v → AreLeastFree v.usages numbers → length numbers ≡ length (bodies_for v writes) → 0 < length writes
-    → latest (with_commit (ordered v) time writes) ≤ time → 2 < spare v → IsInOrder (with_queued v label time writes numbers)
-keeps-queued v label time writes numbers order least many some early room =
+    → latest (with_commit (ordered v) time writes) ≤ time → last_time v.heads ≤ time → 2 < spare v → IsInOrder (with_queued v label time writes numbers)
+keeps-queued v label time writes numbers order least many some early later room =
     let q : QueuedValue = queued_as v label time writes numbers in
     let images : List (List ℕ) = map extent_bytes (chain_of numbers (bodies_for v writes)) in
     let sealed : length images ≡ length numbers = length-sealed numbers (bodies_for v writes) (sym many) in
@@ -70,14 +71,16 @@ keeps-queued v label time writes numbers order least many some early room =
     let longer : length (v.queue ++ q ∷ []) ≡ length v.queue + 1 = simp length-append refl in
     let all : flat_map numbers_of (v.queue ++ q ∷ []) ≡ flat_map numbers_of v.queue ++ numbers =
     flat_map-append numbers_of v.queue (q ∷ []) ∙ ap (λ (ns : List ℕ). flat_map numbers_of v.queue ++ ns) (flat_map-cons numbers_of q [] ∙ append-nil (numbers_of q) ∙ its) in
+    let last_is : last_time (v.heads ++ record { time = time; label = label; awaited = true } ∷ []) ≡ time = last_time-push 0 v.heads (record { time = time; label = label; awaited = true }) in
     record {
       split = simp length-append (omega (arith, order.split));
-      latest = rw (versions_after-push v.versions v.queue q, last_time-push 0 v.heads (record { time = time; label = label; awaited = true })) early;
+      latest = subst (λ (n : ℕ). AreBy n v.versions (v.queue ++ q ∷ [])) (sym last_is) (by-push (last_time v.heads) time v.versions v.queue q later order.latest early);
+      pending = subst (λ (n : ℕ). MatchOption v.pending (Unit {0}) (λ versions. latest versions ≤ n)) (sym last_is) (pending-later (last_time v.heads) time v.pending later order.pending);
       group_within = omega (arith, longer, order.group_within);
       group_few = order.group_few;
       stage_fits = fits-push v.stage v.group v.queue q order.group_within order.stage_fits;
       stored = all-push v.queue q order.stored (let length-is = length-stored numbers images sealed in omega (arith, length-is, many, needs));
-      out = subst (λ (ns : List ℕ). AreOut (with_usages v.usages numbers Out) ns) (sym all) (out-taken v.usages (flat_map numbers_of v.queue) numbers order.out least);
+      out = subst (λ (ns : List ℕ). AreOut (with_usages v.usages numbers Out) (ns ++ v.reserved)) (sym all) (out-joined v.usages (flat_map numbers_of v.queue) v.reserved numbers order.out least);
       room = rw longer (omega (arith, claims, room, order.room));
       slots_few = order.slots_few;
     }
@@ -92,7 +95,7 @@ verdict-none v snapshot [] now none = refl
 verdict-none v snapshot (w ∷ ws) now none = absurd (omega arith)
 
 -- a commit with these parts is the one that waits
-pub queued-is : (v : TransactionsValue) (label time first extents records : ℕ) (after : List KeyWrites) (stored : List StoredExtent) (writes : List (KeyWrite Value)) (numbers : List ℕ)
-    → first ≡ first_number numbers → extents ≡ length numbers → records ≡ length writes → after ≡ with_commit (ordered v) time writes → stored ≡ stored_as numbers (map extent_bytes (chain_of numbers (bodies_for v writes)))
-    → Path QueuedValue (record { entry = record { label = label; time = time; first = first; extents = extents; records = records }; after = after; stored = stored }) (queued_as v label time writes numbers)
-queued-is v label time first extents records after stored writes numbers e1 e2 e3 e4 e5 = rw (e1, e2, e3, e4, e5) refl
+pub queued-is : (v : TransactionsValue) (label time first extents records : ℕ) (after : List KeyWrites) (reclaimed : ℕ) (stored : List StoredExtent) (writes : List (KeyWrite Value)) (numbers : List ℕ)
+    → first ≡ first_number numbers → extents ≡ length numbers → records ≡ length writes → after ≡ with_commit (ordered v) time writes → reclaimed ≡ ordered_mark v → stored ≡ stored_as numbers (map extent_bytes (chain_of numbers (bodies_for v writes)))
+    → Path QueuedValue (record { entry = record { label = label; time = time; first = first; extents = extents; records = records }; after = after; reclaimed = reclaimed; stored = stored }) (queued_as v label time writes numbers)
+queued-is v label time first extents records after reclaimed stored writes numbers e1 e2 e3 e4 e5 e6 = rw (e1, e2, e3, e4, e5, e6) refl

@@ -3,3 +3,4 @@ pub mod Calls
 pub mod Order
 pub mod Submits
 pub mod Steps
+pub mod Reclaims

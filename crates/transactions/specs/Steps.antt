@@ -1,11 +1,13 @@
 -- The steps of a group.
-use Rattle.std.specs.Prelude.{ℕ, ◌≡◌, ◌+◌, ◌==◌, ◌&&◌, true, nat_lt, min, List, length, map, take, drop, slice_get, Option, Some, None, if◌then◌else◌}
+use Rattle.std.specs.Prelude.{ℕ, ◌≡◌, ◌+◌, ◌-◌, ◌==◌, ◌&&◌, Bool, true, false, nat_lt, min, List, [], ◌∷◌, length, map, take, drop, slice_get, slice_set, Option, Some, None, if◌then◌else◌}
 use Rattle.std.specs.List.{flat_map}
 use Rattle.wire.specs.declared.slot.Body.{Body}
 use Rattle.wire.specs.declared.slot.Body.TheVariants.{Commit, Archived, Reclaimed, Floor}
 use Rattle.wire.specs.declared.slot.Member.{Member}
 use Rattle.extents.specs.declared.usage.Usage.TheVariants.{Kept}
 use Rattle.extents.specs.Usages.{with_usages}
+use Rattle.extents.specs.Times.{with_times}
+use Rattle.chains.specs.KeyWrites.{forgotten}
 use Rattle.group.specs.Queued.{QueuedValue, numbers_of}
 use Rattle.group.specs.declared.queued.StoredExtent.{StoredExtent}
 use Rattle.transactions.specs.declared.stage.GroupStage.{GroupStage}
@@ -65,6 +67,24 @@ stage_behind queue Turning = Turning
 abbrev pub wrote_extent : TransactionsValue → TransactionsValue
 wrote_extent v = record v { stage = stage_behind v.queue v.stage }
 
+-- of the commit at this place, where its versions were made before the mark was raised, they forget what ended by it
+abbrev pub fresh_at : ℕ → ℕ → List QueuedValue → Option QueuedValue → List QueuedValue
+fresh_at mark place queue None = queue
+fresh_at mark place queue (Some q) = if nat_lt q.reclaimed mark then slice_set queue place (record q { after = forgotten mark q.after; reclaimed = mark }) else queue
+
+-- whether they were made before the mark was raised
+abbrev pub is_older : ℕ → Option QueuedValue → Bool
+is_older mark None = false
+is_older mark (Some q) = nat_lt q.reclaimed mark
+
+-- so of the last commit of the group
+abbrev pub is_stale : TransactionsValue → Bool
+is_stale v = is_older v.reclaimed (slice_get v.queue (v.group - 1))
+
+-- the versions that the group leaves have forgotten what ended by the reclaim mark
+abbrev pub freshened : TransactionsValue → TransactionsValue
+freshened v = record v { queue = fresh_at v.reclaimed (v.group - 1) v.queue (slice_get v.queue (v.group - 1)) }
+
 abbrev pub at_stage : GroupStage → TransactionsValue → TransactionsValue
 at_stage stage v = record v { stage = stage }
 
@@ -79,6 +99,11 @@ IsCommitOf ms (Archived run) = ⊥
 IsCommitOf ms (Reclaimed anchors) = ⊥
 IsCommitOf ms (Floor relation floor) = ⊥
 
+-- each extent of these commits is in the chain of its own
+abbrev pub with_chains : List ℕ → List QueuedValue → List ℕ
+with_chains times [] = times
+with_chains times (q ∷ qs) = with_chains (with_times times (numbers_of q) q.entry.time) qs
+
 -- the group is published: its extents are kept, and the log has one slot more
 abbrev pub published : TransactionsValue → TransactionsValue
 published v = record v {
@@ -86,6 +111,7 @@ published v = record v {
   versions = versions_after v.versions (members v);
   queue = drop v.group v.queue;
   usages = with_usages v.usages (flat_map numbers_of (members v)) Kept;
+  times = with_chains v.times (members v);
   used = v.used + 1;
   group = 0;
   stage = NoGroup;

@@ -23,7 +23,7 @@ use Rattle.group.specs.declared.answers.Submitted.{Submitted}
 use Rattle.group.specs.declared.answers.Submitted.TheVariants.{ReadOnly, Queued}
 use Rattle.group.specs.declared.answers.SubmitFault.{SubmitFault}
 use Rattle.group.specs.declared.answers.SubmitFault.TheVariants as fault
-use Rattle.transactions.specs.Values.{TransactionsValue, ordered, is_own, over, spare}
+use Rattle.transactions.specs.Values.{TransactionsValue, ordered, ordered_mark, is_own, over, spare}
 
 -- the first of these keys, which rise, that was written later than the snapshot
 abbrev pub first_conflict : List KeyWrites → ℕ → List (KeyWrite Value) → Option Key
@@ -105,6 +105,7 @@ abbrev pub queued_as : TransactionsValue → ℕ → ℕ → List (KeyWrite Valu
 queued_as v label time writes numbers = record {
   entry = record { label = label; time = time; first = first_number numbers; extents = length numbers; records = length writes };
   after = with_commit (ordered v) time writes;
+  reclaimed = ordered_mark v;
   stored = stored_as numbers (map extent_bytes (chain_of numbers (bodies_for v writes)));
 }
 

@@ -22,9 +22,15 @@ pub record TransactionsValue : Type 0 where
   pub published : ℕ
   -- the versions of what is published
   pub versions : List KeyWrites
+  -- what they are to be once a reclaim is done
+  pub pending : Option (List KeyWrites)
   -- the commits that wait
   pub queue : List QueuedValue
   pub usages : List Usage
+  -- the time of the commit whose chain has each extent
+  pub times : List ℕ
+  -- the extents that are out for a job
+  pub reserved : List ℕ
   -- the slots of the store that commits may take, and how many slots the log has
   pub slots : ℕ
   pub used : ℕ
@@ -32,7 +38,7 @@ pub record TransactionsValue : Type 0 where
   pub group : ℕ
   pub stage : GroupStage
   pub floor : ℕ
-  -- the reclaim mark: what ended by then is not among the versions
+  -- the mark up to which the published versions have forgotten what ended
   pub reclaimed : ℕ
   pub failed : Bool
 
@@ -46,6 +52,14 @@ versions_after versions (q ∷ qs) = versions_after q.after qs
 -- the versions after the whole commit order
 abbrev pub ordered : TransactionsValue → List KeyWrites
 ordered v = versions_after v.versions v.queue
+
+-- the mark up to which these have forgotten what ended
+abbrev pub mark_after : ℕ → List QueuedValue → ℕ
+mark_after mark [] = mark
+mark_after mark (q ∷ qs) = mark_after q.reclaimed qs
+
+abbrev pub ordered_mark : TransactionsValue → ℕ
+ordered_mark v = mark_after v.reclaimed v.queue
 
 -- ---- transactions that are the store's own
 

@@ -2,12 +2,14 @@
 //! that is being written, and what is published.
 #![tactic(auto)]
 
+mod reclaims;
 mod slots;
 mod stage;
 mod steps;
 mod submit;
 mod transactions;
 
+pub use reclaims::ReserveFault;
 pub use stage::{GroupStage, NextStep};
 pub use steps::MOST_MEMBERS;
 pub use transactions::Transactions;

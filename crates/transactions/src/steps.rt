@@ -1,10 +1,11 @@
 //! The steps of a group, between the device calls.
-ghost use Rattle.std.specs.Prelude.{◌≡◌, ◌≤◌, ◌<◌, IsSome, length, take, drop, option_copied};
+ghost use Rattle.std.specs.Prelude.{◌≡◌, ◌≤◌, ◌<◌, IsSome, length, map, take, drop, option_copied, ℕ, List, ◌++◌, Some, true, OnOk, OnErr, slice_get, slice_set};
 ghost use Rattle.std.specs.List.{flat_map};
 ghost use Rattle.extents.specs.Usages.{AreOut, with_usages};
 ghost use Rattle.extents.specs.declared.usage.Usage.TheVariants.{Kept};
-ghost use Rattle.group.specs.Queued.{numbers_of};
+ghost use Rattle.group.specs.Queued.{QueuedValue, numbers_of};
 ghost use Rattle.transactions.specs.Values.{versions_after, KeepsSlots};
+ghost use Rattle.extents.specs.Times.{with_times};
 ghost use Rattle.transactions.specs.Steps as steps;
 ghost use Rattle.transactions.specs.declared.stage.GroupStage.TheVariants as stages;
 
@@ -12,8 +13,9 @@ use crate::stage::{GroupStage, NextStep};
 use crate::transactions::Transactions;
 use arrayvec::ArrayVec;
 use chains::Frozen;
-use extents::Extents;
+use extents::{ChainTimes, Extents};
 use group::{Queued, QueuedParts, StoredExtent, keep_all};
+use std::alloc::{AllocError, Global};
 use std::collections::VecDeque;
 use wire::{Body, Member};
 
@@ -124,6 +126,33 @@ impl Transactions {
         self.stage = GroupStage::Stored;
     }
 
+    /// The versions that the group leaves forget what ended by the reclaim mark, where they were made
+    /// before it was raised.
+    ///
+    /// # Errors
+    ///
+    /// Where they were, and there is no memory for them; nothing has changed.
+    pub fn freshen(&mut self, alloc: Global) -> Result<(), AllocError>
+        ensures ok { OnOk result (self.new ≡ steps.freshened self.old) }
+        ensures err { OnErr result ((steps.is_stale self.old ≡ true) × (self.new ≡ self.old)) }
+        ensures slots { KeepsSlots self.old self.new }
+        ensures due { steps.due self.new ≡ steps.due self.old }
+    {
+        let place = self.group.saturating_sub(1);
+        let mark = self.reclaimed;
+        let Some(queued) = queued_at(&self.queue, place) else {
+            return Ok(());
+        };
+        if queued.reclaimed() >= mark {
+            return Ok(());
+        }
+        let Ok(after) = queued.after().forget(alloc, mark) else {
+            return Err(AllocError);
+        };
+        put_versions(&mut self.queue, place, after, mark);
+        Ok(())
+    }
+
     /// The group's slot is in the writing.
     pub fn slot_begun(&mut self)
         requires { steps.due self.old ≡ NextStep.BeginSlot }
@@ -164,6 +193,7 @@ impl Transactions {
             &mut self.queue,
             &mut self.versions,
             &mut self.extents,
+            &mut self.times,
             count,
         );
         self.order.publish(count);
@@ -174,11 +204,28 @@ impl Transactions {
     }
 }
 
+// The commit at this place of the queue.
+fn queued_at(queue: &VecDeque<Queued>, place: usize) -> Option<&Queued>
+    ensures { option_copied result ≡ slice_get queue.now.items place }
+{
+    queue.get(place)
+}
+
+// The versions after the commit at this place are these, which have forgotten what ended by the mark.
+fn put_versions(queue: &mut VecDeque<Queued>, place: usize, after: Frozen, mark: u64)
+    ensures { (q : QueuedValue) → slice_get queue.old.items place ≡ Some q → queue.new.items ≡ slice_set queue.old.items place (record q { after = after; reclaimed = mark }) }
+{
+    if let Some(queued) = queue.get_mut(place) {
+        queued.forget(after, mark);
+    }
+}
+
 // The first commits that wait do so no longer: their versions stand, and their extents are kept.
 fn publish_first(
     queue: &mut VecDeque<Queued>,
     versions: &mut Frozen,
     extents: &mut Extents,
+    times: &mut ChainTimes,
     count: usize,
 )
     requires out { AreOut extents.old (flat_map numbers_of queue.old.items) }
@@ -186,20 +233,33 @@ fn publish_first(
     ensures queue { queue.new.items ≡ drop count queue.old.items }
     ensures versions { versions.new ≡ versions_after versions.old (take count queue.old.items) }
     ensures extents { extents.new ≡ with_usages extents.old (flat_map numbers_of (take count queue.old.items)) Kept }
-    ensures still_out { AreOut extents.new (flat_map numbers_of queue.new.items) }
+    ensures times { times.new ≡ steps.with_chains times.old (take count queue.old.items) }
+    ensures still_out { (others : List ℕ) → AreOut extents.old (flat_map numbers_of queue.old.items ++ others) → AreOut extents.new (flat_map numbers_of queue.new.items ++ others) }
 {
     for _ in 0..count {
         match queue.pop_front() {
             None => unreachable!(),
             Some(queued) => {
                 let QueuedParts {
-                    entry: _,
+                    entry,
                     after,
                     stored,
                 } = queued.spend();
+                set_times(times, &stored, entry.time);
                 keep_all(extents, stored);
                 *versions = after;
             }
         }
+    }
+}
+
+// These extents are in the chain of the commit of this time.
+fn set_times(times: &mut ChainTimes, stored: &[StoredExtent], time: u64)
+    ensures { times.new ≡ with_times times.old (map (λ s. s.extent) stored.now) time }
+{
+    let mut rest = stored;
+    while let [one, after @ ..] = rest {
+        times.set(one.extent.number(), time);
+        rest = after;
     }
 }

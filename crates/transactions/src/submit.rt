@@ -126,6 +126,7 @@ impl Transactions {
         ensures slots { KeepsSlots self.old self.new }
     {
         let Accepted { time, bodies } = accepted;
+        let reclaimed = self.ordered_mark();
         let Ok(after) = self.ordered().with_commit(alloc, time, writes) else {
             return Err(AllocError);
         };
@@ -142,7 +143,7 @@ impl Transactions {
                     extents: bodies.len() as u32,
                     records: writes.len() as u32,
                 };
-                let queued = Queued::new(entry, after, stored);
+                let queued = Queued::new(entry, after, reclaimed, stored);
                 self.queue.push_back_reserved(queued);
                 self.order.push_reserved(CommitHead {
                     time,

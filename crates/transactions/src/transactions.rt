@@ -1,17 +1,17 @@
 //! What a store keeps in memory of its transactions.
-ghost use Rattle.std.specs.Prelude.{◌≡◌, ◌<◌, ◌≤◌, ◌^◌, [], length, false, IfOk, if◌then◌else◌};
+ghost use Rattle.std.specs.Prelude.{◌≡◌, ◌<◌, ◌≤◌, ◌^◌, [], length, false, None, IfOk, if◌then◌else◌};
 ghost use Rattle.chains.specs.KeyWrites.{latest};
 ghost use Rattle.group.specs.CommitOrder.{IsRisingAfter, last_time, times_of};
 ghost use Rattle.transactions.specs.declared.stage.GroupStage.TheVariants.{NoGroup};
-ghost use Rattle.transactions.specs.Values.{ordered, over, is_own_of, KeepsSlots};
+ghost use Rattle.transactions.specs.Values.{ordered, ordered_mark, over, is_own_of, KeepsSlots};
 ghost use Rattle.transactions.specs.Calls.{Begins, Aborts, Redeems, last, order_of};
 
 use crate::stage::GroupStage;
 use crate::submit::gone_is_of_value;
 use chains::Frozen;
-use extents::Extents;
+use extents::{ChainTimes, Extent, Extents};
 use group::{
-    BeginFault, CommitHead, CommitOrder, Queued, QueuedParts, Redeemed, Standing, Ticket, keep_all,
+    BeginFault, CommitHead, CommitOrder, Queued, QueuedParts, Redeemed, Standing, Ticket, give_back_all, keep_all,
 };
 use snapshot::{OpenTable, Txn, TxnParts};
 use std::alloc::{AllocError, Global};
@@ -26,14 +26,20 @@ pub struct Transactions {
     pub(crate) opened: OpenTable,
     pub(crate) order: CommitOrder,
     pub(crate) versions: Frozen,
+    // What the versions are to be once a reclaim is done.
+    pub(crate) pending: Option<Frozen>,
     pub(crate) queue: VecDeque<Queued>,
     pub(crate) extents: Extents,
+    // The time of the commit whose chain has each extent.
+    pub(crate) times: ChainTimes,
+    // The extents that are out for a job.
+    pub(crate) reserved: Vec<Extent>,
     pub(crate) slots: u32,
     pub(crate) used: u32,
     pub(crate) group: usize,
     pub(crate) stage: GroupStage,
     pub(crate) floor: u64,
-    // What ended by then is not among the versions.
+    // The versions have forgotten what ended by this mark.
     pub(crate) reclaimed: u64,
     pub(crate) failed: bool,
 }
@@ -44,14 +50,15 @@ impl Model for Transactions {
 
     ghost Value = { TransactionsValue };
 
-    ghost view = { λ t. record { mark = t.mark; opened = t.opened; heads = t.order.heads; published = t.order.published; versions = t.versions; queue = t.queue.items; usages = t.extents; slots = t.slots; used = t.used; group = t.group; stage = t.stage; floor = t.floor; reclaimed = t.reclaimed; failed = t.failed } };
+    ghost view = { λ t. record { mark = t.mark; opened = t.opened; heads = t.order.heads; published = t.order.published; versions = t.versions; pending = t.pending; queue = t.queue.items; usages = t.extents; times = t.times; reserved = t.reserved.items; slots = t.slots; used = t.used; group = t.group; stage = t.stage; floor = t.floor; reclaimed = t.reclaimed; failed = t.failed } };
 
-    ghost invariant = { λ t. IsInOrder (record { mark = t.mark; opened = t.opened; heads = t.order.heads; published = t.order.published; versions = t.versions; queue = t.queue.items; usages = t.extents; slots = t.slots; used = t.used; group = t.group; stage = t.stage; floor = t.floor; reclaimed = t.reclaimed; failed = t.failed }) };
+    ghost invariant = { λ t. IsInOrder (record { mark = t.mark; opened = t.opened; heads = t.order.heads; published = t.order.published; versions = t.versions; pending = t.pending; queue = t.queue.items; usages = t.extents; times = t.times; reserved = t.reserved.items; slots = t.slots; used = t.used; group = t.group; stage = t.stage; floor = t.floor; reclaimed = t.reclaimed; failed = t.failed }) };
 }
 
 impl Transactions {
     /// Those of a store that was just opened: the published commits, the versions of each key, the
-    /// extents in use, the slots of the store and of its log, the floor, and the reclaim mark.
+    /// extents in use and the commits whose chains they are in, the slots of the store and of its log,
+    /// the floor and the reclaim mark.
     #[allow(clippy::too_many_arguments)]
     pub fn of_recovered(
         alloc: Global,
@@ -59,6 +66,7 @@ impl Transactions {
         heads: Vec<CommitHead>,
         versions: Frozen,
         extents: Extents,
+        times: ChainTimes,
         slots: u32,
         used: u32,
         floor: u64,
@@ -68,15 +76,18 @@ impl Transactions {
         requires latest { latest versions ≤ last_time heads.items }
         requires room { used ≤ slots }
         requires slots { slots ≤ 65536 }
-        ensures { result ≡ record { mark = mark; opened = []; heads = heads.items; published = length heads.items; versions = versions; queue = []; usages = extents; slots = slots; used = used; group = 0; stage = NoGroup; floor = floor; reclaimed = reclaimed; failed = false } }
+        ensures { result ≡ record { mark = mark; opened = []; heads = heads.items; published = length heads.items; versions = versions; pending = None; queue = []; usages = extents; times = times; reserved = []; slots = slots; used = used; group = 0; stage = NoGroup; floor = floor; reclaimed = reclaimed; failed = false } }
     {
         Transactions {
             mark,
             opened: OpenTable::new(alloc),
             order: CommitOrder::of_published(heads),
             versions,
+            pending: None,
             queue: VecDeque::new(alloc),
             extents,
+            times,
+            reserved: Vec::new(alloc),
             slots,
             used,
             group: 0,
@@ -94,8 +105,11 @@ impl Transactions {
             opened: _,
             order: _,
             versions: _,
+            pending: _,
             queue,
             mut extents,
+            times: _,
+            reserved,
             slots: _,
             used: _,
             group: _,
@@ -104,6 +118,7 @@ impl Transactions {
             reclaimed: _,
             failed: _,
         } = self;
+        give_back_all(&mut extents, reserved);
         let mut queue = queue;
         while let Some(queued) = queue.pop_front() {
             let QueuedParts {
@@ -210,11 +225,22 @@ impl Transactions {
 
     /// The versions after the whole commit order.
     pub(crate) fn ordered(&self) -> &Frozen
-        ensures { result.now ≡ ordered self.now }
+        ensures is { result.now ≡ ordered self.now }
+        ensures upto { latest result.now ≤ last_time self.now.heads }
     {
         match self.queue.back() {
             None => &self.versions,
             Some(queued) => queued.after(),
+        }
+    }
+
+    /// The mark up to which the versions after the whole commit order have forgotten what ended.
+    pub(crate) fn ordered_mark(&self) -> u64
+        ensures { result ≡ ordered_mark self.now }
+    {
+        match self.queue.back() {
+            None => self.reclaimed,
+            Some(queued) => queued.reclaimed(),
         }
     }
 
@@ -245,6 +271,14 @@ impl Transactions {
         ensures { result ≡ self.now.floor }
     {
         self.floor
+    }
+
+    /// The mark up to which the published versions have forgotten what ended, in microseconds since
+    /// 1970.
+    pub fn reclaimed(&self) -> u64
+        ensures { result ≡ self.now.reclaimed }
+    {
+        self.reclaimed
     }
 
     /// Whether the device refused a write or a sync: nothing is written any more.

@@ -6,6 +6,7 @@ use Rattle.wire.specs.declared.slot.Run.{Run}
 use Rattle.recovery.specs.declared.recovered.Recovered.{Recovered}
 use Rattle.recovery.specs.declared.recovered.CommitName.{CommitName}
 use Rattle.store.specs.Heads.{head_as}
+use Rattle.store.specs.Opens.{times_of}
 use Rattle.group.specs.declared.commit_order.CommitHead.{CommitHead}
 use Rattle.group.specs.CommitOrder.{IsRisingAfter, last_time}
 use Rattle.status.specs.TurnState.{LogState}
@@ -32,11 +33,12 @@ returns-clause-ok g c =
     let log_is : c.new-log.result ≡ logged r (total r.header) = c.new-log.ensures ∙ ap (λ (n : ℕ). logged r n) all in
     let many : length (map head_as r.commits.items) ≡ length r.commits.items = length-map r.commits.items head_as in
     let slots_are : c.slots-slots.result ≡ total r.header = c.slots-slots.ensures ∙ ap (λ (l : LogState). l.slots) log_is in
-    let end_is : c.end_of.result ≡ row_end 0 r.runs.items = c.end_of.ensures ∙ ap (λ (runs : List Run). row_end 0 runs) c.deref-2.ensures.value in
+    let times_are : c.in-Ok-times_of.times ≡ times_of r.live.items = c.in-Ok-times_of.ensures ∙ ap times_of c.deref-2.ensures.value in
+    let end_is : c.end_of.result ≡ row_end 0 r.runs.items = c.end_of.ensures ∙ ap (λ (runs : List Run). row_end 0 runs) c.deref-3.ensures.value in
     record {
       recovered = r;
       read = c.in-Ok.ensures.found;
-      new_is = rw (log_is, c.of_recovered.ensures, slots_are, heads_are, many, end_is) refl;
+      new_is = rw (log_is, c.of_recovered.ensures, slots_are, heads_are, many, end_is, times_are) refl;
       ordered = rw c.of_recovered.ensures c.least-least.ensures.ordered;
       settled = c.in-Ok.ensures.settled;
       left = c.in-Ok.ensures.left;

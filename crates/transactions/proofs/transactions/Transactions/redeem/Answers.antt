@@ -1,4 +1,6 @@
-use Rattle.std.proofs.Common.{arith}
+use Rattle.std.proofs.Common.{◌≤◌, ℕ, MatchOption, arith, sym, subst}
+use Rattle.chains.specs.KeyWrites.{latest}
+use Rattle.transactions.specs.Order.{AreBy}
 use Rattle.transactions.proofs.Orders.{redeem_keeps}
 use Rattle.transactions.proofs.transactions.Transactions.redeem.Goals as goal
 
@@ -8,7 +10,8 @@ invariant_of-self c =
     let inv = c.self.invariant in
     rw c.redeem.ensures.new record {
       split = omega (arith, same.many, same.published, inv.split);
-      latest = omega (arith, same.last, inv.latest);
+      latest = subst (λ (n : ℕ). AreBy n c.self.inside.versions c.self.inside.queue.items) (sym same.last) inv.latest;
+      pending = subst (λ (n : ℕ). MatchOption c.self.inside.pending (Unit {0}) (λ versions. latest versions ≤ n)) (sym same.last) inv.pending;
       group_within = inv.group_within;
       group_few = inv.group_few;
       stage_fits = inv.stage_fits;
