@@ -2,7 +2,11 @@
 #![tactic(auto)]
 
 mod fault;
+mod homes;
+mod rows;
+mod runs;
 mod view;
 
 pub use fault::QueryFault;
+pub use runs::Runs;
 pub use view::View;

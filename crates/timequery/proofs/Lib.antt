@@ -1,0 +1,4 @@
+pub mod Marks
+pub mod Parts
+pub mod Scanned
+pub mod Merging
