@@ -24,6 +24,7 @@ use Rattle.chains.specs.KeyWrites.{KeyWrites, writes_of, AreRising, IsOrdered}
 use Rattle.chains.specs.Rows.{rows_in, scanned_rows}
 use Rattle.chains.specs.Scans.{scanned}
 use Rattle.chains.proofs.Rising.{rising-writes_of}
+use Rattle.chains.proofs.Shown.{scan_is}
 use Rattle.timequery.specs.View.{ViewValue, mark_of}
 use Rattle.timequery.specs.Homes.{ReadsHistory, view_of, recent_rows, rows_after, values_of}
 use Rattle.timequery.proofs.Parts.{rows-append}
@@ -124,6 +125,12 @@ module _ (tells : Bool) (kept : List (ℕ × List ℕ)) (disk : DiskState) (v : 
       let is = at-recent h (λ _. v.floor) (mark_of v.runs) v.reclaimed (view_of v reads.lists).heap (view_of v reads.lists).archive reads.view.homes up key t from recent (early key t le) in
       at-said key t (value_at (writes_of v.state key) t) from le (sym is ∙ memory-is key t le)
 
+  value-same : (key : Key) (t : ℕ) → v.floor ≤ t → t ≤ v.last → v.reclaimed ≤ t → value_at (writes_of v.state key) t ≡ state h t key
+  unfolding heap
+  value-same key t from le recent =
+      sym (memory-is key t le)
+      ∙ at-recent h (λ _. v.floor) (mark_of v.runs) v.reclaimed (view_of v reads.lists).heap (view_of v reads.lists).archive reads.view.homes up key t from recent (early key t le)
+
   -- what the runs have where memory has nothing
   pub value-in-runs : (key : Key) (t : ℕ) (o : Option Value) → v.floor ≤ t → t ≤ v.last → value_at (writes_of v.state key) t ≡ None → o ≡ standing_at (versions_in key reads.lists) t → at_answer h (λ _. v.floor) key t ≡ Ok o
   unfolding heap archive
@@ -179,6 +186,16 @@ module _ (tells : Bool) (kept : List (ℕ × List ℕ)) (disk : DiskState) (v : 
 
   values-said : (relation t : ℕ) (found : List (ℕ × Value)) → v.floor ≤ t → t ≤ v.last → IsScanAt h relation t found → IsScanAtAnswer h (λ _. v.floor) relation t (Ok found)
   values-said relation t found from le is = (time-kept (last h) v.floor t from (subst (λ (n : ℕ). t ≤ n) reads.view.newest_is le), is)
+
+  pub values-recent : (relation t : ℕ) → IsOrdered v.state → v.floor ≤ t → t ≤ v.last → v.reclaimed ≤ t → IsScanAtAnswer h (λ _. v.floor) relation t (Ok (scanned relation t v.state))
+  values-recent relation t ordered from le recent =
+      let is = scan_is v.state relation t ordered in
+      values-said relation t (scanned relation t v.state) from le (record {
+        rising = is.rising;
+        each = λ number value.
+            let same = value-same (key_of relation number) t from le recent in
+            ((λ there. sym same ∙ (is.each number value).0 there), (λ says. (is.each number value).1 (same ∙ says)));
+      })
 
   pub values-of-both : (relation t : ℕ) (found : List Row) → v.floor ≤ t → t ≤ v.last → AreInOrder found
       → ((number : ℕ) → rows_of number found ≡ rows (versions_in (key_of relation number) reads.lists) t (t + 1) ++ recent_rows v t (t + 1) (key_of relation number)) → IsScanAtAnswer h (λ _. v.floor) relation t (Ok (values_of found))

@@ -49,7 +49,8 @@ after-cut mark a b end (v ∷ vs) later past =
         | true ↦ λ is ends.
             let again : ends_after mark c ≡ true = ends-again mark a end v past ∙ ends in
             let same = cut-again a b end v later in
-            rw (again, same) (ap (λ (us : List (Version Value)). cond (lasts (cut a b v)) (cut a b v ∷ us) us) rest)
+            rw again (ap (λ (x : Version Value). cond (lasts x) (x ∷ rows_after mark a b long) (rows_after mark a b long)) same
+            ∙ ap (λ (us : List (Version Value)). cond (lasts (cut a b v)) (cut a b v ∷ us) us) rest)
         | false ↦ λ is ends.
             let again : ends_after mark c ≡ false = ends-again mark a end v past ∙ ends in
             rw again rest

@@ -103,7 +103,7 @@ unfolding listed of_record
 listed-none ps n none = rw none refl
 
 numbers-found : (ps : List Row) → AreInOrder ps → ps ≡ flat_map (listed ps) (numbers ps)
-unfolding numbers
+unfolding numbers Rises
 numbers-found [] order = refl
 numbers-found (p ∷ []) order =
     let here = listed-here p [] p.0 refl in
@@ -111,13 +111,13 @@ numbers-found (p ∷ []) order =
     sym (append-nil (listed (p ∷ []) p.0) ∙ here ∙ ap (λ (xs : List Row). p ∷ xs) none)
 numbers-found (p ∷ q ∷ qs) order =
     let ps : List Row = q ∷ qs in
-    let rest = numbers-found ps order.1 in
+    let rest = numbers-found (q ∷ qs) order.1 in
     let Goal : Bool → Type 0 = λ t. (q.0 == p.0) ≡ t → p ∷ ps ≡ flat_map (listed (p ∷ ps)) (cond t (numbers ps) (p.0 ∷ numbers ps)) in
     let all : (t : Bool) → Goal t = λ t. elim t as Goal [
       | true ↦ λ same.
           let is : p.0 ≡ q.0 = grind (arith, nat_tests) in
           let head = numbers-head q qs in
-          let up : Rises (q.0 ∷ head.0) = subst Rises head.1 (numbers-rise ps order.1) in
+          let up : Rises (q.0 ∷ head.0) = subst Rises head.1 (numbers-rise (q ∷ qs) order.1) in
           let here = listed-here p ps q.0 is in
           let others = flat-same (listed (p ∷ ps)) (listed ps) (λ (n : ℕ). q.0 < n) head.0 (λ n less. listed-past p ps n (omega (arith, is, less))) (first-over q.0 head.0 up) in
           sym
@@ -139,7 +139,6 @@ numbers-found (p ∷ q ∷ qs) order =
     all (q.0 == p.0) refl
   where
     first-over : (n : ℕ) (ns : List ℕ) → Rises (n ∷ ns) → AllByRecursion (λ (m : ℕ). n < m) ns
-    unfolding Rises
     first-over n ns up = up.0
 
 -- ---- which records are listed
@@ -169,7 +168,7 @@ numbers-some [] = tt
 numbers-some (p ∷ []) = (own-some p [], tt)
 numbers-some (p ∷ q ∷ qs) =
     let ps : List Row = q ∷ qs in
-    let rest = all-still p ps (numbers ps) (numbers-some ps) in
+    let rest = all-still p ps (numbers ps) (numbers-some (q ∷ qs)) in
     elim (q.0 == p.0) as (λ t. AllByRecursion (λ (n : ℕ). rows_of n (p ∷ ps) ≢ []) (cond t (numbers ps) (p.0 ∷ numbers ps))) [ true ↦ rest | false ↦ (own-some p ps, rest) ]
 
 numbers-all : (n : ℕ) (ps : List Row) → rows_of n ps ≢ [] → Contains (numbers ps) n
@@ -191,12 +190,12 @@ numbers-all n (p ∷ q ∷ qs) some =
       | true ↦ elim u as (λ u. Goal true u) [
         | true ↦ λ same next h.
             let is : q.0 ≡ n = grind (arith, nat_tests) in
-            numbers-all n ps (subst (λ (k : ℕ). rows_of k ps ≢ []) is (own-some q qs))
+            numbers-all n (q ∷ qs) (subst (λ (k : ℕ). rows_of k ps ≢ []) is (own-some q qs))
         | false ↦ λ same next h. let is : p.0 ≡ n = grind (arith, nat_tests) in Contains-head p.0 (numbers ps) n is
       ]
       | false ↦ elim u as (λ u. Goal false u) [
-        | true ↦ λ other next h. numbers-all n ps h
-        | false ↦ λ other next h. Contains-append_right (p.0 ∷ []) (numbers ps) n (numbers-all n ps h)
+        | true ↦ λ other next h. numbers-all n (q ∷ qs) h
+        | false ↦ λ other next h. Contains-append_right (p.0 ∷ []) (numbers ps) n (numbers-all n (q ∷ qs) h)
       ]
     ] in
     all (p.0 == n) (q.0 == p.0) refl refl some

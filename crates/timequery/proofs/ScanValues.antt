@@ -131,7 +131,6 @@ values-are rows_of value_of relation t found same scan =
     }
   where
     flat-same : (ns : List ℕ) → flat_map (λ (number : ℕ). map (λ (row : Version Value). let r : Row = (number, row) in r) (rows_of (key_of relation number))) ns ≡ flat_map (listed t (λ n. value_of (key_of relation n))) ns
-    unfolding listed
     flat-same [] = refl
     flat-same (n ∷ ns) = rw (same n, flat-same ns) refl
 

@@ -20,7 +20,7 @@ abbrev pub Row : Type 0
 Row = ℕ × Version Value
 
 -- the rows of one record
-pub of_record : ℕ → List (Version Value) → List Row
+unfoldable pub of_record : ℕ → List (Version Value) → List Row
 of_record number rs = map (λ (row : Version Value). let r : Row = (number, row) in r) rs
 
 -- by record
@@ -41,7 +41,7 @@ rows_of-append number (x ∷ xs) ys =
 
 pub rows_of-record : (number own : ℕ) (rs : List (Version Value)) → rows_of number (of_record own rs) ≡ cond (own == number) rs []
 unfolding of_record
-rows_of-record number own [] = elim (own == number) as (λ t. [] ≡ cond t [] []) [ true ↦ refl | false ↦ refl ]
+rows_of-record number own [] = elim (own == number) as (λ t. Path (List (Version Value)) [] (cond t [] [])) [ true ↦ refl | false ↦ refl ]
 rows_of-record number own (r ∷ rs) =
     let rest = rows_of-record number own rs in
     let value : Row → Version Value = λ p. p.1 in
@@ -125,6 +125,7 @@ order-is (x ∷ xs) order (suc i) (suc j) d le less = order-is xs order.1 i j d 
 module _ (relation a b : ℕ) where
   -- those of greater keys have no lesser record
   scanned-above : (key : Key) (m : List KeyWrites) → key.relation ≡ relation → AllAbove key m → AllByRecursion (λ (q : Row). key.record ≤ q.0) (scanned_rows relation a b m)
+  unfolding of_record
   scanned-above key [] is above = tt
   scanned-above key (c ∷ cs) is above =
       let rest = scanned-above key cs is above.1 in
@@ -139,7 +140,6 @@ module _ (relation a b : ℕ) where
       all (c.key.relation == relation) refl
     where
       shown-all : (c : KeyWrites) → key.record ≤ c.key.record → AllByRecursion (λ (q : Row). key.record ≤ q.0) (shown_rows a b c)
-      unfolding of_record
       shown-all c least = record-all (λ (q : Row). key.record ≤ q.0) c.key.record (rows (versions c.writes) a b) (λ row. least)
 
   pub scanned-order : (m : List KeyWrites) → IsOrdered m → AreInOrder (scanned_rows relation a b m)

@@ -106,8 +106,8 @@ pub data IsValueFound (area : List ℕ) (v : ViewValue) (key : Key) (time : ℕ)
 
 -- the rows of a key: memory's alone, or those of the runs and behind them what memory adds
 pub data AreRowsFound (area : List ℕ) (v : ViewValue) (key : Key) (a b : ℕ) (answer : List (Version Value)) : Type 0 where
-  Recent : v.reclaimed ≤ a → answer ≡ rows_in v.state a b key → AreRowsFound area v key a b answer
-  OfBoth : a < v.reclaimed → (archived : List (Version Value)) → IsOfRuns (AreRowsOf area key a b) a v.runs archived → answer ≡ archived ++ recent_rows v a b key → AreRowsFound area v key a b answer
+  RowsOfMemory : v.reclaimed ≤ a → answer ≡ rows_in v.state a b key → AreRowsFound area v key a b answer
+  RowsOfBoth : a < v.reclaimed → (archived : List (Version Value)) → IsOfRuns (AreRowsOf area key a b) a v.runs archived → answer ≡ archived ++ recent_rows v a b key → AreRowsFound area v key a b answer
 
 -- by record, and of each record the rows of the runs and behind them what memory adds
 pub record AreOfBoth (area : List ℕ) (v : ViewValue) (relation a b : ℕ) (answer : List (ℕ × Version Value)) : Type 0 where
@@ -118,8 +118,8 @@ pub record AreOfBoth (area : List ℕ) (v : ViewValue) (relation a b : ℕ) (ans
 
 -- the rows of a relation
 pub data AreScanRowsFound (area : List ℕ) (v : ViewValue) (relation a b : ℕ) (answer : List (ℕ × Version Value)) : Type 0 where
-  Recent : v.reclaimed ≤ a → answer ≡ scanned_rows relation a b v.state → AreScanRowsFound area v relation a b answer
-  OfBoth : a < v.reclaimed → AreOfBoth area v relation a b answer → AreScanRowsFound area v relation a b answer
+  ScanOfMemory : v.reclaimed ≤ a → answer ≡ scanned_rows relation a b v.state → AreScanRowsFound area v relation a b answer
+  ScanOfBoth : a < v.reclaimed → AreOfBoth area v relation a b answer → AreScanRowsFound area v relation a b answer
 
 -- rows with their records, as records with the values of the rows
 abbrev pub values_of : List (ℕ × Version Value) → List (ℕ × Value)
@@ -127,8 +127,8 @@ values_of found = map (λ p. (p.0, p.1.value)) found
 
 -- the values of a relation: memory's alone, or those of the rows of the one time
 pub data AreValuesFound (area : List ℕ) (v : ViewValue) (relation time : ℕ) (answer : List (ℕ × Value)) : Type 0 where
-  Recent : v.reclaimed ≤ time → answer ≡ scanned relation time v.state → AreValuesFound area v relation time answer
-  OfBoth : time < v.reclaimed → (found : List (ℕ × Version Value)) → AreOfBoth area v relation time (time + 1) found → answer ≡ values_of found → AreValuesFound area v relation time answer
+  ValuesOfMemory : v.reclaimed ≤ time → answer ≡ scanned relation time v.state → AreValuesFound area v relation time answer
+  ValuesOfBoth : time < v.reclaimed → (found : List (ℕ × Version Value)) → AreOfBoth area v relation time (time + 1) found → answer ≡ values_of found → AreValuesFound area v relation time answer
 
 -- ---- rows put together
 

@@ -3,6 +3,7 @@
 
 mod fault;
 mod homes;
+mod recent;
 mod rows;
 mod runs;
 mod view;

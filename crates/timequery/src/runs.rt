@@ -89,9 +89,9 @@ impl Runs {
         ensures is { result ≡ mark_of self.now }
         ensures in_range { result < 2 ^ 63 }
     {
-        match self.as_slice().last() {
-            None => 0,
-            Some(run) => run.slot.upto,
-        }
+        let Some(run) = self.as_slice().last() else {
+            return 0;
+        };
+        run.slot.upto
     }
 }

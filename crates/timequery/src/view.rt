@@ -5,7 +5,7 @@ ghost use Rattle.history.specs.Time.{value_at};
 ghost use Rattle.chains.specs.KeyWrites.{writes_of};
 ghost use Rattle.chains.specs.Rows.{rows_in, scanned_rows};
 ghost use Rattle.chains.specs.Scans.{scanned};
-ghost use Rattle.timequery.specs.View.{RefusesTime, RefusesScan, RefusesInterval, RefusesBounds, RefusesRecent, RefusesRecentScan, RefusesRecentRows, NeedsRuns, IsInView, AnswersAt, AnswersBetween};
+ghost use Rattle.timequery.specs.View.{RefusesTime, RefusesScan, RefusesInterval, RefusesBounds, IsInView, AnswersAt, AnswersBetween};
 
 use crate::fault::QueryFault;
 use crate::runs::Runs;
@@ -17,9 +17,9 @@ use std::marker::Model;
 /// What is published at one moment, which later commits do not change. It is to be given back to
 /// its store.
 pub struct View {
-    mark: u64,
-    last: u64,
-    floor: u64,
+    pub(crate) mark: u64,
+    pub(crate) last: u64,
+    pub(crate) floor: u64,
     // Memory has the versions that end after the reclaim mark.
     pub(crate) reclaimed: u64,
     pub(crate) runs: Runs,
@@ -55,29 +55,6 @@ impl View {
             floor,
             reclaimed: 0,
             runs: Runs::new(),
-            state,
-        }
-    }
-
-    /// The same over these runs of the archive, where memory has given up the versions that ended by the
-    /// reclaim mark, in microseconds since 1970.
-    pub fn with_archive(self, reclaimed: u64, runs: Runs) -> Self
-        ensures { result ≡ record self { reclaimed = reclaimed; runs = runs } }
-    {
-        let View {
-            mark,
-            last,
-            floor,
-            reclaimed: _,
-            runs: _,
-            state,
-        } = self;
-        View {
-            mark,
-            last,
-            floor,
-            reclaimed,
-            runs,
             state,
         }
     }
@@ -128,73 +105,6 @@ impl View {
             return Err(QueryFault::EmptyInterval);
         }
         Ok(())
-    }
-
-    /// Whether memory has every version that stands at this time or later.
-    fn check_memory(&self, time: u64) -> Result<(), QueryFault>
-        ensures { MatchResult result (λ _. self.now.reclaimed ≤ time) (NeedsRuns self.now time) }
-    {
-        if time < self.reclaimed {
-            return Err(QueryFault::NeedsDisk);
-        }
-        Ok(())
-    }
-
-    /// The value of a key at a time in microseconds since 1970, from memory alone: from the reclaim mark
-    /// and the floor up to the last commit.
-    pub fn recent(&self, key: Key, time: u64) -> Result<Option<&SharedValue>, QueryFault>
-        ensures { MatchResult result (λ o. (self.now.reclaimed ≤ time) × AnswersAt self.now time (option_copied o) (value_at (writes_of self.now.state key) time)) (RefusesRecent self.now time) }
-    {
-        self.check_time(time)?;
-        self.check_memory(time)?;
-        Ok(self.state.at(key, time))
-    }
-
-    /// The records of a relation that have a value at a time, in rising order, with their values, from
-    /// memory alone. The times are those of `recent`.
-    pub fn recent_scan(
-        &self,
-        alloc: Global,
-        relation: u16,
-        time: u64,
-    ) -> Result<Vec<(u64, SharedValue)>, QueryFault>
-        ensures { MatchResult result (λ found. (self.now.reclaimed ≤ time) × AnswersAt self.now time found.items (scanned relation time self.now.state)) (RefusesRecentScan self.now time) }
-    {
-        self.check_time(time)?;
-        self.check_memory(time)?;
-        Ok(self.state.scan(alloc, relation, time)?)
-    }
-
-    /// The rows of a key from `a` up to `b` in microseconds since 1970, by rising time, from memory alone:
-    /// the part of each version that lies in the interval, with its value.
-    pub fn recent_between(
-        &self,
-        alloc: Global,
-        key: Key,
-        a: u64,
-        b: u64,
-    ) -> Result<Vec<Version<SharedValue>>, QueryFault>
-        ensures { MatchResult result (λ rows. (self.now.reclaimed ≤ a) × AnswersBetween self.now a b rows.items (rows_in self.now.state a b key)) (RefusesRecentRows self.now a b) }
-    {
-        self.check_interval(a, b)?;
-        self.check_memory(a)?;
-        Ok(self.state.rows(alloc, key, a, b)?)
-    }
-
-    /// The rows of a relation's records from `a` up to `b`, by record and then by time, each with its
-    /// record, from memory alone.
-    pub fn recent_scan_between(
-        &self,
-        alloc: Global,
-        relation: u16,
-        a: u64,
-        b: u64,
-    ) -> Result<Vec<(u64, Version<SharedValue>)>, QueryFault>
-        ensures { MatchResult result (λ rows. (self.now.reclaimed ≤ a) × AnswersBetween self.now a b rows.items (scanned_rows relation a b self.now.state)) (RefusesRecentRows self.now a b) }
-    {
-        self.check_interval(a, b)?;
-        self.check_memory(a)?;
-        Ok(self.state.scan_rows(alloc, relation, a, b)?)
     }
 
     /// The value of a key at a time in microseconds since 1970, from the floor up to the last commit.
