@@ -1,32 +1,30 @@
 -- What is found in memory and in the runs is what the history says.
-use Rattle.std.proofs.Common.{◌≡◌, ℕ, ◌+◌, ◌<◌, ◌≤◌, ◌^◌, min, Bool, true, false, cond, IsTrue, List, [], ◌∷◌, ◌++◌, Option, Some, None, refl, ap, sym, ◌∙◌, subst, arith}
-use Rattle.std.specs.Prelude.{filter, find, option_map, option_to_list, Result, Ok}
+use Rattle.std.proofs.Common.{◌≡◌, ℕ, ◌+◌, ◌<◌, ◌≤◌, ◌^◌, min, Bool, true, false, cond, List, [], ◌∷◌, ◌++◌, Option, Some, None, refl, ap, sym, ◌∙◌, subst, arith}
+use Rattle.std.specs.Prelude.{filter, find, option_map, option_to_list, Ok}
 use Rattle.std.proofs.lemmas.Bool.Decides.{nat_tests}
 use Rattle.disk.specs.Calls.{DiskState}
 use Rattle.history.specs.declared.key.Key.{Key}
 use Rattle.history.specs.declared.time.Version.{Version}
-use Rattle.history.specs.declared.time.TimedWrite.{TimedWrite}
 use Rattle.history.specs.Key.{key_of}
 use Rattle.history.specs.Time.{value_at}
 use Rattle.history.specs.Versions.{versions, stands_at, standing_at, rows, ends_after, FollowOneAnotherFrom}
 use Rattle.history.specs.Histories.{History, last, state, between, versions_of, writes_of as history_writes, HasRisingTimes}
 use Rattle.history.specs.Queries.{IsScanAt, IsScanBetween}
-use Rattle.history.specs.Answers.{QueryRefusal, at_answer, between_answer, IsScanAtAnswer, IsScanBetweenAnswer, time_refusal, interval_refusal, unless_refused}
+use Rattle.history.specs.Answers.{QueryRefusal, at_answer, between_answer, IsScanAtAnswer, IsScanBetweenAnswer, unless_refused}
 use Rattle.history.proofs.Histories.{rising-from_following, writes_of-rising}
 use Rattle.history.proofs.Values.{versions-apart, none-standing, standing_at-versions}
 use Rattle.history.proofs.Intervals.{standing_at-kept, rows-kept}
 use Rattle.history.proofs.Views.{at-kept, between-kept, at-recent, between-recent, in-range}
 use Rattle.history.proofs.ViewScans.{time-kept, interval-kept}
 use Rattle.image.specs.Values.{Value, IsValue}
-use Rattle.image.specs.Reading.{ArchiveRecord}
 use Rattle.archive.specs.Answers.{versions_in, rows_of}
-use Rattle.chains.specs.KeyWrites.{KeyWrites, writes_of, AreRising, IsOrdered}
+use Rattle.chains.specs.KeyWrites.{writes_of, AreRising, IsOrdered}
 use Rattle.chains.specs.Rows.{rows_in, scanned_rows}
 use Rattle.chains.specs.Scans.{scanned}
 use Rattle.chains.proofs.Rising.{rising-writes_of}
 use Rattle.chains.proofs.Shown.{scan_is}
 use Rattle.timequery.specs.View.{ViewValue, mark_of}
-use Rattle.timequery.specs.Homes.{ReadsHistory, view_of, recent_rows, rows_after, values_of}
+use Rattle.timequery.specs.Homes.{ReadsHistory, view_of, recent_rows, values_of}
 use Rattle.timequery.proofs.Parts.{rows-append}
 use Rattle.timequery.proofs.Scanned.{Row, AreInOrder, scanned-order, scanned-rows_of}
 use Rattle.timequery.proofs.ScanLists.{scan-is}

@@ -1,5 +1,5 @@
 -- The mark of runs is that of the last of them.
-use Rattle.std.proofs.Common.{◌≡◌, ℕ, suc, ◌-◌, ◌∷◌, [], List, Some, length, refl, ap, arith}
+use Rattle.std.proofs.Common.{◌≡◌, ℕ, suc, ◌-◌, ◌∷◌, [], List, Some, length, ap, arith}
 use Rattle.std.specs.List.{slice_get}
 use Rattle.archive.specs.declared.run.RunEntry.{RunEntry}
 use Rattle.timequery.specs.View.{mark_after}

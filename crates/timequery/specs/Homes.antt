@@ -1,5 +1,5 @@
 -- What a view answers from memory and from the archive together.
-use Rattle.std.specs.Prelude.{ℕ, ◌≡◌, ◌<◌, ◌≤◌, ◌+◌, ◌++◌, ◌∷◌, [], nat_lt, List, map, filter, Bool, IsTrue, Option, None, Some, Result, Ok, Err, MatchResult, if◌then◌else◌}
+use Rattle.std.specs.Prelude.{ℕ, ◌≡◌, ◌<◌, ◌≤◌, ◌+◌, ◌++◌, ◌∷◌, [], nat_lt, List, map, filter, Bool, IsTrue, Option, None, Some, Result, MatchResult, if◌then◌else◌}
 use Rattle.std.specs.List.Sorted.{IsNonDecreasingBy}
 use Rattle.disk.specs.Calls.{DiskState}
 use Rattle.history.specs.declared.key.Key.{Key}
@@ -11,7 +11,7 @@ use Rattle.history.specs.Histories.{History, IsHistory}
 use Rattle.history.specs.Views.{View, IsViewOf}
 use Rattle.image.specs.Values.{Value, IsValue}
 use Rattle.image.specs.Reading.{ArchiveRecord}
-use Rattle.chains.specs.KeyWrites.{KeyWrites, writes_of}
+use Rattle.chains.specs.KeyWrites.{writes_of}
 use Rattle.chains.specs.Rows.{rows_in, scanned_rows}
 use Rattle.chains.specs.Scans.{scanned}
 use Rattle.archive.specs.declared.run.RunEntry.{RunEntry}
@@ -20,7 +20,7 @@ use Rattle.archive.specs.Answers.{versions_in, rows_of}
 use Rattle.archive.specs.Parts.{IsRight}
 use Rattle.archive.specs.Runs.{HoldRuns}
 use Rattle.archive.specs.Searches.{archive_of, IsFaultIn}
-use Rattle.archive.specs.Traces.{IsFound, IsFindDamaged, IsOfRuns, IsDamagedRun, AreRowsOf, AreRowsBroken, AreScanRowsOf, AreScanRowsBroken}
+use Rattle.archive.specs.Traces.{IsFound, IsOfRuns, AreRowsOf, AreScanRowsOf}
 use Rattle.timequery.specs.View.{ViewValue, mark_of, RefusesTime, RefusesBounds, IsInView}
 use Rattle.timequery.specs.declared.fault.QueryFault.{QueryFault}
 use Rattle.timequery.specs.declared.fault.QueryFault.TheVariants.{BeforeKept, NotYet, EmptyInterval, Device, NoMemory, Damaged, NeedsDisk, Stranger}

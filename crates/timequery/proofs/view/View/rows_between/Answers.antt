@@ -2,13 +2,12 @@ use Rattle.std.proofs.Common.{◌≡◌, ◌⊎◌, ◌≤◌, ◌<◌, ◌++◌
 use Rattle.std.specs.Prelude.{Ok}
 use Rattle.std.proofs.lemmas.Result.{err_from_is_err_and}
 use Rattle.history.specs.declared.time.Version.{Version}
-use Rattle.history.specs.Versions as versions
 use Rattle.image.specs.Values.{Value}
 use Rattle.archive.specs.declared.run.RunEntry.{RunEntry}
 use Rattle.archive.specs.Runs.{RunsEndBy, HoldRuns}
 use Rattle.archive.specs.Searches.{archive_of, IsFaultIn}
 use Rattle.archive.specs.Traces.{IsOfRuns, AreRowsOf}
-use Rattle.chains.specs.KeyWrites.{AreRising, writes_of}
+use Rattle.chains.specs.KeyWrites.{AreRising}
 use Rattle.chains.specs.Rows.{rows_in}
 use Rattle.timequery.specs.Homes.{RowsOfBoth, rows_after, recent_rows}
 use Rattle.timequery.specs.View.{ViewValue, mark_of}

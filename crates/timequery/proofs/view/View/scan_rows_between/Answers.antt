@@ -1,4 +1,4 @@
-use Rattle.std.proofs.Common.{◌≡◌, ◌≤◌, ◌<◌, ◌+◌, ℕ, List, ap, sym, ◌∙◌, subst, arith}
+use Rattle.std.proofs.Common.{◌≤◌, ℕ, List, ap, sym, ◌∙◌, subst}
 use Rattle.std.specs.Prelude.{Ok}
 use Rattle.history.specs.declared.time.Version.{Version}
 use Rattle.history.specs.Answers.{IsScanBetweenAnswer}

@@ -1,4 +1,4 @@
-use Rattle.std.proofs.Common.{◌≡◌, ◌≤◌, ◌<◌, ℕ, List, Option, Some, None, refl, ap, sym, ◌∙◌, subst, arith}
+use Rattle.std.proofs.Common.{◌≡◌, ◌≤◌, ◌<◌, List, Option, Some, None, ap, sym, ◌∙◌, subst, arith}
 use Rattle.std.specs.Prelude.{Ok}
 use Rattle.std.proofs.lemmas.Result.{err_from_is_err_and}
 use Rattle.history.specs.Time.{value_at}
@@ -8,7 +8,7 @@ use Rattle.archive.specs.Runs.{RunsEndBy, HoldRuns}
 use Rattle.archive.specs.Searches.{archive_of, IsFaultIn}
 use Rattle.archive.specs.Traces.{IsFound}
 use Rattle.chains.specs.KeyWrites.{AreRising, writes_of}
-use Rattle.timequery.specs.Homes.{InMemory, Nowhere, InRuns}
+use Rattle.timequery.specs.Homes.{InMemory, InRuns}
 use Rattle.timequery.specs.View.{ViewValue}
 use Rattle.timequery.proofs.Answering.{value-in-memory, value-recent, value-in-runs}
 use Rattle.timequery.proofs.Both.{refused-at}
