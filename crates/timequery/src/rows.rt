@@ -37,12 +37,7 @@ pub(crate) fn shared_rows(
 }
 
 // The part from `a` to `b` of a row whose version ends after the mark, if it has one.
-fn part_after(
-    row: Version<SharedValue>,
-    mark: u64,
-    a: u64,
-    b: u64,
-) -> Option<Version<SharedValue>>
+fn part_after(row: Version<SharedValue>, mark: u64, a: u64, b: u64) -> Option<Version<SharedValue>>
     ensures { option_to_list result ≡ specs.rows_after mark a b (row ∷ []) }
 {
     let Version { from, to, value } = row;
