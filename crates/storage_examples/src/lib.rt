@@ -25,6 +25,8 @@ mod spellings;
 #[cfg(test)]
 mod status_slots;
 #[cfg(test)]
+mod two_homes;
+#[cfg(test)]
 mod version_walks;
 #[cfg(test)]
 mod worked_bytes;

@@ -51,7 +51,7 @@ fn written(
 }
 
 /// Record 7 is a from 100 on, b from 110 on, gone from 120 on and c from 130 on.
-fn one_key(alloc: Global) -> Result<Frozen, AllocError> {
+pub fn one_key(alloc: Global) -> Result<Frozen, AllocError> {
     let frozen = written(alloc, &Frozen::new(), 100, 7, Some(b"a"))?;
     let frozen = written(alloc, &frozen, 110, 7, Some(b"b"))?;
     let frozen = written(alloc, &frozen, 120, 7, None)?;

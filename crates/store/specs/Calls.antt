@@ -1,5 +1,5 @@
 -- What the store's calls do, each in one word.
-use Rattle.std.specs.Prelude.{◌≡◌, ◌≤◌, ◌==◌, ℕ, List, Option, Result, Err, MatchBool, MatchResult}
+use Rattle.std.specs.Prelude.{◌≡◌, ◌≤◌, ◌==◌, ℕ, List, [], Option, Result, Err, MatchBool, MatchResult}
 use Rattle.std.specs.declared.alloc.Global.{Global}
 use Rattle.std.specs.declared.vec.Vec.{Vec}
 use Rattle.history.specs.declared.key.Key.{Key}
@@ -48,7 +48,7 @@ pub record Submits (old : StoreValue) (txn : TxnValue) (label now : ℕ) (answer
 
 -- a view of what is published now
 abbrev pub IsViewOf : StoreValue → ViewValue → Type 0
-IsViewOf v view = view ≡ record { mark = v.transactions.mark; last = last v; floor = floor v; state = v.transactions.versions }
+IsViewOf v view = view ≡ record { mark = v.transactions.mark; last = last v; floor = floor v; reclaimed = 0; runs = []; state = v.transactions.versions }
 
 -- the times of the published commits with a label, rising
 abbrev pub IsTimesOf : StoreValue → ℕ → List ℕ → Type 0

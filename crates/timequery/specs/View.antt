@@ -1,8 +1,29 @@
--- A view of a moment, and what it answers.
-use Rattle.std.specs.Prelude.{ℕ, ◌≡◌, ◌+◌, ◌<◌, ◌≤◌, min, List}
+-- A view of a moment, and what it answers from memory alone.
+use Rattle.std.specs.Prelude.{ℕ, ◌≡◌, ◌+◌, ◌<◌, ◌≤◌, min, List, [], ◌∷◌, Option, None, Some}
+use Rattle.std.specs.declared.sync.Arc.{Arc}
+use Rattle.std.specs.declared.vec.Vec.{Vec}
+use Rattle.std.specs.declared.alloc.Global.{Global}
+use Rattle.archive.specs.declared.run.RunEntry.{RunEntry}
 use Rattle.chains.specs.KeyWrites.{KeyWrites}
 use Rattle.timequery.specs.declared.fault.QueryFault.{QueryFault}
 use Rattle.timequery.specs.declared.fault.QueryFault.TheVariants.{BeforeKept, NotYet, EmptyInterval, Device, NoMemory, Damaged, NeedsDisk, Stranger}
+
+-- ---- the runs of a log
+
+-- what several views hold together
+abbrev pub runs_in : Option (Arc (Vec RunEntry Global) Global) → List RunEntry
+runs_in None = []
+runs_in (Some shared) = shared.value.items
+
+-- the archive mark: the last run goes up to it
+abbrev pub mark_after : ℕ → List RunEntry → ℕ
+mark_after mark [] = mark
+mark_after mark (run ∷ runs) = mark_after run.slot.upto runs
+
+abbrev pub mark_of : List RunEntry → ℕ
+mark_of runs = mark_after 0 runs
+
+-- ---- views
 
 pub record ViewValue : Type 0 where
   -- the mark of the store that gave it
@@ -10,6 +31,9 @@ pub record ViewValue : Type 0 where
   -- the time of the last commit, and the floor, of its moment
   pub last : ℕ
   pub floor : ℕ
+  -- memory has the versions that end after the reclaim mark, and the runs those that end by their mark
+  pub reclaimed : ℕ
+  pub runs : List RunEntry
   -- the writes of each key
   pub state : List KeyWrites
 
@@ -30,10 +54,24 @@ pub record AnswersAt {V : Type 0} (v : ViewValue) (time : ℕ) (answer expected 
   pub upto_last : time ≤ v.last
   pub is : answer ≡ expected
 
+-- memory lacks versions that stand at the time
+abbrev pub NeedsRuns : ViewValue → ℕ → QueryFault → Type 0
+NeedsRuns v time fault = (fault ≡ NeedsDisk) × (time < v.reclaimed)
+
 -- or memory gave out, where the time lies within the view's bounds
 abbrev pub RefusesScan : ViewValue → ℕ → QueryFault → Type 0
 RefusesScan v time NoMemory = (v.floor ≤ time) × (time ≤ v.last)
 RefusesScan v time fault = RefusesTime v time fault
+
+-- a time that is kept is refused where memory lacks versions
+abbrev pub RefusesRecent : ViewValue → ℕ → QueryFault → Type 0
+RefusesRecent v time NeedsDisk = (v.floor ≤ time) × (time ≤ v.last) × (time < v.reclaimed)
+RefusesRecent v time fault = RefusesTime v time fault
+
+-- or room for what is found was refused, where it has them all
+abbrev pub RefusesRecentScan : ViewValue → ℕ → QueryFault → Type 0
+RefusesRecentScan v time NoMemory = (v.floor ≤ time) × (time ≤ v.last) × (v.reclaimed ≤ time)
+RefusesRecentScan v time fault = RefusesRecent v time fault
 
 -- ---- intervals, from a time a up to a time b that is no longer in it
 
@@ -43,18 +81,29 @@ pub record IsInView (v : ViewValue) (a b : ℕ) : Type 0 where
   pub upto_last : b ≤ v.last + 1
   pub not_empty : a < b
 
--- an interval is refused with this fault: what is before the floor first, then what is later than the last commit, then an empty one; or memory gave out where nothing of this is
+-- an interval is refused with this fault by its bounds: what is before the floor first, then what is later than the last commit, then an empty one
+abbrev pub RefusesBounds : ViewValue → ℕ → ℕ → QueryFault → Type 0
+RefusesBounds v a b (BeforeKept floor) = (min a b < v.floor) × (floor ≡ v.floor)
+RefusesBounds v a b (NotYet last) = (v.floor ≤ min a b) × (v.last + 1 < b) × (last ≡ v.last)
+RefusesBounds v a b EmptyInterval = (v.floor ≤ min a b) × (b ≤ v.last + 1) × (b ≤ a)
+RefusesBounds v a b Device = ⊥
+RefusesBounds v a b NoMemory = ⊥
+RefusesBounds v a b (Damaged start) = ⊥
+RefusesBounds v a b NeedsDisk = ⊥
+RefusesBounds v a b Stranger = ⊥
+
+-- or memory gave out where nothing of this is
 abbrev pub RefusesInterval : ViewValue → ℕ → ℕ → QueryFault → Type 0
-RefusesInterval v a b (BeforeKept floor) = (min a b < v.floor) × (floor ≡ v.floor)
-RefusesInterval v a b (NotYet last) = (v.floor ≤ min a b) × (v.last + 1 < b) × (last ≡ v.last)
-RefusesInterval v a b EmptyInterval = (v.floor ≤ min a b) × (b ≤ v.last + 1) × (b ≤ a)
-RefusesInterval v a b Device = ⊥
 RefusesInterval v a b NoMemory = IsInView v a b
-RefusesInterval v a b (Damaged start) = ⊥
-RefusesInterval v a b NeedsDisk = ⊥
-RefusesInterval v a b Stranger = ⊥
+RefusesInterval v a b fault = RefusesBounds v a b fault
 
 -- what stood in the interval is answered
 pub record AnswersBetween {V : Type 0} (v : ViewValue) (a b : ℕ) (answer expected : V) : Type 0 where
   pub kept : IsInView v a b
   pub is : answer ≡ expected
+
+-- an interval that is kept is refused where memory lacks versions, or where room for what is found was refused
+abbrev pub RefusesRecentRows : ViewValue → ℕ → ℕ → QueryFault → Type 0
+RefusesRecentRows v a b NeedsDisk = IsInView v a b × (a < v.reclaimed)
+RefusesRecentRows v a b NoMemory = IsInView v a b × (v.reclaimed ≤ a)
+RefusesRecentRows v a b fault = RefusesBounds v a b fault

@@ -1,5 +1,10 @@
 //! Why a query is refused.
 
+ghost use Rattle.std.specs.Prelude.{◌≡◌};
+
+use archive::ArchiveFault;
+use std::alloc::{AllocError, AllocFailed};
+
 /// The faults of a query, in the order in which they are tested; a stranger's view comes first.
 #[derive(Clone, Copy, Debug, PartialEq, Eq)]
 pub enum QueryFault {
@@ -18,4 +23,38 @@ pub enum QueryFault {
     NeedsDisk,
     /// The view is another store's.
     Stranger,
+}
+
+impl From<ArchiveFault> for QueryFault {
+    ghost use Rattle.timequery.specs.Faults.{query_fault};
+
+    ghost from_gives = { λ why fault. fault ≡ query_fault why };
+
+    fn from(why: ArchiveFault) -> Self {
+        match why {
+            ArchiveFault::Device => QueryFault::Device,
+            ArchiveFault::NoMemory => QueryFault::NoMemory,
+            ArchiveFault::Damaged(start) => QueryFault::Damaged(start),
+        }
+    }
+}
+
+impl From<AllocError> for QueryFault {
+    ghost use Rattle.timequery.specs.declared.fault.QueryFault.{QueryFault};
+
+    ghost from_gives = { λ _ fault. fault ≡ QueryFault.NoMemory };
+
+    fn from(_: AllocError) -> Self {
+        QueryFault::NoMemory
+    }
+}
+
+impl<T: Drop> From<AllocFailed<T>> for QueryFault {
+    ghost use Rattle.timequery.specs.declared.fault.QueryFault.{QueryFault};
+
+    ghost from_gives = { λ _ fault. fault ≡ QueryFault.NoMemory };
+
+    fn from(_: AllocFailed<T>) -> Self {
+        QueryFault::NoMemory
+    }
 }

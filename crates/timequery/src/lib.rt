@@ -2,7 +2,12 @@
 #![tactic(auto)]
 
 mod fault;
+mod homes;
+mod recent;
+mod rows;
+mod runs;
 mod view;
 
 pub use fault::QueryFault;
+pub use runs::Runs;
 pub use view::View;

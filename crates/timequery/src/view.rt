@@ -1,14 +1,15 @@
 //! Views.
-ghost use Rattle.std.specs.Prelude.{◌≡◌, ◌≤◌, MatchResult};
+ghost use Rattle.std.specs.Prelude.{◌≡◌, ◌≤◌, [], MatchResult};
 ghost use Rattle.std.specs.Option.{option_copied};
 ghost use Rattle.history.specs.Time.{value_at};
 ghost use Rattle.chains.specs.KeyWrites.{writes_of};
 ghost use Rattle.chains.specs.Rows.{rows_in, scanned_rows};
 ghost use Rattle.chains.specs.Scans.{scanned};
-ghost use Rattle.timequery.specs.View.{RefusesTime, RefusesScan, RefusesInterval, IsInView, AnswersAt, AnswersBetween};
+ghost use Rattle.timequery.specs.View.{RefusesTime, RefusesScan, RefusesInterval, RefusesBounds, IsInView, AnswersAt, AnswersBetween};
 
 use crate::fault::QueryFault;
-use chains::{Frozen, SharedValue};
+use crate::runs::Runs;
+use chains::{Bound, Frozen, SharedValue};
 use history::{Key, Version};
 use std::alloc::Global;
 use std::marker::Model;
@@ -16,29 +17,44 @@ use std::marker::Model;
 /// What is published at one moment, which later commits do not change. It is to be given back to
 /// its store.
 pub struct View {
-    mark: u64,
-    last: u64,
-    floor: u64,
-    state: Frozen,
+    pub(crate) mark: u64,
+    pub(crate) last: u64,
+    pub(crate) floor: u64,
+    // Memory has the versions that end after the reclaim mark.
+    pub(crate) reclaimed: u64,
+    pub(crate) runs: Runs,
+    pub(crate) state: Frozen,
 }
 
 impl Model for View {
     ghost use Rattle.timequery.specs.View.{ViewValue};
+    ghost use Rattle.chains.specs.KeyWrites.{IsOrdered, AreRising};
 
     ghost Value = { ViewValue };
 
-    ghost view = { λ v. record { mark = v.mark; last = v.last; floor = v.floor; state = v.state } };
+    ghost view = { λ v. record { mark = v.mark; last = v.last; floor = v.floor; reclaimed = v.reclaimed; runs = v.runs; state = v.state } };
+
+    ghost invariant = { λ v. IsOrdered v.state × AreRising v.state };
 }
 
 impl View {
-    /// A view of a store with this mark: the time of its last commit, its floor and its versions.
+    /// A view of a store with this mark: the time of its last commit, its floor and its versions. Nothing
+    /// is archived or reclaimed.
     pub fn new(mark: u64, last: u64, floor: u64, state: Frozen) -> Self
-        ensures { result ≡ record { mark = mark; last = last; floor = floor; state = state } }
+        ensures { result ≡ record { mark = mark; last = last; floor = floor; reclaimed = 0; runs = []; state = state } }
     {
+        let first = Key {
+            relation: 0,
+            record: 0,
+        };
+        // The versions are in the order of their keys, and of each key in that of their times.
+        let _least = state.least(Bound::From(first));
         View {
             mark,
             last,
             floor,
+            reclaimed: 0,
+            runs: Runs::new(),
             state,
         }
     }
@@ -56,12 +72,14 @@ impl View {
             mark: _,
             last: _,
             floor: _,
+            reclaimed: _,
+            runs: _,
             state: _,
         } = self;
     }
 
     /// Whether a time in microseconds since 1970 is kept: from the floor up to the last commit.
-    fn check_time(&self, time: u64) -> Result<(), QueryFault>
+    pub(crate) fn check_time(&self, time: u64) -> Result<(), QueryFault>
         ensures { MatchResult result (λ _. (self.now.floor ≤ time) × (time ≤ self.now.last)) (RefusesTime self.now time) }
     {
         if time < self.floor {
@@ -74,8 +92,8 @@ impl View {
     }
 
     /// Whether all times from `a` up to `b`, itself no longer among them, are kept, and there are some.
-    fn check_interval(&self, a: u64, b: u64) -> Result<(), QueryFault>
-        ensures { MatchResult result (λ _. IsInView self.now a b) (RefusesInterval self.now a b) }
+    pub(crate) fn check_interval(&self, a: u64, b: u64) -> Result<(), QueryFault>
+        ensures { MatchResult result (λ _. IsInView self.now a b) (RefusesBounds self.now a b) }
     {
         if a.min(b) < self.floor {
             return Err(QueryFault::BeforeKept(self.floor));

@@ -192,7 +192,7 @@ impl Transactions {
 
     /// A view of what is published now.
     pub fn view(&self) -> Result<View, AllocError>
-        ensures { IfOk result (λ v. v ≡ record { mark = self.now.mark; last = last self.now; floor = self.now.floor; state = self.now.versions }) }
+        ensures { IfOk result (λ v. v ≡ record { mark = self.now.mark; last = last self.now; floor = self.now.floor; reclaimed = 0; runs = []; state = self.now.versions }) }
     {
         let state = self.versions.share()?;
         Ok(View::new(self.mark, self.order.last(), self.floor, state))
