@@ -4,11 +4,11 @@ use chains::SharedValue;
 use disk::{Area, Disk, MemDisk};
 use history::Key;
 use script::parse;
-use session::{MARK, Reply, Session};
+use session::{MARK, Reply, Session, write_reply};
 use std::alloc::Global;
 use std::process::Abort;
 use std::test::Fail;
-use store::{Did, JobDid, QueryFault, Redeemed, Store, SubmitFault, Submitted, Ticket, Txn};
+use store::{Did, QueryFault, Redeemed, Store, SubmitFault, Submitted, Ticket, Txn};
 
 /// An empty store with this mark, opened.
 fn opened(rt: &impl Abort, alloc: Global, mark: u64) -> Result<Store<MemDisk>, Fail> {
@@ -229,21 +229,42 @@ fn a_strangers_tokens_are_only_spent(rt: HostRuntime) -> Result<(), Fail> {
     Ok(())
 }
 
-/// A session answers a line with a reply, and goes on.
+/// A reply must be written so.
+fn is_written(rt: &impl Abort, alloc: Global, reply: &Reply, text: &str) {
+    let mut written = Vec::new(alloc);
+    assert!(rt; write_reply(&mut written, reply).is_ok());
+    assert!(rt; written.as_slice() == text.as_bytes(), "{text}");
+}
+
+/// A session must answer a line with this text, and goes on.
 fn answered(
     rt: &impl Abort,
     alloc: Global,
     session: Session<MemDisk>,
-    line: &str,
-) -> (Session<MemDisk>, Reply) {
+    (line, text): (&str, &str),
+) -> Session<MemDisk> {
     let Some(found) = parse(line.as_bytes()) else {
         panic!(rt; "no line");
     };
     match session.answer(alloc, found) {
-        Ok(answer) => answer,
+        Ok((session, reply)) => {
+            is_written(rt, alloc, &reply, text);
+            session
+        }
         Err(_) => panic!(rt; "not opened"),
     }
 }
+
+/// Lines of a commit, and of an archive of nothing behind it.
+const LINES: [(&str, &str); 7] = [
+    ("begin t", "snapshot 0\n"),
+    ("put t 1 7 61", "ok\n"),
+    ("submit t 9 100", "queued\n"),
+    ("flush", "idle\n"),
+    ("archive 100", "started\n"),
+    ("job", "run synced\n"),
+    ("finish", "idle\n"),
+];
 
 /// A session on an empty store.
 fn new_session(rt: &impl Abort, alloc: Global) -> Result<Session<MemDisk>, Fail> {
@@ -260,22 +281,11 @@ fn new_session(rt: &impl Abort, alloc: Global) -> Result<Session<MemDisk>, Fail>
 #[test]
 fn a_session_answers_line_by_line(rt: HostRuntime) -> Result<(), Fail> {
     let alloc = rt.alloc();
-    let session = new_session(&rt, alloc)?;
-    let (session, reply) = answered(&rt, alloc, session, "begin t");
-    assert!(rt; matches!(reply, Reply::Snapshot(0)));
-    let (session, reply) = answered(&rt, alloc, session, "put t 1 7 61");
-    assert!(rt; matches!(reply, Reply::Ok));
-    let (session, reply) = answered(&rt, alloc, session, "submit t 9 100");
-    assert!(rt; matches!(reply, Reply::Queued));
-    let (session, reply) = answered(&rt, alloc, session, "flush");
-    assert!(rt; matches!(reply, Reply::Did(Did::Idle)));
+    let mut session = new_session(&rt, alloc)?;
+    for line in LINES {
+        session = answered(&rt, alloc, session, line);
+    }
     assert_eq!(rt; session.ends(), (100, 0));
-    let (session, reply) = answered(&rt, alloc, session, "archive 100");
-    assert!(rt; matches!(reply, Reply::Started));
-    let (session, reply) = answered(&rt, alloc, session, "job");
-    assert!(rt; matches!(reply, Reply::JobDid(JobDid::RunSynced)));
-    let (session, reply) = answered(&rt, alloc, session, "finish");
-    assert!(rt; matches!(reply, Reply::JobDid(JobDid::Idle)));
     let _disk = session.close();
     Ok(())
 }
