@@ -34,8 +34,9 @@ demo: build
 	$(PROGRAM) between $$dir 1 7 0 101 && \
 	rm -r $$dir
 
-# The program as its users meet it: fed line by line, two at once, and its calls of the system.
+# The program as its users meet it: its words, fed line by line, two at once, and its calls of the system.
 trials: build
+	bench/command_line.py $(PROGRAM)
 	bench/answers_at_once.py $(PROGRAM)
 	bench/two_processes.py $(PROGRAM)
 	bench/system_calls.py $(PROGRAM)

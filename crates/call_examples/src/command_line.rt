@@ -119,6 +119,124 @@ fn what_is_no_command_is_a_usage_fault(rt: HostRuntime) -> Result<(), Fail> {
     Ok(())
 }
 
+/// The text of help, which is no fault.
+fn help<'a>(rt: &impl Abort, alloc: Global, words: &'a [&'a str]) -> Result<String, Fail> {
+    let error = usage(alloc, words)?;
+    assert_eq!(rt; error.exit_code(), 0);
+    assert!(rt; !error.use_stderr());
+    Ok(format!(in alloc; "{error}")?)
+}
+
+/// What help names: each command, and the limits of a store.
+const NAMED: [&str; 16] = [
+    "\n  format ",
+    "\n  run ",
+    "\n  at ",
+    "\n  between ",
+    "\n  dump ",
+    "16 to 65536",
+    "1 to 16\n             commits",
+    "65536 extents of 8 KiB",
+    "1 to 1024 keys",
+    "0 to 18446744073709551615",
+    "1 to 16 fields of 0 to 255 bytes",
+    "1 to 9223372036854775807",
+    "YYYY-MM-DDTHH:MM:SSZ",
+    "status full",
+    "heap full",
+    "Exit status: 0 done, 1 refused, 2 words that are no command.",
+];
+
+#[test]
+fn help_names_the_commands_and_the_limits(rt: HostRuntime) -> Result<(), Fail> {
+    let lines: [&[&str]; 3] = [
+        &["timestore", "--help"],
+        &["timestore", "-h"],
+        &["timestore", "help"],
+    ];
+    for words in lines {
+        let text = help(&rt, rt.alloc(), words)?;
+        for named in NAMED {
+            assert!(rt; text.contains(named), "{words:?} {named}");
+        }
+    }
+    Ok(())
+}
+
+/// What the help of each command says of it: its arguments, and each line of a script.
+const HELP: [(&str, &[&str]); 5] = [
+    (
+        "format",
+        &["<DIR>", "--slots <N>", "[default: 1024]", "16 to 65536"],
+    ),
+    (
+        "run",
+        &[
+            "<DIR>",
+            "begin NAME",
+            "put NAME REL REC F..",
+            "del NAME REL REC",
+            "get NAME REL REC",
+            "submit NAME LABEL TIME",
+            "abort NAME",
+            "pump",
+            "flush",
+            "redeem NAME",
+            "at REL REC TIME",
+            "between REL REC TIME TIME",
+            "scan REL TIME",
+            "times LABEL",
+            "archive TIME",
+            "job",
+            "finish",
+            "reopen",
+            "at most 64",
+            "refused: ",
+        ],
+    ),
+    (
+        "at",
+        &[
+            "<DIR>",
+            "<REL>",
+            "<REC>",
+            "<TIME>",
+            "microseconds since 1970",
+        ],
+    ),
+    (
+        "between",
+        &[
+            "<DIR>",
+            "<REL>",
+            "<REC>",
+            "<FROM>",
+            "<TO>",
+            "microseconds since 1970",
+        ],
+    ),
+    (
+        "dump",
+        &[
+            "<DIR>",
+            "header SLOTS",
+            "member LABEL TIME EXTENT EXTENTS RECORDS INSTANT",
+        ],
+    ),
+];
+
+#[test]
+fn help_of_a_command_names_what_it_takes(rt: HostRuntime) -> Result<(), Fail> {
+    for (command, said) in HELP {
+        let words = ["timestore", command, "--help"];
+        let text = help(&rt, rt.alloc(), &words)?;
+        for named in said {
+            assert!(rt; text.contains(*named), "{command}: {named}");
+        }
+    }
+    Ok(())
+}
+
 #[test]
 fn a_number_out_of_range_is_named(rt: HostRuntime) -> Result<(), Fail> {
     let words = ["timestore", "at", "d", "65536", "7", "1"];

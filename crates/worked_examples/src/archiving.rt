@@ -2,7 +2,7 @@
 use crate::archived::{RUN, SLOT};
 use crate::bytes::{bytes_of, spells};
 use crate::dialogue::{
-    FOUR_COMMITS, converses, new_store, repeated, says_parts, stored, stored_by_parts, told,
+    FOUR_COMMITS, Script, converses, hold, new_store, repeated, stored, stored_by_parts, told,
 };
 use disk::{Area, Fault, FaultDisk, MemDisk};
 use shell::Action;
@@ -62,6 +62,43 @@ finish | idle
 archive 130 | refused: nothing to do
 ",
     )?;
+    Ok(())
+}
+
+/// A value from 100 on and another from 110 on.
+const TWO_COMMITS: &str = "begin a | snapshot 0
+put a 1 7 61 | ok
+submit a 9 100 | queued
+flush | idle
+begin b | snapshot 100
+put b 1 7 62 | ok
+submit b 9 110 | queued
+flush | idle
+";
+
+#[test]
+fn an_archive_is_what_ended_by_its_time(rt: HostRuntime) -> Result<(), Fail> {
+    let alloc = rt.alloc();
+    let parts = [
+        (TWO_COMMITS, 1),
+        (
+            "begin c | snapshot 110
+del c 1 7 | ok
+submit c 9 120 | queued
+flush | idle
+archive 121 | refused: not yet 120
+archive 120 | started
+archive 120 | refused: job busy
+",
+            1,
+        ),
+        (STEPS, 1),
+        ("job | idle\n", 1),
+    ];
+    let mut disk = stored_by_parts(&rt, alloc, 16, parts.as_slice())?;
+    assert_eq!(rt; bytes_of(alloc, &mut disk, Area::Archive)?.len(), 74);
+    spells(&rt, alloc, &mut disk, Area::Archive, 0, RUN)?;
+    let _disk = converses(&rt, alloc, disk, "archive 120 | refused: nothing to do\n")?;
     Ok(())
 }
 
@@ -142,12 +179,55 @@ at 1 7 120 | value 63
     Ok(())
 }
 
-#[test]
-fn a_group_waits_for_a_jobs_slot(rt: HostRuntime) -> Result<(), Fail> {
-    let parts = [
-        (FOUR_COMMITS, 1),
-        (
-            "archive 120 | started
+/// Scripts of archives beside commits.
+const SCRIPTS: [Script; 4] = [
+    Script {
+        name: "one_slot_is_in_the_writing_at_a_time",
+        slots: 16,
+        before: "",
+        parts: &[
+            (TWO_COMMITS, 1),
+            (
+                "archive 100 | started
+begin c | snapshot 110
+put c 1 7 63 | ok
+submit c 9 130 | queued
+pump | wrote extent
+pump | heap synced
+pump | body written
+job | run synced
+job | refused: busy
+pump | body synced
+pump | gate written
+pump | published 1
+job | body written
+begin d | snapshot 130
+put d 1 7 64 | ok
+submit d 9 140 | queued
+pump | wrote extent
+pump | heap synced
+pump | refused: busy
+job | body synced
+job | gate written
+job | job done
+pump | body written
+pump | body synced
+pump | gate written
+pump | published 1
+reopen | last 140 floor 0
+",
+                1,
+            ),
+        ],
+    },
+    Script {
+        name: "a_group_waits_for_a_jobs_slot",
+        slots: 16,
+        before: "",
+        parts: &[
+            (FOUR_COMMITS, 1),
+            (
+                "archive 120 | started
 job | wrote run
 job | run synced
 job | body written
@@ -172,18 +252,18 @@ at 1 7 110 | value 62
 at 1 7 140 | value 64
 archive 120 | refused: nothing to do
 ",
-            1,
-        ),
-    ];
-    says_parts(&rt, rt.alloc(), 16, parts.as_slice())
-}
-
-#[test]
-fn a_job_waits_for_a_groups_slot(rt: HostRuntime) -> Result<(), Fail> {
-    let parts = [
-        (FOUR_COMMITS, 1),
-        (
-            "begin e | snapshot 130
+                1,
+            ),
+        ],
+    },
+    Script {
+        name: "a_job_waits_for_a_groups_slot",
+        slots: 16,
+        before: "",
+        parts: &[
+            (FOUR_COMMITS, 1),
+            (
+                "begin e | snapshot 130
 put e 1 7 64 | ok
 submit e 5 140 | queued
 pump | wrote extent
@@ -202,33 +282,33 @@ archive 120 | refused: nothing to do
 at 1 7 110 | value 62
 at 1 7 140 | value 64
 ",
-            1,
-        ),
-    ];
-    says_parts(&rt, rt.alloc(), 16, parts.as_slice())
-}
-
-#[test]
-fn an_archive_takes_a_slot_that_commits_leave(rt: HostRuntime) -> Result<(), Fail> {
-    let parts = [
-        (
-            "begin t | snapshot 0
+                1,
+            ),
+        ],
+    },
+    Script {
+        name: "an_archive_takes_a_slot_that_commits_leave",
+        slots: 16,
+        before: "",
+        parts: &[
+            (
+                "begin t | snapshot 0
 put t 1 50 61 | ok
 submit t 9 100 | queued
 flush | idle
 ",
-            1,
-        ),
-        (
-            "begin t# | snapshot @
+                1,
+            ),
+            (
+                "begin t# | snapshot @
 put t# 1 # 61 | ok
 submit t# 9 1 | queued
 flush | idle
 ",
-            12,
-        ),
-        (
-            "begin u | snapshot 112
+                12,
+            ),
+            (
+                "begin u | snapshot 112
 begin v | snapshot 112
 begin w | snapshot 112
 put u 1 60 61 | ok
@@ -247,10 +327,15 @@ archive 200 | refused: status full
 reopen | last 200 floor 0
 at 1 60 200 | value 61
 ",
-            1,
-        ),
-    ];
-    says_parts(&rt, rt.alloc(), 16, parts.as_slice())
+                1,
+            ),
+        ],
+    },
+];
+
+#[test]
+fn archives_beside_commits_are_answered(rt: HostRuntime) -> Result<(), Fail> {
+    hold(&rt, rt.alloc(), &SCRIPTS)
 }
 
 #[test]

@@ -1,4 +1,5 @@
 //! The bytes of a disk in memory.
+use crate::dialogue::stored_by_parts;
 use disk::{Area, Disk, MemDisk};
 use std::alloc::Global;
 use std::process::Abort;
@@ -78,6 +79,31 @@ pub fn has_extents(
         place = place.saturating_add(8192);
     }
     assert_eq!(rt; bytes_of(alloc, disk, Area::Heap)?.len(), place);
+    Ok(())
+}
+
+/// A dialogue on a new store of 16 slots, and the extents that it leaves.
+#[derive(Clone, Copy, Debug)]
+pub struct Stored {
+    pub name: &'static str,
+    /// The dialogue's parts, as `repeated` has them.
+    pub parts: &'static [(&'static str, u32)],
+    /// The bytes with which each extent begins.
+    pub extents: &'static [&'static str],
+}
+
+/// Each dialogue must leave its extents.
+pub fn are_stored(rt: &impl Abort, alloc: Global, all: &[Stored]) -> Result<(), Fail> {
+    for stored in all {
+        let mut disk = stored_by_parts(rt, alloc, 16, stored.parts)?;
+        assert_eq!(rt;
+            bytes_of(alloc, &mut disk, Area::Heap)?.len(),
+            stored.extents.len().saturating_mul(8192),
+            "{}",
+            stored.name
+        );
+        has_extents(rt, alloc, &mut disk, stored.extents)?;
+    }
     Ok(())
 }
 

@@ -4,11 +4,11 @@ use chains::SharedValue;
 use disk::{Area, Disk, MemDisk};
 use history::Key;
 use script::parse;
-use session::{MARK, Reply, Session};
+use session::{MARK, Reply, Session, write_reply};
 use std::alloc::Global;
 use std::process::Abort;
 use std::test::Fail;
-use store::{Did, JobDid, QueryFault, Redeemed, Store, SubmitFault, Submitted, Ticket, Txn};
+use store::{Did, QueryFault, Redeemed, Store, SubmitFault, Submitted, Ticket, Txn};
 
 /// An empty store with this mark, opened.
 fn opened(rt: &impl Abort, alloc: Global, mark: u64) -> Result<Store<MemDisk>, Fail> {
@@ -229,16 +229,39 @@ fn a_strangers_tokens_are_only_spent(rt: HostRuntime) -> Result<(), Fail> {
     Ok(())
 }
 
-/// A session answers a line with a reply, and goes on.
-fn answered(rt: &impl Abort, alloc: Global, session: &mut Session<MemDisk>, line: &str) -> Reply {
+/// A reply must be written so.
+fn is_written(rt: &impl Abort, alloc: Global, reply: &Reply, text: &str) {
+    let mut written = Vec::new(alloc);
+    assert!(rt; write_reply(&mut written, reply).is_ok());
+    assert!(rt; written.as_slice() == text.as_bytes(), "{text}");
+}
+
+/// A session must answer a line with this text, and goes on.
+fn answered(
+    rt: &impl Abort,
+    alloc: Global,
+    session: &mut Session<MemDisk>,
+    (line, text): (&str, &str),
+) {
     let Some(found) = parse(line.as_bytes()) else {
         panic!(rt; "no line");
     };
     match session.answer(alloc, found) {
-        Some(reply) => reply,
+        Some(reply) => is_written(rt, alloc, &reply, text),
         None => panic!(rt; "a reopening"),
     }
 }
+
+/// Lines of a commit, and of an archive of nothing behind it.
+const LINES: [(&str, &str); 7] = [
+    ("begin t", "snapshot 0\n"),
+    ("put t 1 7 61", "ok\n"),
+    ("submit t 9 100", "queued\n"),
+    ("flush", "idle\n"),
+    ("archive 100", "started\n"),
+    ("job", "run synced\n"),
+    ("finish", "idle\n"),
+];
 
 /// A session on an empty store.
 fn new_session(rt: &impl Abort, alloc: Global) -> Result<Session<MemDisk>, Fail> {
@@ -256,21 +279,10 @@ fn new_session(rt: &impl Abort, alloc: Global) -> Result<Session<MemDisk>, Fail>
 fn a_session_answers_line_by_line(rt: HostRuntime) -> Result<(), Fail> {
     let alloc = rt.alloc();
     let mut session = new_session(&rt, alloc)?;
-    let reply = answered(&rt, alloc, &mut session, "begin t");
-    assert!(rt; matches!(reply, Reply::Snapshot(0)));
-    let reply = answered(&rt, alloc, &mut session, "put t 1 7 61");
-    assert!(rt; matches!(reply, Reply::Ok));
-    let reply = answered(&rt, alloc, &mut session, "submit t 9 100");
-    assert!(rt; matches!(reply, Reply::Queued));
-    let reply = answered(&rt, alloc, &mut session, "flush");
-    assert!(rt; matches!(reply, Reply::Did(Did::Idle)));
+    for line in LINES {
+        answered(&rt, alloc, &mut session, line);
+    }
     assert_eq!(rt; session.ends(), (100, 0));
-    let reply = answered(&rt, alloc, &mut session, "archive 100");
-    assert!(rt; matches!(reply, Reply::Started));
-    let reply = answered(&rt, alloc, &mut session, "job");
-    assert!(rt; matches!(reply, Reply::JobDid(JobDid::RunSynced)));
-    let reply = answered(&rt, alloc, &mut session, "finish");
-    assert!(rt; matches!(reply, Reply::JobDid(JobDid::Idle)));
     let _disk = session.close();
     Ok(())
 }

@@ -1,15 +1,17 @@
 //! Commits, one after another and beside each other.
 use crate::bytes::{has_extents, spells};
-use crate::dialogue::{says, says_later, stored};
+use crate::dialogue::{FOUR_COMMITS, Script, hold, stored};
 use disk::Area;
 use std::test::Fail;
 
-#[test]
-fn one_record_step_by_step(rt: HostRuntime) -> Result<(), Fail> {
-    says(
-        &rt,
-        rt.alloc(),
-        "at 1 7 0 | none
+/// Scripts on a new store, and on one that is opened after the four commits.
+const SCRIPTS: [Script; 10] = [
+    Script {
+        name: "one_record_step_by_step",
+        slots: 16,
+        before: "",
+        parts: &[(
+            "at 1 7 0 | none
 at 1 7 1 | refused: not yet 0
 begin t | snapshot 0
 put t 1 7 61 | ok
@@ -35,15 +37,15 @@ at 1 7 100 | value 61
 at 1 7 101 | refused: not yet 100
 times 9 | times 100
 ",
-    )
-}
-
-#[test]
-fn commit_times_rise(rt: HostRuntime) -> Result<(), Fail> {
-    says(
-        &rt,
-        rt.alloc(),
-        "begin a | snapshot 0
+            1,
+        )],
+    },
+    Script {
+        name: "commit_times_rise",
+        slots: 16,
+        before: "",
+        parts: &[(
+            "begin a | snapshot 0
 put a 1 7 61 | ok
 submit a 1 100 | queued
 flush | idle
@@ -62,15 +64,15 @@ at 1 7 100 | value 61
 at 1 7 101 | value 62
 at 1 7 102 | value 63
 ",
-    )
-}
-
-#[test]
-fn no_commit_is_later_than_the_last_time(rt: HostRuntime) -> Result<(), Fail> {
-    says(
-        &rt,
-        rt.alloc(),
-        "begin a | snapshot 0
+            1,
+        )],
+    },
+    Script {
+        name: "no_commit_is_later_than_the_last_time",
+        slots: 16,
+        before: "",
+        parts: &[(
+            "begin a | snapshot 0
 put a 1 7 61 | ok
 submit a 1 9223372036854775808 | refused: clock end
 begin a | snapshot 0
@@ -93,15 +95,15 @@ at 1 7 9223372036854775807 | value 61
 at 1 7 9223372036854775808 | refused: not yet 9223372036854775807
 reopen | last 9223372036854775807 floor 0
 ",
-    )
-}
-
-#[test]
-fn the_first_of_two_writers_wins(rt: HostRuntime) -> Result<(), Fail> {
-    says(
-        &rt,
-        rt.alloc(),
-        "begin a | snapshot 0
+            1,
+        )],
+    },
+    Script {
+        name: "the_first_of_two_writers_wins",
+        slots: 16,
+        before: "",
+        parts: &[(
+            "begin a | snapshot 0
 begin b | snapshot 0
 put a 1 7 61 | ok
 put b 1 7 62 | ok
@@ -114,15 +116,15 @@ at 1 7 100 | value 61
 times 1 | times 100
 times 2 | times
 ",
-    )
-}
-
-#[test]
-fn a_conflict_names_the_least_key(rt: HostRuntime) -> Result<(), Fail> {
-    says(
-        &rt,
-        rt.alloc(),
-        "begin t | snapshot 0
+            1,
+        )],
+    },
+    Script {
+        name: "a_conflict_names_the_least_key",
+        slots: 16,
+        before: "",
+        parts: &[(
+            "begin t | snapshot 0
 put t 1 9 61 | ok
 put t 1 3 61 | ok
 put t 1 7 61 | ok
@@ -136,15 +138,15 @@ flush | idle
 submit t 1 120 | refused: conflict 1 7
 at 1 3 110 | none
 ",
-    )
-}
-
-#[test]
-fn a_deletion_conflicts(rt: HostRuntime) -> Result<(), Fail> {
-    says_later(
-        &rt,
-        rt.alloc(),
-        "begin a | snapshot 130
+            1,
+        )],
+    },
+    Script {
+        name: "a_deletion_conflicts",
+        slots: 16,
+        before: FOUR_COMMITS,
+        parts: &[(
+            "begin a | snapshot 130
 begin b | snapshot 130
 begin c | snapshot 130
 del a 1 7 | ok
@@ -156,15 +158,15 @@ flush | idle
 submit c 1 0 | refused: conflict 1 7
 at 1 7 131 | none
 ",
-    )
-}
-
-#[test]
-fn write_skew_stands(rt: HostRuntime) -> Result<(), Fail> {
-    says(
-        &rt,
-        rt.alloc(),
-        "begin a | snapshot 0
+            1,
+        )],
+    },
+    Script {
+        name: "write_skew_stands",
+        slots: 16,
+        before: "",
+        parts: &[(
+            "begin a | snapshot 0
 put a 1 1 78 | ok
 put a 1 2 79 | ok
 submit a 1 100 | queued
@@ -184,7 +186,78 @@ at 1 1 102 | value 63
 at 1 2 102 | value 62
 times 2 | times 101 102
 ",
-    )
+            1,
+        )],
+    },
+    Script {
+        name: "what_is_absent_is_not_deleted",
+        slots: 16,
+        before: FOUR_COMMITS,
+        parts: &[(
+            "begin t | snapshot 130
+del t 1 8 | refused: missing
+get t 1 7 | value 63
+del t 1 7 | ok
+del t 1 7 | refused: missing
+get t 1 7 | none
+submit t 5 140 | queued
+flush | idle
+redeem t | done 140
+at 1 7 139 | value 63
+at 1 7 140 | none
+begin t | snapshot 140
+del t 1 7 | refused: missing
+submit t 5 150 | readonly 140
+",
+            1,
+        )],
+    },
+    Script {
+        name: "what_stood_at_each_time",
+        slots: 16,
+        before: FOUR_COMMITS,
+        parts: &[(
+            "at 1 7 99 | none
+at 1 7 100 | value 61
+at 1 7 109 | value 61
+at 1 7 110 | value 62
+at 1 7 119 | value 62
+at 1 7 120 | none
+at 1 7 129 | none
+at 1 7 130 | value 63
+at 1 7 131 | refused: not yet 130
+at 2 7 130 | none
+times 1 | times 100
+times 3 | times 120
+times 5 | times
+",
+            1,
+        )],
+    },
+    Script {
+        name: "a_transaction_reads_what_is_published",
+        slots: 16,
+        before: FOUR_COMMITS,
+        parts: &[(
+            "begin a | snapshot 130
+put a 1 7 64 | ok
+submit a 5 140 | queued
+begin b | snapshot 130
+get b 1 7 | value 63
+flush | idle
+get b 1 7 | value 63
+begin c | snapshot 140
+get c 1 7 | value 64
+redeem a | done 140
+",
+            1,
+        )],
+    },
+];
+
+#[test]
+fn commits_are_answered(rt: HostRuntime) -> Result<(), Fail> {
+    hold(&rt, rt.alloc(), &SCRIPTS)
 }
 
 #[test]
@@ -208,68 +281,4 @@ times 9 | times
     )?;
     has_extents(&rt, rt.alloc(), &mut disk, &[])?;
     spells(&rt, rt.alloc(), &mut disk, Area::Status, 512, "..z 8192")
-}
-
-#[test]
-fn what_is_absent_is_not_deleted(rt: HostRuntime) -> Result<(), Fail> {
-    says_later(
-        &rt,
-        rt.alloc(),
-        "begin t | snapshot 130
-del t 1 8 | refused: missing
-get t 1 7 | value 63
-del t 1 7 | ok
-del t 1 7 | refused: missing
-get t 1 7 | none
-submit t 5 140 | queued
-flush | idle
-redeem t | done 140
-at 1 7 139 | value 63
-at 1 7 140 | none
-begin t | snapshot 140
-del t 1 7 | refused: missing
-submit t 5 150 | readonly 140
-",
-    )
-}
-
-#[test]
-fn what_stood_at_each_time(rt: HostRuntime) -> Result<(), Fail> {
-    says_later(
-        &rt,
-        rt.alloc(),
-        "at 1 7 99 | none
-at 1 7 100 | value 61
-at 1 7 109 | value 61
-at 1 7 110 | value 62
-at 1 7 119 | value 62
-at 1 7 120 | none
-at 1 7 129 | none
-at 1 7 130 | value 63
-at 1 7 131 | refused: not yet 130
-at 2 7 130 | none
-times 1 | times 100
-times 3 | times 120
-times 5 | times
-",
-    )
-}
-
-#[test]
-fn a_transaction_reads_what_is_published(rt: HostRuntime) -> Result<(), Fail> {
-    says_later(
-        &rt,
-        rt.alloc(),
-        "begin a | snapshot 130
-put a 1 7 64 | ok
-submit a 5 140 | queued
-begin b | snapshot 130
-get b 1 7 | value 63
-flush | idle
-get b 1 7 | value 63
-begin c | snapshot 140
-get c 1 7 | value 64
-redeem a | done 140
-",
-    )
 }

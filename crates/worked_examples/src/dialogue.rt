@@ -134,13 +134,6 @@ pub fn says(rt: &impl Abort, alloc: Global, dialogue: &str) -> Result<(), Fail> 
     Ok(())
 }
 
-/// A dialogue on a store opened after the four commits.
-pub fn says_later(rt: &impl Abort, alloc: Global, dialogue: &str) -> Result<(), Fail> {
-    let disk = stored(rt, alloc, FOUR_COMMITS)?;
-    let _disk = converses(rt, alloc, disk, dialogue)?;
-    Ok(())
-}
-
 /// So many fields of this many bytes each.
 fn push_fields(text: &mut String, count: u32, len: u32) -> Result<(), AllocError> {
     for _ in 0..count {
@@ -193,13 +186,31 @@ pub fn stored_by_parts(
     converses(rt, alloc, disk, dialogue.as_str())
 }
 
-/// A dialogue of repeated parts on a new store of this many slots.
-pub fn says_parts(
-    rt: &impl Abort,
-    alloc: Global,
-    slots: u32,
-    parts: &[(&str, u32)],
-) -> Result<(), Fail> {
-    let _disk = stored_by_parts(rt, alloc, slots, parts)?;
+/// A dialogue on a store that is opened after another one.
+#[derive(Clone, Copy, Debug)]
+pub struct Script {
+    pub name: &'static str,
+    pub slots: u32,
+    /// The dialogue before it, on the new store.
+    pub before: &'static str,
+    /// Its parts, as `repeated` has them.
+    pub parts: &'static [(&'static str, u32)],
+}
+
+/// Each script must be answered as its dialogue says.
+pub fn hold(rt: &impl Abort, alloc: Global, scripts: &[Script]) -> Result<(), Fail> {
+    for script in scripts {
+        let disk = converses(
+            rt,
+            alloc,
+            new_store(rt, alloc, script.slots)?,
+            script.before,
+        )?;
+        let dialogue = repeated(alloc, script.parts)?;
+        let (lines, answers) = parted(alloc, dialogue.as_str())?;
+        let (said, status, _disk) = told(alloc, Action::Run { dir: "" }, disk, lines.as_str())?;
+        assert_eq!(rt; said.as_str(), answers.as_str(), "{}", script.name);
+        assert_eq!(rt; status, 0, "{}", script.name);
+    }
     Ok(())
 }

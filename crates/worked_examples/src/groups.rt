@@ -1,20 +1,24 @@
 //! Commits that are published under one gate, and the room in the log.
-use crate::dialogue::{says, says_parts};
+use crate::dialogue::{Script, hold};
 use std::test::Fail;
 
-#[test]
-fn seventeen_commits_take_two_slots(rt: HostRuntime) -> Result<(), Fail> {
-    let parts = [
-        (
-            "begin t# | snapshot 0
+/// Scripts of commits that wait for one another, and of a log that fills.
+const SCRIPTS: [Script; 3] = [
+    Script {
+        name: "seventeen_commits_take_two_slots",
+        slots: 64,
+        before: "",
+        parts: &[
+            (
+                "begin t# | snapshot 0
 put t# 1 # 61 | ok
 submit t# # 100 | queued
 ",
-            17,
-        ),
-        ("pump | wrote extent\n", 16),
-        (
-            "pump | heap synced
+                17,
+            ),
+            ("pump | wrote extent\n", 16),
+            (
+                "pump | heap synced
 pump | body written
 pump | body synced
 pump | gate written
@@ -29,22 +33,20 @@ pump | gate written
 pump | published 1
 pump | idle
 ",
-            1,
-        ),
-        ("redeem t# | done @\ntimes # | times @\n", 17),
-        ("reopen | last 116 floor 0\n", 1),
-        ("at 1 # 116 | value 61\n", 17),
-        ("at 1 16 115 | none\n", 1),
-    ];
-    says_parts(&rt, rt.alloc(), 64, parts.as_slice())
-}
-
-#[test]
-fn a_group_is_what_waits_when_it_begins(rt: HostRuntime) -> Result<(), Fail> {
-    says(
-        &rt,
-        rt.alloc(),
-        "begin a | snapshot 0
+                1,
+            ),
+            ("redeem t# | done @\ntimes # | times @\n", 17),
+            ("reopen | last 116 floor 0\n", 1),
+            ("at 1 # 116 | value 61\n", 17),
+            ("at 1 16 115 | none\n", 1),
+        ],
+    },
+    Script {
+        name: "a_group_is_what_waits_when_it_begins",
+        slots: 16,
+        before: "",
+        parts: &[(
+            "begin a | snapshot 0
 begin b | snapshot 0
 put a 1 7 61 | ok
 put b 1 8 62 | ok
@@ -67,23 +69,25 @@ pump | published 1
 redeem b | done 101
 pump | idle
 ",
-    )
-}
-
-#[test]
-fn two_slots_are_left_for_later(rt: HostRuntime) -> Result<(), Fail> {
-    let parts = [
-        (
-            "begin t | snapshot #
+            1,
+        )],
+    },
+    Script {
+        name: "two_slots_are_left_for_later",
+        slots: 16,
+        before: "",
+        parts: &[
+            (
+                "begin t | snapshot #
 put t 1 7 61 | ok
 submit t 1 0 | queued
 flush | idle
 redeem t | done +
 ",
-            13,
-        ),
-        (
-            "begin a | snapshot 13
+                13,
+            ),
+            (
+                "begin a | snapshot 13
 begin b | snapshot 13
 begin c | snapshot 13
 put a 1 7 62 | ok
@@ -99,8 +103,13 @@ submit d 1 0 | readonly 14
 reopen | last 14 floor 0
 at 1 7 14 | value 62
 ",
-            1,
-        ),
-    ];
-    says_parts(&rt, rt.alloc(), 16, parts.as_slice())
+                1,
+            ),
+        ],
+    },
+];
+
+#[test]
+fn groups_are_answered(rt: HostRuntime) -> Result<(), Fail> {
+    hold(&rt, rt.alloc(), &SCRIPTS)
 }

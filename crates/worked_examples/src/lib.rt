@@ -1,5 +1,5 @@
-//! Worked examples of the whole program: scripts with their answers, stores as bytes, stops, and
-//! refusals of the disk. There is nothing here but tests.
+//! Worked examples of the whole program: scripts with their answers, stores as bytes and as files,
+//! stops, and refusals of the disk, of the input and of the output. There is nothing here but tests.
 #![tactic(auto)]
 
 #[cfg(test)]
@@ -17,6 +17,12 @@ mod commits;
 #[cfg(test)]
 mod dialogue;
 #[cfg(test)]
+mod dumps;
+#[cfg(test)]
+mod files;
+#[cfg(test)]
+mod fronts;
+#[cfg(test)]
 mod groups;
 #[cfg(test)]
 mod intervals;
@@ -30,3 +36,5 @@ mod records;
 mod refused_calls;
 #[cfg(test)]
 mod stops;
+#[cfg(test)]
+mod streams;

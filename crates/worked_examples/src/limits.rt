@@ -1,12 +1,13 @@
 //! The limits of values and of write sets.
-use crate::bytes::has_extents;
-use crate::dialogue::stored_by_parts;
+use crate::bytes::{Stored, are_stored};
 use std::test::Fail;
 
-#[test]
-fn a_value_has_its_limits(rt: HostRuntime) -> Result<(), Fail> {
-    let parts = [(
-        "begin t | snapshot 0
+/// Dialogues that come to a limit, and the extents that they leave.
+const STORED: [Stored; 2] = [
+    Stored {
+        name: "a_value_has_its_limits",
+        parts: &[(
+            "begin t | snapshot 0
 put t 1 7A | ok
 put t 1 8A | ok
 put t 1 9 | refused: bad value
@@ -22,23 +23,20 @@ at 1 9 100 | none
 reopen | last 100 floor 0
 at 1 8 100 | valueA
 ",
-        1,
-    )];
-    let mut disk = stored_by_parts(&rt, rt.alloc(), 16, parts.as_slice())?;
-    let extents = [
-        "01000000 02000000 0c100000 00000000",
-        "02000000 00000000 0c100000 00000000",
-    ];
-    has_extents(&rt, rt.alloc(), &mut disk, extents.as_slice())
-}
-
-#[test]
-fn a_write_set_has_its_limit(rt: HostRuntime) -> Result<(), Fail> {
-    let parts = [
-        ("begin t | snapshot 0\n", 1),
-        ("put t 1 # 61 | ok\n", 1024),
-        (
-            "put t 1 1024 61 | refused: too many keys
+            1,
+        )],
+        extents: &[
+            "01000000 02000000 0c100000 00000000",
+            "02000000 00000000 0c100000 00000000",
+        ],
+    },
+    Stored {
+        name: "a_write_set_has_its_limit",
+        parts: &[
+            ("begin t | snapshot 0\n", 1),
+            ("put t 1 # 61 | ok\n", 1024),
+            (
+                "put t 1 1024 61 | refused: too many keys
 put t 1 5 61 | ok
 submit t 1 100 | queued
 pump | wrote extent
@@ -54,13 +52,17 @@ at 1 0 100 | value 61
 at 1 1023 100 | value 61
 at 1 1024 100 | none
 ",
-            1,
-        ),
-    ];
-    let mut disk = stored_by_parts(&rt, rt.alloc(), 16, parts.as_slice())?;
-    let extents = [
-        "01000000 02000000 f01f0000 00000000",
-        "02000000 00000000 10180000 00000000",
-    ];
-    has_extents(&rt, rt.alloc(), &mut disk, extents.as_slice())
+                1,
+            ),
+        ],
+        extents: &[
+            "01000000 02000000 f01f0000 00000000",
+            "02000000 00000000 10180000 00000000",
+        ],
+    },
+];
+
+#[test]
+fn limits_are_kept(rt: HostRuntime) -> Result<(), Fail> {
+    are_stored(&rt, rt.alloc(), &STORED)
 }

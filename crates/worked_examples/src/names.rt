@@ -1,13 +1,17 @@
 //! Names of a script.
-use crate::dialogue::{says, says_parts};
+use crate::dialogue::{Script, hold};
 use std::test::Fail;
 
-#[test]
-fn sixty_four_names_are_in_use(rt: HostRuntime) -> Result<(), Fail> {
-    let parts = [
-        ("begin n# | snapshot 0\n", 64),
-        (
-            "begin late | refused: name
+/// Scripts of names.
+const SCRIPTS: [Script; 2] = [
+    Script {
+        name: "sixty_four_names_are_in_use",
+        slots: 16,
+        before: "",
+        parts: &[
+            ("begin n# | snapshot 0\n", 64),
+            (
+                "begin late | refused: name
 put n63 1 7 61 | ok
 submit n63 1 100 | queued
 begin late | refused: name
@@ -20,18 +24,16 @@ begin later | snapshot 100
 reopen | last 100 floor 0
 begin n1 | snapshot 100
 ",
-            1,
-        ),
-    ];
-    says_parts(&rt, rt.alloc(), 16, parts.as_slice())
-}
-
-#[test]
-fn a_name_stands_for_one_thing(rt: HostRuntime) -> Result<(), Fail> {
-    says(
-        &rt,
-        rt.alloc(),
-        "put t 1 7 61 | refused: name
+                1,
+            ),
+        ],
+    },
+    Script {
+        name: "a_name_stands_for_one_thing",
+        slots: 16,
+        before: "",
+        parts: &[(
+            "put t 1 7 61 | refused: name
 del t 1 7 | refused: name
 get t 1 7 | refused: name
 submit t 1 100 | refused: name
@@ -59,5 +61,12 @@ begin t | snapshot 100
 reopen | last 100 floor 0
 get t 1 7 | refused: name
 ",
-    )
+            1,
+        )],
+    },
+];
+
+#[test]
+fn names_are_answered(rt: HostRuntime) -> Result<(), Fail> {
+    hold(&rt, rt.alloc(), &SCRIPTS)
 }

@@ -1,5 +1,5 @@
 //! What stands on the disk: headers, slots and records.
-use crate::bytes::{bytes_of, has_extents, spells};
+use crate::bytes::{Stored, are_stored, bytes_of, has_extents, spells};
 use crate::dialogue::{FOUR_COMMITS, stored};
 use disk::Area;
 use std::test::Fail;
@@ -24,149 +24,6 @@ flush | idle
     spells(&rt, alloc, &mut disk, Area::Status, 0, status)?;
     assert_eq!(rt; bytes_of(alloc, &mut disk, Area::Status)?.len(), 8704);
     has_extents(&rt, alloc, &mut disk, &[extent])
-}
-
-#[test]
-fn a_change_of_one_field_is_a_delta(rt: HostRuntime) -> Result<(), Fail> {
-    let mut disk = stored(
-        &rt,
-        rt.alloc(),
-        "begin a | snapshot 0
-put a 1 7 61 62 | ok
-submit a 1 100 | queued
-flush | idle
-begin b | snapshot 100
-put b 1 7 61 63 | ok
-submit b 2 110 | queued
-flush | idle
-begin c | snapshot 110
-put c 1 7 64 63 | ok
-submit c 3 120 | queued
-flush | idle
-reopen | last 120 floor 0
-at 1 7 100 | value 61 62
-at 1 7 110 | value 61 63
-at 1 7 120 | value 64 63
-",
-    )?;
-    let extents = [
-        "01000000 00000000 10000000 00000000 01 0100 0700000000000000 02 01 61 01 62 ..z 8160",
-        "02000000 00000000 0f000000 00000000 02 0100 0700000000000000 0200 01 63 ..z 8161",
-        "03000000 00000000 0f000000 00000000 02 0100 0700000000000000 0100 01 64 ..z 8161",
-    ];
-    has_extents(&rt, rt.alloc(), &mut disk, extents.as_slice())
-}
-
-#[test]
-fn an_unchanged_value_is_a_delta_without_fields(rt: HostRuntime) -> Result<(), Fail> {
-    let mut disk = stored(
-        &rt,
-        rt.alloc(),
-        "begin a | snapshot 0
-put a 1 7 61 61 61 | ok
-submit a 1 100 | queued
-flush | idle
-begin b | snapshot 100
-put b 1 7 61 61 61 | ok
-put b 1 8 61 61 61 | ok
-submit b 2 110 | queued
-flush | idle
-reopen | last 110 floor 0
-at 1 7 110 | value 61 61 61
-at 1 8 110 | value 61 61 61
-",
-    )?;
-    let extents = [
-        "01000000 00000000 12000000 00000000
-         01 0100 0700000000000000 03 01 61 01 61 01 61 ..z 8158",
-        "02000000 00000000 1f000000 00000000 02 0100 0700000000000000 0000
-         01 0100 0800000000000000 03 01 61 01 61 01 61 ..z 8145",
-    ];
-    has_extents(&rt, rt.alloc(), &mut disk, extents.as_slice())
-}
-
-#[test]
-fn a_delta_that_is_no_shorter_is_not_stored(rt: HostRuntime) -> Result<(), Fail> {
-    let mut disk = stored(
-        &rt,
-        rt.alloc(),
-        "begin a | snapshot 0
-put a 1 7 61 | ok
-put a 1 8 - | ok
-submit a 1 100 | queued
-flush | idle
-begin b | snapshot 100
-put b 1 7 62 | ok
-put b 1 8 - | ok
-submit b 2 110 | queued
-flush | idle
-reopen | last 110 floor 0
-at 1 7 110 | value 62
-at 1 8 110 | value -
-",
-    )?;
-    let extents = [
-        "01000000 00000000 1b000000 00000000 01 0100 0700000000000000 01 01 61
-         01 0100 0800000000000000 01 00 ..z 8149",
-        "02000000 00000000 1b000000 00000000 01 0100 0700000000000000 01 01 62
-         01 0100 0800000000000000 01 00 ..z 8149",
-    ];
-    has_extents(&rt, rt.alloc(), &mut disk, extents.as_slice())
-}
-
-#[test]
-fn another_count_of_fields_is_stored_whole(rt: HostRuntime) -> Result<(), Fail> {
-    let mut disk = stored(
-        &rt,
-        rt.alloc(),
-        "begin a | snapshot 0
-put a 1 7 61 62 63 | ok
-submit a 1 100 | queued
-flush | idle
-begin b | snapshot 100
-put b 1 7 61 62 | ok
-submit b 2 110 | queued
-flush | idle
-reopen | last 110 floor 0
-at 1 7 110 | value 61 62
-",
-    )?;
-    let extents = [
-        "01000000 00000000 12000000 00000000
-         01 0100 0700000000000000 03 01 61 01 62 01 63 ..z 8158",
-        "02000000 00000000 10000000 00000000 01 0100 0700000000000000 02 01 61 01 62 ..z 8160",
-    ];
-    has_extents(&rt, rt.alloc(), &mut disk, extents.as_slice())
-}
-
-#[test]
-fn after_a_deletion_a_value_is_stored_whole(rt: HostRuntime) -> Result<(), Fail> {
-    let mut disk = stored(
-        &rt,
-        rt.alloc(),
-        "begin a | snapshot 0
-put a 1 7 61 62 | ok
-submit a 1 100 | queued
-flush | idle
-begin b | snapshot 100
-del b 1 7 | ok
-submit b 2 110 | queued
-flush | idle
-begin c | snapshot 110
-put c 1 7 61 63 | ok
-submit c 3 120 | queued
-flush | idle
-reopen | last 120 floor 0
-at 1 7 119 | none
-at 1 7 120 | value 61 63
-",
-    )?;
-    let extents = [
-        "01000000 00000000 10000000 00000000 01 0100 0700000000000000 02 01 61 01 62 ..z 8160",
-        "02000000 00000000 0b000000 00000000 03 0100 0700000000000000 ..z 8165",
-        "03000000 00000000 10000000 00000000 01 0100 0700000000000000 02 01 61 01 63 ..z 8160",
-    ];
-    has_extents(&rt, rt.alloc(), &mut disk, extents.as_slice())
 }
 
 #[test]
@@ -196,14 +53,149 @@ flush | idle
     )
 }
 
+/// Dialogues on a new store, and the extents that they leave.
+const STORED: [Stored; 6] = [
+    Stored {
+        name: "a_change_of_one_field_is_a_delta",
+        parts: &[(
+            "begin a | snapshot 0
+put a 1 7 61 62 | ok
+submit a 1 100 | queued
+flush | idle
+begin b | snapshot 100
+put b 1 7 61 63 | ok
+submit b 2 110 | queued
+flush | idle
+begin c | snapshot 110
+put c 1 7 64 63 | ok
+submit c 3 120 | queued
+flush | idle
+reopen | last 120 floor 0
+at 1 7 100 | value 61 62
+at 1 7 110 | value 61 63
+at 1 7 120 | value 64 63
+",
+            1,
+        )],
+        extents: &[
+            "01000000 00000000 10000000 00000000 01 0100 0700000000000000 02 01 61 01 62 ..z 8160",
+            "02000000 00000000 0f000000 00000000 02 0100 0700000000000000 0200 01 63 ..z 8161",
+            "03000000 00000000 0f000000 00000000 02 0100 0700000000000000 0100 01 64 ..z 8161",
+        ],
+    },
+    Stored {
+        name: "an_unchanged_value_is_a_delta_without_fields",
+        parts: &[(
+            "begin a | snapshot 0
+put a 1 7 61 61 61 | ok
+submit a 1 100 | queued
+flush | idle
+begin b | snapshot 100
+put b 1 7 61 61 61 | ok
+put b 1 8 61 61 61 | ok
+submit b 2 110 | queued
+flush | idle
+reopen | last 110 floor 0
+at 1 7 110 | value 61 61 61
+at 1 8 110 | value 61 61 61
+",
+            1,
+        )],
+        extents: &[
+            "01000000 00000000 12000000 00000000
+         01 0100 0700000000000000 03 01 61 01 61 01 61 ..z 8158",
+            "02000000 00000000 1f000000 00000000 02 0100 0700000000000000 0000
+         01 0100 0800000000000000 03 01 61 01 61 01 61 ..z 8145",
+        ],
+    },
+    Stored {
+        name: "a_delta_that_is_no_shorter_is_not_stored",
+        parts: &[(
+            "begin a | snapshot 0
+put a 1 7 61 | ok
+put a 1 8 - | ok
+submit a 1 100 | queued
+flush | idle
+begin b | snapshot 100
+put b 1 7 62 | ok
+put b 1 8 - | ok
+submit b 2 110 | queued
+flush | idle
+reopen | last 110 floor 0
+at 1 7 110 | value 62
+at 1 8 110 | value -
+",
+            1,
+        )],
+        extents: &[
+            "01000000 00000000 1b000000 00000000 01 0100 0700000000000000 01 01 61
+         01 0100 0800000000000000 01 00 ..z 8149",
+            "02000000 00000000 1b000000 00000000 01 0100 0700000000000000 01 01 62
+         01 0100 0800000000000000 01 00 ..z 8149",
+        ],
+    },
+    Stored {
+        name: "another_count_of_fields_is_stored_whole",
+        parts: &[(
+            "begin a | snapshot 0
+put a 1 7 61 62 63 | ok
+submit a 1 100 | queued
+flush | idle
+begin b | snapshot 100
+put b 1 7 61 62 | ok
+submit b 2 110 | queued
+flush | idle
+reopen | last 110 floor 0
+at 1 7 110 | value 61 62
+",
+            1,
+        )],
+        extents: &[
+            "01000000 00000000 12000000 00000000
+         01 0100 0700000000000000 03 01 61 01 62 01 63 ..z 8158",
+            "02000000 00000000 10000000 00000000 01 0100 0700000000000000 02 01 61 01 62 ..z 8160",
+        ],
+    },
+    Stored {
+        name: "after_a_deletion_a_value_is_stored_whole",
+        parts: &[(
+            "begin a | snapshot 0
+put a 1 7 61 62 | ok
+submit a 1 100 | queued
+flush | idle
+begin b | snapshot 100
+del b 1 7 | ok
+submit b 2 110 | queued
+flush | idle
+begin c | snapshot 110
+put c 1 7 61 63 | ok
+submit c 3 120 | queued
+flush | idle
+reopen | last 120 floor 0
+at 1 7 119 | none
+at 1 7 120 | value 61 63
+",
+            1,
+        )],
+        extents: &[
+            "01000000 00000000 10000000 00000000 01 0100 0700000000000000 02 01 61 01 62 ..z 8160",
+            "02000000 00000000 0b000000 00000000 03 0100 0700000000000000 ..z 8165",
+            "03000000 00000000 10000000 00000000 01 0100 0700000000000000 02 01 61 01 63 ..z 8160",
+        ],
+    },
+    Stored {
+        name: "four_commits_have_four_extents",
+        parts: &[(FOUR_COMMITS, 1)],
+        extents: &[
+            "01000000 00000000 0e000000 00000000 01 0100 0700000000000000 01 01 61 ..z 8162",
+            "02000000 00000000 0e000000 00000000 01 0100 0700000000000000 01 01 62 ..z 8162",
+            "03000000 00000000 0b000000 00000000 03 0100 0700000000000000 ..z 8165",
+            "04000000 00000000 0e000000 00000000 01 0100 0700000000000000 01 01 63 ..z 8162",
+        ],
+    },
+];
+
 #[test]
-fn four_commits_have_four_extents(rt: HostRuntime) -> Result<(), Fail> {
-    let mut disk = stored(&rt, rt.alloc(), FOUR_COMMITS)?;
-    let extents = [
-        "01000000 00000000 0e000000 00000000 01 0100 0700000000000000 01 01 61 ..z 8162",
-        "02000000 00000000 0e000000 00000000 01 0100 0700000000000000 01 01 62 ..z 8162",
-        "03000000 00000000 0b000000 00000000 03 0100 0700000000000000 ..z 8165",
-        "04000000 00000000 0e000000 00000000 01 0100 0700000000000000 01 01 63 ..z 8162",
-    ];
-    has_extents(&rt, rt.alloc(), &mut disk, extents.as_slice())
+fn records_are_stored(rt: HostRuntime) -> Result<(), Fail> {
+    are_stored(&rt, rt.alloc(), &STORED)
 }

@@ -1,0 +1,314 @@
+//! A script of commits and an archive, stopped before, within and after each call of the disk: what is
+//! opened again is what the lines `done` say, or that with the whole group whose gate was begun.
+use crate::dialogue::{converses, new_store, says, told};
+use disk::{Fault, FaultDisk, MemDisk};
+use shell::Action;
+use std::alloc::{AllocError, Global};
+use std::process::Abort;
+use std::test::Fail;
+
+/// Three groups, of two commits, one and three, and an archive before the last, step by step.
+const SCRIPT: &str = "begin a | snapshot 0
+begin b | snapshot 0
+put a 1 7 61 | ok
+put b 1 8 62 | ok
+submit a 1 100 | queued
+submit b 2 100 | queued
+pump | wrote extent
+pump | wrote extent
+pump | heap synced
+pump | body written
+pump | body synced
+pump | gate written
+pump | published 2
+redeem a | done 100
+redeem b | done 101
+begin c | snapshot 101
+put c 1 7 63 | ok
+del c 1 8 | ok
+submit c 3 110 | queued
+pump | wrote extent
+pump | heap synced
+pump | body written
+pump | body synced
+pump | gate written
+pump | published 1
+redeem c | done 110
+archive 110 | started
+job | wrote run
+job | run synced
+job | body written
+job | body synced
+job | gate written
+job | job done
+begin d | snapshot 110
+begin e | snapshot 110
+begin f | snapshot 110
+put d 1 9 64 | ok
+put e 1 7 65 | ok
+put f 2 7 66 | ok
+submit d 4 120 | queued
+submit e 5 120 | queued
+submit f 6 120 | queued
+pump | wrote extent
+pump | wrote extent
+pump | wrote extent
+pump | heap synced
+pump | body written
+pump | body synced
+pump | gate written
+pump | published 3
+redeem d | done 120
+redeem e | done 121
+redeem f | done 122
+";
+
+/// The calls of the steps: seven of the first group, six of the second, six of the archive and eight
+/// of the third group.
+const STEPS: u32 = 27;
+
+/// All that is to be had of the store once so many of the groups are published.
+const FRONTS: [&str; 4] = [
+    "reopen | last 0 floor 0
+between 1 7 0 1 | rows 0
+between 1 8 0 1 | rows 0
+between 1 9 0 1 | rows 0
+between 2 7 0 1 | rows 0
+scan 1 0 | rows 0
+times 1 | times
+times 2 | times
+times 3 | times
+times 4 | times
+times 5 | times
+times 6 | times
+",
+    "reopen | last 101 floor 0
+between 1 7 0 102 | 100 102 61
+| rows 1
+between 1 8 0 102 | 101 102 62
+| rows 1
+between 1 9 0 102 | rows 0
+between 2 7 0 102 | rows 0
+scan 1 101 | 7 61
+| 8 62
+| rows 2
+times 1 | times 100
+times 2 | times 101
+times 3 | times
+times 4 | times
+times 5 | times
+times 6 | times
+",
+    "reopen | last 110 floor 0
+between 1 7 0 111 | 100 110 61
+| 110 111 63
+| rows 2
+between 1 8 0 111 | 101 110 62
+| rows 1
+between 1 9 0 111 | rows 0
+between 2 7 0 111 | rows 0
+scan 1 110 | 7 63
+| rows 1
+times 1 | times 100
+times 2 | times 101
+times 3 | times 110
+times 4 | times
+times 5 | times
+times 6 | times
+",
+    "reopen | last 122 floor 0
+between 1 7 0 123 | 100 110 61
+| 110 121 63
+| 121 123 65
+| rows 3
+between 1 8 0 123 | 101 110 62
+| rows 1
+between 1 9 0 123 | 120 123 64
+| rows 1
+between 2 7 0 123 | 122 123 66
+| rows 1
+scan 1 122 | 7 65
+| 9 64
+| rows 2
+scan 2 122 | 7 66
+| rows 1
+times 1 | times 100
+times 2 | times 101
+times 3 | times 110
+times 4 | times 120
+times 5 | times 121
+times 6 | times 122
+",
+];
+
+/// The last line `done` of each group.
+const DONE: [&str; 3] = ["done 101\n", "done 110\n", "done 122\n"];
+
+/// How many groups the lines `done` name.
+fn groups_done(said: &str) -> usize {
+    let mut groups: usize = 0;
+    for line in DONE {
+        if said.contains(line) {
+            groups = groups.saturating_add(1);
+        }
+    }
+    groups
+}
+
+/// How many groups were published.
+fn groups_published(said: &str) -> usize {
+    let mut groups: usize = 0;
+    for line in said.lines() {
+        if line.starts_with("published ") {
+            groups = groups.saturating_add(1);
+        }
+    }
+    groups
+}
+
+/// Whether a slot is in the writing that is an archive's, and no group's.
+fn is_archiving(said: &str) -> bool {
+    said.contains("started\n") && !said.contains("job done\n")
+}
+
+/// What was said before the disk stopped.
+fn before_stop(said: &str) -> &str {
+    match said.split_once("refused: failed\n") {
+        Some((before, _)) => before,
+        None => said,
+    }
+}
+
+/// How many groups stand on what a stop within a call leaves, whose torn bytes are these: one more
+/// than were done, where its gate was being written, or was written and not synced, and is open.
+fn groups_within(said: &str, fill: u8) -> usize {
+    let before = before_stop(said);
+    let at_gate = before.ends_with("body synced\n") || before.ends_with("gate written\n");
+    let begun = at_gate && !is_archiving(before);
+    groups_done(said).saturating_add(usize::from(begun && fill == 0xC7))
+}
+
+/// How many groups stand on what a stop between two calls leaves, whose torn bytes are these: one
+/// more than were published, where its gate was written and not synced, and is open.
+fn groups_between(said: &str, fill: u8) -> usize {
+    let begun = said.ends_with("gate written\n") && !is_archiving(said);
+    groups_published(said).saturating_add(usize::from(begun && fill == 0xC7))
+}
+
+/// What a torn place may hold.
+const FILLS: [u8; 3] = [0x00, 0xC7, 0xFF];
+
+/// The store that a stop left must have just these groups.
+fn has_groups(rt: &impl Abort, alloc: Global, left: MemDisk, groups: usize) -> Result<(), Fail> {
+    let front = FRONTS.get(groups).ok_or("no such front")?;
+    let _disk = converses(rt, alloc, left, front)?;
+    Ok(())
+}
+
+/// Opens what a stop within a call may leave, with each filling of what is torn.
+fn opens_each_left(
+    rt: &impl Abort,
+    alloc: Global,
+    said: &str,
+    disk: &FaultDisk,
+) -> Result<(), Fail> {
+    assert!(rt; !disk.ran_short());
+    assert_eq!(rt; groups_done(said), groups_published(said));
+    for fill in FILLS {
+        let long = [fill; 700];
+        for tail in [b"".as_slice(), long.as_slice()] {
+            has_groups(
+                rt,
+                alloc,
+                disk.left(alloc, fill, tail)?,
+                groups_within(said, fill),
+            )?;
+        }
+    }
+    Ok(())
+}
+
+/// The commands of the script's first lines.
+fn commands(alloc: Global, lines: usize) -> Result<String, AllocError> {
+    let mut text = String::new(alloc);
+    for line in SCRIPT.lines().take(lines) {
+        if let Some((command, _)) = line.split_once(" | ") {
+            text.push_str(command)?;
+            text.push('\n')?;
+        }
+    }
+    Ok(text)
+}
+
+/// The whole script on a disk that stops at a call: what was said, and the disk.
+fn stopped(
+    rt: &impl Abort,
+    alloc: Global,
+    script: &str,
+    calls_before: u64,
+    write_reaches: bool,
+) -> Result<(String, FaultDisk), Fail> {
+    let fault = Fault {
+        calls_before,
+        write_reaches,
+        stops: true,
+    };
+    let disk = FaultDisk::new(new_store(rt, alloc, 16)?, fault);
+    let (said, _, disk) = told(alloc, Action::Run { dir: "" }, disk, script)?;
+    Ok((said, disk))
+}
+
+/// Stops at each call in turn. A stop is met by each step once, and before them by the opening.
+fn stops_within_each_call(rt: &impl Abort, alloc: Global, write_reaches: bool) -> Result<(), Fail> {
+    let script = commands(alloc, usize::MAX)?;
+    let mut stops: u32 = 0;
+    for calls in 0..200 {
+        let (said, disk) = stopped(rt, alloc, script.as_str(), calls, write_reaches)?;
+        opens_each_left(rt, alloc, said.as_str(), &disk)?;
+        if said.contains("done 122\n") {
+            break;
+        }
+        if said.contains("refused: failed\n") {
+            stops = stops.saturating_add(1);
+        }
+    }
+    assert_eq!(rt; stops, STEPS);
+    Ok(())
+}
+
+#[test]
+fn a_stop_within_a_call_leaves_what_is_done_or_one_more_group(rt: HostRuntime) -> Result<(), Fail> {
+    says(&rt, rt.alloc(), SCRIPT)?;
+    stops_within_each_call(&rt, rt.alloc(), false)
+}
+
+#[test]
+fn a_stop_after_a_call_leaves_what_is_done_or_one_more_group(rt: HostRuntime) -> Result<(), Fail> {
+    stops_within_each_call(&rt, rt.alloc(), true)
+}
+
+/// Stops behind a line of the script: each of what the machine may then leave must have the groups
+/// that are published, or one more whose gate is open; and the disk as it is must have the latter.
+fn stops_behind_line(rt: &impl Abort, alloc: Global, lines: usize) -> Result<(), Fail> {
+    let script = commands(alloc, lines)?;
+    let (said, status, disk) = told(
+        alloc,
+        Action::Run { dir: "" },
+        new_store(rt, alloc, 16)?,
+        script.as_str(),
+    )?;
+    assert_eq!(rt; status, 0);
+    for fill in FILLS {
+        let left = disk.left(alloc, fill, b"")?;
+        has_groups(rt, alloc, left, groups_between(said.as_str(), fill))?;
+    }
+    has_groups(rt, alloc, disk, groups_between(said.as_str(), 0xC7))
+}
+
+#[test]
+fn a_stop_between_calls_leaves_what_is_done_or_one_more_group(rt: HostRuntime) -> Result<(), Fail> {
+    for lines in 0..SCRIPT.lines().count() {
+        stops_behind_line(&rt, rt.alloc(), lines)?;
+    }
+    Ok(())
+}
