@@ -4,7 +4,7 @@ use chains::SharedValue;
 use disk::{Area, Disk, MemDisk};
 use history::Key;
 use script::parse;
-use session::{MARK, Reply, Session, write_reply};
+use session::{Answers, MARK, Reply, Session, write_reply};
 use std::alloc::Global;
 use std::process::Abort;
 use std::test::Fail;
@@ -231,8 +231,9 @@ fn a_strangers_tokens_are_only_spent(rt: HostRuntime) -> Result<(), Fail> {
 
 /// A reply must be written so.
 fn is_written(rt: &impl Abort, alloc: Global, reply: &Reply, text: &str) {
-    let mut written = Vec::new(alloc);
-    assert!(rt; write_reply(&mut written, reply).is_ok());
+    let mut answers = Answers::new(alloc, Vec::new(alloc));
+    assert!(rt; write_reply(&mut answers, reply).is_ok());
+    let written = answers.into_writer();
     assert!(rt; written.as_slice() == text.as_bytes(), "{text}");
 }
 
