@@ -14,7 +14,7 @@ const BYTES: [u8; 74] = [
     0, 0, 0, 0, 0, 0, 0, 0, 0x1d, 0, 0, 0, 0, 0, 0, 0,
 ];
 
-fn opened(rt: &impl Abort, alloc: Global, disk: MemDisk) -> Store<MemDisk> {
+pub(crate) fn opened(rt: &impl Abort, alloc: Global, disk: MemDisk) -> Store<MemDisk> {
     match Store::open(alloc, disk, 1) {
         Ok(store) => store,
         Err((fault, _)) => panic!(rt; "{fault:?}"),
@@ -22,7 +22,7 @@ fn opened(rt: &impl Abort, alloc: Global, disk: MemDisk) -> Store<MemDisk> {
 }
 
 /// Queues a commit that writes a value of this one field, or deletes the record.
-fn queue(
+pub(crate) fn queue(
     rt: &impl Abort,
     alloc: Global,
     store: &mut Store<MemDisk>,
@@ -46,7 +46,7 @@ fn queue(
 }
 
 /// Takes steps of groups up to this one.
-fn pump_to(rt: &impl Abort, store: &mut Store<MemDisk>, last: Did) {
+pub(crate) fn pump_to(rt: &impl Abort, store: &mut Store<MemDisk>, last: Did) {
     for _ in 0..100 {
         match store.pump() {
             Ok(did) => {
@@ -61,7 +61,7 @@ fn pump_to(rt: &impl Abort, store: &mut Store<MemDisk>, last: Did) {
 }
 
 /// A new store whose record is a from 100 on and b from 110 on.
-fn two_commits(rt: &impl Abort, alloc: Global) -> Result<Store<MemDisk>, Fail> {
+pub(crate) fn two_commits(rt: &impl Abort, alloc: Global) -> Result<Store<MemDisk>, Fail> {
     let mut disk = MemDisk::new(alloc);
     format(alloc, &mut disk, 16)?;
     let mut store = opened(rt, alloc, disk);
