@@ -20,6 +20,8 @@ mod open_transactions;
 #[cfg(test)]
 mod published;
 #[cfg(test)]
+mod reclaim_steps;
+#[cfg(test)]
 mod script_lines;
 #[cfg(test)]
 mod views;

@@ -139,8 +139,10 @@ fn a_commit_is_stored_and_kept(rt: HostRuntime) -> Result<(), Fail> {
     let waits = Queued::new(
         ENTRY,
         Frozen::new(),
+        0,
         stored_in(alloc, &mut extents, &bodies)?,
     );
+    assert_eq!(rt; waits.reclaimed(), 0);
     assert!(rt; waits.entry() == ENTRY);
     assert!(rt; is_extent(waits.stored()));
     assert!(rt; waits.after().at(SEVEN, 100).is_none());

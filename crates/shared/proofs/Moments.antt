@@ -33,7 +33,7 @@ said-at view h floors key time (Ok o) stands says =
     let last_is = stands.last_is in
     let low : nat_lt time (floors key.relation) ≡ false = let from = says.from_floor in let above : floors key.relation ≤ time = omega arith in grind (arith, nat_tests) in
     let high : nat_lt (last h) time ≡ false = let upto = says.upto_last in let below : time ≤ last h = omega arith in grind (arith, nat_tests) in
-    rw (low, high) (ap (λ (x : Option Value). Ok x) (sym (says.is ∙ ap (λ (ws : List (TimedWrite Value)). value_at ws time) (stands.state_is.writes key))))
+    rw (low, high) (ap (λ (x : Option Value). Ok x) (sym (says.is ∙ ap (λ (ws : List (TimedWrite Value)). value_at ws time) (stands.state_is key))))
 said-at view h floors key time (Err (query.BeforeKept floor)) stands says =
     let same = stands.floor_is key.relation in
     let low : nat_lt time (floors key.relation) ≡ true = let before = says.0 in let below : time < floors key.relation = omega arith in grind (arith, nat_tests) in

@@ -1,0 +1,193 @@
+//! Reclaims of a store, call by call.
+use crate::published::SEVEN;
+use disk::{Area, Disk, MemDisk};
+use recovery::format;
+use std::alloc::Global;
+use std::process::Abort;
+use std::test::Fail;
+use store::{Did, JobDid, StartFault, Store, Submitted};
+
+/// The first bytes of slot 5 once it names a reclaim up to 120 that left no anchors.
+const NO_ANCHORS: [u8; 28] = [
+    0xc7, 3, 0, 0, 5, 0, 0, 0, 0x78, 0, 0, 0, 0, 0, 0, 0, 0, 0, 0, 0, 0, 0, 0, 0, 0, 0, 0, 0,
+];
+
+/// The first bytes of slot 3 once it names a reclaim up to 105, whose one anchor is in extent 3.
+const ONE_ANCHOR: [u8; 28] = [
+    0xc7, 3, 0, 0, 3, 0, 0, 0, 0x69, 0, 0, 0, 0, 0, 0, 0, 3, 0, 0, 0, 1, 0, 0, 0, 1, 0, 0, 0,
+];
+
+/// Extent 3, the last of its chain, with 22 bytes of records: a, which stands from 100 on.
+const ANCHOR_FRONT: [u8; 38] = [
+    3, 0, 0, 0, 0, 0, 0, 0, 0x16, 0, 0, 0, 0, 0, 0, 0, 4, 1, 0, 7, 0, 0, 0, 0, 0, 0, 0, 0x64, 0, 0,
+    0, 0, 0, 0, 0, 1, 1, 0x61,
+];
+
+/// Extent 1, the last of its chain, with 14 bytes of records: the value d.
+const NEXT_FRONT: [u8; 30] = [
+    1, 0, 0, 0, 0, 0, 0, 0, 0x0e, 0, 0, 0, 0, 0, 0, 0, 1, 1, 0, 7, 0, 0, 0, 0, 0, 0, 0, 1, 1, 0x64,
+];
+
+fn opened(rt: &impl Abort, alloc: Global, disk: MemDisk) -> Store<MemDisk> {
+    match Store::open(alloc, disk, 1) {
+        Ok(store) => store,
+        Err((fault, _)) => panic!(rt; "{fault:?}"),
+    }
+}
+
+/// Queues a commit that writes a value of this one field, or deletes the record.
+fn queue(
+    rt: &impl Abort,
+    alloc: Global,
+    store: &mut Store<MemDisk>,
+    field: Option<&[u8]>,
+    now: u64,
+) {
+    let mut txn = match store.begin() {
+        Ok(txn) => txn,
+        Err(fault) => panic!(rt; "{fault:?}"),
+    };
+    let written = match field {
+        Some(field) => txn.put(alloc, SEVEN, &[field]),
+        None => txn.delete(SEVEN),
+    };
+    assert!(rt; written.is_ok());
+    match store.submit(txn, 9, now) {
+        Ok(Submitted::Queued(ticket)) => ticket.give_up(),
+        Ok(Submitted::ReadOnly(_)) => panic!(rt; "nothing was written"),
+        Err(fault) => panic!(rt; "{fault:?}"),
+    }
+}
+
+/// Takes steps of groups up to this one.
+fn pump_to(rt: &impl Abort, store: &mut Store<MemDisk>, last: Did) {
+    for _ in 0..100 {
+        match store.pump() {
+            Ok(did) => {
+                if did == last {
+                    return;
+                }
+            }
+            Err(fault) => panic!(rt; "{fault:?}"),
+        }
+    }
+    panic!(rt; "no such step");
+}
+
+/// A new store whose record is a from 100 on and b from 110 on.
+fn two_commits(rt: &impl Abort, alloc: Global) -> Result<Store<MemDisk>, Fail> {
+    let mut disk = MemDisk::new(alloc);
+    format(alloc, &mut disk, 16)?;
+    let mut store = opened(rt, alloc, disk);
+    queue(rt, alloc, &mut store, Some(b"a"), 100);
+    pump_to(rt, &mut store, Did::Idle);
+    queue(rt, alloc, &mut store, Some(b"b"), 110);
+    pump_to(rt, &mut store, Did::Idle);
+    Ok(store)
+}
+
+/// Steps of a job, each with its answer.
+fn take_steps(rt: &impl Abort, store: &mut Store<MemDisk>, steps: &[JobDid]) {
+    for did in steps {
+        assert_eq!(rt; store.job_pump(), Ok(*did));
+    }
+}
+
+const SLOT_STEPS: [JobDid; 5] = [
+    JobDid::BodyWritten,
+    JobDid::BodySynced,
+    JobDid::GateWritten,
+    JobDid::JobDone,
+    JobDid::Idle,
+];
+
+/// A new store whose record is a from 100 on, b from 110 on, gone at 120 and c from 130 on.
+fn four_commits(rt: &impl Abort, alloc: Global) -> Result<Store<MemDisk>, Fail> {
+    let mut store = two_commits(rt, alloc)?;
+    queue(rt, alloc, &mut store, None, 120);
+    pump_to(rt, &mut store, Did::Idle);
+    queue(rt, alloc, &mut store, Some(b"c"), 130);
+    pump_to(rt, &mut store, Did::Idle);
+    Ok(store)
+}
+
+/// The archive up to a time is made, whose run has so many pieces.
+fn archive(rt: &impl Abort, store: &mut Store<MemDisk>, upto: u64, pieces: usize) {
+    assert_eq!(rt; store.archive_start(upto), Ok(()));
+    for _ in 0..pieces {
+        take_steps(rt, store, &[JobDid::WroteRun]);
+    }
+    take_steps(rt, store, &[JobDid::RunSynced]);
+    take_steps(rt, store, &SLOT_STEPS);
+}
+
+/// Whether an area holds these bytes at this place.
+fn holds(
+    disk: &mut MemDisk,
+    area: Area,
+    place: u64,
+    bytes: &[u8],
+    found: &mut [u8],
+) -> Result<bool, Fail> {
+    if found.len() != bytes.len() || disk.len(area)? < place + found.len() as u64 {
+        return Ok(false);
+    }
+    disk.read(area, place, found)?;
+    Ok(found == bytes)
+}
+
+#[test]
+fn a_reclaim_frees_what_ended(rt: HostRuntime) -> Result<(), Fail> {
+    let alloc = rt.alloc();
+    let mut store = four_commits(&rt, alloc)?;
+    archive(&rt, &mut store, 120, 1);
+    assert_eq!(rt; store.reclaim_start(), Ok(()));
+    assert_eq!(rt; store.reclaim_start(), Err(StartFault::JobBusy));
+    take_steps(&rt, &mut store, &[JobDid::HeapSynced]);
+    take_steps(&rt, &mut store, &SLOT_STEPS);
+    assert_eq!(rt; store.reclaim_start(), Err(StartFault::NothingToDo));
+    // Extents 1, 2 and 3 are free: the next commit takes extent 1.
+    queue(&rt, alloc, &mut store, Some(b"d"), 140);
+    pump_to(&rt, &mut store, Did::Idle);
+    let mut disk = store.close();
+    assert!(rt; holds(&mut disk, Area::Status, 3072, &NO_ANCHORS, &mut [0; 28])?);
+    assert!(rt; holds(&mut disk, Area::Heap, 0, &NEXT_FRONT, &mut [0; 30])?);
+    Ok(())
+}
+
+#[test]
+fn what_stands_at_the_mark_is_an_anchor(rt: HostRuntime) -> Result<(), Fail> {
+    let alloc = rt.alloc();
+    let mut store = two_commits(&rt, alloc)?;
+    // Nothing ended by 105.
+    archive(&rt, &mut store, 105, 0);
+    assert_eq!(rt; store.reclaim_start(), Ok(()));
+    take_steps(&rt, &mut store, &[JobDid::WroteExtent, JobDid::HeapSynced]);
+    take_steps(&rt, &mut store, &SLOT_STEPS);
+    queue(&rt, alloc, &mut store, Some(b"d"), 120);
+    pump_to(&rt, &mut store, Did::Idle);
+    let mut disk = store.close();
+    assert!(rt; holds(&mut disk, Area::Status, 2048, &ONE_ANCHOR, &mut [0; 28])?);
+    assert!(rt; holds(&mut disk, Area::Heap, 16384, &ANCHOR_FRONT, &mut [0; 38])?);
+    assert!(rt; holds(&mut disk, Area::Heap, 0, &NEXT_FRONT, &mut [0; 30])?);
+    Ok(())
+}
+
+#[test]
+fn a_transaction_below_the_mark_bars_a_reclaim(rt: HostRuntime) -> Result<(), Fail> {
+    let alloc = rt.alloc();
+    let mut store = two_commits(&rt, alloc)?;
+    assert_eq!(rt; store.reclaim_start(), Err(StartFault::NothingToDo));
+    let reads = match store.begin() {
+        Ok(txn) => txn,
+        Err(fault) => panic!(&rt; "{fault:?}"),
+    };
+    queue(&rt, alloc, &mut store, None, 120);
+    pump_to(&rt, &mut store, Did::Idle);
+    archive(&rt, &mut store, 120, 1);
+    assert_eq!(rt; store.reclaim_start(), Err(StartFault::InUse(110)));
+    store.abort(reads);
+    assert_eq!(rt; store.reclaim_start(), Ok(()));
+    let _disk = store.close();
+    Ok(())
+}
