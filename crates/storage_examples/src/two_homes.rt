@@ -80,8 +80,14 @@ fn both_homes_say_what_stood_at_a_time(rt: HostRuntime) -> Result<(), Fail> {
             };
             let want = standing(time);
             assert!(rt; found.as_ref().map(byte_of) == want, "{mark} {time}");
-            assert!(rt; listed.len() == usize::from(want.is_some()), "{mark} {time}");
-            assert!(rt; listed.first().map(|row| byte_of(&row.1)) == want, "{mark} {time}");
+            assert!(rt;
+                listed.len() == usize::from(want.is_some()),
+                "{mark} {time}"
+            );
+            assert!(rt;
+                listed.first().map(|row| byte_of(&row.1)) == want,
+                "{mark} {time}"
+            );
         }
         view.spend();
     }
@@ -95,7 +101,14 @@ fn a_version_in_both_homes_is_shown_once(rt: HostRuntime) -> Result<(), Fail> {
     let mut reader = ArchiveReader::new(alloc)?;
     for mark in [110, 120] {
         let view = reclaimed(alloc, mark)?;
-        for (a, b) in [(100, 131), (105, 115), (112, 118), (109, 110), (120, 130), (119, 131)] {
+        for (a, b) in [
+            (100, 131),
+            (105, 115),
+            (112, 118),
+            (109, 110),
+            (120, 130),
+            (119, 131),
+        ] {
             let rows = view.rows_between(alloc, &mut reader, &mut disk, KEY, a, b);
             let listed = view.scan_rows_between(alloc, &mut reader, &mut disk, 1, a, b);
             let (Ok(rows), Ok(listed)) = (rows, listed) else {
@@ -103,9 +116,23 @@ fn a_version_in_both_homes_is_shown_once(rt: HostRuntime) -> Result<(), Fail> {
                 return Err(Fail::from("refused"));
             };
             let want = parts(alloc, a, b)?;
-            assert!(rt; rows.len() == want.len() && listed.len() == want.len(), "{mark} {a} {b}");
-            assert!(rt; rows.iter().zip(want.iter()).all(|(row, part)| is_row(row, part)), "{mark} {a} {b}");
-            assert!(rt; listed.iter().zip(want.iter()).all(|(row, part)| row.0 == 7 && is_row(&row.1, part)), "{mark} {a} {b}");
+            assert!(rt;
+                rows.len() == want.len() && listed.len() == want.len(),
+                "{mark} {a} {b}"
+            );
+            assert!(rt;
+                rows.iter()
+                    .zip(want.iter())
+                    .all(|(row, part)| is_row(row, part)),
+                "{mark} {a} {b}"
+            );
+            assert!(rt;
+                listed
+                    .iter()
+                    .zip(want.iter())
+                    .all(|(row, part)| row.0 == 7 && is_row(&row.1, part)),
+                "{mark} {a} {b}"
+            );
         }
         view.spend();
     }
