@@ -4,8 +4,6 @@
 #![tactic(auto)]
 
 #[cfg(test)]
-mod archive_steps;
-#[cfg(test)]
 mod call_lists;
 #[cfg(test)]
 mod command_line;
