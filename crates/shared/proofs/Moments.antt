@@ -1,6 +1,6 @@
 -- Views and transactions answer by the history of their moment.
-use Rattle.std.proofs.Common.{◌≡◌, ℕ, ◌<◌, ◌≤◌, ◌==◌, nat_lt, Bool, true, false, Bor, List, Option, Some, None, Result, Ok, Err, MatchBool, MatchResult, unwrap_or, refl, sym, ap, subst, ◌∙◌, arith}
-use Rattle.std.specs.Prelude.{◌↔◌, IfOk, OnOk, OnErr, if◌then◌else◌}
+use Rattle.std.proofs.Common.{◌≡◌, ℕ, ◌<◌, ◌≤◌, ◌==◌, nat_lt, Bool, true, false, Bor, List, Option, Result, Ok, Err, MatchBool, MatchResult, unwrap_or, refl, sym, ap, subst, ◌∙◌, arith}
+use Rattle.std.specs.Prelude.{OnOk, OnErr, if◌then◌else◌}
 use Rattle.std.specs.Option.{option_copied}
 use Rattle.std.proofs.lemmas.Bool.Decides.{nat_tests}
 use Rattle.history.specs.declared.key.Key.{Key}
@@ -14,13 +14,13 @@ use Rattle.history.specs.Machine.{Machine}
 use Rattle.history.specs.Queries.{IsScan}
 use Rattle.image.specs.Values.{Value}
 use Rattle.chains.specs.KeyWrites.{writes_of}
-use Rattle.snapshot.specs.Txn.{TxnValue, at_snapshot, seen_by}
+use Rattle.snapshot.specs.Txn.{TxnValue, seen_by}
 use Rattle.timequery.specs.View.{ViewValue, AnswersAt, RefusesTime}
 use Rattle.timequery.specs.declared.fault.QueryFault.{QueryFault}
 use Rattle.timequery.specs.declared.fault.QueryFault.TheVariants as query
 use Rattle.standing.specs.Laws.{ViewStands, SaysAt}
 use Rattle.shared.specs.Moments.{TxnMoment, OfSeen, WorksOn, value_for, answer_copied}
-use Rattle.shared.specs.Seen.{Seen, seen_of}
+use Rattle.shared.specs.Seen.{Seen}
 use Rattle.shared.specs.Shared.{Shows, Reads, SeenReached}
 
 -- ---- views

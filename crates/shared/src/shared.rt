@@ -1,16 +1,16 @@
 //! The store that threads share.
-ghost use Rattle.std.specs.Prelude.{◌≡◌, ◌≤◌, ◌+◌, ◌<◌, [], length, IfOk, OnOk};
+ghost use Rattle.std.specs.Prelude.{◌≡◌, ◌≤◌, ◌+◌, ◌<◌, length, IfOk, OnOk};
 ghost use Rattle.history.specs.Answers as answers;
-ghost use Rattle.history.specs.Histories.{IsHistory, last};
+ghost use Rattle.history.specs.Histories.{last};
 ghost use Rattle.history.specs.Machine.{Machine};
-ghost use Rattle.image.specs.Values.{Value, IsValue};
+ghost use Rattle.image.specs.Values.{Value};
 ghost use Rattle.snapshot.specs.Txn.{at_snapshot};
 ghost use Rattle.standing.specs.Laws.{SaysAt, SaysScanAt, SaysBetween, SaysScanBetween};
 ghost use Rattle.standing.specs.Stands.{Stands};
 ghost use Rattle.shared.specs.Counts.{unredeemed};
 ghost use Rattle.shared.specs.Moments.{OfSeen, begun_txn};
 ghost use Rattle.shared.specs.Reached.{Reached};
-ghost use Rattle.shared.specs.Seen.{IsLater, order_of};
+ghost use Rattle.shared.specs.Seen.{IsLater};
 ghost use Rattle.shared.specs.Shared.{BeginHappens, SubmitHappens, SeenReached, PumpHappens, JobHappens, RedeemSays, WaitSays, CommitHappens, changed, done_in, commits_in};
 
 use crate::cell::PublishedCell;

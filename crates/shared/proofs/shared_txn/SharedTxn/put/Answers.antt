@@ -1,4 +1,4 @@
-use Rattle.std.proofs.Common.{List, Some, map}
+use Rattle.std.proofs.Common.{Some, map}
 use Rattle.history.specs.declared.key.Key.{Key}
 use Rattle.history.specs.Key.{same_key}
 use Rattle.snapshot.specs.Txn.{TxnValue, with_put}

@@ -1,0 +1,17 @@
+//! Worked examples of one store that threads share. There is nothing here but tests.
+#![tactic(auto)]
+
+#[cfg(test)]
+mod counted_disk;
+#[cfg(test)]
+mod device_calls;
+#[cfg(test)]
+mod moved_view;
+#[cfg(test)]
+mod noted;
+#[cfg(test)]
+mod view_memory;
+#[cfg(test)]
+mod workers;
+#[cfg(test)]
+mod written;

@@ -1,0 +1,65 @@
+//! Many writers and readers at once, and how many commits they made.
+use disk::MemDisk;
+use shared::{Plan, fresh_store, stress, stress_on};
+use std::alloc::{AllocError, Global};
+use std::process::Abort;
+use std::sync::Wait;
+use std::thread::Threads;
+use store::Store;
+
+#[test]
+fn a_stress_counts_each_round_of_each_writer(rt: HostRuntime) {
+    for (writers, readers, rounds, commits) in [(4, 2, 25, 100), (1, 0, 1, 1)] {
+        let plan = Plan {
+            writers,
+            readers,
+            rounds,
+        };
+        assert_eq!(rt; stress(&rt, rt.alloc(), plan), Some((commits, commits)));
+    }
+}
+
+/// Each writer's label has a commit for each of its rounds.
+fn has_all_rounds(rt: &impl Abort, store: &Store<MemDisk>, plan: Plan) {
+    for writer in 0..u64::from(plan.writers) {
+        match store.times_of(writer + 1) {
+            Ok(times) => assert_eq!(rt; times.len(), usize::from(plan.rounds), "{writer}"),
+            Err(AllocError) => panic!(rt; "no memory"),
+        }
+    }
+}
+
+/// The plan's threads over a new store. Gives the store back, and how many commits the writers count.
+fn run_plan<R: Threads + Wait + Sync>(
+    rt: &R,
+    alloc: Global,
+    plan: Plan,
+) -> Option<(Store<MemDisk>, Option<u64>)> {
+    let store = match fresh_store(alloc, MemDisk::new(alloc), 256, 1) {
+        Ok(store) => store,
+        Err(_disk) => return None,
+    };
+    match stress_on(rt, alloc, store, plan) {
+        Ok(ended) => Some(ended),
+        Err((AllocError, store)) => {
+            let _disk = store.close();
+            None
+        }
+    }
+}
+
+#[test]
+fn workers_count_what_the_store_has(rt: HostRuntime) {
+    let plan = Plan {
+        writers: 3,
+        readers: 2,
+        rounds: 20,
+    };
+    let Some((store, done)) = run_plan(&rt, rt.alloc(), plan) else {
+        panic!(rt; "no store");
+    };
+    assert_eq!(rt; done, Some(60));
+    assert_eq!(rt; store.last(), 60);
+    has_all_rounds(&rt, &store, plan);
+    let _disk = store.close();
+}
