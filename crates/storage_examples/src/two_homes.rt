@@ -79,10 +79,11 @@ fn are_key_rows(rows: &[Version<SharedValue>], parts: &[(u64, u64, u8)]) -> bool
 
 /// A view over the run of two records, of a store that has reclaimed up to this mark.
 fn reclaimed(alloc: Global, mark: u64) -> Result<View, Fail> {
-    let state = one_key(alloc)?.forget(alloc, mark)?;
     let mut runs = Vec::new(alloc);
     runs.push(TWO_RECORDS)?;
-    Ok(View::new(3, 130, 0, state).with_archive(mark, Runs::from_vec(alloc, runs)?))
+    let runs = Runs::from_vec(alloc, runs)?;
+    let state = one_key(alloc)?.forget(alloc, mark)?;
+    Ok(View::new(3, 130, 0, state).with_archive(mark, runs))
 }
 
 fn disk_of(alloc: Global) -> Result<MemDisk, Fail> {
