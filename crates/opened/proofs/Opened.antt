@@ -237,7 +237,7 @@ module _ (old : DiskState) (mark : ℕ) (disk : DiskState) (r : Recovered) (head
     order = order;
     in_step = in_step;
     gate = λ works. refl;
-    plain = (is.reclaimed ∙ unmarked, tt);
+    plain = (unmarked, tt);
     disk = λ tells_so. on_disk;
   }
 
