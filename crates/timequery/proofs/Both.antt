@@ -16,7 +16,6 @@ use Rattle.chains.specs.KeyWrites.{IsOrdered, writes_of}
 use Rattle.chains.specs.Rows.{rows_in, scanned_rows}
 use Rattle.timequery.specs.Faults.{query_fault}
 use Rattle.timequery.specs.declared.fault.QueryFault.{QueryFault}
-use Rattle.timequery.specs.declared.fault.QueryFault.TheVariants as query
 use Rattle.timequery.specs.Homes.{merged, scanned_after, rows_after, recent_rows, RefusesRuns, RefusesAt, RefusesRows, Answers}
 use Rattle.timequery.specs.View.{ViewValue, mark_of, IsInView}
 use Rattle.timequery.proofs.Parts.{after-cut}
@@ -39,27 +38,6 @@ pub refused-rows : (v : ViewValue) (a b : ℕ) (why : ArchiveFault) → IsInView
 refused-rows v a b Device inside below is = (inside, below)
 refused-rows v a b NoMemory inside below is = inside
 refused-rows v a b (Damaged start) inside below is = (inside, below, is)
-
--- where the runs are looked into, a refusal of theirs is one of the query
-pub refused-below : (v : ViewValue) (time : ℕ) (why : QueryFault) → v.floor ≤ time → time ≤ v.last → time < v.reclaimed → RefusesRuns time v.runs why → RefusesAt v time why
-refused-below v time query.Device from upto below is = (from, upto, below)
-refused-below v time query.NoMemory from upto below is = (from, upto)
-refused-below v time (query.Damaged start) from upto below is = (from, upto, below, is)
-refused-below v time (query.BeforeKept floor) from upto below is = absurd is
-refused-below v time (query.NotYet last) from upto below is = absurd is
-refused-below v time query.EmptyInterval from upto below is = absurd is
-refused-below v time query.NeedsDisk from upto below is = absurd is
-refused-below v time query.Stranger from upto below is = absurd is
-
-pub refused-in : (v : ViewValue) (a b : ℕ) (why : QueryFault) → IsInView v a b → a < v.reclaimed → RefusesRuns a v.runs why → RefusesRows v a b why
-refused-in v a b query.Device inside below is = (inside, below)
-refused-in v a b query.NoMemory inside below is = inside
-refused-in v a b (query.Damaged start) inside below is = (inside, below, is)
-refused-in v a b (query.BeforeKept floor) inside below is = absurd is
-refused-in v a b (query.NotYet last) inside below is = absurd is
-refused-in v a b query.EmptyInterval inside below is = absurd is
-refused-in v a b query.NeedsDisk inside below is = absurd is
-refused-in v a b query.Stranger inside below is = absurd is
 
 -- an answer that is two things is a third
 pub answers-third : {T : Type 0} (result : Result T QueryFault) (P Q R : T → Type 0) → IfOk result P → Answers result Q → ((found : T) → P found → Q found → R found) → Answers result R
