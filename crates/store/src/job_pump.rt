@@ -106,7 +106,16 @@ fn step_job<D: Disk>(
                 work,
                 stage: JobStage::Stored,
             };
-            turn_slot(alloc, transactions, log, disk, archived, runs_end, job, turn)
+            turn_slot(
+                alloc,
+                transactions,
+                log,
+                disk,
+                archived,
+                runs_end,
+                job,
+                turn,
+            )
         }
     }
 }
@@ -139,7 +148,13 @@ fn store_run<D: Disk>(
         → WritesOrSyncs D.tells writer.left run writer (writing (JobWork.Archive run writer)) (parts_of transactions.old log turn (Some (writing (JobWork.Archive run writer))) archived runs_end (D.state disk.old)) result.0 (parts_of transactions.new log turn result.1 archived runs_end (D.state disk.new)) }
 {
     if writer.left() == 0 {
-        sync_stored(transactions, disk, Area::Archive, JobDid::RunSynced, JobWork::Archive { run, writer })
+        sync_stored(
+            transactions,
+            disk,
+            Area::Archive,
+            JobDid::RunSynced,
+            JobWork::Archive { run, writer },
+        )
     } else {
         write_run(transactions, disk, run, writer)
     }
@@ -319,7 +334,16 @@ fn begin_slot<D: Disk>(
     };
     match log.begin_slot(slot_body(&job.work)) {
         Err(_) => unreachable!(),
-        Ok(turn) => turn_slot(alloc, transactions, log, disk, archived, runs_end, job, turn),
+        Ok(turn) => turn_slot(
+            alloc,
+            transactions,
+            log,
+            disk,
+            archived,
+            runs_end,
+            job,
+            turn,
+        ),
     }
 }
 

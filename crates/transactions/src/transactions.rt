@@ -11,7 +11,8 @@ use crate::submit::gone_is_of_value;
 use chains::Frozen;
 use extents::{ChainTimes, Extent, Extents};
 use group::{
-    BeginFault, CommitHead, CommitOrder, Queued, QueuedParts, Redeemed, Standing, Ticket, give_back_all, keep_all,
+    BeginFault, CommitHead, CommitOrder, Queued, QueuedParts, Redeemed, Standing, Ticket,
+    give_back_all, keep_all,
 };
 use snapshot::{OpenTable, Txn, TxnParts};
 use std::alloc::{AllocError, Global};
