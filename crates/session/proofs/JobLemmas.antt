@@ -6,7 +6,11 @@ use Rattle.disk.specs.Calls.{DiskState, Counts, top}
 use Rattle.disk.specs.declared.area.DeviceFault.{DeviceFault}
 use Rattle.group.specs.declared.answers.PumpFault.{PumpFault}
 use Rattle.group.specs.declared.answers.PumpFault.TheVariants as fault
+use Rattle.group.specs.declared.answers.Did.{Did}
+use Rattle.group.specs.declared.answers.Did.TheVariants as group
 use Rattle.store.specs.Values.{StoreValue}
+use Rattle.store.specs.Pumps.{Pumps}
+use Rattle.store.proofs.Made.{pump-one}
 use Rattle.archive.specs.Pieces.{InWriting}
 use Rattle.vacuum.specs.Anchors.{Sourced}
 use Rattle.wire.specs.declared.slot.Anchors.{Anchors}
@@ -73,3 +77,8 @@ works-fewer tells false old new what pumps some = job-fewer tells old.job old ne
 pub pump-fewer : (tells : Bool) (old new : StoreValue) (what : JobDid) → PumpsJob tells old (Ok what) new → what ≢ did.Idle
     → (if nat_lt top new.disk.made then top + 1 else top - new.disk.made) < (if nat_lt top old.disk.made then top + 1 else top - old.disk.made)
 pump-fewer tells old new what pumps some = works-fewer tells old.transactions.failed old new what pumps some
+
+-- so it is of the steps of a group
+pub group-fewer : (tells : Bool) (old new : StoreValue) (what : Did) → Pumps tells old (Ok what) new → what ≢ group.Idle
+    → (if nat_lt top new.disk.made then top + 1 else top - new.disk.made) < (if nat_lt top old.disk.made then top + 1 else top - old.disk.made)
+group-fewer tells old new what pumps some = let one = pump-one tells old new what pumps some in fewer top old.disk.made new.disk.made one.made one.room

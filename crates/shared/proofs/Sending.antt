@@ -134,7 +134,7 @@ source_send : IsSend AnchorSource.the_row
 source_send = view_send source.the_row _ _ _ _ source_inside
 
 work_send : IsSend JobWork.the_row
-work_send = variants_send JobWork.the_type (
+work_send = variants_send JobWork.enum (
   (search (sendable, run.the_send), (search (sendable, run_writer.the_send, walk_send), tt)),
   ((search (sendable, anchors.the_send), (search (sendable, source_send), (search sendable, tt))), tt),
 )
