@@ -297,6 +297,8 @@ archive-same w upto (Err start.NothingToDo) next does = does
 archive-same w upto (Err (start.NotYet time)) next does = does.2
 archive-same w upto (Err start.StatusFull) next does = does
 archive-same w upto (Err start.ArchiveFull) next does = does
+archive-same w upto (Err (start.InUse time)) next does = absurd does
+archive-same w upto (Err start.HeapFull) next does = absurd does
 archive-same w upto (Err start.NoMemory) next does = does
 
 view-passes : (w : World) (said : Result (Unit {0}) AllocError) (next : World) → Shows w said next → Passes w call.View (answer.View said) next
