@@ -159,8 +159,8 @@ fn from_the_reclaim_mark_on_no_run_is_read(rt: HostRuntime) -> Result<(), Fail> 
     assert!(rt; matches!(view.recent(KEY, 109), Err(QueryFault::NeedsDisk)));
     assert!(rt; matches!(view.recent(KEY, 110), Ok(value) if shown(value) == Some(b'b')));
     view.spend();
-    assert!(rt; matches!(recent, Ok(value) if shown(value.as_ref()) == Some(b'b')));
-    assert!(rt; matches!(old, Ok(value) if shown(value.as_ref()) == Some(b'a')));
+    assert!(rt; matches!(&recent, Ok(value) if shown(value.as_ref()) == Some(b'b')));
+    assert!(rt; matches!(&old, Ok(value) if shown(value.as_ref()) == Some(b'a')));
     assert!(rt; unread == 0 && 0 < read && read <= 3);
     Ok(())
 }
