@@ -133,7 +133,7 @@ fn holds(
         return Ok(false);
     }
     disk.read(area, place, found)?;
-    Ok(found == bytes)
+    Ok(&*found == bytes)
 }
 
 #[test]
