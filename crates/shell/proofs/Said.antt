@@ -105,3 +105,4 @@ acts-status tells (action.Dump dir) old new input o (inl (inl lacks)) = refused-
 acts-status tells (action.Dump dir) old new input o (inl (inr lacks)) = refused-status o _ lacks.said
 acts-status tells (action.Dump dir) old new input o (inr (inl done)) = said-status o done.text done.said
 acts-status tells (action.Dump dir) old new input o (inr (inr lacks)) = refused-status o _ lacks.1
+acts-status tells (action.Stress writers readers rounds) old new input o acts = refused-status o [] acts.1

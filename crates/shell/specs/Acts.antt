@@ -1,5 +1,5 @@
 -- What an action does to the disk and writes.
-use Rattle.std.specs.Prelude.{◌≡◌, ◌≢◌, ◌⊎◌, ◌+◌, ℕ, ◌++◌, Bool, true, false, IsTrue, List, Option, Err, codes, MatchBool, MatchOption}
+use Rattle.std.specs.Prelude.{[], ◌≡◌, ◌≢◌, ◌⊎◌, ◌+◌, ℕ, ◌++◌, Bool, true, false, IsTrue, List, Option, Err, codes, MatchBool, MatchOption}
 use Rattle.std.specs.Fmt.{decimal}
 use Rattle.std.specs.Io.KnownBytes.{Appends, Keeps}
 use Rattle.disk.specs.Areas.{AreSound}
