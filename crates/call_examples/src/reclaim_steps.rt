@@ -129,7 +129,7 @@ fn holds(
     bytes: &[u8],
     found: &mut [u8],
 ) -> Result<bool, Fail> {
-    if found.len() != bytes.len() || disk.len(area)? < place + found.len() as u64 {
+    if found.len() != bytes.len() || disk.len(area)?.saturating_sub(place) < found.len() as u64 {
         return Ok(false);
     }
     disk.read(area, place, found)?;

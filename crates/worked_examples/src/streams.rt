@@ -1,6 +1,7 @@
 //! Inputs that wait for answers, and inputs and outputs that refuse.
 use crate::dialogue::{KEY, answers, new_store, stored};
 use disk::MemDisk;
+use session::{Answers, Lines};
 use shell::{Action, act};
 use std::alloc::Global;
 use std::cell::Cell;
@@ -125,10 +126,11 @@ fn shown(
         text: Vec::new(alloc),
         room,
     };
-    let mut input = BufReader::new(alloc, asker)?;
-    let mut output = BufWriter::with_capacity(alloc, 65_536, screen)?;
+    let mut input = Lines::new(alloc, BufReader::new(alloc, asker)?);
+    let gathered = BufWriter::with_capacity(alloc, 65_536, screen)?;
+    let mut output = Answers::new(alloc, gathered);
     let (status, disk) = act(alloc, action, disk, &mut input, &mut output);
-    let (screen, _unwritten) = output.into_parts();
+    let (screen, _unwritten) = output.into_writer().into_parts();
     Ok((String::from_utf8(screen.text)?, status, disk))
 }
 
