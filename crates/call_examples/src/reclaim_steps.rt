@@ -129,7 +129,8 @@ fn holds(
     bytes: &[u8],
     found: &mut [u8],
 ) -> Result<bool, Fail> {
-    if found.len() != bytes.len() || disk.len(area)?.saturating_sub(place) < found.len() as u64 {
+    let len = disk.len(area)?;
+    if found.len() != bytes.len() || len < place || len - place < found.len() as u64 {
         return Ok(false);
     }
     disk.read(area, place, found)?;
