@@ -21,6 +21,7 @@ use Rattle.store.specs.Calls as stores
 use Rattle.store.specs.Values.{StoreValue}
 use Rattle.store.specs.Pumps.{Pumps}
 use Rattle.store.specs.Archives.{StartsArchive}
+use Rattle.store.specs.Reclaims.{StartsReclaim}
 use Rattle.store.specs.Jobs.{PumpsJob}
 use Rattle.store.specs.declared.job.JobDid.{JobDid}
 use Rattle.store.specs.declared.job.StartFault.{StartFault}
@@ -59,6 +60,11 @@ RedeemStands = (tells : Bool) (old new : StoreValue) (ticket : TicketValue) (ans
 abbrev pub ArchiveStartStands : Type 0
 ArchiveStartStands = (tells : Bool) (old new : StoreValue) (upto : ℕ) (answer : Result (Unit {0}) StartFault) (m : Machine Value) → Stands tells old m
     → StartsArchive old upto answer new → Stands tells new m
+
+-- so does a reclaim
+abbrev pub ReclaimStartStands : Type 0
+ReclaimStartStands = (tells : Bool) (old new : StoreValue) (answer : Result (Unit {0}) StartFault) (m : Machine Value) → Stands tells old m
+    → StartsReclaim old answer new → Stands tells new m
 
 -- a step of a job changes nothing of the machine's, unless the device refuses it
 abbrev pub JobPumpStands : Type 0

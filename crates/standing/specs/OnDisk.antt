@@ -3,8 +3,10 @@ use Rattle.std.specs.Prelude.{ℕ, ◌≡◌, ◌<◌, ◌≤◌, ◌+◌, ◌++
 use Rattle.std.specs.List.{AllByRecursion, flat_map}
 use Rattle.disk.specs.Areas.{AreaState, Areas, Image, AreSound, IsSound, LeavesImage}
 use Rattle.disk.specs.Parts.{HoldsPart}
-use Rattle.wire.specs.Spelling.{IsSpelled, IsRun}
-use Rattle.wire.specs.declared.slot.Body.TheVariants.{Commit as CommitBody, Archived as ArchivedBody}
+use Rattle.wire.specs.Spelling.{IsSpelled, IsRun, AreAnchors}
+use Rattle.wire.specs.declared.slot.Anchors.{Anchors}
+use Rattle.wire.specs.declared.slot.Body.{Body}
+use Rattle.wire.specs.declared.slot.Body.TheVariants.{Commit as CommitBody, Archived as ArchivedBody, Reclaimed as ReclaimedBody}
 use Rattle.wire.specs.declared.slot.Slot.{Slot}
 use Rattle.history.specs.declared.key.Key.{Key}
 use Rattle.history.specs.Histories as histories
@@ -12,24 +14,27 @@ use Rattle.history.specs.Histories.{Commit, History}
 use Rattle.history.specs.Fronts.{OnFront}
 use Rattle.history.specs.Machine.{Machine}
 use Rattle.image.specs.Values.{Value}
-use Rattle.image.specs.Reading.{Reading}
+use Rattle.image.specs.Reading.{OldRecord, Reading}
 use Rattle.image.specs.Facts.{latest, heap_facts}
-use Rattle.image.specs.Plans.{stored_record, stored_member, IsArchivePlan}
-use Rattle.image.specs.StandsFor.{StandsFor, archived_upto}
+use Rattle.image.specs.Plans.{stored_record, stored_member, IsArchivePlan, IsReclaimPlan, with_run, with_anchors}
+use Rattle.image.specs.StandsFor.{StandsFor, archived_upto, reclaimed_upto}
 use Rattle.chains.specs.KeyWrites.{writes_of}
 use Rattle.extents.specs.Usages.{IsKept}
-use Rattle.deltas.specs.Extents.{extent_bytes}
+use Rattle.extents.specs.Times.{time_of}
+use Rattle.deltas.specs.Extents.{Extent, extent_bytes}
 use Rattle.deltas.specs.Packing.{bodies}
+use Rattle.deltas.specs.Records.{spelling}
 use Rattle.status.specs.declared.header.Header.{Header}
 use Rattle.status.specs.Header.{total}
 use Rattle.status.specs.Rules.{is_built, runs_of, row_end}
 use Rattle.status.specs.SlotCalls.{Begun}
 use Rattle.status.specs.TurnState.{TurnState}
 use Rattle.reading.specs.Records.{record_bytes}
-use Rattle.reading.specs.Layouts.{Layout, StoredMember, IsLayoutOf, HoldsLayout, live, extents_of}
+use Rattle.reading.specs.Extents.{HoldsExtent}
+use Rattle.reading.specs.Layouts.{Layout, StoredMember, IsLayoutOf, HoldsLayout, IsAnchorChain, live, extents_of}
 use Rattle.reading.specs.Runs.{StoredRun, IsStoredRun, KeepsRun, run_bytes}
-use Rattle.reading.specs.Jobs.{archived}
-use Rattle.reading.specs.Keeping.{RestsAs, StatusRests}
+use Rattle.reading.specs.Jobs.{archived, reclaimed}
+use Rattle.reading.specs.Keeping.{RestsAs, StatusRests, KeepsExtents}
 use Rattle.reading.specs.Opening.{AreBuilt}
 use Rattle.reading.specs.SlotTurns.{IsTurnAt}
 use Rattle.reading.specs.Turn.{Group, laid_out, IsStoring}
@@ -39,7 +44,7 @@ use Rattle.transactions.specs.Values.{TransactionsValue}
 use Rattle.transactions.specs.declared.stage.GroupStage.{GroupStage}
 use Rattle.transactions.specs.declared.stage.GroupStage.TheVariants.{NoGroup, Storing, Stored, Turning}
 use Rattle.archive.specs.Pieces.{InWriting}
-use Rattle.store.specs.Archives.{ArchiveJob}
+use Rattle.vacuum.specs.Anchors.{Sourced}
 use Rattle.store.specs.declared.job.Job.{Job}
 use Rattle.store.specs.declared.job.JobWork.{JobWork}
 use Rattle.store.specs.declared.job.JobWork.TheVariants.{Archive, Reclaim}
@@ -121,7 +126,35 @@ IsAtStage header layout group qs (Storing member extent) turn areas =
 IsAtStage header layout group qs Stored turn areas = IsTurnAt header layout group.slot (laid_out layout group) Begun areas
 IsAtStage header layout group qs Turning turn areas = MatchOption turn ⊥ (λ t. IsTurnOf header layout group t areas)
 
--- ---- the archive that is being made
+-- ---- what a job makes
+
+-- the anchor chain of a reclaim: as its slot names it, its records, and its extents
+pub record StoredAnchors : Type 0 where
+  pub entry : Anchors
+  pub olds : List OldRecord
+  pub extents : List Extent
+
+-- a run of the archive, or a chain of anchors
+pub data Product : Type 0 where
+  OfRun : StoredRun → Product
+  OfAnchors : StoredAnchors → Product
+
+-- the slot that names it
+abbrev pub body_of : Product → Body
+body_of (OfRun run) = ArchivedBody run.entry
+body_of (OfAnchors a) = ReclaimedBody a.entry
+
+abbrev pub slot_naming : ℕ → Product → Slot
+slot_naming number p = record { number = number; body = body_of p }
+
+-- what stands where once the slot is open
+abbrev pub laid_with : Layout → Product → Layout
+laid_with layout (OfRun run) = archived layout (slot_naming (length layout.slots) (OfRun run)) run
+laid_with layout (OfAnchors a) = reclaimed layout (slot_naming (length layout.slots) (OfAnchors a)) a.entry.upto a.extents
+
+abbrev pub read_with : Reading → Product → Reading
+read_with reading (OfRun run) = with_run reading run.entry.upto run.records
+read_with reading (OfAnchors a) = with_anchors reading a.olds
 
 -- The run may come next: it is the plan of an archive, stands behind the other runs, and its numbers are in range.
 pub record IsNextRun (layout : Layout) (reading : Reading) (h : History Value) (run : StoredRun) : Type 0 where
@@ -132,6 +165,27 @@ pub record IsNextRun (layout : Layout) (reading : Reading) (h : History Value) (
   pub behind : run.entry.start ≡ row_end 0 (runs_of layout.slots)
   pub in_range : IsRun run.entry
 
+-- The chain may come next: it is the plan of a reclaim up to the archive mark, and its numbers are in range.
+pub record IsNextChain (reading : Reading) (a : StoredAnchors) : Type 0 where
+  pub plan : IsReclaimPlan reading a.olds
+  pub upto : a.entry.upto ≡ archived_upto reading
+  pub later : reclaimed_upto reading < archived_upto reading
+  pub chain : IsAnchorChain a.entry a.extents a.olds
+  pub in_range : AreAnchors a.entry
+
+abbrev pub MayBeNext : Layout → Reading → History Value → Product → Type 0
+MayBeNext layout reading h (OfRun run) = IsNextRun layout reading h run
+MayBeNext layout reading h (OfAnchors a) = IsNextChain reading a
+
+-- ---- the job that makes it
+
+-- the job's slot is to name it, and its extents are those that are out for the job
+abbrev pub IsMadeBy : List ℕ → JobWork → Product → Type 0
+IsMadeBy reserved (Archive run writer) (OfRun r) = r.entry ≡ run
+IsMadeBy reserved (Archive run writer) (OfAnchors a) = ⊥
+IsMadeBy reserved (Reclaim anchors source written) (OfRun r) = ⊥
+IsMadeBy reserved (Reclaim anchors source written) (OfAnchors a) = (a.entry ≡ anchors) × (map (λ (e : Extent). e.number) a.extents ≡ reserved)
+
 -- the front of the run is written, and this is left of it
 pub record IsWritten (run : StoredRun) (writer : InWriting) (a : AreaState) : Type 0 where
   pub front : List ℕ
@@ -139,36 +193,44 @@ pub record IsWritten (run : StoredRun) (writer : InWriting) (a : AreaState) : Ty
   pub place : writer.at ≡ run.entry.start + length front
   pub held : HoldsPart run.entry.start front a.bytes
 
-abbrev pub slot_of_run : ℕ → StoredRun → Slot
-slot_of_run number run = record { number = number; body = ArchivedBody run.entry }
+-- so many extents of the chain are written, and these records are left for the others
+pub record IsFilling (a : StoredAnchors) (source : Sourced) (written : ℕ) (heap : AreaState) : Type 0 where
+  pub rest : map (λ (e : Extent). e.body) (drop written a.extents) ≡ bodies (map spelling source.left)
+  pub held : AllByRecursion (HoldsExtent heap.bytes) (take written a.extents)
 
--- the slot in the writing is the run's
-pub record IsTurnOfRun (header : Header) (layout : Layout) (run : StoredRun) (t : TurnState) (areas : Areas) : Type 0 where
+abbrev pub IsMaking : JobWork → Product → Areas → Type 0
+IsMaking (Archive run writer) (OfRun r) areas = IsWritten r writer areas.archive
+IsMaking (Archive run writer) (OfAnchors a) areas = ⊥
+IsMaking (Reclaim anchors source written) (OfRun r) areas = ⊥
+IsMaking (Reclaim anchors source written) (OfAnchors a) areas = IsFilling a source written areas.heap
+
+-- whatever a stop may leave holds it
+abbrev pub KeepsProduct : Product → Areas → Type 0
+KeepsProduct (OfRun run) areas = KeepsRun areas.archive run
+KeepsProduct (OfAnchors a) areas = KeepsExtents a.extents areas.heap
+
+-- the slot in the writing is the one that names it
+pub record IsTurnFor (header : Header) (layout : Layout) (p : Product) (t : TurnState) (areas : Areas) : Type 0 where
   pub number : t.number ≡ length layout.slots
   pub long : length t.body ≡ 511
-  pub spelled : IsSpelled header.profile (length layout.slots) t.body (slot_of_run (length layout.slots) run)
-  pub at : IsTurnAt header layout (slot_of_run (length layout.slots) run) (archived layout (slot_of_run (length layout.slots) run) run) t.stage areas
+  pub spelled : IsSpelled header.profile (length layout.slots) t.body (slot_naming (length layout.slots) p)
+  pub at : IsTurnAt header layout (slot_naming (length layout.slots) p) (laid_with layout p) t.stage areas
 
 -- the areas at a stage of the job
-abbrev pub IsAtJob : Header → Layout → StoredRun → InWriting → JobStage → Areas → Type 0
-IsAtJob header layout run writer job.Writing areas = IsWritten run writer areas.archive
-IsAtJob header layout run writer job.Stored areas = KeepsRun areas.archive run
-IsAtJob header layout run writer (job.Turning t) areas = IsTurnOfRun header layout run t areas
+abbrev pub IsAtJob : Header → Layout → JobWork → Product → JobStage → Areas → Type 0
+IsAtJob header layout work p job.Writing areas = IsMaking work p areas
+IsAtJob header layout work p job.Stored areas = KeepsProduct p areas
+IsAtJob header layout work p (job.Turning t) areas = IsTurnFor header layout p t areas
 
-pub record JobIsAt (header : Header) (layout : Layout) (reading : Reading) (h : History Value) (j : ArchiveJob) (areas : Areas) : Type 0 where
-  pub run : StoredRun
-  pub entry : run.entry ≡ j.run
-  pub next : IsNextRun layout reading h run
-  pub at : IsAtJob header layout run j.writer j.stage areas
+pub record JobIsAt (header : Header) (layout : Layout) (reading : Reading) (h : History Value) (reserved : List ℕ) (j : Job) (areas : Areas) : Type 0 where
+  pub product : Product
+  pub made : IsMadeBy reserved j.work product
+  pub next : MayBeNext layout reading h product
+  pub at : IsAtJob header layout j.work product j.stage areas
 
--- while nothing is said of reclaims, no reclaim is being made
-abbrev pub HasWork : Header → Layout → Reading → History Value → JobWork → JobStage → Areas → Type 0
-HasWork header layout reading h (Archive run writer) stage areas = JobIsAt header layout reading h (record { run = run; writer = writer; stage = stage }) areas
-HasWork header layout reading h (Reclaim anchors source written) stage areas = ⊥
-
-abbrev pub HasJob : Header → Layout → Reading → History Value → Option Job → Areas → Type 0
-HasJob header layout reading h None areas = Unit {0}
-HasJob header layout reading h (Some j) areas = HasWork header layout reading h j.work j.stage areas
+abbrev pub HasJob : Header → Layout → Reading → History Value → List ℕ → Option Job → Areas → Type 0
+HasJob header layout reading h reserved None areas = Unit {0}
+HasJob header layout reading h reserved (Some j) areas = JobIsAt header layout reading h reserved j areas
 
 -- while a job's slot is in the writing, a group goes its way as if the status area rested; this is what it would be
 abbrev pub IsRested : Header → Layout → Option TurnState → AreaState → AreaState → Type 0
@@ -177,7 +239,11 @@ IsRested header layout (Some t) rested status = StatusRests header layout.slots 
 
 -- ---- the store
 
--- No call was refused. The disk has a log that stands for what is published, beside it what is written of the group and of the job's run, and no live chain has an extent that is not kept.
+-- the extents of each commit's chain are in the chain of its time
+abbrev pub HasTimes : List ℕ → List StoredMember → Type 0
+HasTimes times members = AllByRecursion (λ (s : StoredMember). AllByRecursion (λ (e : Extent). time_of times e.number ≡ s.entry.time) s.extents) members
+
+-- No call was refused. The disk has a log that stands for what is published, beside it what is written of the group and of what the job makes, and no live chain has an extent that is not kept.
 pub record Works (header : Header) (v : StoreValue) (m : Machine Value) : Type 0 where
   pub layout : Layout
   pub reading : Reading
@@ -186,15 +252,18 @@ pub record Works (header : Header) (v : StoreValue) (m : Machine Value) : Type 0
   pub built : AreBuilt header layout.slots
   pub used : v.log.used ≡ length layout.slots
   pub kept : AllByRecursion (λ e. IsKept v.transactions.usages e.number) (live layout)
+  -- each extent of a commit's chain is known by the time of its commit
+  pub times : HasTimes v.transactions.times layout.members
   -- memory has the facts of the heap
   pub heap : (key : Key) → writes_of v.transactions.versions key ≡ heap_facts reading key
   pub packed : AllPacked m.published v.transactions.queue m.queue
   pub archived : v.archived ≡ archived_upto reading
+  pub reclaimed : v.transactions.reclaimed ≡ reclaimed_upto reading
   pub runs_end : v.runs_end ≡ row_end 0 (runs_of layout.slots)
   pub rested : AreaState
   pub rests : IsRested header layout (turn_of v.job) rested v.disk.areas.status
   pub at : IsAtStage header layout (group_of layout v.transactions m) v.transactions.queue v.transactions.stage v.turn (record v.disk.areas { status = rested })
-  pub job : HasJob header layout reading m.published v.job v.disk.areas
+  pub job : HasJob header layout reading m.published v.transactions.reserved v.job v.disk.areas
   pub sound : AreSound v.disk.areas
 
 -- Whatever a stop may leave stands for a front of the commit order: for what is published, or, once the gate of the group may be open, for that or for what is published with the whole group.

@@ -1,15 +1,18 @@
 -- A store, and the state of the machine that it stands for.
-use Rattle.std.specs.Prelude.{◌≡◌, Bool, false, IsTrue, Option, None, Some}
+use Rattle.std.specs.Prelude.{ℕ, ◌≡◌, ◌≤◌, Bool, false, is_some, IsTrue, Option, None, Some}
+use Rattle.history.specs.Histories as histories
 use Rattle.history.specs.Machine.{Machine, Gate, Shut, Due, MayBeOpen, OfGroup, IsMachine}
 use Rattle.image.specs.Values.{Value, IsValue}
 use Rattle.transactions.specs.Order.{IsInOrder}
 use Rattle.status.specs.SlotCalls.{SlotStage, Begun, BodyWritten, BodySynced, GateWritten, Opened}
 use Rattle.status.specs.TurnState.{TurnState}
-use Rattle.store.specs.Values.{StoreValue, IsInStep}
+use Rattle.store.specs.Values.{StoreValue, IsInStep, turn_in}
+use Rattle.transactions.specs.Values.{TransactionsValue}
+use Rattle.store.specs.declared.job.JobStage.{JobStage}
 use Rattle.store.specs.declared.job.Job.{Job}
 use Rattle.store.specs.declared.job.JobWork.{JobWork}
 use Rattle.store.specs.declared.job.JobWork.TheVariants.{Archive, Reclaim}
-use Rattle.standing.specs.Standing.{StandsInMemory}
+use Rattle.standing.specs.Standing.{StandsInMemory, Reclaims}
 use Rattle.standing.specs.OnDisk.{StandsOnDisk}
 
 -- the gate of a group whose slot is at this stage
@@ -29,18 +32,19 @@ gate_of (Some turn) = gate_at turn.stage
 abbrev pub HasGate : StoreValue → Machine Value → Type 0
 HasGate v m = m.failed ≡ false → m.gate ≡ gate_of v.turn
 
--- while nothing is said of reclaims, none is being made
-abbrev pub IsArchive : JobWork → Type 0
-IsArchive (Archive run writer) = Unit {0}
-IsArchive (Reclaim anchors source written) = ⊥
+-- what is reclaimed is archived, and what is archived is published
+pub record HasMarks (v : StoreValue) (m : Machine Value) : Type 0 where
+  pub reclaimed : v.transactions.reclaimed ≤ v.archived
+  pub archived : v.archived ≤ histories.last m.published
 
-abbrev pub IsNoReclaim : Option Job → Type 0
-IsNoReclaim None = Unit {0}
-IsNoReclaim (Some job) = IsArchive job.work
+-- what memory keeps of a job
+abbrev pub KeepsWork : JobWork → JobStage → ℕ → TransactionsValue → Machine Value → Type 0
+KeepsWork (Archive run writer) stage archived v m = (archived ≤ run.upto) × (run.upto ≤ histories.last m.published)
+KeepsWork (Reclaim anchors source written) stage archived v m = Reclaims archived anchors.upto (is_some (turn_in stage)) v
 
--- nor was one: nothing is reclaimed
-abbrev pub IsUnreclaimed : StoreValue → Type 0
-IsUnreclaimed v = (v.transactions.reclaimed ≡ 0) × IsNoReclaim v.job
+abbrev pub KeepsJobOf : Option Job → ℕ → TransactionsValue → Machine Value → Type 0
+KeepsJobOf None archived v m = Unit {0}
+KeepsJobOf (Some job) archived v m = KeepsWork job.work job.stage archived v m
 
 -- What is said of the disk is said where it tells its bytes.
 pub record Stands (tells : Bool) (v : StoreValue) (m : Machine Value) : Type 0 where
@@ -49,5 +53,6 @@ pub record Stands (tells : Bool) (v : StoreValue) (m : Machine Value) : Type 0 w
   pub order : IsInOrder v.transactions
   pub in_step : IsInStep v
   pub gate : HasGate v m
-  pub plain : IsUnreclaimed v
+  pub marks : HasMarks v m
+  pub job : KeepsJobOf v.job v.archived v.transactions m
   pub disk : IsTrue tells → StandsOnDisk v m
