@@ -1,20 +1,21 @@
 -- Each step of a job keeps what the store stands for, in memory and on its disk.
-use Rattle.std.proofs.Common.{◌≡◌, slice_get, ℕ, suc, ◌+◌, ◌<◌, ◌≤◌, ◌==◌, nat_lt, Bool, true, false, List, [], ◌∷◌, ◌++◌, length, take, drop, map, Option, None, Some, is_some, ◌||◌, Result, Ok, Err, MatchBool, MatchOption, refl, arith, ap, sym, subst, ◌∙◌, inl, inr, length-append, append_assoc}
+use Rattle.std.proofs.Common.{◌≡◌, ◌≢◌, slice_get, ℕ, zero, suc, ◌+◌, ◌<◌, ◌≤◌, ◌==◌, nat_lt, Bool, true, false, List, [], ◌∷◌, ◌++◌, length, take, drop, map, Option, None, Some, is_some, ◌||◌, Result, Ok, Err, MatchBool, MatchOption, refl, arith, ap, sym, subst, ◌∙◌, inl, inr, length-append, append_assoc}
 use Rattle.std.specs.Prelude.{IsTrue}
-use Rattle.std.specs.List.{AllByRecursion}
-use Rattle.std.proofs.lemmas.List.{append-nil, take-append-drop, length-replicate}
+use Rattle.std.specs.List.{AllByRecursion, flat_map}
+use Rattle.std.proofs.lemmas.List.{append-nil, map-append, take-append-drop, length-replicate}
 use Rattle.std.proofs.lemmas.Grind.{flat_map-append}
 use Rattle.history.specs.Machine.{Machine, IsMachine}
 use Rattle.history.specs.Fronts.{OnFront}
-use Rattle.history.specs.Histories.{History}
+use Rattle.history.specs.Histories.{History, last}
 use Rattle.history.specs.Steps as steps
 use Rattle.history.specs.Steps.{Event, Run}
+use Rattle.history.proofs.Filters.{AllByRecursion-append}
 use Rattle.history.proofs.Machines.{run-machine}
 use Rattle.image.specs.Values.{Value, IsValue}
-use Rattle.image.specs.Reading.{Archived, Reading}
-use Rattle.image.specs.Plans.{with_run}
-use Rattle.image.specs.StandsFor.{archived_upto}
-use Rattle.image.proofs.Logs.{archive_mark-append}
+use Rattle.image.specs.Reading.{Archived, Reclaimed as ReclaimedSlot, Reading}
+use Rattle.image.specs.Plans.{with_run, with_anchors}
+use Rattle.image.specs.StandsFor.{archived_upto, reclaimed_upto}
+use Rattle.image.proofs.Logs.{archive_mark-append, reclaim_mark-append}
 use Rattle.disk.specs.declared.area.Area.TheVariants.{Status, Heap, Archive}
 use Rattle.disk.specs.declared.area.DeviceFault.{DeviceFault}
 use Rattle.disk.specs.Areas.{AreaState, Areas, Image, AreSound, IsSound, LeavesImage, loosened, written, synced, overlaid}
@@ -22,38 +23,54 @@ use Rattle.disk.specs.Calls.{DiskState, Writes, Syncs}
 use Rattle.disk.specs.Parts.{HoldsPart, KeepsPart, IsLoosened}
 use Rattle.disk.proofs.Stops.{left_by_write}
 use Rattle.disk.proofs.Parts.{synced_part, kept_by_sync}
-use Rattle.wire.specs.Spelling.{IsSpelled, spelling, front_of, fields_of, u32_bytes, u64_bytes}
-use Rattle.wire.specs.declared.slot.Body.TheVariants.{Archived as ArchivedBody}
+use Rattle.wire.specs.Spelling.{IsSpelled, InRange, spelling, front_of, fields_of, u32_bytes, u64_bytes}
+use Rattle.wire.specs.declared.slot.Anchors.{Anchors}
 use Rattle.wire.specs.declared.slot.Run.{Run as WireRun}
 use Rattle.wire.specs.declared.slot.Slot.{Slot}
 use Rattle.archive.specs.Pieces.{InWriting}
+use Rattle.vacuum.specs.Anchors.{Sourced}
+use Rattle.chains.specs.KeyWrites.{KeyWrites, writes_of, IsOrdered, forgotten}
+use Rattle.chains.specs.Writes.{kept_after}
+use Rattle.chains.proofs.Versions.{writes_of-forgotten}
+use Rattle.image.specs.Facts.{heap_facts}
+use Rattle.deltas.specs.Packing.{bodies}
+use Rattle.deltas.specs.Records.{spelling as record_spelling}
+use Rattle.deltas.specs.Filling.{IsFilled}
+use Rattle.deltas.specs.Chains.{first_number}
+use Rattle.deltas.specs.declared.filled_extent.FilledExtent.{FilledExtent}
+use Rattle.wire.specs.declared.slot.Body.TheVariants.{Archived as ArchivedBody, Reclaimed as ReclaimedBody}
+use Rattle.chains.proofs.Forgetting.{latest-forgotten}
+use Rattle.extents.specs.Usages.{IsOut, IsKept, AreOut}
 use Rattle.status.specs.declared.header.Header.{Header}
 use Rattle.status.specs.Header.{total}
 use Rattle.status.specs.Rules.{is_built, runs_of, runs_in, row_end}
 use Rattle.status.specs.SlotCalls.{SlotStage, IsSlotCall}
 use Rattle.status.specs.SlotCalls as slots
 use Rattle.status.specs.TurnState.{TurnState, LogState}
-use Rattle.reading.specs.Extents.{Extent}
+use Rattle.reading.specs.Extents.{Extent, IsExtent, AreDistinct, HoldsExtent, KeepsExtent, extent_start, extent_bytes}
 use Rattle.reading.specs.Runs.{StoredRun, KeepsRun, run_bytes}
 use Rattle.reading.specs.Layouts.{Layout, live, IsLayoutOf, extents_of}
 use Rattle.reading.specs.Keeping.{KeepsExtents, KeepsRuns, KeepsParts, StatusRests, RestsAs}
-use Rattle.reading.specs.Jobs.{archived}
+use Rattle.reading.specs.Jobs.{archived, reclaimed}
 use Rattle.reading.specs.SlotTurns.{IsTurnAt}
 use Rattle.reading.specs.Turn as turns
 use Rattle.reading.specs.Turn.{Group, laid_out}
 use Rattle.reading.proofs.Beside.{archive_beside}
-use Rattle.reading.proofs.Extents.{loosened_is, written_is}
-use Rattle.reading.proofs.Jobs.{archive_kept}
-use Rattle.reading.proofs.Lists.{weaker}
+use Rattle.reading.proofs.Extents.{loosened_is, written_is, one_more_held, extents_synced}
+use Rattle.reading.proofs.Jobs.{archive_kept, reclaim_kept}
+use Rattle.reading.proofs.Layouts.{live_more, live_extents_are}
+use Rattle.reading.proofs.Lists.{weaker, all_of_front, all_of_back, others}
 use Rattle.reading.proofs.RunWays.{row_end-more, front-grows, group-beside}
-use Rattle.group.specs.Queued.{QueuedValue}
+use Rattle.group.specs.Queued.{QueuedValue, numbers_of}
 use Rattle.group.specs.declared.answers.PumpFault.{PumpFault}
 use Rattle.group.specs.declared.answers.PumpFault.TheVariants as pump
 use Rattle.transactions.specs.Order.{IsInOrder, StageFits}
 use Rattle.transactions.specs.Values.{TransactionsValue, is_turning, with_slot_used}
 use Rattle.transactions.specs.Steps as groups
+use Rattle.transactions.specs.Reclaims.{prepared, versions_once, reclaimed_to}
 use Rattle.transactions.specs.declared.stage.GroupStage.{GroupStage}
 use Rattle.transactions.specs.declared.stage.GroupStage.TheVariants.{NoGroup, Storing, Stored, Turning}
+use Rattle.transactions.proofs.Publishing.{out-swapped}
 use Rattle.store.specs.Values.{StoreValue, IsInStep, IsOnItsWay, turn_in, turn_of, lent_to}
 use Rattle.store.specs.declared.job.Job.{Job}
 use Rattle.store.specs.declared.job.JobWork.{JobWork}
@@ -62,15 +79,20 @@ use Rattle.store.specs.declared.job.JobStage.{JobStage}
 use Rattle.store.specs.declared.job.JobStage.TheVariants as job
 use Rattle.store.specs.declared.job.JobDid.{JobDid}
 use Rattle.store.specs.declared.job.JobDid.TheVariants as did
-use Rattle.store.specs.Jobs.{PumpsJob, TakesJobStep, WritesOrSyncs, WritesRun, SyncsStored, BeginsJobSlot, TurnsJob, IsJobTurned, with_job, job_fails, job_done, behind_piece, first_turn, slot_taken}
-use Rattle.store.specs.Archives.{ArchiveJob, job_of}
-use Rattle.standing.specs.Standing.{StandsInMemory}
-use Rattle.standing.specs.OnDisk.{IsImageOf, group_of, IsAtStage, IsTurnOf, IsNextRun, IsWritten, slot_of_run, IsTurnOfRun, IsAtJob, JobIsAt, HasJob, IsRested, Works, StandsOnDisk}
-use Rattle.standing.specs.Stands.{IsNoReclaim, Stands}
+use Rattle.store.specs.Jobs.{PumpsJob, TakesJobStep, Stores, WritesOrSyncs, WritesRun, AnchorsOrSync, WritesAnchors, SyncsStored, BeginsJobSlot, TurnsJob, IsJobTurned, with_job, job_fails, work_done, job_done, slot_opened, slot_body, behind_piece, first_turn, slot_taken}
+use Rattle.standing.specs.Standing.{StandsInMemory, Reclaims}
+use Rattle.standing.specs.OnDisk.{IsImageOf, AllPacked, HasTimes, group_of, IsAtStage, IsTurnOf, StoredAnchors, Product, OfRun, OfAnchors, body_of, slot_naming, laid_with, read_with, IsNextRun, IsNextChain, MayBeNext, IsMadeBy, IsWritten, IsFilling, KeepsProduct, IsTurnFor, IsAtJob, JobIsAt, HasJob, IsRested, Works, StandsOnDisk}
+use Rattle.standing.specs.Stands.{HasMarks, KeepsWork, KeepsJobOf, gate_of, Stands}
 use Rattle.standing.specs.Laws.{job_ends_in}
-use Rattle.standing.proofs.Publishing.{breaks}
-use Rattle.standing.proofs.Jobs.{resting, archives-built, laid-after, stands-after, built-after, run-leaves-within, run-leads}
-use Rattle.standing.proofs.Pumping.{Parts, now-at, job-room, room-left, stage-leaves, works-leave, on-disk, broken-order, slot-alone}
+use Rattle.standing.proofs.Besides.{IsBeside, AreBeside, all-keep, all-hold, write-beside, torn-beside, sync-beside, beside-none, beside-out, beside-numbers}
+use Rattle.standing.proofs.Chains.{fill-is, all-filled}
+use Rattle.standing.proofs.HeapForgets.{heap-forgets}
+use Rattle.standing.proofs.Joining as joining
+use Rattle.standing.proofs.Joining.{numbers-split}
+use Rattle.standing.proofs.Publishing.{breaks, prepares, reclaims}
+use Rattle.standing.proofs.Retired.{reclaimed-kept, reclaimed-times, reclaimed-order}
+use Rattle.standing.proofs.Jobs.{resting, adds, made_extents, made-are, live-with, product-built, laid-after, stands-after, built-after, product-leaves-within, product-leads}
+use Rattle.standing.proofs.Pumping.{Parts, now-at, job-room, job-free, room-left, reserved-out, out-middle, stage-leaves, works-leave, on-disk, broken-order, slot-alone}
 
 -- ---- what a group's stage says of the areas
 
@@ -101,37 +123,72 @@ stage-beside header layout group qs Turning (Some t) areas archive keeps at = re
   at = group-beside header layout group (turns.Turning t.stage) areas archive keeps at.at;
 }
 
--- a group that is not in its slot's writing stands so behind one more run
-stage-behind : (header : Header) (layout : Layout) (v : TransactionsValue) (m : Machine Value) (slot : Slot) (run : StoredRun) (qs : List QueuedValue) (s : GroupStage) (turn : Option TurnState) (old : Areas) (status : AreaState) → is_turning s ≡ false
-    → StatusRests header (archived layout slot run).slots status → KeepsParts (archived layout slot run) old
-    → IsAtStage header layout (group_of layout v m) qs s turn old → IsAtStage header (archived layout slot run) (group_of (archived layout slot run) v m) qs s turn (record old { status = status })
-stage-behind header layout v m slot run qs NoGroup turn old status still rests keeps at = record { status = rests; parts = record { extents = keeps.extents; runs = keeps.runs } }
-stage-behind header layout v m slot run qs (Storing member extent) turn old status still rests keeps at = record {
+-- and the heap beside the live chains and beside the group
+module _ (header : Header) (layout : Layout) (group : Group) (areas : Areas) (heap : AreaState) (n : ℕ) (beside : IsBeside n areas.heap heap) (apart : AreBeside n (live layout)) where
+  turn-on-heap : (stage : SlotStage) → AreBeside n (extents_of group.members) → IsTurnAt header layout group.slot (laid_out layout group) stage areas → IsTurnAt header layout group.slot (laid_out layout group) stage (record areas { heap = heap })
+  turn-on-heap stage own at = record {
+    status = at.status;
+    old_parts = record { extents = all-keep n areas.heap heap beside (live layout) apart at.old_parts.extents; runs = at.old_parts.runs };
+    new_parts = record {
+      extents = all-keep n areas.heap heap beside (live (laid_out layout group))
+          (subst (AreBeside n) (sym (live_more layout group)) (AllByRecursion-append (λ (f : Extent). IsExtent f × (f.number ≢ n)) (live layout) (extents_of group.members) apart own)) at.new_parts.extents;
+      runs = at.new_parts.runs;
+    };
+  }
+
+  stage-on-heap : (qs : List QueuedValue) (s : GroupStage) (size : ℕ) (turn : Option TurnState) → StageFits s size qs → (0 < size → AreBeside n (extents_of group.members)) → IsAtStage header layout group qs s turn areas → IsAtStage header layout group qs s turn (record areas { heap = heap })
+  stage-on-heap qs NoGroup size turn fits own at = record { status = at.status; parts = record { extents = all-keep n areas.heap heap beside (live layout) apart at.parts.extents; runs = at.parts.runs } }
+  stage-on-heap qs (Storing member extent) size turn fits own at = record {
+    rests = record { status = at.rests.status; parts = record { extents = all-keep n areas.heap heap beside (live layout) apart at.rests.parts.extents; runs = at.rests.parts.runs } };
+    parts_are = at.parts_are;
+    written = all-hold n areas.heap heap beside _ (all_of_front (λ (f : Extent). IsExtent f × (f.number ≢ n)) _ _ (subst (AreBeside n) (sym at.parts_are) (own fits.0))) at.written;
+  }
+  stage-on-heap qs Stored size turn fits own at = turn-on-heap slots.Begun (own fits) at
+  stage-on-heap qs Turning size None fits own at = absurd at
+  stage-on-heap qs Turning size (Some t) fits own at = record { number = at.number; long = at.long; spelled = at.spelled; at = turn-on-heap t.stage (own fits) at.at }
+
+-- a group that is not in its slot's writing stands so behind one slot more of a job
+stage-behind : (header : Header) (layout : Layout) (v : TransactionsValue) (m : Machine Value) (p : Product) (qs : List QueuedValue) (s : GroupStage) (turn : Option TurnState) (old : Areas) (status : AreaState) → is_turning s ≡ false
+    → StatusRests header (laid_with layout p).slots status → KeepsParts (laid_with layout p) old
+    → IsAtStage header layout (group_of layout v m) qs s turn old → IsAtStage header (laid_with layout p) (group_of (laid_with layout p) v m) qs s turn (record old { status = status })
+stage-behind header layout v m p qs NoGroup turn old status still rests keeps at = record { status = rests; parts = record { extents = keeps.extents; runs = keeps.runs } }
+stage-behind header layout v m p qs (Storing member extent) turn old status still rests keeps at = record {
   rests = record { status = rests; parts = record { extents = keeps.extents; runs = keeps.runs } };
   parts_are = at.parts_are;
   written = at.written;
 }
-stage-behind header layout v m slot run qs Stored turn old status still rests keeps at = record {
-  status = rests;
-  old_parts = record { extents = keeps.extents; runs = keeps.runs };
-  new_parts = record { extents = at.new_parts.extents; runs = keeps.runs };
-}
-stage-behind header layout v m slot run qs Turning turn old status still rests keeps at = absurd cc
+stage-behind header layout v m p qs Stored turn old status still rests keeps at =
+    let group : Group = group_of layout v m in
+    let after : Group = group_of (laid_with layout p) v m in
+    let own : KeepsExtents (extents_of group.members) old.heap = all_of_back (KeepsExtent old.heap) (live layout) (extents_of group.members) (subst (λ (es : List Extent). KeepsExtents es old.heap) (live_more layout group) at.new_parts.extents) in
+    record {
+      status = rests;
+      old_parts = record { extents = keeps.extents; runs = keeps.runs };
+      new_parts = record {
+        extents = subst (λ (es : List Extent). KeepsExtents es old.heap) (sym (live_more (laid_with layout p) after)) (AllByRecursion-append (KeepsExtent old.heap) (live (laid_with layout p)) (extents_of after.members) keeps.extents own);
+        runs = keeps.runs;
+      };
+    }
+stage-behind header layout v m p qs Turning turn old status still rests keeps at = absurd cc
 
 -- ---- the store after a step
 
 abbrev Ends : Bool → Machine Value → Result JobDid PumpFault → StoreValue → Type 0
 Ends tells m answer v = (after : Machine Value) × steps.Run IsValue m (job_ends_in answer) after × Parts tells v after
 
+-- what memory keeps of a job, in this store
+abbrev Keeps : StoreValue → Machine Value → JobWork → JobStage → Type 0
+Keeps v m work stage = KeepsWork work stage v.archived (last m.published) v.transactions.opened v.transactions.pending v.transactions.versions
+
 -- a call that is made
 stays : (tells : Bool) (new to : StoreValue) (m : Machine Value) (said : JobDid) → new ≡ to → Parts tells to m → Ends tells m (Ok said) new
 stays tells new to m said is parts = (m, refl, subst (λ (x : StoreValue). Parts tells x m) (sym is) parts)
 
 -- a refused call
-fails : (tells : Bool) (v new : StoreValue) (m : Machine Value) (why : PumpFault) (log : LogState) (j : ArchiveJob) → (parts : Parts tells v m) → (works : m.failed ≡ false) → why ≡ pump.Failed → log.profile ≡ v.log.profile → log.slots ≡ v.log.slots → log.used ≡ v.log.used → lent_to v.job ≡ 1
-    → new ≡ record v { transactions = groups.broken v.transactions; log = log; job = Some (job_of j); disk = new.disk }
+fails : (tells : Bool) (v new : StoreValue) (m : Machine Value) (why : PumpFault) (log : LogState) (j : Job) → (parts : Parts tells v m) → (works : m.failed ≡ false) → why ≡ pump.Failed → log.profile ≡ v.log.profile → log.slots ≡ v.log.slots → log.used ≡ v.log.used → lent_to v.job ≡ 1
+    → Keeps v m j.work j.stage → new ≡ record v { transactions = groups.broken v.transactions; log = log; job = Some j; disk = new.disk }
     → ((told : IsTrue tells) (image : Image) → LeavesImage new.disk.areas image → OnFront (IsImageOf (parts.disk told).header image) m) → Ends tells m (Err why) new
-fails tells v new m why log j parts works said profile many used lent is leaves =
+fails tells v new m why log j parts works said profile many used lent keeps is leaves =
     subst (λ (e : PumpFault). Ends tells m (Err e) new) (sym said) (
       steps.broken m,
       (steps.broken m, (works, refl), refl),
@@ -140,7 +197,8 @@ fails tells v new m why log j parts works said profile many used lent is leaves 
         order = broken-order v.transactions parts.order;
         in_step = record { slots = omega (arith, many, parts.in_step.slots, lent); used = used ∙ parts.in_step.used; turns = λ no. absurd cc };
         gate = λ no. absurd cc;
-        plain = (parts.plain.0, tt);
+        marks = parts.marks;
+        job = keeps;
         disk = λ told.
             let d = parts.disk told in record {
               header = d.header;
@@ -153,7 +211,7 @@ fails tells v new m why log j parts works said profile many used lent is leaves 
       }),
     )
 
--- ---- the run is written
+-- ---- what the job makes is written
 
 -- the layout's parts are kept
 pub keeps-parts : (header : Header) (v : StoreValue) (m : Machine Value) (w : Works header v m) → KeepsParts w.layout v.disk.areas
@@ -162,21 +220,19 @@ keeps-parts header v m w =
     record { extents = k.extents; runs = k.runs }
 
 -- what a store keeps of the job that it has
-module _ (header : Header) (v : StoreValue) (m : Machine Value) (w : Works header v m) (j : ArchiveJob) (is : v.job ≡ Some (job_of j)) where
-  pub own : JobIsAt header w.layout w.reading m.published j v.disk.areas
-  own = subst (λ (o : Option Job). HasJob header w.layout w.reading m.published o v.disk.areas) is w.job
-
-  still : (s : JobStage) → j.stage ≡ s → turn_in s ≡ None → turn_of v.job ≡ None
-  still s at none = ap turn_of is ∙ ap turn_in at ∙ none
+module _ (header : Header) (v : StoreValue) (m : Machine Value) (w : Works header v m) (j : Job) (is : v.job ≡ Some j) where
+  pub own : JobIsAt header w.layout w.reading m.published v.transactions.reserved j v.disk.areas
+  own = subst (λ (o : Option Job). HasJob header w.layout w.reading m.published v.transactions.reserved o v.disk.areas) is w.job
 
   -- the runs are kept, whatever is written behind them
   behind : (at n : ℕ) (archive : AreaState) → row_end 0 (runs_of w.layout.slots) ≤ at → IsLoosened at n v.disk.areas.archive archive → KeepsRuns w.layout.runs archive
   behind at n archive past loose = (archive_beside header w.layout w.reading at n v.disk.areas archive w.laid w.sound past loose (keeps-parts header v m w)).runs
 
   -- the works of the store with another job, where no slot of a job is in the writing
-  works-with : (new : StoreValue) (j' : ArchiveJob) → turn_of v.job ≡ None → turn_in j'.stage ≡ None → AreSound new.disk.areas → (archive : AreaState) → new.disk.areas ≡ record v.disk.areas { archive = archive }
-      → KeepsRuns w.layout.runs archive → JobIsAt header w.layout w.reading m.published j' (record v.disk.areas { archive = archive }) → Works header (with_job v (job_of j') new) m
-  works-with new j' none none' sound archive areas kept has = record {
+  works-with : (new : StoreValue) (j' : Job) → turn_of v.job ≡ None → turn_in j'.stage ≡ None → AreSound new.disk.areas → (areas : Areas) → new.disk.areas ≡ areas → areas.status ≡ v.disk.areas.status
+      → IsAtStage header w.layout (group_of w.layout v.transactions m) v.transactions.queue v.transactions.stage v.turn (record areas { status = w.rested })
+      → JobIsAt header w.layout w.reading m.published v.transactions.reserved j' areas → Works header (with_job v j' new) m
+  works-with new j' none none' sound areas are status at has = record {
     layout = w.layout;
     reading = w.reading;
     laid = w.laid;
@@ -184,21 +240,23 @@ module _ (header : Header) (v : StoreValue) (m : Machine Value) (w : Works heade
     built = w.built;
     used = w.used;
     kept = w.kept;
+    times = w.times;
     heap = w.heap;
     packed = w.packed;
     archived = w.archived;
+    reclaimed = w.reclaimed;
     runs_end = w.runs_end;
     rested = w.rested;
-    rests = subst (λ (a : Areas). IsRested header w.layout (turn_in j'.stage) w.rested a.status) (sym areas)
-        (subst (λ (o : Option TurnState). IsRested header w.layout o w.rested v.disk.areas.status) (none ∙ sym none') w.rests);
-    at = subst (λ (a : Areas). IsAtStage header w.layout (group_of w.layout v.transactions m) v.transactions.queue v.transactions.stage v.turn (record a { status = w.rested })) (sym areas)
-        (stage-beside header w.layout (group_of w.layout v.transactions m) v.transactions.queue v.transactions.stage v.turn (record v.disk.areas { status = w.rested }) archive kept w.at);
-    job = subst (λ (a : Areas). JobIsAt header w.layout w.reading m.published j' a) (sym areas) has;
+    rests = subst (λ (a : Areas). IsRested header w.layout (turn_in j'.stage) w.rested a.status) (sym are)
+        (subst (λ (a : AreaState). IsRested header w.layout (turn_in j'.stage) w.rested a) (sym status)
+        (subst (λ (o : Option TurnState). IsRested header w.layout o w.rested v.disk.areas.status) (none ∙ sym none') w.rests));
+    at = subst (λ (a : Areas). IsAtStage header w.layout (group_of w.layout v.transactions m) v.transactions.queue v.transactions.stage v.turn (record a { status = w.rested })) (sym are) at;
+    job = subst (λ (a : Areas). JobIsAt header w.layout w.reading m.published v.transactions.reserved j' a) (sym are) has;
     sound = sound;
   }
 
 -- the store is in step with another job whose slot is not in the writing
-in-step-with : (v new : StoreValue) (j j' : ArchiveJob) → v.job ≡ Some (job_of j) → turn_of v.job ≡ None → turn_in j'.stage ≡ None → IsInStep v → IsInStep (with_job v (job_of j') new)
+in-step-with : (v new : StoreValue) (j j' : Job) → v.job ≡ Some j → turn_of v.job ≡ None → turn_in j'.stage ≡ None → IsInStep v → IsInStep (with_job v j' new)
 in-step-with v new j j' is none none' in_step = record {
   slots = in_step.slots ∙ ap (λ (o : Option Job). v.transactions.slots + lent_to o) is;
   used = in_step.used;
@@ -211,173 +269,411 @@ in-step-with v new j j' is none none' in_step = record {
       };
 }
 
-module _ (tells : Bool) (v new : StoreValue) (m : Machine Value) (parts : Parts tells v m) (machine : IsMachine IsValue m) (works : m.failed ≡ false) (sound : IsTrue tells → AreSound new.disk.areas) (j : ArchiveJob) (is : v.job ≡ Some (job_of j)) where
+module _ (tells : Bool) (v new : StoreValue) (m : Machine Value) (parts : Parts tells v m) (machine : IsMachine IsValue m) (works : m.failed ≡ false) (sound : IsTrue tells → AreSound new.disk.areas) (j : Job) (is : v.job ≡ Some j) where
   lent : lent_to v.job ≡ 1
   lent = ap lent_to is
+
+  kept-so : Keeps v m j.work j.stage
+  kept-so = subst (λ (o : Option Job). KeepsJobOf o v.archived (last m.published) v.transactions.opened v.transactions.pending v.transactions.versions) is parts.job
 
   -- what is left by a call that changed nothing
   same : (told : IsTrue tells) → new.disk.areas ≡ v.disk.areas → (image : Image) → LeavesImage new.disk.areas image → OnFront (IsImageOf (parts.disk told).header image) m
   same told is image left =
       let d = parts.disk told in
-      works-leave d.header v m parts.memory machine parts.order parts.in_step d.slots d.profile_built (archives-built d.header.profile d.profile_built) (parts.gate works) (d.works works) image (subst (λ (a : Areas). LeavesImage a image) is left)
+      works-leave d.header v m parts.memory machine parts.order parts.in_step d.slots d.profile_built (parts.gate works) (d.works works) image (subst (λ (a : Areas). LeavesImage a image) is left)
 
-  -- what is left while the archive is written behind the runs
-  torn-leaves : (told : IsTrue tells) → turn_of v.job ≡ None → (archive : AreaState) → KeepsRuns ((parts.disk told).works works).layout.runs archive → (image : Image) → LeavesImage (record v.disk.areas { archive = archive }) image
-      → OnFront (IsImageOf (parts.disk told).header image) m
-  torn-leaves told none archive kept image left =
+  -- what is left while something is written beside the group and the log
+  torn-leaves : (told : IsTrue tells) (areas : Areas) → IsAtStage (parts.disk told).header ((parts.disk told).works works).layout (group_of ((parts.disk told).works works).layout v.transactions m) v.transactions.queue v.transactions.stage v.turn areas
+      → (image : Image) → LeavesImage areas image → OnFront (IsImageOf (parts.disk told).header image) m
+  torn-leaves told areas at image left =
       let d = parts.disk told in
       let w = d.works works in
-      stage-leaves d.header v m parts.memory machine parts.order d.profile_built w (room-left d.header v m parts.order parts.in_step d.slots w) (record v.disk.areas { archive = archive }) v.transactions.stage v.turn (parts.gate works) parts.order.stage_fits
-      (stage-beside d.header w.layout (group_of w.layout v.transactions m) v.transactions.queue v.transactions.stage v.turn v.disk.areas archive kept (now-at d.header v m w none)) image left
+      stage-leaves d.header v m parts.memory machine parts.order d.profile_built w (room-left d.header v m parts.order parts.in_step d.slots w) areas v.transactions.stage v.turn (parts.gate works) parts.order.stage_fits at image left
 
   -- the store with another job
-  moved : (j' : ArchiveJob) → turn_of v.job ≡ None → turn_in j'.stage ≡ None → ((told : IsTrue tells) → Works (parts.disk told).header (with_job v (job_of j') new) m) → Parts tells (with_job v (job_of j') new) m
-  moved j' none none' working =
+  moved : (j' : Job) → turn_of v.job ≡ None → turn_in j'.stage ≡ None → Keeps v m j'.work j'.stage → ((told : IsTrue tells) → Works (parts.disk told).header (with_job v j' new) m) → Parts tells (with_job v j' new) m
+  moved j' none none' keeps working =
       let in_step = in-step-with v new j j' is none none' parts.in_step in
       record {
         memory = parts.memory;
         order = parts.order;
         in_step = in_step;
         gate = parts.gate;
-        plain = (parts.plain.0, tt);
+        marks = parts.marks;
+        job = keeps;
         disk = λ told.
             let d = parts.disk told in
-            on-disk d.header (with_job v (job_of j') new) m parts.memory machine parts.order in_step d.profile d.slots d.profile_built (parts.gate works) (working told);
+            on-disk d.header (with_job v j' new) m parts.memory machine parts.order in_step d.profile d.slots d.profile_built (parts.gate works) (working told);
       }
 
-  module _ (writing : j.stage ≡ job.Writing) where
-    abbrev one-behind : ArchiveJob
-    one-behind = record j { writer = behind_piece j.writer }
+-- the first of these have what all have
+all-front-of : {X : Type 0} {P : X → Type 0} (n : ℕ) (xs : List X) → AllByRecursion P xs → AllByRecursion P (take n xs)
+all-front-of zero xs all = tt
+all-front-of (suc n) [] all = tt
+all-front-of (suc n) (x ∷ xs) all = (all.0, all-front-of n xs all.1)
 
-    abbrev piece : List ℕ
-    piece = take 8192 j.writer.left
+-- ---- a run is written
 
-    at-writing : (told : IsTrue tells) → IsWritten (own (parts.disk told).header v m ((parts.disk told).works works) j is).run j.writer v.disk.areas.archive
-    at-writing told =
-        let d = parts.disk told in
-        let has = own d.header v m (d.works works) j is in
-        subst (λ (s : JobStage). IsAtJob d.header (d.works works).layout has.run j.writer s v.disk.areas) writing has.at
+module _ (tells : Bool) (v new : StoreValue) (m : Machine Value) (parts : Parts tells v m) (machine : IsMachine IsValue m) (works : m.failed ≡ false) (sound : IsTrue tells → AreSound new.disk.areas)
+    (run : WireRun) (writer : InWriting) (is : v.job ≡ Some (record { work = ArchiveWork run writer; stage = job.Writing })) where
+  abbrev archiving : JobWork → JobStage → Job
+  archiving work stage = record { work = work; stage = stage }
 
-    past : (told : IsTrue tells) → row_end 0 (runs_of ((parts.disk told).works works).layout.slots) ≤ j.writer.at
-    past told =
-        let d = parts.disk told in
-        let has = own d.header v m (d.works works) j is in
-        let at = at-writing told in
-        omega (arith, at.place, has.next.behind)
+  still-none : turn_of v.job ≡ None
+  still-none = ap turn_of is
 
-    written-on : (told : IsTrue tells) → IsWritten (own (parts.disk told).header v m ((parts.disk told).works works) j is).run (behind_piece j.writer) (written j.writer.at piece v.disk.areas.archive)
-    written-on told =
-        let d = parts.disk told in
-        let has = own d.header v m (d.works works) j is in
-        let at = at-writing told in
-        record {
-          front = at.front ++ piece;
-          whole = append_assoc at.front piece (drop 8192 j.writer.left) ∙ ap (λ (l : List ℕ). at.front ++ l) (take-append-drop 8192 j.writer.left) ∙ at.whole;
-          place = omega (arith, at.place, length-append at.front piece);
-          held = subst (λ (n : ℕ). HoldsPart has.run.entry.start (at.front ++ piece) (overlaid v.disk.areas.archive.bytes n piece)) (sym at.place) (front-grows has.run.entry.start at.front piece v.disk.areas.archive.bytes at.held);
-        }
+  -- the run as it is stored
+  record OwnRun (layout : Layout) (reading : Reading) (archive : AreaState) : Type 0 where
+    pub stored : StoredRun
+    pub entry : stored.entry ≡ run
+    pub next : IsNextRun layout reading m.published stored
+    pub at : IsWritten stored writer archive
 
-    wrote : (answer : Result JobDid PumpFault) → WritesRun tells j.run j.writer (job_of j) v answer new → Ends tells m answer new
-    wrote (Ok said) takes =
-        stays tells new (with_job v (job_of one-behind) new) m said takes.moves.1
-        (moved one-behind (ap turn_of is ∙ ap turn_in writing) (ap turn_in writing) (λ told.
-        let d = parts.disk told in
-        let w = d.works works in
-        let has = own d.header v m w j is in
-        let archive : AreaState = written j.writer.at piece v.disk.areas.archive in
-        works-with d.header v m w j is new one-behind (ap turn_of is ∙ ap turn_in writing) (ap turn_in writing) (sound told) archive (takes.call.areas told).written
-        (behind d.header v m w j is j.writer.at (length piece) archive (past told) (written_is j.writer.at piece v.disk.areas.archive (w.sound Archive)))
-        (record {
-          run = has.run;
-          entry = has.entry;
-          next = has.next;
-          at = subst (λ (s : JobStage). IsAtJob d.header w.layout has.run (behind_piece j.writer) s (record v.disk.areas { archive = archive })) (sym writing) (written-on told);
-        })))
-    wrote (Err why) takes =
-        fails tells v new m why v.log one-behind parts works takes.moves.0 refl refl refl lent takes.moves.1 (λ told image left.
-        let d = parts.disk told in
-        let w = d.works works in
-        let archive : AreaState = loosened j.writer.at (length piece) v.disk.areas.archive.bytes v.disk.areas.archive in
-        torn-leaves told (ap turn_of is ∙ ap turn_in writing) archive
-        (behind d.header v m w j is j.writer.at (length piece) archive (past told) (loosened_is j.writer.at (length piece) v.disk.areas.archive)) image
-        ((left_by_write Archive j.writer.at piece (Err (record {})) v.disk.areas new.disk.areas (takes.call.areas told) w.sound).each image left))
+  own-run-of : (layout : Layout) (reading : Reading) (areas : Areas) (header : Header) (p : Product) → IsMadeBy v.transactions.reserved (ArchiveWork run writer) p → MayBeNext layout reading m.published p
+      → IsAtJob header layout (ArchiveWork run writer) p job.Writing areas → OwnRun layout reading areas.archive
+  own-run-of layout reading areas header (OfRun stored) made next at = record { stored = stored; entry = made; next = next; at = at }
+  own-run-of layout reading areas header (OfAnchors a) made next at = absurd made
 
-    synced-run : (answer : Result JobDid PumpFault) → j.writer.left ≡ [] → SyncsStored tells Archive did.RunSynced (job_of j) v answer new → Ends tells m answer new
-    synced-run (Ok said) all takes =
-        stays tells new (with_job v (job_of (record j { stage = job.Stored })) new) m said takes.moves.1
-        (moved (record j { stage = job.Stored }) (ap turn_of is ∙ ap turn_in writing) refl (λ told.
-        let d = parts.disk told in
-        let w = d.works works in
-        let has = own d.header v m w j is in
-        let at = at-writing told in
-        let archive : AreaState = synced v.disk.areas.archive in
-        let whole : at.front ≡ run_bytes has.run.records = sym (append-nil at.front) ∙ ap (λ (l : List ℕ). at.front ++ l) (sym all) ∙ at.whole in
-        works-with d.header v m w j is new (record j { stage = job.Stored }) (ap turn_of is ∙ ap turn_in writing) refl (sound told) archive (takes.call.areas told).synced
-        (weaker (KeepsRun v.disk.areas.archive) (KeepsRun archive) w.layout.runs (λ s kept. kept_by_sync s.entry.start (run_bytes s.records) v.disk.areas.archive (w.sound Archive) kept) (keeps-parts d.header v m w).runs)
-        (record {
-          run = has.run;
-          entry = has.entry;
-          next = has.next;
-          at = synced_part has.run.entry.start (run_bytes has.run.records) v.disk.areas.archive (subst (λ (l : List ℕ). HoldsPart has.run.entry.start l v.disk.areas.archive.bytes) whole at.held);
-        })))
-    synced-run (Err why) all takes =
-        fails tells v new m why v.log j parts works takes.moves.0 refl refl refl lent takes.moves.1 (λ told image left. same told (takes.call.areas told).same image left)
+  own-run : (told : IsTrue tells) → OwnRun ((parts.disk told).works works).layout ((parts.disk told).works works).reading v.disk.areas.archive
+  own-run told =
+      let d = parts.disk told in
+      let w = d.works works in
+      let has = own d.header v m w (archiving (ArchiveWork run writer) job.Writing) is in
+      own-run-of w.layout w.reading v.disk.areas d.header has.product has.made has.next has.at
 
-    write-step : (left : List ℕ) → j.writer.left ≡ left → (answer : Result JobDid PumpFault) → WritesOrSyncs tells left j.run j.writer (job_of j) v answer new → Ends tells m answer new
-    write-step [] all answer takes = synced-run answer all takes
-    write-step (b ∷ bs) all answer takes = wrote answer takes
+  abbrev piece : List ℕ
+  piece = take 8192 writer.left
 
--- ---- the slot of the run
+  past : (told : IsTrue tells) → row_end 0 (runs_of ((parts.disk told).works works).layout.slots) ≤ writer.at
+  past told = let has = own-run told in omega (arith, has.at.place, has.next.behind)
 
-archive-front : (profile number : ℕ) (run : WireRun) → length (front_of profile (record { number = number; body = ArchivedBody run })) ≡ 39
+  written-on : (told : IsTrue tells) → IsWritten (own-run told).stored (behind_piece writer) (written writer.at piece v.disk.areas.archive)
+  written-on told =
+      let has = own-run told in
+      let at = has.at in
+      record {
+        front = at.front ++ piece;
+        whole = append_assoc at.front piece (drop 8192 writer.left) ∙ ap (λ (l : List ℕ). at.front ++ l) (take-append-drop 8192 writer.left) ∙ at.whole;
+        place = omega (arith, at.place, length-append at.front piece);
+        held = subst (λ (n : ℕ). HoldsPart has.stored.entry.start (at.front ++ piece) (overlaid v.disk.areas.archive.bytes n piece)) (sym at.place) (front-grows has.stored.entry.start at.front piece v.disk.areas.archive.bytes at.held);
+      }
+
+  run-kept : Keeps v m (ArchiveWork run writer) job.Writing
+  run-kept = kept-so tells v new m parts machine works sound (archiving (ArchiveWork run writer) job.Writing) is
+
+  -- the archive is written behind the runs: where the group is then
+  on-archive : (told : IsTrue tells) (areas : Areas) (archive : AreaState) → KeepsRuns ((parts.disk told).works works).layout.runs archive
+      → IsAtStage (parts.disk told).header ((parts.disk told).works works).layout (group_of ((parts.disk told).works works).layout v.transactions m) v.transactions.queue v.transactions.stage v.turn areas
+      → IsAtStage (parts.disk told).header ((parts.disk told).works works).layout (group_of ((parts.disk told).works works).layout v.transactions m) v.transactions.queue v.transactions.stage v.turn (record areas { archive = archive })
+  on-archive told areas archive kept at =
+      let d = parts.disk told in
+      let w = d.works works in
+      stage-beside d.header w.layout (group_of w.layout v.transactions m) v.transactions.queue v.transactions.stage v.turn areas archive kept at
+
+  wrote-run : (answer : Result JobDid PumpFault) → WritesRun tells run writer (archiving (ArchiveWork run writer) job.Writing) v answer new → Ends tells m answer new
+  wrote-run (Ok said) takes =
+      let j' : Job = archiving (ArchiveWork run (behind_piece writer)) job.Writing in
+      stays tells new (with_job v j' new) m said takes.moves.1
+      (moved tells v new m parts machine works sound (archiving (ArchiveWork run writer) job.Writing) is j' still-none refl run-kept (λ told.
+      let d = parts.disk told in
+      let w = d.works works in
+      let has = own-run told in
+      let archive : AreaState = written writer.at piece v.disk.areas.archive in
+      let kept = behind d.header v m w (archiving (ArchiveWork run writer) job.Writing) is writer.at (length piece) archive (past told) (written_is writer.at piece v.disk.areas.archive (w.sound Archive)) in
+      works-with d.header v m w (archiving (ArchiveWork run writer) job.Writing) is new j' still-none refl (sound told) (record v.disk.areas { archive = archive }) (takes.call.areas told).written refl
+      (on-archive told (record v.disk.areas { status = w.rested }) archive kept w.at)
+      (record { product = OfRun has.stored; made = has.entry; next = has.next; at = written-on told })))
+  wrote-run (Err why) takes =
+      fails tells v new m why v.log (archiving (ArchiveWork run (behind_piece writer)) job.Writing) parts works takes.moves.0 refl refl refl (ap lent_to is) run-kept takes.moves.1 (λ told image left.
+      let d = parts.disk told in
+      let w = d.works works in
+      let archive : AreaState = loosened writer.at (length piece) v.disk.areas.archive.bytes v.disk.areas.archive in
+      let kept = behind d.header v m w (archiving (ArchiveWork run writer) job.Writing) is writer.at (length piece) archive (past told) (loosened_is writer.at (length piece) v.disk.areas.archive) in
+      torn-leaves tells v new m parts machine works sound (archiving (ArchiveWork run writer) job.Writing) is told (record v.disk.areas { archive = archive })
+      (on-archive told v.disk.areas archive kept (now-at d.header v m w still-none)) image
+      ((left_by_write Archive writer.at piece (Err (record {})) v.disk.areas new.disk.areas (takes.call.areas told) w.sound).each image left))
+
+  synced-run : (answer : Result JobDid PumpFault) → writer.left ≡ [] → SyncsStored tells Archive did.RunSynced (archiving (ArchiveWork run writer) job.Writing) v answer new → Ends tells m answer new
+  synced-run (Ok said) all takes =
+      let j' : Job = archiving (ArchiveWork run writer) job.Stored in
+      stays tells new (with_job v j' new) m said takes.moves.1
+      (moved tells v new m parts machine works sound (archiving (ArchiveWork run writer) job.Writing) is j' still-none refl run-kept (λ told.
+      let d = parts.disk told in
+      let w = d.works works in
+      let has = own-run told in
+      let at = has.at in
+      let archive : AreaState = synced v.disk.areas.archive in
+      let kept = weaker (KeepsRun v.disk.areas.archive) (KeepsRun archive) w.layout.runs (λ s kept. kept_by_sync s.entry.start (run_bytes s.records) v.disk.areas.archive (w.sound Archive) kept) (keeps-parts d.header v m w).runs in
+      let whole : at.front ≡ run_bytes has.stored.records = sym (append-nil at.front) ∙ ap (λ (l : List ℕ). at.front ++ l) (sym all) ∙ at.whole in
+      works-with d.header v m w (archiving (ArchiveWork run writer) job.Writing) is new j' still-none refl (sound told) (record v.disk.areas { archive = archive }) (takes.call.areas told).synced refl
+      (on-archive told (record v.disk.areas { status = w.rested }) archive kept w.at)
+      (record {
+        product = OfRun has.stored;
+        made = has.entry;
+        next = has.next;
+        at = synced_part has.stored.entry.start (run_bytes has.stored.records) v.disk.areas.archive (subst (λ (l : List ℕ). HoldsPart has.stored.entry.start l v.disk.areas.archive.bytes) whole at.held);
+      })))
+  synced-run (Err why) all takes =
+      fails tells v new m why v.log (archiving (ArchiveWork run writer) job.Writing) parts works takes.moves.0 refl refl refl (ap lent_to is) run-kept takes.moves.1
+      (λ told image left. same tells v new m parts machine works sound (archiving (ArchiveWork run writer) job.Writing) is told (takes.call.areas told).same image left)
+
+  run-step : (left : List ℕ) → writer.left ≡ left → (answer : Result JobDid PumpFault) → WritesOrSyncs tells left run writer (archiving (ArchiveWork run writer) job.Writing) v answer new → Ends tells m answer new
+  run-step [] all answer takes = synced-run answer all takes
+  run-step (b ∷ bs) all answer takes = wrote-run answer takes
+
+-- ---- anchors are written
+
+module _ (tells : Bool) (v new : StoreValue) (m : Machine Value) (parts : Parts tells v m) (machine : IsMachine IsValue m) (works : m.failed ≡ false) (sound : IsTrue tells → AreSound new.disk.areas)
+    (anchors : Anchors) (source : Sourced) (done : ℕ) (is : v.job ≡ Some (record { work = Reclaim anchors source done; stage = job.Writing })) where
+  abbrev reclaiming : Sourced → ℕ → JobStage → Job
+  reclaiming left n stage = record { work = Reclaim anchors left n; stage = stage }
+
+  abbrev now : Job
+  now = reclaiming source done job.Writing
+
+  none-turning : turn_of v.job ≡ None
+  none-turning = ap turn_of is
+
+  -- the anchors as they are stored
+  record OwnAnchors (layout : Layout) (reading : Reading) (heap : AreaState) : Type 0 where
+    pub stored : StoredAnchors
+    pub entry : stored.entry ≡ anchors
+    pub numbers : map (λ (e : Extent). e.number) stored.extents ≡ v.transactions.reserved
+    pub next : IsNextChain reading stored
+    pub at : IsFilling stored source done heap
+
+  own-anchors-of : (layout : Layout) (reading : Reading) (areas : Areas) (header : Header) (p : Product) → IsMadeBy v.transactions.reserved (Reclaim anchors source done) p → MayBeNext layout reading m.published p
+      → IsAtJob header layout (Reclaim anchors source done) p job.Writing areas → OwnAnchors layout reading areas.heap
+  own-anchors-of layout reading areas header (OfRun stored) made next at = absurd made
+  own-anchors-of layout reading areas header (OfAnchors a) made next at = record { stored = a; entry = made.0; numbers = made.1; next = next; at = at }
+
+  own-anchors : (told : IsTrue tells) → OwnAnchors ((parts.disk told).works works).layout ((parts.disk told).works works).reading v.disk.areas.heap
+  own-anchors told =
+      let d = parts.disk told in
+      let w = d.works works in
+      let has = own d.header v m w now is in
+      own-anchors-of w.layout w.reading v.disk.areas d.header has.product has.made has.next has.at
+
+  chain-kept : Keeps v m (Reclaim anchors source done) job.Writing
+  chain-kept = kept-so tells v new m parts machine works sound now is
+
+  -- the group's extents are none of those that are out for the job
+  group-apart : (told : IsTrue tells) (n : ℕ) → AllByRecursion (λ (k : ℕ). k ≢ n) (flat_map numbers_of v.transactions.queue) → 0 < v.transactions.group
+      → AreBeside n (extents_of (group_of ((parts.disk told).works works).layout v.transactions m).members)
+  group-apart told n others some =
+      let d = parts.disk told in
+      let w = d.works works in
+      let room = room-left d.header v m parts.order parts.in_step d.slots w some in
+      let named = joining.numbers d.header v.transactions m w.layout w.reading parts.memory machine parts.order w.laid w.stands d.profile_built w.built w.kept w.packed some room in
+      let front = all_of_front (λ (k : ℕ). k ≢ n) (flat_map numbers_of (take v.transactions.group v.transactions.queue)) (flat_map numbers_of (drop v.transactions.group v.transactions.queue))
+      (subst (AllByRecursion (λ (k : ℕ). k ≢ n)) (numbers-split v.transactions.group v.transactions.queue) others) in
+      beside-numbers n (extents_of (group_of w.layout v.transactions m).members)
+      (joining.group_are d.header v.transactions m w.layout w.reading parts.memory machine parts.order w.laid w.stands d.profile_built w.built w.kept w.packed some room)
+      (subst (AllByRecursion (λ (k : ℕ). k ≢ n)) (sym named) front)
+
+  -- the heap is written beside the group: where the group is then
+  on-heap : (told : IsTrue tells) (areas : Areas) (heap : AreaState) (n : ℕ) → IsBeside n areas.heap heap → AreBeside n (live ((parts.disk told).works works).layout)
+      → (0 < v.transactions.group → AreBeside n (extents_of (group_of ((parts.disk told).works works).layout v.transactions m).members))
+      → IsAtStage (parts.disk told).header ((parts.disk told).works works).layout (group_of ((parts.disk told).works works).layout v.transactions m) v.transactions.queue v.transactions.stage v.turn areas
+      → IsAtStage (parts.disk told).header ((parts.disk told).works works).layout (group_of ((parts.disk told).works works).layout v.transactions m) v.transactions.queue v.transactions.stage v.turn (record areas { heap = heap })
+  on-heap told areas heap n beside apart mine at =
+      let d = parts.disk told in
+      let w = d.works works in
+      stage-on-heap d.header w.layout (group_of w.layout v.transactions m) areas heap n beside apart v.transactions.queue v.transactions.stage v.transactions.group v.turn parts.order.stage_fits mine at
+
+  -- the next extent of the chain
+  record OwnExtent (layout : Layout) (stored : StoredAnchors) (number : ℕ) (image : List ℕ) (left : Sourced) : Type 0 where
+    pub extent : Extent
+    pub is_extent : IsExtent extent
+    pub number_is : extent.number ≡ number
+    pub image_is : image ≡ extent_bytes extent
+    pub front : take (done + 1) stored.extents ≡ take done stored.extents ++ extent ∷ []
+    pub rest : map (λ (e : Extent). e.body) (drop (done + 1) stored.extents) ≡ bodies (map record_spelling left.left)
+    pub live : AreBeside extent.number (live layout)
+    pub before : AllByRecursion (λ (f : Extent). f.number ≢ extent.number) (take done stored.extents)
+    pub queued : AllByRecursion (λ (k : ℕ). k ≢ extent.number) (flat_map numbers_of v.transactions.queue)
+
+  next-extent : (told : IsTrue tells) (number : ℕ) → slice_get v.transactions.reserved done ≡ Some number → (takes : (image : List ℕ) × (filled : FilledExtent) × (left : Sourced) × IsFilled number (first_number (drop (done + 1) v.transactions.reserved)) source.left image filled left.left)
+      → OwnExtent ((parts.disk told).works works).layout (own-anchors told).stored number takes.0 takes.2
+  next-extent told number there takes =
+      let d = parts.disk told in
+      let w = d.works works in
+      let has = own-anchors told in
+      let a : StoredAnchors = has.stored in
+      let fill = fill-is a source done v.disk.areas.heap v.transactions.reserved number takes.0 takes.1 takes.2.left has.next.chain has.numbers has.at there takes.3 in
+      let e : Extent = fill.extent in
+      let split : take done a.extents ++ e ∷ drop (done + 1) a.extents ≡ a.extents = ap (λ (l : List Extent). take done a.extents ++ l) (sym fill.is) ∙ take-append-drop done a.extents in
+      let each = subst (AllByRecursion IsExtent) (sym split) has.next.chain.is_chain.each in
+      let of : Extent → ℕ = λ f. f.number in
+      let named : map of (take done a.extents) ++ e.number ∷ map of (drop (done + 1) a.extents) ≡ v.transactions.reserved = sym (map-append of (take done a.extents) (e ∷ drop (done + 1) a.extents)) ∙ ap (map of) split ∙ has.numbers in
+      let swapped = out-swapped v.transactions.usages (flat_map numbers_of v.transactions.queue) v.transactions.reserved parts.order.out in
+      let whole = subst (AreOut v.transactions.usages)
+      (ap (λ (l : List ℕ). l ++ flat_map numbers_of v.transactions.queue) (sym named) ∙ append_assoc (map of (take done a.extents)) (e.number ∷ map of (drop (done + 1) a.extents)) (flat_map numbers_of v.transactions.queue)) swapped in
+      let middle = out-middle v.transactions.usages (map of (take done a.extents)) (map of (drop (done + 1) a.extents) ++ flat_map numbers_of v.transactions.queue) e.number whole in
+      let free = job-free d.header v m parts.order w (Reclaim anchors source done) (OfAnchors a) (has.entry, has.numbers) has.next in
+      let apart = others e (live w.layout ++ take done a.extents) (drop (done + 1) a.extents)
+      (subst AreDistinct (ap (λ (l : List Extent). live w.layout ++ l) (sym split) ∙ sym (append_assoc (live w.layout) (take done a.extents) (e ∷ drop (done + 1) a.extents))) free) in
+      record {
+        extent = e;
+        is_extent = (all_of_back IsExtent (take done a.extents) (e ∷ drop (done + 1) a.extents) each).0;
+        number_is = fill.number;
+        image_is = fill.image;
+        front = fill.front;
+        rest = fill.rest;
+        live = beside-out v.transactions.usages e.number middle.0 (live w.layout) (live_extents_are d.header w.layout w.reading w.laid) w.kept;
+        before = all_of_back (λ (f : Extent). f.number ≢ e.number) (live w.layout) (take done a.extents) apart;
+        queued = all_of_back (λ (k : ℕ). k ≢ e.number) (map of (drop (done + 1) a.extents)) (flat_map numbers_of v.transactions.queue) middle.1;
+      }
+
+  -- a write of it, in full or in part, is beside all others
+  beside-it : (told : IsTrue tells) (number : ℕ) (image : List ℕ) (left : Sourced) → OwnExtent ((parts.disk told).works works).layout (own-anchors told).stored number image left
+      → IsBeside number v.disk.areas.heap (written (extent_start number) image v.disk.areas.heap) × IsBeside number v.disk.areas.heap (loosened (extent_start number) (length image) v.disk.areas.heap.bytes v.disk.areas.heap)
+  beside-it told number image left mine =
+      let w = (parts.disk told).works works in
+      subst (λ (bytes : List ℕ). IsBeside number v.disk.areas.heap (written (extent_start number) bytes v.disk.areas.heap) × IsBeside number v.disk.areas.heap (loosened (extent_start number) (length bytes) v.disk.areas.heap.bytes v.disk.areas.heap)) (sym mine.image_is)
+      (subst (λ (n : ℕ). IsBeside n v.disk.areas.heap (written (extent_start n) (extent_bytes mine.extent) v.disk.areas.heap) × IsBeside n v.disk.areas.heap (loosened (extent_start n) (length (extent_bytes mine.extent)) v.disk.areas.heap.bytes v.disk.areas.heap)) mine.number_is
+      (write-beside mine.extent mine.is_extent v.disk.areas.heap (w.sound Heap), torn-beside mine.extent mine.is_extent v.disk.areas.heap (w.sound Heap)))
+
+  wrote-anchors : (number : ℕ) → slice_get v.transactions.reserved done ≡ Some number → (answer : Result JobDid PumpFault) → WritesAnchors tells anchors source done number now v answer new → Ends tells m answer new
+  wrote-anchors number there (Ok said) takes =
+      let j' : Job = reclaiming takes.behind (done + 1) job.Writing in
+      stays tells new (with_job v j' new) m said takes.moves.1
+      (moved tells v new m parts machine works sound now is j' none-turning refl chain-kept (λ told.
+      let d = parts.disk told in
+      let w = d.works works in
+      let has = own-anchors told in
+      let mine = next-extent told number there (takes.image, takes.filled, takes.behind, takes.is_filled) in
+      let heap : AreaState = written (extent_start number) takes.image v.disk.areas.heap in
+      let beside : IsBeside number v.disk.areas.heap heap = (beside-it told number takes.image takes.behind mine).0 in
+      let live-apart : AreBeside number (live w.layout) = subst (λ (n : ℕ). AreBeside n (live w.layout)) mine.number_is mine.live in
+      let group-is = λ (some : 0 < v.transactions.group). group-apart told number (subst (λ (n : ℕ). AllByRecursion (λ (k : ℕ). k ≢ n) (flat_map numbers_of v.transactions.queue)) mine.number_is mine.queued) some in
+      let held : AllByRecursion (HoldsExtent heap.bytes) (take done has.stored.extents ++ mine.extent ∷ []) =
+      subst (λ (n : ℕ). AllByRecursion (HoldsExtent (overlaid v.disk.areas.heap.bytes (extent_start n) takes.image)) (take done has.stored.extents ++ mine.extent ∷ [])) mine.number_is
+      (subst (λ (bytes : List ℕ). AllByRecursion (HoldsExtent (overlaid v.disk.areas.heap.bytes (extent_start mine.extent.number) bytes)) (take done has.stored.extents ++ mine.extent ∷ [])) (sym mine.image_is)
+      (one_more_held mine.extent mine.is_extent (take done has.stored.extents) (all-front-of done has.stored.extents has.next.chain.is_chain.each) mine.before v.disk.areas.heap.bytes has.at.held)) in
+      works-with d.header v m w now is new j' none-turning refl (sound told) (record v.disk.areas { heap = heap }) (takes.call.areas told).written refl
+      (on-heap told (record v.disk.areas { status = w.rested }) heap number beside live-apart group-is w.at)
+      (record {
+        product = OfAnchors has.stored;
+        made = (has.entry, has.numbers);
+        next = has.next;
+        at = record { rest = mine.rest; held = subst (AllByRecursion (HoldsExtent heap.bytes)) (sym mine.front) held };
+      })))
+  wrote-anchors number there (Err why) takes =
+      fails tells v new m why v.log (reclaiming takes.behind (done + 1) job.Writing) parts works takes.moves.0 refl refl refl (ap lent_to is) chain-kept takes.moves.1 (λ told image left.
+      let d = parts.disk told in
+      let w = d.works works in
+      let mine = next-extent told number there (takes.image, takes.filled, takes.behind, takes.is_filled) in
+      let heap : AreaState = loosened (extent_start number) (length takes.image) v.disk.areas.heap.bytes v.disk.areas.heap in
+      let beside : IsBeside number v.disk.areas.heap heap = (beside-it told number takes.image takes.behind mine).1 in
+      let live-apart : AreBeside number (live w.layout) = subst (λ (n : ℕ). AreBeside n (live w.layout)) mine.number_is mine.live in
+      let group-is = λ (some : 0 < v.transactions.group). group-apart told number (subst (λ (n : ℕ). AllByRecursion (λ (k : ℕ). k ≢ n) (flat_map numbers_of v.transactions.queue)) mine.number_is mine.queued) some in
+      torn-leaves tells v new m parts machine works sound now is told (record v.disk.areas { heap = heap })
+      (on-heap told v.disk.areas heap number beside live-apart group-is (now-at d.header v m w none-turning)) image
+      ((left_by_write Heap (extent_start number) takes.image (Err (record {})) v.disk.areas new.disk.areas (takes.call.areas told) w.sound).each image left))
+
+  synced-anchors : slice_get v.transactions.reserved done ≡ None → (answer : Result JobDid PumpFault) → SyncsStored tells Heap did.HeapSynced now v answer new → Ends tells m answer new
+  synced-anchors none (Ok said) takes =
+      let j' : Job = reclaiming source done job.Stored in
+      stays tells new (with_job v j' new) m said takes.moves.1
+      (moved tells v new m parts machine works sound now is j' none-turning refl chain-kept (λ told.
+      let d = parts.disk told in
+      let w = d.works works in
+      let has = own-anchors told in
+      let heap : AreaState = synced v.disk.areas.heap in
+      let live-are = live_extents_are d.header w.layout w.reading w.laid in
+      let group-is : 0 < v.transactions.group → AreBeside 0 (extents_of (group_of w.layout v.transactions m).members) =
+      λ some.
+      beside-none (extents_of (group_of w.layout v.transactions m).members)
+      (joining.group_are d.header v.transactions m w.layout w.reading parts.memory machine parts.order w.laid w.stands d.profile_built w.built w.kept w.packed some (room-left d.header v m parts.order parts.in_step d.slots w some)) in
+      works-with d.header v m w now is new j' none-turning refl (sound told) (record v.disk.areas { heap = heap }) (takes.call.areas told).synced refl
+      (on-heap told (record v.disk.areas { status = w.rested }) heap 0 (sync-beside v.disk.areas.heap (w.sound Heap)) (beside-none (live w.layout) live-are) group-is w.at)
+      (record {
+        product = OfAnchors has.stored;
+        made = (has.entry, has.numbers);
+        next = has.next;
+        at = extents_synced has.stored.extents v.disk.areas.heap (subst (AllByRecursion (HoldsExtent v.disk.areas.heap.bytes)) (all-filled has.stored done v.transactions.reserved has.numbers none) has.at.held);
+      })))
+  synced-anchors none (Err why) takes =
+      fails tells v new m why v.log now parts works takes.moves.0 refl refl refl (ap lent_to is) chain-kept takes.moves.1
+      (λ told image left. same tells v new m parts machine works sound now is told (takes.call.areas told).same image left)
+
+  anchors-step : (o : Option ℕ) → slice_get v.transactions.reserved done ≡ o → (answer : Result JobDid PumpFault) → AnchorsOrSync tells o anchors source done now v answer new → Ends tells m answer new
+  anchors-step None there answer takes = synced-anchors there answer takes
+  anchors-step (Some number) there answer takes = wrote-anchors number there answer takes
+
+-- ---- the slot of what the job makes
+
+slot-front : (profile number : ℕ) (p : Product) → length (front_of profile (slot_naming number p)) ≤ 39
 unfolding front_of fields_of u32_bytes u64_bytes
-archive-front profile number run = refl
+slot-front profile number (OfRun run) = omega arith
+slot-front profile number (OfAnchors a) = omega arith
 
-archive-long : (profile number : ℕ) (run : WireRun) → length (spelling profile (record { number = number; body = ArchivedBody run })) ≡ 511
+slot-long : (profile number : ℕ) (p : Product) → length (spelling profile (slot_naming number p)) ≡ 511
 unfolding spelling
-archive-long profile number run = let front = archive-front profile number run in simp (length-append, length-replicate) (omega (arith, front))
+slot-long profile number p = let front = slot-front profile number p in simp (length-append, length-replicate) (omega (arith, front))
+
+slot-in-range : (layout : Layout) (reading : Reading) (h : History Value) (profile : ℕ) (p : Product) → MayBeNext layout reading h p → InRange profile (body_of p)
+slot-in-range layout reading h profile (OfRun run) next = next.in_range
+slot-in-range layout reading h profile (OfAnchors a) next = next.in_range
+
+-- what the slot says is what the job made
+body-is : (reserved : List ℕ) (work : JobWork) (p : Product) → IsMadeBy reserved work p → body_of p ≡ slot_body work
+body-is reserved (ArchiveWork run writer) (OfRun r) made = ap (λ (x : WireRun). ArchivedBody x) made
+body-is reserved (ArchiveWork run writer) (OfAnchors a) made = absurd made
+body-is reserved (Reclaim anchors source written) (OfRun r) made = absurd made
+body-is reserved (Reclaim anchors source written) (OfAnchors a) made = ap (λ (x : Anchors). ReclaimedBody x) made.0
+
+-- it is kept beside what the log names
+product-kept : (layout : Layout) (p : Product) (areas : Areas) → KeepsParts layout areas → KeepsProduct p areas → KeepsParts (laid_with layout p) areas
+product-kept layout (OfRun run) areas parts kept = archive_kept layout (slot_naming (length layout.slots) (OfRun run)) run areas parts kept
+product-kept layout (OfAnchors a) areas parts kept = reclaim_kept layout (slot_naming (length layout.slots) (OfAnchors a)) a.entry.upto a.extents areas parts kept
 
 -- the first call of the slot, and every other one
 module _ (header : Header) (v new : StoreValue) (m : Machine Value) (order : IsInOrder v.transactions) (in_step : IsInStep v) (slots_are : v.log.slots ≡ total header) (built : IsTrue (is_built header.profile 1)) (w : Works header v m)
-    (j : ArchiveJob) (is : v.job ≡ Some (job_of j)) where
-  abbrev mine : JobIsAt header w.layout w.reading m.published j v.disk.areas
+    (j : Job) (is : v.job ≡ Some j) where
+  abbrev mine : JobIsAt header w.layout w.reading m.published v.transactions.reserved j v.disk.areas
   mine = own header v m w j is
+
+  abbrev product : Product
+  product = mine.product
 
   place : length w.layout.slots < total header
   place = job-room header v m order in_step slots_are w (ap lent_to is)
 
-  -- the slot is begun: its run is kept, and the status area rests
-  begun : j.stage ≡ job.Stored → v.transactions.failed ≡ false → v.turn ≡ None → v.log.profile ≡ header.profile → IsTurnOfRun header w.layout mine.run (first_turn v (job_of j)) v.disk.areas
+  free-now = job-free header v m order w j.work product mine.made mine.next
+
+  -- the slot is begun: what the job made is kept, and the status area rests
+  begun : j.stage ≡ job.Stored → v.transactions.failed ≡ false → v.turn ≡ None → v.log.profile ≡ header.profile → IsTurnFor header w.layout product (first_turn v j) v.disk.areas
   begun stored on free profile =
-      let run = mine.run in
-      let kept : KeepsRun v.disk.areas.archive run = subst (λ (s : JobStage). IsAtJob header w.layout run j.writer s v.disk.areas) stored mine.at in
+      let kept : KeepsProduct product v.disk.areas = subst (λ (s : JobStage). IsAtJob header w.layout j.work product s v.disk.areas) stored mine.at in
       let none : turn_of v.job ≡ None = ap turn_of is ∙ ap turn_in stored in
       let turning : is_turning v.transactions.stage ≡ false = (in_step.turns on).turning ∙ ap (λ (o : Option TurnState). is_some o) free in
       let at = now-at header v m w none in
       let parts = keeps-parts header v m w in
       let number = sym w.used in
-      let entry = mine.entry in
-      let same : spelling header.profile (slot_of_run (length w.layout.slots) run) ≡ spelling v.log.profile (record { number = v.log.used; body = ArchivedBody j.run }) =
-      (let p = sym profile in λ i. spelling (p i) (record { number = number i; body = ArchivedBody (entry i) })) in
-      let whole : IsSpelled header.profile (length w.layout.slots) (spelling header.profile (slot_of_run (length w.layout.slots) run)) (slot_of_run (length w.layout.slots) run) =
-      record { own = refl; in_range = mine.next.in_range; bytes_are = refl } in
+      let what = body-is v.transactions.reserved j.work product mine.made in
+      let same : spelling header.profile (slot_naming (length w.layout.slots) product) ≡ spelling v.log.profile (record { number = v.log.used; body = slot_body j.work }) =
+      (let p = sym profile in λ i. spelling (p i) (record { number = number i; body = what i })) in
+      let whole : IsSpelled header.profile (length w.layout.slots) (spelling header.profile (slot_naming (length w.layout.slots) product)) (slot_naming (length w.layout.slots) product) =
+      record { own = refl; in_range = slot-in-range w.layout w.reading m.published header.profile product mine.next; bytes_are = refl } in
       record {
         number = w.used;
-        long = archive-long v.log.profile v.log.used j.run;
-        spelled = subst (λ (l : List ℕ). IsSpelled header.profile (length w.layout.slots) l (slot_of_run (length w.layout.slots) run)) same whole;
+        long = subst (λ (l : List ℕ). length l ≡ 511) same (slot-long header.profile (length w.layout.slots) product);
+        spelled = subst (λ (l : List ℕ). IsSpelled header.profile (length w.layout.slots) l (slot_naming (length w.layout.slots) product)) same whole;
         at = record {
           status = rests-of header w.layout (group_of w.layout v.transactions m) v.transactions.queue v.transactions.stage v.turn v.disk.areas turning at;
           old_parts = parts;
-          new_parts = archive_kept w.layout (slot_of_run (length w.layout.slots) run) run v.disk.areas parts kept;
+          new_parts = product-kept w.layout product v.disk.areas parts kept;
         };
       }
 
-  module _ (t : TurnState) (at : IsTurnOfRun header w.layout mine.run t v.disk.areas) where
+  module _ (t : TurnState) (at : IsTurnFor header w.layout product t v.disk.areas) where
     abbrev slot : Slot
-    slot = slot_of_run (length w.layout.slots) mine.run
+    slot = slot_naming (length w.layout.slots) product
 
     abbrev behind-it : Layout
-    behind-it = archived w.layout slot mine.run
+    behind-it = laid_with w.layout product
 
     own-call : (answer : Result (Unit {0}) DeviceFault) → IsSlotCall t.number t.body t.stage answer v.disk.areas new.disk.areas → IsSlotCall (length w.layout.slots) t.body t.stage answer v.disk.areas new.disk.areas
     own-call answer call = subst (λ (n : ℕ). IsSlotCall n t.body t.stage answer v.disk.areas new.disk.areas) at.number call
@@ -385,18 +681,18 @@ module _ (header : Header) (v new : StoreValue) (m : Machine Value) (order : IsI
     -- a refused call leaves what a stop within it leaves
     turn-leaves : IsSlotCall t.number t.body t.stage (Err (record {})) v.disk.areas new.disk.areas → (image : Image) → LeavesImage new.disk.areas image → OnFront (IsImageOf header image) m
     turn-leaves call image left =
-        run-leaves-within header m w.layout w.reading w.laid w.stands built (archives-built header.profile built) w.built place mine.run mine.next t.body at.long at.spelled t.stage (Err (record {})) v.disk.areas new.disk.areas image at.at w.sound
+        product-leaves-within header m w.layout w.reading w.laid w.stands built w.built place product mine.next free-now t.body at.long at.spelled t.stage (Err (record {})) v.disk.areas new.disk.areas image at.at w.sound
         (own-call (Err (record {})) call) left
 
     turn-leads : IsSlotCall t.number t.body t.stage (Ok tt) v.disk.areas new.disk.areas → IsTurnAt header w.layout slot behind-it (slots.slot_stage_after t.stage) new.disk.areas
     turn-leads call =
-        run-leads header m w.layout w.reading w.laid w.stands built (archives-built header.profile built) w.built place mine.run mine.next t.body at.long at.spelled t.stage v.disk.areas new.disk.areas at.at w.sound (own-call (Ok tt) call)
+        product-leads header m w.layout w.reading w.laid w.stands built w.built place product mine.next free-now t.body at.long at.spelled t.stage v.disk.areas new.disk.areas at.at w.sound (own-call (Ok tt) call)
 
     -- the works of the store while the slot goes on; the group is where it was
     turning-works : (log : LogState) → log.used ≡ v.log.used → AreSound new.disk.areas → (rested : AreaState) → StatusRests header w.layout.slots rested → IsSound rested
         → IsAtStage header w.layout (group_of w.layout v.transactions m) v.transactions.queue v.transactions.stage v.turn (record v.disk.areas { status = rested })
         → IsSlotCall t.number t.body t.stage (Ok tt) v.disk.areas new.disk.areas
-        → Works header (record v { log = log; job = Some (job_of (record j { stage = job.Turning (record t { stage = slots.slot_stage_after t.stage }) })); disk = new.disk }) m
+        → Works header (record v { log = log; job = Some (record j { stage = job.Turning (record t { stage = slots.slot_stage_after t.stage }) }); disk = new.disk }) m
     turning-works log used sound rested rests whole stands call =
         let areas = slot-alone t.stage t.number t.body v.disk.areas new.disk.areas call in
         record {
@@ -407,46 +703,113 @@ module _ (header : Header) (v new : StoreValue) (m : Machine Value) (order : IsI
           built = w.built;
           used = used ∙ w.used;
           kept = w.kept;
+          times = w.times;
           heap = w.heap;
           packed = w.packed;
           archived = w.archived;
+          reclaimed = w.reclaimed;
           runs_end = w.runs_end;
           rested = rested;
           rests = (rests, whole);
           at = subst (λ (a : Areas). IsAtStage header w.layout (group_of w.layout v.transactions m) v.transactions.queue v.transactions.stage v.turn (record a { status = rested })) (sym areas) stands;
-          job = record { run = mine.run; entry = mine.entry; next = mine.next; at = record { number = at.number; long = at.long; spelled = at.spelled; at = turn-leads call } };
+          job = record { product = product; made = mine.made; next = mine.next; at = record { number = at.number; long = at.long; spelled = at.spelled; at = turn-leads call } };
           sound = sound;
         }
 
-    -- and once it is open
-    done-works : t.stage ≡ slots.GateWritten → AreSound new.disk.areas → is_turning v.transactions.stage ≡ false
-        → IsAtStage header w.layout (group_of w.layout v.transactions m) v.transactions.queue v.transactions.stage v.turn (record v.disk.areas { status = w.rested })
-        → IsSlotCall t.number t.body t.stage (Ok tt) v.disk.areas new.disk.areas → Works header (job_done v (job_of j) t new) m
-    done-works last sound free stands call =
-        let areas = slot-alone t.stage t.number t.body v.disk.areas new.disk.areas call in
-        let opened : IsTurnAt header w.layout slot behind-it slots.Opened new.disk.areas = subst (λ (s : SlotStage). IsTurnAt header w.layout slot behind-it (slots.slot_stage_after s) new.disk.areas) last (turn-leads call) in
-        let kept : KeepsParts behind-it (record v.disk.areas { status = new.disk.areas.status }) = subst (λ (a : Areas). KeepsParts behind-it a) areas opened.new_parts in
-        let more : runs_of (w.layout.slots ++ slot ∷ []) ≡ runs_of w.layout.slots ++ mine.run.entry ∷ [] = flat_map-append (λ (s : Slot). runs_in s.body) w.layout.slots (slot ∷ []) in
+    -- ---- once it is open
+
+    -- what is told of the log, of the marks and of memory, by the kind of the job
+    record IsDone (after : StoreValue) (layout : Layout) (reading : Reading) : Type 0 where
+      pub kept : AllByRecursion (λ (e : Extent). IsKept after.transactions.usages e.number) (live layout)
+      pub times : HasTimes after.transactions.times layout.members
+      pub heap : (key : Key) → writes_of after.transactions.versions key ≡ heap_facts reading key
+      pub archived : after.archived ≡ archived_upto reading
+      pub reclaimed : after.transactions.reclaimed ≡ reclaimed_upto reading
+      pub runs_end : after.runs_end ≡ row_end 0 (runs_of layout.slots)
+
+    done-by : (work : JobWork) (p : Product) → IsMadeBy v.transactions.reserved work p → MayBeNext w.layout w.reading m.published p → KeepsWork work (job.Turning t) v.archived (last m.published) v.transactions.opened v.transactions.pending v.transactions.versions
+        → IsOrdered v.transactions.versions → IsDone (work_done work v) (laid_with w.layout p) (read_with w.reading p)
+    done-by (ArchiveWork run writer) (OfRun r) made next keeps sorted =
+        let slot' : Slot = slot_naming (length w.layout.slots) (OfRun r) in
+        let more : runs_of (w.layout.slots ++ slot' ∷ []) ≡ runs_of w.layout.slots ++ r.entry ∷ [] = flat_map-append (λ (s : Slot). runs_in s.body) w.layout.slots (slot' ∷ []) in
         record {
-          layout = behind-it;
-          reading = with_run w.reading mine.run.entry.upto mine.run.records;
-          laid = laid-after header m w.layout w.reading w.laid w.stands built (archives-built header.profile built) w.built place mine.run mine.next;
-          stands = stands-after header m w.layout w.reading w.laid w.stands built (archives-built header.profile built) w.built place mine.run mine.next;
-          built = built-after header m w.layout w.reading w.laid w.stands built (archives-built header.profile built) w.built place mine.run mine.next;
-          used = (let long : length (w.layout.slots ++ slot ∷ []) ≡ length w.layout.slots + 1 = length-append w.layout.slots (slot ∷ []) in omega (arith, long, at.number));
           kept = w.kept;
+          times = w.times;
           heap = w.heap;
-          packed = w.packed;
-          archived = ap (λ (r : WireRun). r.upto) (sym mine.entry) ∙ sym (archive_mark-append 0 w.reading.log (Archived mine.run.entry.upto ∷ []));
-          runs_end = ap (λ (r : WireRun). r.start + r.len) (sym mine.entry) ∙ sym (ap (row_end 0) more ∙ row_end-more 0 (runs_of w.layout.slots) mine.run.entry);
-          rested = new.disk.areas.status;
-          rests = refl;
-          at = subst (λ (a : Areas). IsAtStage header behind-it (group_of behind-it v.transactions m) v.transactions.queue v.transactions.stage v.turn (record a { status = new.disk.areas.status })) (sym areas)
-              (stage-behind header w.layout v.transactions m slot mine.run v.transactions.queue v.transactions.stage v.turn (record v.disk.areas { status = w.rested }) new.disk.areas.status free opened.status
-              (record { extents = kept.extents; runs = kept.runs }) stands);
-          job = tt;
-          sound = sound;
+          archived = ap (λ (x : WireRun). x.upto) (sym made) ∙ sym (archive_mark-append 0 w.reading.log (Archived r.entry.upto ∷ []));
+          reclaimed = w.reclaimed ∙ sym (reclaim_mark-append 0 w.reading.log (Archived r.entry.upto ∷ []));
+          runs_end = ap (λ (x : WireRun). x.start + x.len) (sym made) ∙ sym (ap (row_end 0) more ∙ row_end-more 0 (runs_of w.layout.slots) r.entry);
         }
+    done-by (ArchiveWork run writer) (OfAnchors a) made next keeps sorted = absurd made
+    done-by (Reclaim anchors source written) (OfRun r) made next keeps sorted = absurd made
+    done-by (Reclaim anchors source written) (OfAnchors a) made next keeps sorted =
+        let slot' : Slot = slot_naming (length w.layout.slots) (OfAnchors a) in
+        let mark : anchors.upto ≡ archived_upto w.reading = ap (λ (x : Anchors). x.upto) (sym made.0) ∙ next.upto in
+        let upto : a.entry.upto ≡ anchors.upto = ap (λ (x : Anchors). x.upto) made.0 in
+        let pending : v.transactions.pending ≡ Some (forgotten anchors.upto v.transactions.versions) = keeps.made refl in
+        let more : runs_of (w.layout.slots ++ slot' ∷ []) ≡ runs_of w.layout.slots = flat_map-append (λ (s : Slot). runs_in s.body) w.layout.slots (slot' ∷ []) ∙ append-nil (runs_of w.layout.slots) in
+        record {
+          kept = subst (λ (n : ℕ). AllByRecursion (λ (e : Extent). IsKept (reclaimed_to v.transactions anchors.upto).usages e.number) (live (reclaimed w.layout slot' n a.extents))) (sym upto)
+              (reclaimed-kept v.transactions w.layout slot' anchors.upto a.extents order w.kept w.times made.1);
+          times = subst (λ (n : ℕ). HasTimes (reclaimed_to v.transactions anchors.upto).times (reclaimed w.layout slot' n a.extents).members) (sym upto)
+              (reclaimed-times v.transactions w.layout slot' anchors.upto a.extents order w.kept w.times made.1);
+          heap = λ key.
+              ap (λ (o : Option (List KeyWrites)). writes_of (versions_once o v.transactions.versions) key) pending
+              ∙ writes_of-forgotten anchors.upto v.transactions.versions key sorted
+              ∙ ap (kept_after anchors.upto) (w.heap key)
+              ∙ ap (λ (n : ℕ). kept_after n (heap_facts w.reading key)) mark
+              ∙ sym (heap-forgets w.reading m.published m.floors a.olds w.stands next.plan next.later key);
+          archived = w.archived ∙ sym (archive_mark-append 0 w.reading.log (ReclaimedSlot (archived_upto w.reading) ∷ []));
+          reclaimed = mark ∙ sym (reclaim_mark-append 0 w.reading.log (ReclaimedSlot (archived_upto w.reading) ∷ []));
+          runs_end = w.runs_end ∙ sym (ap (row_end 0) more);
+        }
+
+    long-used : t.number + 1 ≡ length behind-it.slots
+    long-used =
+        let added = adds header m w.layout w.reading w.laid w.stands built w.built place product mine.next free-now in
+        let long : length behind-it.slots ≡ length w.layout.slots + 1 = ap (λ (l : List Slot). length l) added.slots_are ∙ length-append w.layout.slots (slot ∷ []) in
+        omega (arith, long, at.number)
+
+    -- the works of the store once the slot is open, where its work is done
+    opened-works : (x : StoreValue) → IsDone x behind-it (read_with w.reading product) → AllPacked m.published x.transactions.queue m.queue → AreSound new.disk.areas
+        → IsAtStage header behind-it (group_of behind-it x.transactions m) x.transactions.queue x.transactions.stage x.turn new.disk.areas → Works header (slot_opened x t new) m
+    opened-works x done packed sound stage = record {
+      layout = behind-it;
+      reading = read_with w.reading product;
+      laid = laid-after header m w.layout w.reading w.laid w.stands built w.built place product mine.next free-now;
+      stands = stands-after header m w.layout w.reading w.laid w.stands built w.built place product mine.next free-now;
+      built = built-after header m w.layout w.reading w.laid w.stands built w.built place product mine.next free-now;
+      used = long-used;
+      kept = done.kept;
+      times = done.times;
+      heap = done.heap;
+      packed = packed;
+      archived = done.archived;
+      reclaimed = done.reclaimed;
+      runs_end = done.runs_end;
+      rested = new.disk.areas.status;
+      rests = refl;
+      at = stage;
+      job = tt;
+      sound = sound;
+    }
+
+    done-works : t.stage ≡ slots.GateWritten → AreSound new.disk.areas → is_turning v.transactions.stage ≡ false → Keeps v m j.work (job.Turning t) → IsOrdered v.transactions.versions
+        → IsAtStage header w.layout (group_of w.layout v.transactions m) v.transactions.queue v.transactions.stage v.turn (record v.disk.areas { status = w.rested })
+        → IsSlotCall t.number t.body t.stage (Ok tt) v.disk.areas new.disk.areas → Works header (slot_opened (work_done j.work v) t new) m
+    done-works gate sound free keeps sorted stands call =
+        let areas = slot-alone t.stage t.number t.body v.disk.areas new.disk.areas call in
+        let opened : IsTurnAt header w.layout slot behind-it slots.Opened new.disk.areas = subst (λ (s : SlotStage). IsTurnAt header w.layout slot behind-it (slots.slot_stage_after s) new.disk.areas) gate (turn-leads call) in
+        let kept : KeepsParts behind-it (record v.disk.areas { status = new.disk.areas.status }) = subst (λ (a : Areas). KeepsParts behind-it a) areas opened.new_parts in
+        let stage = stage-behind header w.layout v.transactions m product v.transactions.queue v.transactions.stage v.turn (record v.disk.areas { status = w.rested }) new.disk.areas.status free opened.status
+        (record { extents = kept.extents; runs = kept.runs }) stands in
+        by-work j.work (done-by j.work product mine.made mine.next keeps sorted)
+        (subst (λ (a : Areas). IsAtStage header behind-it (group_of behind-it v.transactions m) v.transactions.queue v.transactions.stage v.turn a) (sym areas) stage)
+      where
+        by-work : (work : JobWork) → IsDone (work_done work v) behind-it (read_with w.reading product)
+            → IsAtStage header behind-it (group_of behind-it v.transactions m) v.transactions.queue v.transactions.stage v.turn new.disk.areas → Works header (slot_opened (work_done work v) t new) m
+        by-work (ArchiveWork run writer) done stage = opened-works (work_done (ArchiveWork run writer) v) done w.packed sound stage
+        by-work (Reclaim anchors source written) done stage = opened-works (work_done (Reclaim anchors source written) v) done w.packed sound stage
 
 -- ---- the transactions once a lent slot is used
 
@@ -456,9 +819,10 @@ used-memory v m stands = record {
   rising = stands.rising;
   published = stands.published;
   versions = stands.versions;
-  unreclaimed = stands.unreclaimed;
+  forgot = stands.forgot;
   recent = stands.recent;
   queue = stands.queue;
+  fresh = stands.fresh;
   group = stands.group;
   staged = stands.staged;
   snapshots = stands.snapshots;
@@ -481,21 +845,55 @@ used-order v few order = record {
   slots_few = omega (arith, few);
 }
 
-module _ (tells : Bool) (v new : StoreValue) (m : Machine Value) (parts : Parts tells v m) (machine : IsMachine IsValue m) (works : m.failed ≡ false) (sound : IsTrue tells → AreSound new.disk.areas) (j : ArchiveJob) (is : v.job ≡ Some (job_of j)) where
+-- ---- the work that is done
+
+-- of a store whose group's slot is not in the writing
+module _ (v : StoreValue) (m : Machine Value) (memory : StandsInMemory v.transactions m) (order : IsInOrder v.transactions) (marks : HasMarks v m) (still : is_turning v.transactions.stage ≡ false) where
+  memory-done : (work : JobWork) (t : TurnState) → Keeps v m work (job.Turning t) → StandsInMemory (work_done work v).transactions m
+  memory-done (ArchiveWork run writer) t keeps = memory
+  memory-done (Reclaim anchors source written) t keeps =
+      let is = keeps.is in let low = marks.0 in let high = marks.1 in
+      reclaims v.transactions m anchors.upto memory (keeps.made refl) (omega (arith, is, low)) (omega (arith, is, high)) keeps.recent still
+
+  order-done : (work : JobWork) → IsInOrder (work_done work v).transactions
+  order-done (ArchiveWork run writer) = order
+  order-done (Reclaim anchors source written) = reclaimed-order v.transactions anchors.upto order
+
+  marks-done : (work : JobWork) (t : TurnState) → Keeps v m work (job.Turning t) → ((work_done work v).transactions.reclaimed ≤ (work_done work v).archived) × ((work_done work v).archived ≤ last m.published)
+  marks-done (ArchiveWork run writer) t keeps = (let low = marks.0 in let up = keeps.0 in omega (arith, low, up), keeps.1)
+  marks-done (Reclaim anchors source written) t keeps = (let is = keeps.is in omega (arith, is), marks.1)
+
+  -- what it leaves of the slots, and of the group
+  record LeavesSlots (x : StoreValue) : Type 0 where
+    pub slots : x.transactions.slots ≡ v.transactions.slots
+    pub used : x.transactions.used ≡ v.transactions.used
+    pub turning : is_turning x.transactions.stage ≡ is_turning v.transactions.stage
+    pub failed : x.transactions.failed ≡ v.transactions.failed
+    pub turn : x.turn ≡ v.turn
+    pub log : x.log ≡ v.log
+
+  slots-done : (work : JobWork) → LeavesSlots (work_done work v)
+  slots-done (ArchiveWork run writer) = record { slots = refl; used = refl; turning = refl; failed = refl; turn = refl; log = refl }
+  slots-done (Reclaim anchors source written) = record { slots = refl; used = refl; turning = refl; failed = refl; turn = refl; log = refl }
+
+module _ (tells : Bool) (v new : StoreValue) (m : Machine Value) (parts : Parts tells v m) (machine : IsMachine IsValue m) (works : m.failed ≡ false) (sound : IsTrue tells → AreSound new.disk.areas) (j : Job) (is : v.job ≡ Some j) where
   on : v.transactions.failed ≡ false
   on = parts.memory.failed ∙ works
 
   one : lent_to v.job ≡ 1
   one = ap lent_to is
 
+  kept-now : Keeps v m j.work j.stage
+  kept-now = kept-so tells v new m parts machine works sound j is
+
   -- the slot goes on, and another call of it is to come
   goes-on : (t : TurnState) (log : LogState) → log.profile ≡ v.log.profile → log.slots ≡ v.log.slots → log.used ≡ v.log.used → log.writing ≡ true → t.number ≡ v.log.used → v.turn ≡ None → IsOnItsWay (slots.slot_stage_after t.stage)
-      → ((told : IsTrue tells) → Works (parts.disk told).header (record v { log = log; job = Some (job_of (record j { stage = job.Turning (record t { stage = slots.slot_stage_after t.stage }) })); disk = new.disk }) m)
-      → Parts tells (record v { log = log; job = Some (job_of (record j { stage = job.Turning (record t { stage = slots.slot_stage_after t.stage }) })); disk = new.disk }) m
-  goes-on t log profile many used writing number free way working =
-      let after : StoreValue = record v { log = log; job = Some (job_of (record j { stage = job.Turning (record t { stage = slots.slot_stage_after t.stage }) })); disk = new.disk } in
+      → Keeps v m j.work (job.Turning (record t { stage = slots.slot_stage_after t.stage }))
+      → ((told : IsTrue tells) → Works (parts.disk told).header (record v { log = log; job = Some (record j { stage = job.Turning (record t { stage = slots.slot_stage_after t.stage }) }); disk = new.disk }) m)
+      → Parts tells (record v { log = log; job = Some (record j { stage = job.Turning (record t { stage = slots.slot_stage_after t.stage }) }); disk = new.disk }) m
+  goes-on t log profile many used writing number free way keeps working =
       let was = parts.in_step.turns on in
-      let in_step : IsInStep (record v { log = log; job = Some (job_of (record j { stage = job.Turning (record t { stage = slots.slot_stage_after t.stage }) })); disk = new.disk }) = record {
+      let in_step : IsInStep (record v { log = log; job = Some (record j { stage = job.Turning (record t { stage = slots.slot_stage_after t.stage }) }); disk = new.disk }) = record {
         slots = omega (arith, many, parts.in_step.slots, one);
         used = used ∙ parts.in_step.used;
         turns = λ _. record {
@@ -510,30 +908,31 @@ module _ (tells : Bool) (v new : StoreValue) (m : Machine Value) (parts : Parts 
         order = parts.order;
         in_step = in_step;
         gate = parts.gate;
-        plain = (parts.plain.0, tt);
+        marks = parts.marks;
+        job = keeps;
         disk = λ told.
             let d = parts.disk told in
-            on-disk d.header (record v { log = log; job = Some (job_of (record j { stage = job.Turning (record t { stage = slots.slot_stage_after t.stage }) })); disk = new.disk }) m parts.memory machine parts.order in_step (profile ∙ d.profile) (many ∙ d.slots) d.profile_built (parts.gate works) (working told);
+            on-disk d.header (record v { log = log; job = Some (record j { stage = job.Turning (record t { stage = slots.slot_stage_after t.stage }) }); disk = new.disk }) m parts.memory machine parts.order in_step (profile ∙ d.profile) (many ∙ d.slots) d.profile_built (parts.gate works) (working told);
       }
 
   -- ---- the first call
 
-  begin-step : j.stage ≡ job.Stored → v.turn ≡ None → (answer : Result JobDid PumpFault) → TurnsJob tells (job_of j) (first_turn v (job_of j)) (slot_taken v) answer new → Ends tells m answer new
-  begin-step stored free (Ok said) takes =
+  begin-step : j.stage ≡ job.Stored → Keeps v m j.work (job.Turning (record (first_turn v j) { stage = slots.BodyWritten })) → v.turn ≡ None → (answer : Result JobDid PumpFault) → TurnsJob tells j (first_turn v j) (slot_taken v) answer new → Ends tells m answer new
+  begin-step stored keeps free (Ok said) takes =
       let log : LogState = record v.log { writing = true } in
-      stays tells new (record v { log = log; job = Some (job_of (record j { stage = job.Turning (record (first_turn v (job_of j)) { stage = slots.BodyWritten }) })); disk = new.disk }) m said takes.answer.1
-      (goes-on (first_turn v (job_of j)) log refl refl refl refl refl free tt (λ told.
+      stays tells new (record v { log = log; job = Some (record j { stage = job.Turning (record (first_turn v j) { stage = slots.BodyWritten }) }); disk = new.disk }) m said takes.answer.1
+      (goes-on (first_turn v j) log refl refl refl refl refl free tt keeps (λ told.
       let d = parts.disk told in
       let w = d.works works in
       let none : turn_of v.job ≡ None = ap turn_of is ∙ ap turn_in stored in
       let at = begun d.header v new m parts.order parts.in_step d.slots d.profile_built w j is stored on free d.profile in
-      turning-works d.header v new m parts.order parts.in_step d.slots d.profile_built w j is (first_turn v (job_of j)) at log refl (sound told) v.disk.areas.status at.at.status (w.sound Status) (now-at d.header v m w none) (takes.call.areas told)))
-  begin-step stored free (Err why) takes =
-      fails tells v new m why (record v.log { writing = true }) (record j { stage = job.Stored }) parts works takes.answer.0 refl refl refl one takes.answer.1 (λ told image left.
+      turning-works d.header v new m parts.order parts.in_step d.slots d.profile_built w j is (first_turn v j) at log refl (sound told) v.disk.areas.status at.at.status (w.sound Status) (now-at d.header v m w none) (takes.call.areas told)))
+  begin-step stored keeps free (Err why) takes =
+      fails tells v new m why (record v.log { writing = true }) (record j { stage = job.Stored }) parts works takes.answer.0 refl refl refl one (subst (λ (s : JobStage). Keeps v m j.work s) stored kept-now) takes.answer.1 (λ told image left.
       let d = parts.disk told in
       let w = d.works works in
       let at = begun d.header v new m parts.order parts.in_step d.slots d.profile_built w j is stored on free d.profile in
-      turn-leaves d.header v new m parts.order parts.in_step d.slots d.profile_built w j is (first_turn v (job_of j)) at (takes.call.areas told) image left)
+      turn-leaves d.header v new m parts.order parts.in_step d.slots d.profile_built w j is (first_turn v j) at (takes.call.areas told) image left)
 
   -- ---- the others
 
@@ -541,11 +940,23 @@ module _ (tells : Bool) (v new : StoreValue) (m : Machine Value) (parts : Parts 
     was-turning : MatchOption (Some t) (Unit {0}) (λ u. (u.number ≡ v.log.used) × IsOnItsWay u.stage × (v.turn ≡ None))
     was-turning = subst (λ (o : Option TurnState). MatchOption o (Unit {0}) (λ u. (u.number ≡ v.log.used) × IsOnItsWay u.stage × (v.turn ≡ None))) (ap turn_of is ∙ ap turn_in turning) (parts.in_step.turns on).job
 
-    at-turn : (told : IsTrue tells) → IsTurnOfRun (parts.disk told).header ((parts.disk told).works works).layout (own (parts.disk told).header v m ((parts.disk told).works works) j is).run t v.disk.areas
+    keeps-turning : Keeps v m j.work (job.Turning t)
+    keeps-turning = subst (λ (s : JobStage). Keeps v m j.work s) turning kept-now
+
+    -- at whatever stage of the slot
+    any-turn : (work : JobWork) (u : TurnState) → Keeps v m work (job.Turning t) → Keeps v m work (job.Turning u)
+    any-turn (ArchiveWork run writer) u keeps = keeps
+    any-turn (Reclaim anchors source written) u keeps = keeps
+
+    no-turn : (work : JobWork) → Keeps v m work (job.Turning t) → Keeps v m work job.Stored
+    no-turn (ArchiveWork run writer) keeps = keeps
+    no-turn (Reclaim anchors source written) keeps = record { is = keeps.is; recent = keeps.recent; made = λ no. absurd cc }
+
+    at-turn : (told : IsTrue tells) → IsTurnFor (parts.disk told).header ((parts.disk told).works works).layout (own (parts.disk told).header v m ((parts.disk told).works works) j is).product t v.disk.areas
     at-turn told =
         let d = parts.disk told in
         let has = own d.header v m (d.works works) j is in
-        subst (λ (s : JobStage). IsAtJob d.header (d.works works).layout has.run j.writer s v.disk.areas) turning has.at
+        subst (λ (s : JobStage). IsAtJob d.header (d.works works).layout j.work has.product s v.disk.areas) turning has.at
 
     at-rest : (told : IsTrue tells) → StatusRests (parts.disk told).header ((parts.disk told).works works).layout.slots ((parts.disk told).works works).rested × IsSound ((parts.disk told).works works).rested
     at-rest told =
@@ -557,80 +968,160 @@ module _ (tells : Bool) (v new : StoreValue) (m : Machine Value) (parts : Parts 
     log-writes = (parts.in_step.turns on).writing ∙ ap (λ (o : Option TurnState). is_some o || is_some (turn_of v.job)) was-turning.2 ∙ ap (λ (o : Option TurnState). is_some o) (ap turn_of is ∙ ap turn_in turning)
 
     next-step : (stage : SlotStage) → t.stage ≡ stage → IsOnItsWay (slots.slot_stage_after stage) → (said : JobDid) → (call : (told : IsTrue tells) → IsSlotCall t.number t.body t.stage (Ok tt) v.disk.areas new.disk.areas)
-        → new ≡ with_job v (job_of (record j { stage = job.Turning (record t { stage = slots.slot_stage_after stage }) })) new → Ends tells m (Ok said) new
+        → new ≡ with_job v (record j { stage = job.Turning (record t { stage = slots.slot_stage_after stage }) }) new → Ends tells m (Ok said) new
     next-step stage at way said call to =
-        let same : with_job v (job_of (record j { stage = job.Turning (record t { stage = slots.slot_stage_after stage }) })) new ≡ with_job v (job_of (record j { stage = job.Turning (record t { stage = slots.slot_stage_after t.stage }) })) new =
-        ap (λ (s : SlotStage). with_job v (job_of (record j { stage = job.Turning (record t { stage = slots.slot_stage_after s }) })) new) (sym at) in
-        stays tells new (with_job v (job_of (record j { stage = job.Turning (record t { stage = slots.slot_stage_after t.stage }) })) new) m said (to ∙ same)
-        (goes-on t v.log refl refl refl log-writes was-turning.0 was-turning.2 (subst (λ (s : SlotStage). IsOnItsWay (slots.slot_stage_after s)) (sym at) way) (λ told.
+        let same : with_job v (record j { stage = job.Turning (record t { stage = slots.slot_stage_after stage }) }) new ≡ with_job v (record j { stage = job.Turning (record t { stage = slots.slot_stage_after t.stage }) }) new =
+        ap (λ (s : SlotStage). with_job v (record j { stage = job.Turning (record t { stage = slots.slot_stage_after s }) }) new) (sym at) in
+        stays tells new (with_job v (record j { stage = job.Turning (record t { stage = slots.slot_stage_after t.stage }) }) new) m said (to ∙ same)
+        (goes-on t v.log refl refl refl log-writes was-turning.0 was-turning.2 (subst (λ (s : SlotStage). IsOnItsWay (slots.slot_stage_after s)) (sym at) way) (any-turn j.work (record t { stage = slots.slot_stage_after t.stage }) keeps-turning) (λ told.
         let d = parts.disk told in
         let w = d.works works in
         let rest = at-rest told in
         turning-works d.header v new m parts.order parts.in_step d.slots d.profile_built w j is t (at-turn told) v.log refl (sound told) w.rested rest.0 rest.1 w.at (call told)))
 
-    last-step : t.stage ≡ slots.GateWritten → (said : JobDid) → ((told : IsTrue tells) → IsSlotCall t.number t.body t.stage (Ok tt) v.disk.areas new.disk.areas) → v.transactions.slots < 65536 → new ≡ job_done v (job_of j) t new → Ends tells m (Ok said) new
-    last-step last said call few to =
-        let memory = used-memory v.transactions m parts.memory in
-        let order = used-order v.transactions few parts.order in
+    last-step : t.stage ≡ slots.GateWritten → (said : JobDid) → ((told : IsTrue tells) → IsSlotCall t.number t.body t.stage (Ok tt) v.disk.areas new.disk.areas) → v.transactions.slots < 65536 → new ≡ job_done v j t new → Ends tells m (Ok said) new
+    last-step gate said call few to =
         let was = parts.in_step.turns on in
         let free : v.turn ≡ None = was-turning.2 in
-        let in_step : IsInStep (job_done v (job_of j) t new) = record {
-          slots = omega (arith, parts.in_step.slots, one);
-          used = omega (arith, was-turning.0, parts.in_step.used);
+        let still : is_turning v.transactions.stage ≡ false = was.turning ∙ ap (λ (o : Option TurnState). is_some o) free in
+        let x : StoreValue = work_done j.work v in
+        let leaves = slots-done v m parts.memory parts.order parts.marks still j.work in
+        let memory = used-memory x.transactions m (memory-done v m parts.memory parts.order parts.marks still j.work t keeps-turning) in
+        let order = used-order x.transactions (omega (arith, few, leaves.slots)) (order-done v m parts.memory parts.order parts.marks still j.work) in
+        let no-turn-of : (o : Option TurnState) → o ≡ None → MatchOption o (Unit {0}) (λ u. (u.number ≡ t.number + 1) × IsOnItsWay u.stage) = λ o none. subst (λ (y : Option TurnState). MatchOption y (Unit {0}) (λ u. (u.number ≡ t.number + 1) × IsOnItsWay u.stage)) (sym none) tt in
+        let in_step : IsInStep (job_done v j t new) = record {
+          slots = ap (λ (l : LogState). l.slots) leaves.log ∙ omega (arith, parts.in_step.slots, one, leaves.slots);
+          used = omega (arith, was-turning.0, parts.in_step.used, leaves.used);
           turns = λ _. record {
-            turning = was.turning;
-            writing = sym (ap (λ (o : Option TurnState). is_some o || false) free);
-            turn = subst (λ (o : Option TurnState). MatchOption o (Unit {0}) (λ u. (u.number ≡ t.number + 1) × IsOnItsWay u.stage)) (sym free) tt;
+            turning = leaves.turning ∙ was.turning ∙ sym (ap (λ (o : Option TurnState). is_some o) leaves.turn);
+            writing = sym (ap (λ (o : Option TurnState). is_some o || false) (leaves.turn ∙ free));
+            turn = no-turn-of x.turn (leaves.turn ∙ free);
             job = tt;
           };
         } in
-        stays tells new (job_done v (job_of j) t new) m said to (record {
+        stays tells new (job_done v j t new) m said to (record {
           memory = memory;
           order = order;
           in_step = in_step;
-          gate = parts.gate;
-          plain = (parts.plain.0, tt);
+          gate = λ on. parts.gate on ∙ ap gate_of (sym leaves.turn);
+          marks = marks-done v m parts.memory parts.order parts.marks still j.work t keeps-turning;
+          job = tt;
           disk = λ told.
               let d = parts.disk told in
               let w = d.works works in
-              on-disk d.header (job_done v (job_of j) t new) m memory machine order in_step d.profile d.slots d.profile_built (parts.gate works)
-              (done-works d.header v new m parts.order parts.in_step d.slots d.profile_built w j is t (at-turn told) last (sound told) (was.turning ∙ ap (λ (o : Option TurnState). is_some o) free) w.at (call told));
+              on-disk d.header (job_done v j t new) m memory machine order in_step (ap (λ (l : LogState). l.profile) leaves.log ∙ d.profile) (ap (λ (l : LogState). l.slots) leaves.log ∙ d.slots) d.profile_built (parts.gate works ∙ ap gate_of (sym leaves.turn))
+              (done-works d.header v new m parts.order parts.in_step d.slots d.profile_built w j is t (at-turn told) gate (sound told) still keeps-turning parts.memory.versions.ordered w.at (call told));
         })
 
-    turned : (stage : SlotStage) → t.stage ≡ stage → ((told : IsTrue tells) → IsSlotCall t.number t.body t.stage (Ok tt) v.disk.areas new.disk.areas) → (said : JobDid) → IsJobTurned stage t (job_of j) v said new → Ends tells m (Ok said) new
+    turned : (stage : SlotStage) → t.stage ≡ stage → ((told : IsTrue tells) → IsSlotCall t.number t.body t.stage (Ok tt) v.disk.areas new.disk.areas) → (said : JobDid) → IsJobTurned stage t j v said new → Ends tells m (Ok said) new
     turned slots.Begun at call said to = next-step slots.Begun at tt said call to.1
     turned slots.BodyWritten at call said to = next-step slots.BodyWritten at tt said call to.1
     turned slots.BodySynced at call said to = next-step slots.BodySynced at tt said call to.1
     turned slots.GateWritten at call said to = last-step at said call to.1 to.2
     turned slots.Opened at call said to = absurd to
 
-    turn-step : (answer : Result JobDid PumpFault) → TurnsJob tells (job_of j) t v answer new → Ends tells m answer new
+    turn-step : (answer : Result JobDid PumpFault) → TurnsJob tells j t v answer new → Ends tells m answer new
     turn-step (Ok said) takes = turned t.stage refl takes.call.areas said takes.answer
     turn-step (Err why) takes =
-        fails tells v new m why v.log (record j { stage = job.Stored }) parts works takes.answer.0 refl refl refl one takes.answer.1 (λ told image left.
+        fails tells v new m why v.log (record j { stage = job.Stored }) parts works takes.answer.0 refl refl refl one (no-turn j.work keeps-turning) takes.answer.1 (λ told image left.
         let d = parts.disk told in
         turn-leaves d.header v new m parts.order parts.in_step d.slots d.profile_built (d.works works) j is t (at-turn told) (takes.call.areas told) image left)
 
-  -- ---- every step
+-- ---- what is made in memory before the slot is begun
 
-  waits-or-begins : j.stage ≡ job.Stored → (o : Option TurnState) → v.turn ≡ o → (answer : Result JobDid PumpFault) → MatchBool (is_some o) ((answer ≡ Err pump.Busy) × (new ≡ v)) (BeginsJobSlot tells (job_of j) v answer new) → Ends tells m answer new
-  waits-or-begins stored (Some t) at answer busy = subst (λ (r : Result JobDid PumpFault). Ends tells m r new) (sym busy.0) (m, refl, subst (λ (x : StoreValue). Parts tells x m) (sym busy.1) parts)
-  waits-or-begins stored None free answer (inl short) = absurd short.0
-  waits-or-begins stored None free answer (inr first) = begin-step stored free answer first
+prepared-order : (v : TransactionsValue) (mark : ℕ) → IsInOrder v → IsInOrder (prepared v mark)
+prepared-order v mark order = record {
+  split = order.split;
+  pending = (let upto = order.latest.0 in omega (arith, upto, latest-forgotten mark v.versions));
+  latest = order.latest;
+  group_within = order.group_within;
+  group_few = order.group_few;
+  stage_fits = order.stage_fits;
+  stored = order.stored;
+  out = order.out;
+  room = order.room;
+  slots_few = order.slots_few;
+}
 
-  job-step : (s : JobStage) → j.stage ≡ s → (answer : Result JobDid PumpFault) → TakesJobStep tells s (job_of j) v answer new → Ends tells m answer new
-  job-step job.Writing at answer takes = write-step tells v new m parts machine works sound j is at j.writer.left refl answer takes
-  job-step job.Stored at answer takes = waits-or-begins at v.turn refl answer takes
-  job-step (job.Turning t) at answer takes = turn-step t at answer takes
+prepared-works : (header : Header) (v : StoreValue) (m : Machine Value) (mark : ℕ) → Works header v m → Works header (record v { transactions = prepared v.transactions mark }) m
+prepared-works header v m mark w = record {
+  layout = w.layout;
+  reading = w.reading;
+  laid = w.laid;
+  stands = w.stands;
+  built = w.built;
+  used = w.used;
+  kept = w.kept;
+  times = w.times;
+  heap = w.heap;
+  packed = w.packed;
+  archived = w.archived;
+  reclaimed = w.reclaimed;
+  runs_end = w.runs_end;
+  rested = w.rested;
+  rests = w.rests;
+  at = w.at;
+  job = w.job;
+  sound = w.sound;
+}
 
-step : (tells : Bool) (v new : StoreValue) (answer : Result JobDid PumpFault) (m : Machine Value) (parts : Parts tells v m) → IsMachine IsValue m → m.failed ≡ false → (IsTrue tells → AreSound new.disk.areas) → (o : Option Job) → v.job ≡ o
-    → MatchOption o ((answer ≡ Ok did.Idle) × (new ≡ v)) (λ j. TakesJobStep tells j.stage j v answer new) → Ends tells m answer new
-step tells v new answer m parts machine works sound None is idle = subst (λ (r : Result JobDid PumpFault). Ends tells m r new) (sym idle.0) (m, refl, subst (λ (x : StoreValue). Parts tells x m) (sym idle.1) parts)
-step tells v new answer m parts machine works sound (Some j) is takes = by-work j.work j.stage is takes
-  where
-    by-work : (w : JobWork) (s : JobStage) → v.job ≡ Some (record { work = w; stage = s }) → TakesJobStep tells s (record { work = w; stage = s }) v answer new → Ends tells m answer new
-    by-work (ArchiveWork run writer) s is takes = job-step tells v new m parts machine works sound (record { run = run; writer = writer; stage = s }) is s refl answer takes
-    by-work (Reclaim anchors source written) s is takes = absurd (subst IsNoReclaim is parts.plain.1)
+prepared-parts : (tells : Bool) (v : StoreValue) (m : Machine Value) (anchors : Anchors) (source : Sourced) (written : ℕ) → v.job ≡ Some (record { work = Reclaim anchors source written; stage = job.Stored }) → (parts : Parts tells v m) → IsMachine IsValue m → (works : m.failed ≡ false)
+    → Parts tells (record v { transactions = prepared v.transactions anchors.upto }) m
+prepared-parts tells v m anchors source written is parts machine works =
+    let memory = prepares v.transactions m anchors.upto parts.memory in
+    let order = prepared-order v.transactions anchors.upto parts.order in
+    let after : StoreValue = record v { transactions = prepared v.transactions anchors.upto } in
+    let keeps : Keeps v m (Reclaim anchors source written) job.Stored = subst (λ (o : Option Job). KeepsJobOf o v.archived (last m.published) v.transactions.opened v.transactions.pending v.transactions.versions) is parts.job in
+    let keeps' : Reclaims v.archived anchors.upto false v.transactions.opened (Some (forgotten anchors.upto v.transactions.versions)) v.transactions.versions = record { is = keeps.is; recent = keeps.recent; made = λ no. absurd cc } in
+    let in_step : IsInStep (record v { transactions = prepared v.transactions anchors.upto }) = record {
+      slots = parts.in_step.slots;
+      used = parts.in_step.used;
+      turns = λ on. let was = parts.in_step.turns on in record { turning = was.turning; writing = was.writing; turn = was.turn; job = was.job };
+    } in
+    record {
+      memory = memory;
+      order = order;
+      in_step = in_step;
+      gate = parts.gate;
+      marks = parts.marks;
+      job = subst (λ (o : Option Job). KeepsJobOf o v.archived (last m.published) v.transactions.opened (Some (forgotten anchors.upto v.transactions.versions)) v.transactions.versions) (sym is) keeps';
+      disk = λ told.
+          let d = parts.disk told in
+          on-disk d.header (record v { transactions = prepared v.transactions anchors.upto }) m memory machine order in_step d.profile d.slots d.profile_built (parts.gate works) (prepared-works d.header v m anchors.upto (d.works works));
+    }
+
+-- ---- every step
+
+module _ (tells : Bool) (v new : StoreValue) (m : Machine Value) (parts : Parts tells v m) (machine : IsMachine IsValue m) (works : m.failed ≡ false) (sound : IsTrue tells → AreSound new.disk.areas) where
+  begins-slot : (work : JobWork) → v.job ≡ Some (record { work = work; stage = job.Stored }) → v.turn ≡ None → (answer : Result JobDid PumpFault) → BeginsJobSlot tells (record { work = work; stage = job.Stored }) v answer new → Ends tells m answer new
+  begins-slot (ArchiveWork run writer) is free answer (inl short) = absurd short.0
+  begins-slot (ArchiveWork run writer) is free answer (inr first) =
+      begin-step tells v new m parts machine works sound (record { work = ArchiveWork run writer; stage = job.Stored }) is refl (kept-so tells v new m parts machine works sound (record { work = ArchiveWork run writer; stage = job.Stored }) is) free answer first
+  begins-slot (Reclaim anchors source written) is free answer (inl short) = subst (λ (r : Result JobDid PumpFault). Ends tells m r new) (sym short.1) (m, refl, subst (λ (x : StoreValue). Parts tells x m) (sym short.2) parts)
+  begins-slot (Reclaim anchors source written) is free answer (inr first) =
+      let ready : StoreValue = record v { transactions = prepared v.transactions anchors.upto } in
+      let then = prepared-parts tells v m anchors source written is parts machine works in
+      let keeps = kept-so tells v new m parts machine works sound (record { work = Reclaim anchors source written; stage = job.Stored }) is in
+      begin-step tells (record v { transactions = prepared v.transactions anchors.upto }) new m then machine works sound (record { work = Reclaim anchors source written; stage = job.Stored }) is refl
+      (record { is = keeps.is; recent = keeps.recent; made = λ _. refl }) free answer first
+
+  waits-or-begins : (work : JobWork) → v.job ≡ Some (record { work = work; stage = job.Stored }) → (o : Option TurnState) → v.turn ≡ o → (answer : Result JobDid PumpFault)
+      → MatchBool (is_some o) ((answer ≡ Err pump.Busy) × (new ≡ v)) (BeginsJobSlot tells (record { work = work; stage = job.Stored }) v answer new) → Ends tells m answer new
+  waits-or-begins work is (Some t) at answer busy = subst (λ (r : Result JobDid PumpFault). Ends tells m r new) (sym busy.0) (m, refl, subst (λ (x : StoreValue). Parts tells x m) (sym busy.1) parts)
+  waits-or-begins work is None free answer begins = begins-slot work is free answer begins
+
+  write-step : (work : JobWork) → v.job ≡ Some (record { work = work; stage = job.Writing }) → (answer : Result JobDid PumpFault) → Stores tells work (record { work = work; stage = job.Writing }) v answer new → Ends tells m answer new
+  write-step (ArchiveWork run writer) is answer takes = run-step tells v new m parts machine works sound run writer is writer.left refl answer takes
+  write-step (Reclaim anchors source written) is answer takes = anchors-step tells v new m parts machine works sound anchors source written is (slice_get v.transactions.reserved written) refl answer takes
+
+  job-step : (work : JobWork) (s : JobStage) → v.job ≡ Some (record { work = work; stage = s }) → (answer : Result JobDid PumpFault) → TakesJobStep tells s (record { work = work; stage = s }) v answer new → Ends tells m answer new
+  job-step work job.Writing is answer takes = write-step work is answer takes
+  job-step work job.Stored is answer takes = waits-or-begins work is v.turn refl answer takes
+  job-step work (job.Turning t) is answer takes = turn-step tells v new m parts machine works sound (record { work = work; stage = job.Turning t }) is t refl answer takes
+
+  step : (o : Option Job) → v.job ≡ o → (answer : Result JobDid PumpFault) → MatchOption o ((answer ≡ Ok did.Idle) × (new ≡ v)) (λ j. TakesJobStep tells j.stage j v answer new) → Ends tells m answer new
+  step None is answer idle = subst (λ (r : Result JobDid PumpFault). Ends tells m r new) (sym idle.0) (m, refl, subst (λ (x : StoreValue). Parts tells x m) (sym idle.1) parts)
+  step (Some j) is answer takes = job-step j.work j.stage is answer takes
 
 pub job-pump-stands : (tells : Bool) (old new : StoreValue) (answer : Result JobDid PumpFault) (m : Machine Value) → Stands tells old m → (IsTrue tells → AreSound new.disk.areas) → PumpsJob tells old answer new
     → MatchBool m.failed ((answer ≡ Err pump.Failed) × Stands tells new m) ((after : Machine Value) × steps.Run IsValue m (job_ends_in answer) after × Stands tells new after)
@@ -642,8 +1133,8 @@ job-pump-stands tells old new answer m stands sound pumps =
         → MatchBool b ((answer ≡ Err pump.Failed) × Stands tells new m) ((after : Machine Value) × steps.Run IsValue m (job_ends_in answer) after × Stands tells new after)
     by-failure true failed is = (is.0, subst (λ (x : StoreValue). Stands tells x m) (sym is.1) stands)
     by-failure false works takes =
-        let parts : Parts tells old m = record { memory = stands.memory; order = stands.order; in_step = stands.in_step; gate = stands.gate; plain = stands.plain; disk = stands.disk } in
-        let ends = step tells old new answer m parts stands.machine works sound old.job refl takes in (
+        let parts : Parts tells old m = record { memory = stands.memory; order = stands.order; in_step = stands.in_step; gate = stands.gate; marks = stands.marks; job = stands.job; disk = stands.disk } in
+        let ends = step tells old new m parts stands.machine works sound old.job refl answer takes in (
           ends.0,
           ends.1,
           record {
@@ -652,7 +1143,8 @@ job-pump-stands tells old new answer m stands sound pumps =
             order = ends.2.order;
             in_step = ends.2.in_step;
             gate = ends.2.gate;
-            plain = ends.2.plain;
+            marks = ends.2.marks;
+            job = ends.2.job;
             disk = ends.2.disk;
           },
         )

@@ -1,16 +1,18 @@
--- An archive that is being made, beside a group.
-use Rattle.std.proofs.Common.{◌≡◌, ℕ, ◌+◌, ◌<◌, ◌≤◌, Bool, true, false, List, [], ◌∷◌, ◌++◌, length, take, drop, map, Option, None, Some, Result, Ok, Err, refl, arith, ap, sym, subst, ◌∙◌, inl, inr, length-append, append_assoc}
+-- What a job makes, beside a group.
+use Rattle.std.proofs.Common.{◌≡◌, ◌≢◌, ℕ, zero, suc, ◌+◌, ◌<◌, ◌≤◌, nat_lt, Bool, true, false, cond, List, [], ◌∷◌, ◌++◌, length, take, drop, map, filter, Option, None, Some, Result, Ok, Err, refl, arith, ap, sym, subst, ◌∙◌, inl, inr}
 use Rattle.std.specs.Prelude.{IsTrue}
-use Rattle.history.specs.Histories as histories
+use Rattle.std.specs.List.{AllByRecursion}
+use Rattle.std.proofs.lemmas.List.Concat.{flat_map-cons}
+use Rattle.history.proofs.Filters.{AllByRecursion-append}
 use Rattle.history.specs.Histories.{History}
 use Rattle.history.specs.Machine.{Machine}
 use Rattle.history.specs.Fronts.{OnFront}
 use Rattle.image.specs.Values.{Value}
-use Rattle.image.specs.Reading.{Archived, Reading}
-use Rattle.image.specs.Log.{MayCome}
-use Rattle.image.specs.Plans.{HasRoom, with_run}
-use Rattle.image.specs.StandsFor.{StandsFor, archived_upto}
+use Rattle.image.specs.Reading.{Reading}
+use Rattle.image.specs.Plans.{HasRoom, with_anchors}
+use Rattle.image.specs.StandsFor.{StandsFor, archived_upto, reclaimed_upto}
 use Rattle.image.proofs.ArchiveStep.{archive-stands_for}
+use Rattle.image.proofs.ReclaimStep.{reclaim-stands_for}
 use Rattle.image.proofs.GroupStep.{length-map}
 use Rattle.image.proofs.Standing.{last-is}
 use Rattle.disk.specs.declared.area.Area.{Area}
@@ -18,24 +20,23 @@ use Rattle.disk.specs.declared.area.Area.TheVariants.{Status, Heap, Archive}
 use Rattle.disk.specs.declared.area.DeviceFault.{DeviceFault}
 use Rattle.disk.specs.Areas.{AreaState, Areas, Image, AreSound, IsSound, LeavesImage, loosened, written, synced}
 use Rattle.disk.specs.Calls.{Writes, Syncs, MadeInPart}
-use Rattle.disk.proofs.Stops.{left_by_write, left_by_sync}
-use Rattle.wire.specs.Spelling.{IsSpelled, spelling, kind_of}
+use Rattle.wire.specs.Spelling.{IsSpelled, kind_of}
 use Rattle.wire.specs.declared.slot.Slot.{Slot}
-use Rattle.archive.specs.Pieces.{InWriting}
 use Rattle.status.specs.declared.header.Header.{Header}
 use Rattle.status.specs.Header.{total}
-use Rattle.status.specs.Rules.{is_built, runs_of, row_end, slot_of}
+use Rattle.status.specs.Rules.{is_built, runs_of, slot_of as status_slot}
 use Rattle.status.specs.SlotCalls.{SlotStage, IsSlotCall}
 use Rattle.status.specs.SlotCalls as slots
 use Rattle.status.specs.TurnState.{TurnState}
-use Rattle.reading.specs.Runs.{StoredRun, KeepsRun}
-use Rattle.reading.specs.Layouts.{Layout, live, IsLayoutOf, HoldsLayout}
-use Rattle.reading.specs.Keeping.{KeepsExtents, KeepsRuns, KeepsParts, StatusRests}
-use Rattle.reading.specs.Jobs.{archived}
+use Rattle.reading.specs.Extents.{Extent, IsExtent, AreDistinct}
+use Rattle.reading.specs.Layouts.{Layout, StoredMember, live, extents_of, IsLayoutOf, HoldsLayout}
+use Rattle.reading.specs.Keeping.{KeepsExtents, StatusRests}
+use Rattle.reading.specs.Jobs.{reclaimed}
 use Rattle.reading.specs.Opening.{AreBuilt}
 use Rattle.reading.specs.SlotTurns.{Adds, IsTurnAt, MayAt, MayWithin}
-use Rattle.reading.proofs.Jobs.{archive_laid}
-use Rattle.reading.proofs.RunWays.{row-more, run-beside}
+use Rattle.reading.proofs.Jobs.{archive_laid, reclaim_laid}
+use Rattle.reading.proofs.Lists.{all_of_front, all_of_back}
+use Rattle.reading.proofs.RunWays.{row-more}
 use Rattle.reading.proofs.SlotTurns.{turn_holds, turn_call_holds, turn_call_leads}
 use Rattle.store.specs.declared.job.Job.{Job}
 use Rattle.store.specs.declared.job.JobWork.{JobWork}
@@ -43,12 +44,20 @@ use Rattle.store.specs.declared.job.JobWork.TheVariants.{Archive as ArchiveWork,
 use Rattle.store.specs.declared.job.JobStage.{JobStage}
 use Rattle.store.specs.declared.job.JobStage.TheVariants as job
 use Rattle.store.specs.Values.{turn_in, turn_of}
-use Rattle.standing.specs.OnDisk.{IsImageOf, IsNextRun, IsWritten, slot_of_run, IsTurnOfRun, IsAtJob, JobIsAt, HasWork, HasJob, IsRested}
+use Rattle.standing.specs.OnDisk.{IsImageOf, Product, OfRun, OfAnchors, body_of, slot_naming, laid_with, read_with, MayBeNext, IsMadeBy, IsMaking, KeepsProduct, IsAtJob, HasJob, IsRested}
+use Rattle.standing.proofs.Besides.{IsBeside, AreBeside, all-keep, all-hold, beside-numbers}
 use Rattle.standing.proofs.Joining.{built-more}
 
--- where commits are built archives are
-pub archives-built : (profile : ℕ) → IsTrue (is_built profile 1) → IsTrue (is_built profile 2)
-archives-built profile built = built
+-- the first of these have what all have
+all-taken-of : {X : Type 0} (P : X → Type 0) (n : ℕ) (xs : List X) → AllByRecursion P xs → AllByRecursion P (take n xs)
+all-taken-of P zero xs all = tt
+all-taken-of P (suc n) [] all = tt
+all-taken-of P (suc n) (x ∷ xs) all = (all.0, all-taken-of P n xs all.1)
+
+-- where commits are built, so is each kind that a job makes
+pub product-built : (profile : ℕ) (p : Product) → IsTrue (is_built profile 1) → IsTrue (is_built profile (kind_of (body_of p)))
+product-built profile (OfRun run) built = built
+product-built profile (OfAnchors a) built = ?
 
 -- ---- the status area as it would rest
 
@@ -68,90 +77,168 @@ sound-at areas rested sound is Status = is
 sound-at areas rested sound is Heap = sound Heap
 sound-at areas rested sound is Archive = sound Archive
 
+-- ---- what a job makes
+
+-- the extents that it is made of
+abbrev pub made_extents : Product → List Extent
+made_extents (OfRun run) = []
+made_extents (OfAnchors a) = a.extents
+
+pub made-are : (layout : Layout) (reading : Reading) (h : History Value) (p : Product) → MayBeNext layout reading h p → AllByRecursion IsExtent (made_extents p)
+made-are layout reading h (OfRun run) next = tt
+made-are layout reading h (OfAnchors a) next = next.chain.is_chain.each
+
+extents-filtered : (P : Extent → Type 0) (late : StoredMember → Bool) (members : List StoredMember) → AllByRecursion P (extents_of members) → AllByRecursion P (extents_of (filter late members))
+extents-filtered P late [] all = tt
+extents-filtered P late (s ∷ members) all =
+    let whole : AllByRecursion P (s.extents ++ extents_of members) = subst (AllByRecursion P) (flat_map-cons (λ (x : StoredMember). x.extents) s members) all in
+    let rest = extents-filtered P late members (all_of_back P s.extents (extents_of members) whole) in
+    elim (late s) as (λ (b : Bool). AllByRecursion P (extents_of (cond b (s ∷ filter late members) (filter late members)))) [
+      | true ↦ subst (AllByRecursion P) (sym (flat_map-cons (λ (x : StoredMember). x.extents) s (filter late members))) (AllByRecursion-append P s.extents (extents_of (filter late members)) (all_of_front P s.extents (extents_of members) whole) rest)
+      | false ↦ rest
+    ]
+
+-- the live extents once it stands in the log are of those before it, and its own
+pub live-with : (P : Extent → Type 0) (layout : Layout) (p : Product) → AllByRecursion P (live layout) → AllByRecursion P (made_extents p) → AllByRecursion P (live (laid_with layout p))
+live-with P layout (OfRun run) all made = all
+live-with P layout (OfAnchors a) all made =
+    AllByRecursion-append P a.extents (extents_of (filter (λ (s : StoredMember). nat_lt a.entry.upto s.entry.time) layout.members)) made
+    (extents-filtered P (λ (s : StoredMember). nat_lt a.entry.upto s.entry.time) layout.members (all_of_back P layout.anchors (extents_of layout.members) all))
+
+-- its numbers are those that are out for the job
+pub made-beside : (layout : Layout) (reading : Reading) (h : History Value) (reserved : List ℕ) (work : JobWork) (p : Product) (n : ℕ) → IsMadeBy reserved work p → MayBeNext layout reading h p → AllByRecursion (λ (k : ℕ). k ≢ n) reserved → AreBeside n (made_extents p)
+made-beside layout reading h reserved (ArchiveWork run writer) (OfRun r) n made next others = tt
+made-beside layout reading h reserved (ArchiveWork run writer) (OfAnchors a) n made next others = absurd made
+made-beside layout reading h reserved (Reclaim anchors source written) (OfRun r) n made next others = absurd made
+made-beside layout reading h reserved (Reclaim anchors source written) (OfAnchors a) n made next others =
+    beside-numbers n a.extents next.chain.is_chain.each (subst (AllByRecursion (λ (k : ℕ). k ≢ n)) (sym made.1) others)
+
 -- ---- what a job keeps while others write
 
--- the heap is written beside the live chains
-pub job-beside-heap : (header : Header) (layout : Layout) (reading : Reading) (h : History Value) (o : Option Job) (areas : Areas) (heap : AreaState) → KeepsExtents (live layout) heap
-    → HasJob header layout reading h o areas → HasJob header layout reading h o (record areas { heap = heap })
-job-beside-heap header layout reading h None areas heap keeps has = tt
-job-beside-heap header layout reading h (Some j) areas heap keeps has = by-work j.work j.stage has
+turn-beside : (header : Header) (old : Layout) (slot : Slot) (new : Layout) (stage : SlotStage) (areas : Areas) (heap : AreaState) → KeepsExtents (live old) heap → KeepsExtents (live new) heap
+    → IsTurnAt header old slot new stage areas → IsTurnAt header old slot new stage (record areas { heap = heap })
+turn-beside header old slot new stage areas heap old_kept new_kept at = record {
+  status = at.status;
+  old_parts = record { extents = old_kept; runs = at.old_parts.runs };
+  new_parts = record { extents = new_kept; runs = at.new_parts.runs };
+}
+
+-- the heap is written beside the live chains and beside what the job makes
+pub job-beside-heap : (header : Header) (layout : Layout) (reading : Reading) (h : History Value) (reserved : List ℕ) (o : Option Job) (areas : Areas) (heap : AreaState) (n : ℕ) → IsBeside n areas.heap heap
+    → AreBeside n (live layout) → AllByRecursion (λ (k : ℕ). k ≢ n) reserved → HasJob header layout reading h reserved o areas → HasJob header layout reading h reserved o (record areas { heap = heap })
+job-beside-heap header layout reading h reserved None areas heap n beside apart others has = tt
+job-beside-heap header layout reading h reserved (Some j) areas heap n beside apart others has = record { product = has.product; made = has.made; next = has.next; at = by-stage j.stage has.at }
   where
-    moved : (run : StoredRun) (writer : InWriting) (s : JobStage) → IsAtJob header layout run writer s areas → IsAtJob header layout run writer s (record areas { heap = heap })
-    moved run writer job.Writing at = at
-    moved run writer job.Stored at = at
-    moved run writer (job.Turning t) at = record {
+    own : AreBeside n (made_extents has.product)
+    own = made-beside layout reading h reserved j.work has.product n has.made has.next others
+
+    making : (work : JobWork) (p : Product) → AreBeside n (made_extents p) → IsMaking work p areas → IsMaking work p (record areas { heap = heap })
+    making (ArchiveWork run writer) (OfRun r) mine at = at
+    making (ArchiveWork run writer) (OfAnchors a) mine at = absurd at
+    making (Reclaim anchors source written) (OfRun r) mine at = absurd at
+    making (Reclaim anchors source written) (OfAnchors a) mine at = record {
+      rest = at.rest;
+      held = all-hold n areas.heap heap beside (take written a.extents) (all-taken-of (λ (f : Extent). IsExtent f × (f.number ≢ n)) written a.extents mine) at.held;
+    }
+
+    kept : (p : Product) → AreBeside n (made_extents p) → KeepsProduct p areas → KeepsProduct p (record areas { heap = heap })
+    kept (OfRun r) mine at = at
+    kept (OfAnchors a) mine at = all-keep n areas.heap heap beside a.extents mine at
+
+    by-stage : (s : JobStage) → IsAtJob header layout j.work has.product s areas → IsAtJob header layout j.work has.product s (record areas { heap = heap })
+    by-stage job.Writing at = making j.work has.product own at
+    by-stage job.Stored at = kept has.product own at
+    by-stage (job.Turning t) at = record {
       number = at.number;
       long = at.long;
       spelled = at.spelled;
-      at = run-beside header layout (slot_of_run (length layout.slots) run) run t.stage areas heap keeps at.at;
+      at = turn-beside header layout (slot_naming (length layout.slots) has.product) (laid_with layout has.product) t.stage areas heap
+          (all-keep n areas.heap heap beside (live layout) apart at.at.old_parts.extents)
+          (all-keep n areas.heap heap beside (live (laid_with layout has.product)) (live-with (λ (f : Extent). IsExtent f × (f.number ≢ n)) layout has.product apart own) at.at.new_parts.extents)
+          at.at;
     }
 
-    by-work : (w : JobWork) (s : JobStage) → HasWork header layout reading h w s areas → HasWork header layout reading h w s (record areas { heap = heap })
-    by-work (ArchiveWork run writer) s has = record { run = has.run; entry = has.entry; next = has.next; at = moved has.run writer s has.at }
-    by-work (Reclaim anchors source written) s has = absurd has
-
 -- a job whose slot is not in the writing does not ask for the status area
-pub job-beside-status : (header : Header) (layout : Layout) (reading : Reading) (h : History Value) (o : Option Job) (areas : Areas) (status : AreaState) → turn_of o ≡ None
-    → HasJob header layout reading h o areas → HasJob header layout reading h o (record areas { status = status })
-job-beside-status header layout reading h None areas status none has = tt
-job-beside-status header layout reading h (Some j) areas status none has = by-work j.work j.stage none has
+pub job-beside-status : (header : Header) (layout : Layout) (reading : Reading) (h : History Value) (reserved : List ℕ) (o : Option Job) (areas : Areas) (status : AreaState) → turn_of o ≡ None
+    → HasJob header layout reading h reserved o areas → HasJob header layout reading h reserved o (record areas { status = status })
+job-beside-status header layout reading h reserved None areas status none has = tt
+job-beside-status header layout reading h reserved (Some j) areas status none has = record { product = has.product; made = has.made; next = has.next; at = by-stage j.stage none has.at }
   where
-    moved : (run : StoredRun) (writer : InWriting) (s : JobStage) → turn_in s ≡ None → IsAtJob header layout run writer s areas → IsAtJob header layout run writer s (record areas { status = status })
-    moved run writer job.Writing none at = at
-    moved run writer job.Stored none at = at
-    moved run writer (job.Turning t) none at = absurd cc
+    making : (work : JobWork) (p : Product) → IsMaking work p areas → IsMaking work p (record areas { status = status })
+    making (ArchiveWork run writer) (OfRun r) at = at
+    making (ArchiveWork run writer) (OfAnchors a) at = at
+    making (Reclaim anchors source written) (OfRun r) at = at
+    making (Reclaim anchors source written) (OfAnchors a) at = at
 
-    by-work : (w : JobWork) (s : JobStage) → turn_in s ≡ None → HasWork header layout reading h w s areas → HasWork header layout reading h w s (record areas { status = status })
-    by-work (ArchiveWork run writer) s none has = record { run = has.run; entry = has.entry; next = has.next; at = moved has.run writer s none has.at }
-    by-work (Reclaim anchors source written) s none has = absurd has
+    kept : (p : Product) → KeepsProduct p areas → KeepsProduct p (record areas { status = status })
+    kept (OfRun r) at = at
+    kept (OfAnchors a) at = at
 
--- nor for the layout, but that its run may come next
-pub job-moves : (header : Header) (layout layout' : Layout) (reading reading' : Reading) (h h' : History Value) (o : Option Job) (areas : Areas) → turn_of o ≡ None
-    → ((run : StoredRun) → IsNextRun layout reading h run → IsNextRun layout' reading' h' run)
-    → HasJob header layout reading h o areas → HasJob header layout' reading' h' o areas
-job-moves header layout layout' reading reading' h h' None areas none next has = tt
-job-moves header layout layout' reading reading' h h' (Some j) areas none next has = by-work j.work j.stage none has
+    by-stage : (s : JobStage) → turn_in s ≡ None → IsAtJob header layout j.work has.product s areas → IsAtJob header layout j.work has.product s (record areas { status = status })
+    by-stage job.Writing none at = making j.work has.product at
+    by-stage job.Stored none at = kept has.product at
+    by-stage (job.Turning t) none at = absurd cc
+
+-- nor for the layout, but that what it makes may come next
+pub job-moves : (header : Header) (layout layout' : Layout) (reading reading' : Reading) (h h' : History Value) (reserved : List ℕ) (o : Option Job) (areas : Areas) → turn_of o ≡ None
+    → ((p : Product) → MayBeNext layout reading h p → MayBeNext layout' reading' h' p)
+    → HasJob header layout reading h reserved o areas → HasJob header layout' reading' h' reserved o areas
+job-moves header layout layout' reading reading' h h' reserved None areas none next has = tt
+job-moves header layout layout' reading reading' h h' reserved (Some j) areas none next has = record { product = has.product; made = has.made; next = next has.product has.next; at = by-stage j.stage none has.at }
   where
-    moved : (run : StoredRun) (writer : InWriting) (s : JobStage) → turn_in s ≡ None → IsAtJob header layout run writer s areas → IsAtJob header layout' run writer s areas
-    moved run writer job.Writing none at = at
-    moved run writer job.Stored none at = at
-    moved run writer (job.Turning t) none at = absurd cc
+    by-stage : (s : JobStage) → turn_in s ≡ None → IsAtJob header layout j.work has.product s areas → IsAtJob header layout' j.work has.product s areas
+    by-stage job.Writing none at = at
+    by-stage job.Stored none at = at
+    by-stage (job.Turning t) none at = absurd cc
 
-    by-work : (w : JobWork) (s : JobStage) → turn_in s ≡ None → HasWork header layout reading h w s areas → HasWork header layout' reading' h' w s areas
-    by-work (ArchiveWork run writer) s none has = record { run = has.run; entry = has.entry; next = next has.run has.next; at = moved has.run writer s none has.at }
-    by-work (Reclaim anchors source written) s none has = absurd has
+-- ---- the slot of what a job makes
 
--- ---- the slot of a run
+-- its extents are in no live chain, and each is in it once
+abbrev pub IsFree : Layout → Product → Type 0
+IsFree layout p = AreDistinct (live layout ++ made_extents p)
 
 module _ (header : Header) (m : Machine Value) (layout : Layout) (reading : Reading) (laid : IsLayoutOf header layout reading) (stands : StandsFor reading m.published m.floors)
-    (profile_built : IsTrue (is_built header.profile 1)) (archives_built : IsTrue (is_built header.profile 2)) (built : AreBuilt header layout.slots) (room : length layout.slots < total header)
-    (run : StoredRun) (next : IsNextRun layout reading m.published run) where
+    (profile_built : IsTrue (is_built header.profile 1)) (built : AreBuilt header layout.slots) (room : length layout.slots < total header)
+    (p : Product) (next : MayBeNext layout reading m.published p) (free : IsFree layout p) where
   abbrev slot : Slot
-  slot = slot_of_run (length layout.slots) run
+  slot = slot_naming (length layout.slots) p
 
   abbrev after : Layout
-  after = archived layout slot run
+  after = laid_with layout p
 
   abbrev reading-after : Reading
-  reading-after = with_run reading run.entry.upto run.records
+  reading-after = read_with reading p
+
+  slots-after : (q : Product) → (laid_with layout q).slots ≡ layout.slots ++ slot_naming (length layout.slots) q ∷ []
+  slots-after (OfRun run) = refl
+  slots-after (OfAnchors a) = refl
 
   pub adds : Adds header layout slot after
-  adds = record { slots_are = refl; room = room }
+  adds = record { slots_are = slots-after p; room = room }
+
+  laid-by : (q : Product) → MayBeNext layout reading m.published q → IsFree layout q → IsLayoutOf header (laid_with layout q) (read_with reading q)
+  laid-by (OfRun run) may apart = archive_laid header layout reading (slot_naming (length layout.slots) (OfRun run)) run laid refl may.stored (row-more 0 (runs_of layout.slots) run.entry laid.heap.in_row may.behind)
+  laid-by (OfAnchors a) may apart =
+      let order : reclaimed_upto reading ≤ archived_upto reading = let later = may.later in omega (arith, later) in
+      subst (λ (n : ℕ). IsLayoutOf header (reclaimed layout (slot_naming (length layout.slots) (OfAnchors a)) n a.extents) (with_anchors reading a.olds)) (sym may.upto)
+      (reclaim_laid header layout reading (slot_naming (length layout.slots) (OfAnchors a)) a.entry a.extents a.olds laid refl may.upto order may.chain apart)
 
   pub laid-after : IsLayoutOf header after reading-after
-  laid-after = archive_laid header layout reading slot run laid refl next.stored (row-more 0 (runs_of layout.slots) run.entry laid.heap.in_row next.behind)
+  laid-after = laid-by p next free
 
   reading-room : HasRoom reading
-  reading-room = omega (arith, room, laid.heap.slots_are, laid.heap.pieces_are, ap (λ l. length l) laid.heap.log_is, length-map (λ (s : Slot). slot_of s.body) layout.slots)
+  reading-room = omega (arith, room, laid.heap.slots_are, laid.heap.pieces_are, ap (λ l. length l) laid.heap.log_is, length-map (λ (s : Slot). status_slot s.body) layout.slots)
 
-  may : MayCome reading.profile reading.log (Archived run.entry.upto)
-  may = (next.later, omega (arith, next.by_last, last-is reading m.published m.floors stands))
+  stands-by : (q : Product) → MayBeNext layout reading m.published q → StandsFor (read_with reading q) m.published m.floors
+  stands-by (OfRun run) may =
+      archive-stands_for reading m.published m.floors stands run.entry.upto run.records may.plan (may.later, omega (arith, may.by_last, last-is reading m.published m.floors stands)) reading-room
+  stands-by (OfAnchors a) may = reclaim-stands_for reading m.published m.floors stands a.olds may.plan may.later reading-room
 
   pub stands-after : StandsFor reading-after m.published m.floors
-  stands-after = archive-stands_for reading m.published m.floors stands run.entry.upto run.records next.plan may reading-room
+  stands-after = stands-by p next
 
   pub built-after : AreBuilt header after.slots
-  built-after = built-more header layout.slots slot built archives_built
+  built-after = subst (AreBuilt header) (sym (slots-after p)) (built-more header layout.slots slot built (product-built header.profile p profile_built))
 
   pub image-before : (image : Image) → HoldsLayout header image layout → IsImageOf header image m.published m.floors
   image-before image held = record { layout = layout; reading = reading; laid = laid; held = held; stands = stands; profile_built = profile_built; built = built }
@@ -177,19 +264,19 @@ module _ (header : Header) (m : Machine Value) (layout : Layout) (reading : Read
   within-stage slots.Opened image may_be = inl (image-after image may_be)
 
   -- what a stop may leave while it is in the writing
-  pub run-leaves : (stage : SlotStage) (areas : Areas) (image : Image) → IsTurnAt header layout slot after stage areas → LeavesImage areas image → OnFront (IsImageOf header image) m
-  run-leaves stage areas image at left = by-stage stage image (turn_holds header layout slot after adds stage areas image at left)
+  pub product-leaves : (stage : SlotStage) (areas : Areas) (image : Image) → IsTurnAt header layout slot after stage areas → LeavesImage areas image → OnFront (IsImageOf header image) m
+  product-leaves stage areas image at left = by-stage stage image (turn_holds header layout slot after adds stage areas image at left)
 
   module _ (body : List ℕ) (long : length body ≡ 511) (spelled : IsSpelled header.profile (length layout.slots) body slot) where
     -- and within one of its calls and after it, made or refused
-    pub run-leaves-within : (stage : SlotStage) (result : Result (Unit {0}) DeviceFault) (old new : Areas) (image : Image) → IsTurnAt header layout slot after stage old → AreSound old
+    pub product-leaves-within : (stage : SlotStage) (result : Result (Unit {0}) DeviceFault) (old new : Areas) (image : Image) → IsTurnAt header layout slot after stage old → AreSound old
         → IsSlotCall (length layout.slots) body stage result old new → LeavesImage new image → OnFront (IsImageOf header image) m
-    run-leaves-within stage result old new image at sound call left =
+    product-leaves-within stage result old new image at sound call left =
         within-stage stage image (turn_call_holds header layout slot after adds body long spelled stage result old new image at sound call left)
 
-    pub run-leads : (stage : SlotStage) (old new : Areas) → IsTurnAt header layout slot after stage old → AreSound old
+    pub product-leads : (stage : SlotStage) (old new : Areas) → IsTurnAt header layout slot after stage old → AreSound old
         → IsSlotCall (length layout.slots) body stage (Ok tt) old new → IsTurnAt header layout slot after (slots.slot_stage_after stage) new
-    run-leads stage old new at sound call = turn_call_leads header layout slot after adds body long spelled stage old new at sound call
+    product-leads stage old new at sound call = turn_call_leads header layout slot after adds body long spelled stage old new at sound call
 
 -- ---- calls of the heap, as if the status area rested
 

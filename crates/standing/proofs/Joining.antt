@@ -58,7 +58,7 @@ numbered : (us : List Usage) (ns : List ℕ) → AllByRecursion (IsOut us) ns �
 numbered us [] all = tt
 numbered us (n ∷ ns) all = let first = all.0 in ((first.low, first.high), numbered us ns all.1)
 
-distinct-extents : (es : List Extent) → usages.AreDistinct (map (λ (e : Extent). e.number) es) → AreDistinct es
+pub distinct-extents : (es : List Extent) → usages.AreDistinct (map (λ (e : Extent). e.number) es) → AreDistinct es
 distinct-extents [] all = tt
 distinct-extents (e ∷ es) all = (apart es all.0, distinct-extents es all.1)
   where
@@ -71,7 +71,7 @@ kept-apart : (us : List Usage) (e : Extent) (fs : List Extent) → IsKept us e.n
 kept-apart us e [] kept out = tt
 kept-apart us e (f ∷ fs) kept out = (are_apart us Kept Out e.number f.number (λ same. cc) kept out.0, kept-apart us e fs kept out.1)
 
-kept-cross : (us : List Usage) (es fs : List Extent) → AllByRecursion (λ (e : Extent). IsKept us e.number) es → AllByRecursion (IsOut us) (map (λ (f : Extent). f.number) fs) → AreCross es fs
+pub kept-cross : (us : List Usage) (es fs : List Extent) → AllByRecursion (λ (e : Extent). IsKept us e.number) es → AllByRecursion (IsOut us) (map (λ (f : Extent). f.number) fs) → AreCross es fs
 kept-cross us [] fs kept out = tt
 kept-cross us (e ∷ es) fs kept out = (kept-apart us e fs kept.0 out, kept-cross us es fs kept.1 out)
 
@@ -141,7 +141,7 @@ module _ (header : Header) (v : TransactionsValue) (m : Machine Value) (layout :
   abbrev taken : List QueuedValue
   taken = take v.group v.queue
 
-  waits : AllWait v.versions taken next
+  waits : AllWait v.reclaimed v.versions taken next
   waits = wait-front v.group v.versions v.queue m.queue memory.queue
 
   each : AllPacked m.published taken next
@@ -248,10 +248,10 @@ module _ (header : Header) (v : TransactionsValue) (m : Machine Value) (layout :
   within-slot gate slots.GateWritten image open-is (inr new) = opened-front gate (open-is tt) image (new_image image new)
   within-slot gate slots.Opened image open-is may_be = opened-front gate (open-is tt) image (new_image image may_be)
 
-  live_are : AllByRecursion IsExtent (live layout)
+  pub live_are : AllByRecursion IsExtent (live layout)
   live_are = live_extents_are header layout reading laid
 
-  group_are : AllByRecursion IsExtent (extents_of group.members)
+  pub group_are : AllByRecursion IsExtent (extents_of group.members)
   group_are = group_extents_are group.members stored
 
   -- what a stop may leave before the next call of the group

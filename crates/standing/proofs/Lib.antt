@@ -1,6 +1,8 @@
 pub mod Openings
 pub mod Held
 mod Forgetting
+pub mod KeptWrites
+pub mod HeapForgets
 pub mod Names
 pub mod Memory
 pub mod Conflicts
@@ -16,6 +18,8 @@ pub mod Places
 pub mod Usages
 pub mod Joining
 pub mod Unreclaimed
+pub mod Besides
+pub mod Freshening
 pub mod Jobs
 pub mod Pumping
 pub mod JobPumping

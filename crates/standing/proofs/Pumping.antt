@@ -3,6 +3,7 @@ use Rattle.std.proofs.Common.{◌≡◌, cond, slice_get, ℕ, suc, ◌+◌, ◌
 use Rattle.std.specs.Prelude.{IsTrue, min}
 use Rattle.std.specs.List.{flat_map}
 use Rattle.std.proofs.lemmas.Bool.{cases_lt}
+use Rattle.std.proofs.lemmas.List.{append-nil, map-append, take-append-drop}
 use Rattle.std.proofs.lemmas.Bool.Decides.{nat_tests}
 use Rattle.history.specs.Machine.{Machine, Gate, Shut, Due, MayBeOpen, OfGroup, OfFloor, IsMachine}
 use Rattle.history.specs.Fronts.{OnFront}
@@ -10,17 +11,18 @@ use Rattle.history.specs.Steps as steps
 use Rattle.history.specs.Steps.{Event, Run}
 use Rattle.history.specs.declared.time.TimedWrite.{TimedWrite}
 use Rattle.history.specs.Histories as histories
-use Rattle.history.specs.Histories.{History, last, last_after}
-use Rattle.history.proofs.Histories.{last_after-append, rising-from_following}
+use Rattle.history.specs.Histories.{History, HasRisingTimes, last, last_after}
+use Rattle.history.proofs.Histories.{last_after-append, rising-from_following, may_follow-behind}
 use Rattle.history.proofs.Runs.{last-later}
 use Rattle.history.proofs.Machines.{run-machine}
 use Rattle.image.specs.Values.{Value, IsValue}
-use Rattle.image.specs.Plans.{with_group}
-use Rattle.image.specs.Reading.{Reading}
-use Rattle.image.specs.StandsFor.{archived_upto}
+use Rattle.image.specs.Plans.{HasRoom, with_group}
+use Rattle.image.specs.Reading.{Commits, Member, Reading}
+use Rattle.image.specs.StandsFor.{archived_upto, reclaimed_upto}
+use Rattle.image.proofs.Logs.{reclaim_mark-append}
 use Rattle.image.proofs.GroupStep.{same_archived, more_facts}
-use Rattle.image.proofs.PlansStay.{archive-plan-stays}
-use Rattle.disk.specs.Areas.{AreaState, Areas, Image, AreSound, LeavesImage, loosened, while_written}
+use Rattle.image.proofs.PlansStay.{archive-plan-stays, reclaim-plan-stays}
+use Rattle.disk.specs.Areas.{AreaState, Areas, Image, AreSound, LeavesImage, loosened, written, synced}
 use Rattle.disk.proofs.Stops.{left_by_write, left_by_sync}
 use Rattle.disk.specs.Calls.{Writes, Syncs}
 use Rattle.disk.specs.declared.area.Area.TheVariants.{Status, Heap}
@@ -31,7 +33,9 @@ use Rattle.wire.specs.declared.slot.Slot.{Slot}
 use Rattle.wire.specs.Spelling.{spelling, IsSpelled}
 use Rattle.image.specs.StandsFor.{StandsFor}
 use Rattle.reading.specs.SlotTurns.{IsTurnAt}
-use Rattle.extents.specs.Usages.{AreOut}
+use Rattle.extents.specs.declared.usage.Usage.{Usage}
+use Rattle.extents.specs.Usages as usages
+use Rattle.extents.specs.Usages.{IsOut, AreOut}
 use Rattle.extents.specs.declared.usage.Usage.TheVariants.{Kept}
 use Rattle.deltas.specs.Extents.{Extent, extent_start, extent_bytes}
 use Rattle.status.specs.declared.header.Header.{Header}
@@ -41,13 +45,15 @@ use Rattle.status.specs.SlotCalls.{SlotStage, IsSlotCall}
 use Rattle.status.specs.SlotCalls as slots
 use Rattle.status.specs.TurnState.{TurnState, LogState}
 use Rattle.disk.specs.declared.area.DeviceFault.{DeviceFault}
+use Rattle.reading.specs.Extents.{IsExtent, AreDistinct}
 use Rattle.reading.specs.Layouts.{live, extents_of}
 use Rattle.reading.specs.Turn as turns
 use Rattle.reading.specs.Turn.{laid_out}
 use Rattle.reading.specs.Runs.{StoredRun}
-use Rattle.reading.proofs.Layouts.{live_more, runs_more, has_room}
+use Rattle.reading.proofs.Layouts.{live_more, runs_more, has_room, live_extents_are}
+use Rattle.reading.proofs.Lists.{all_of_back, distinct_join}
 use Rattle.reading.proofs.Standing.{rests_hold}
-use Rattle.reading.specs.Keeping.{KeepsExtents}
+use Rattle.chains.specs.KeyWrites.{KeyWrites}
 use Rattle.group.specs.Queued.{QueuedValue, numbers_of}
 use Rattle.group.specs.declared.answers.Did.{Did}
 use Rattle.group.specs.declared.answers.Did.TheVariants as did
@@ -55,7 +61,7 @@ use Rattle.group.specs.declared.answers.PumpFault.{PumpFault}
 use Rattle.group.specs.declared.answers.PumpFault.TheVariants as pump
 use Rattle.group.specs.declared.queued.StoredExtent.{StoredExtent}
 use Rattle.transactions.specs.Order.{IsInOrder, StageFits}
-use Rattle.transactions.specs.Values.{TransactionsValue, is_turning, claimed_by}
+use Rattle.transactions.specs.Values.{TransactionsValue, mark_after, is_turning, claimed_by}
 use Rattle.transactions.specs.Steps as groups
 use Rattle.transactions.specs.Steps.{IsCommitOf}
 use Rattle.transactions.specs.declared.stage.GroupStage.{GroupStage}
@@ -63,28 +69,30 @@ use Rattle.transactions.specs.declared.stage.GroupStage.TheVariants.{NoGroup, St
 use Rattle.transactions.specs.declared.stage.NextStep.{NextStep}
 use Rattle.transactions.specs.declared.stage.NextStep.TheVariants as next
 use Rattle.transactions.proofs.Kept.{advance-is, keeps-grouped, keeps-wrote, keeps-synced, keeps-begun, keeps-published}
-use Rattle.transactions.proofs.Publishing.{out-beside}
-use Rattle.transactions.proofs.Reclaiming.{none-fresh}
+use Rattle.transactions.proofs.Publishing.{out-beside, out-front, out-swapped}
 use Rattle.store.specs.Values.{StoreValue, KeepsJob, IsInStep, IsOnItsWay, turn_in, turn_of, lent_to}
 use Rattle.store.specs.declared.job.Job.{Job}
 use Rattle.store.specs.declared.job.JobWork.{JobWork}
 use Rattle.store.specs.declared.job.JobWork.TheVariants.{Archive as ArchiveWork, Reclaim}
 use Rattle.store.specs.declared.job.JobStage.{JobStage}
 use Rattle.store.specs.declared.job.JobStage.TheVariants as job
-use Rattle.store.specs.Pumps.{Pumps, TakesStep, WritesExtent, MayBeginSlot, TurnsSlot, IsTurned, started, SyncsHeap}
+use Rattle.store.specs.Pumps.{Pumps, TakesStep, WritesExtent, MayBeginSlot, TurnsSlot, IsTurned, started, freshly, SyncsHeap}
 use Rattle.standing.specs.Standing.{StandsInMemory}
-use Rattle.standing.specs.OnDisk.{IsImageOf, AllPacked, written_before, group_of, IsAtStage, IsTurnOf, IsNextRun, IsAtJob, HasWork, HasJob, IsRested, Works, StandsOnDisk}
-use Rattle.archive.specs.Pieces.{InWriting}
-use Rattle.standing.specs.Stands.{Stands, IsUnreclaimed, HasGate, gate_at, gate_of}
+use Rattle.standing.specs.OnDisk.{IsImageOf, AllPacked, written_before, group_of, IsAtStage, IsTurnOf, Product, OfRun, OfAnchors, IsNextRun, IsNextChain, MayBeNext, IsMadeBy, IsAtJob, HasJob, IsRested, HasTimes, Works, StandsOnDisk}
+use Rattle.std.specs.List.{AllByRecursion}
+use Rattle.standing.specs.Stands.{Stands, HasMarks, KeepsWork, KeepsJobOf, KeepsJobIn, HasGate, gate_at, gate_of}
 use Rattle.standing.specs.Laws.{begins_in, breaks_in, ends_in}
-use Rattle.standing.proofs.Conflicts.{writes-behind}
-use Rattle.standing.proofs.Packed.{packed-rest, wait-front, length-mapped}
+use Rattle.standing.proofs.Conflicts.{rising-front, behind-group}
+use Rattle.standing.proofs.Packed.{packed-rest, length-mapped}
+use Rattle.standing.proofs.Retired.{published-times}
 use Rattle.standing.proofs.Places.{IsNext, next-is, behind-is, take-next, drop-next, none-left}
 use Rattle.standing.proofs.Usages.{AllKept, all-published}
 use Rattle.standing.proofs.Joining as joining
 use Rattle.standing.proofs.Joining.{numbers-split}
-use Rattle.standing.proofs.Publishing.{restaged, regated, breaks, publishes, begins}
-use Rattle.standing.proofs.Jobs.{resting, rested-now, rested-sound, sound-at, job-beside-heap, job-beside-status, job-moves, run-leaves, archives-built, rested-write, rested-sync}
+use Rattle.standing.proofs.Publishing.{restaged, regated, breaks, publishes, freshens, fresh-marks, begins}
+use Rattle.standing.proofs.Besides.{IsBeside, AreBeside, all-keep, write-beside, torn-beside, sync-beside, beside-none, beside-out, none-number}
+use Rattle.standing.proofs.Freshening.{fresh-entries, fresh-order, fresh-works}
+use Rattle.standing.proofs.Jobs.{IsFree, made_extents, resting, rested-now, rested-sound, sound-at, job-beside-heap, job-beside-status, job-moves, product-leaves, rested-write, rested-sync}
 
 -- ---- room in the log
 
@@ -171,27 +179,38 @@ resting-sound header v m w = sound-at v.disk.areas w.rested w.sound (rested-soun
 pub job-room : (header : Header) (v : StoreValue) (m : Machine Value) → IsInOrder v.transactions → IsInStep v → (v.log.slots ≡ total header) → (w : Works header v m) → lent_to v.job ≡ 1 → length w.layout.slots < total header
 job-room header v m order in_step slots_are w lent = omega (arith, lent, order.room, in_step.slots, in_step.used, slots_are, w.used)
 
--- what is left while a job's slot is in the writing, or by what else is so
-pub by-job : (header : Header) (v : StoreValue) (m : Machine Value) → IsInOrder v.transactions → IsInStep v → v.log.slots ≡ total header → IsTrue (is_built header.profile 1) → IsTrue (is_built header.profile 2)
-    → (w : Works header v m) (areas : Areas) (image : Image) → (o : Option Job) → v.job ≡ o → HasJob header w.layout w.reading m.published o areas → LeavesImage areas image
-    → (turn_of v.job ≡ None → OnFront (IsImageOf header image) m) → OnFront (IsImageOf header image) m
-by-job header v m order in_step slots_are built archives w areas image None is has left other = other (ap turn_of is)
-by-job header v m order in_step slots_are built archives w areas image (Some j) is has left other = by-work j.work has
-  where
-    by-stage : (run : StoredRun) (writer : InWriting) → IsNextRun w.layout w.reading m.published run → (s : JobStage) → j.stage ≡ s → IsAtJob header w.layout run writer s areas → OnFront (IsImageOf header image) m
-    by-stage run writer next job.Writing at _ = other (ap turn_of is ∙ ap turn_in at)
-    by-stage run writer next job.Stored at _ = other (ap turn_of is ∙ ap turn_in at)
-    by-stage run writer next (job.Turning t) at turn =
-        run-leaves header m w.layout w.reading w.laid w.stands built archives w.built (job-room header v m order in_step slots_are w (ap lent_to is)) run next t.stage areas image turn.at left
+-- what is out for a job
+pub reserved-out : (v : TransactionsValue) → IsInOrder v → AreOut v.usages v.reserved
+reserved-out v order = out-front v.usages v.reserved (flat_map numbers_of v.queue) (out-swapped v.usages (flat_map numbers_of v.queue) v.reserved order.out)
 
-    by-work : (work : JobWork) → HasWork header w.layout w.reading m.published work j.stage areas → OnFront (IsImageOf header image) m
-    by-work (ArchiveWork run writer) has = by-stage has.run writer has.next j.stage refl has.at
-    by-work (Reclaim anchors source written) has = absurd has
+-- what a job makes is in no live chain
+pub job-free : (header : Header) (v : StoreValue) (m : Machine Value) → IsInOrder v.transactions → (w : Works header v m) → (work : JobWork) (p : Product) → IsMadeBy v.transactions.reserved work p → MayBeNext w.layout w.reading m.published p → IsFree w.layout p
+job-free header v m order w (ArchiveWork run writer) (OfRun r) made next = subst AreDistinct (sym (append-nil (live w.layout))) w.laid.heap.apart
+job-free header v m order w (ArchiveWork run writer) (OfAnchors a) made next = absurd made
+job-free header v m order w (Reclaim anchors source written) (OfRun r) made next = absurd made
+job-free header v m order w (Reclaim anchors source written) (OfAnchors a) made next =
+    let out = reserved-out v.transactions order in
+    distinct_join (live w.layout) a.extents w.laid.heap.apart (joining.distinct-extents a.extents (subst usages.AreDistinct (sym made.1) out.distinct))
+    (joining.kept-cross v.transactions.usages (live w.layout) a.extents w.kept (subst (AllByRecursion (IsOut v.transactions.usages)) (sym made.1) out.each))
+
+-- what is left while a job's slot is in the writing, or by what else is so
+pub by-job : (header : Header) (v : StoreValue) (m : Machine Value) → IsInOrder v.transactions → IsInStep v → v.log.slots ≡ total header → IsTrue (is_built header.profile 1)
+    → (w : Works header v m) (areas : Areas) (image : Image) → (o : Option Job) → v.job ≡ o → HasJob header w.layout w.reading m.published v.transactions.reserved o areas → LeavesImage areas image
+    → (turn_of v.job ≡ None → OnFront (IsImageOf header image) m) → OnFront (IsImageOf header image) m
+by-job header v m order in_step slots_are built w areas image None is has left other = other (ap turn_of is)
+by-job header v m order in_step slots_are built w areas image (Some j) is has left other = by-stage j.stage refl has.at
+  where
+    by-stage : (s : JobStage) → j.stage ≡ s → IsAtJob header w.layout j.work has.product s areas → OnFront (IsImageOf header image) m
+    by-stage job.Writing at _ = other (ap turn_of is ∙ ap turn_in at)
+    by-stage job.Stored at _ = other (ap turn_of is ∙ ap turn_in at)
+    by-stage (job.Turning t) at turn =
+        product-leaves header m w.layout w.reading w.laid w.stands built w.built (job-room header v m order in_step slots_are w (ap lent_to is)) has.product has.next
+        (job-free header v m order w j.work has.product has.made has.next) t.stage areas image turn.at left
 
 pub works-leave : (header : Header) (v : StoreValue) (m : Machine Value) → StandsInMemory v.transactions m → IsMachine IsValue m → IsInOrder v.transactions → IsInStep v → v.log.slots ≡ total header
-    → IsTrue (is_built header.profile 1) → IsTrue (is_built header.profile 2) → m.gate ≡ gate_of v.turn → (w : Works header v m) → (image : Image) → LeavesImage v.disk.areas image → OnFront (IsImageOf header image) m
-works-leave header v m memory machine order in_step slots_are built archives gate w image left =
-    by-job header v m order in_step slots_are built archives w v.disk.areas image v.job refl w.job left
+    → IsTrue (is_built header.profile 1) → m.gate ≡ gate_of v.turn → (w : Works header v m) → (image : Image) → LeavesImage v.disk.areas image → OnFront (IsImageOf header image) m
+works-leave header v m memory machine order in_step slots_are built gate w image left =
+    by-job header v m order in_step slots_are built w v.disk.areas image v.job refl w.job left
     (λ still. stage-leaves header v m memory machine order built w (room-left header v m order in_step slots_are w) v.disk.areas v.transactions.stage v.turn gate order.stage_fits (now-at header v m w still) image left)
 
 pub on-disk : (header : Header) (v : StoreValue) (m : Machine Value) → StandsInMemory v.transactions m → IsMachine IsValue m → IsInOrder v.transactions → IsInStep v → v.log.profile ≡ header.profile → v.log.slots ≡ total header
@@ -201,7 +220,7 @@ on-disk header v m memory machine order in_step profile slots_are built gate w =
   profile = profile;
   slots = slots_are;
   profile_built = built;
-  leaves = works-leave header v m memory machine order in_step slots_are built (archives-built header.profile built) gate w;
+  leaves = works-leave header v m memory machine order in_step slots_are built gate w;
   works = λ _. w;
 }
 
@@ -211,7 +230,8 @@ pub record Parts (tells : Bool) (v : StoreValue) (m : Machine Value) : Type 0 wh
   pub order : IsInOrder v.transactions
   pub in_step : IsInStep v
   pub gate : HasGate v m
-  pub plain : IsUnreclaimed v
+  pub marks : HasMarks v m
+  pub job : KeepsJobIn v m
   pub disk : IsTrue tells → StandsOnDisk v m
 
 -- ---- a group begins
@@ -235,9 +255,11 @@ started-works header v m size order none w =
       built = w.built;
       used = w.used;
       kept = w.kept;
+      times = w.times;
       heap = w.heap;
       packed = w.packed;
       archived = w.archived;
+      reclaimed = w.reclaimed;
       runs_end = w.runs_end;
       rested = w.rested;
       rests = w.rests;
@@ -255,9 +277,11 @@ regrouped header v m size w = record {
   built = w.built;
   used = w.used;
   kept = w.kept;
+  times = w.times;
   heap = w.heap;
   packed = w.packed;
   archived = w.archived;
+  reclaimed = w.reclaimed;
   runs_end = w.runs_end;
   rested = w.rested;
   rests = w.rests;
@@ -295,6 +319,17 @@ begun-works header v m size order w stands =
         (started-works header v m size order (grind (arith, nat_tests)) w))
     by-tests true none false idle stands = rw (none, idle) (regrouped header v m size w)
     by-tests false some b any stands = rw some (regrouped header v m size w)
+
+-- ---- extents apart
+
+-- of what is out, one in the middle is none of those behind it
+out-middle : (us : List Usage) (xs ys : List ℕ) (n : ℕ) → AreOut us (xs ++ n ∷ ys) → IsOut us n × AllByRecursion (λ (k : ℕ). k ≢ n) ys
+out-middle us [] ys n out = (out.each.0, out.distinct.0)
+out-middle us (x ∷ xs) ys n out = out-middle us xs ys n (record { each = out.each.1; distinct = out.distinct.1 })
+
+all-numbered : (us : List Usage) (ns : List ℕ) → AllByRecursion (IsOut us) ns → AllByRecursion (λ (k : ℕ). 0 < k) ns
+all-numbered us [] out = tt
+all-numbered us (n ∷ ns) out = (let low = (out.0).low in omega (arith, low), all-numbered us ns out.1)
 
 -- ---- a device call of the group
 
@@ -356,7 +391,7 @@ module _ (header : Header) (v new : StoreValue) (m : Machine Value) (memory : St
 
   -- the works of the store after a step that changes its stage alone
   staged-works : (s : GroupStage) (log : LogState) (turn : Option TurnState) → log.used ≡ v.log.used → AreSound new.disk.areas → (rested : AreaState) → IsRested header w.layout (turn_of v.job) rested new.disk.areas.status
-      → IsAtStage header w.layout (group_of w.layout v.transactions m) v.transactions.queue s turn (record new.disk.areas { status = rested }) → HasJob header w.layout w.reading m.published v.job new.disk.areas
+      → IsAtStage header w.layout (group_of w.layout v.transactions m) v.transactions.queue s turn (record new.disk.areas { status = rested }) → HasJob header w.layout w.reading m.published v.transactions.reserved v.job new.disk.areas
       → Works header (with_parts v new (groups.at_stage s v.transactions) log turn) m
   staged-works s log turn used sound rested rests at has = record {
     layout = w.layout;
@@ -366,9 +401,11 @@ module _ (header : Header) (v new : StoreValue) (m : Machine Value) (memory : St
     built = w.built;
     used = used ∙ w.used;
     kept = w.kept;
+    times = w.times;
     heap = w.heap;
     packed = w.packed;
     archived = w.archived;
+    reclaimed = w.reclaimed;
     runs_end = w.runs_end;
     rested = rested;
     rests = rests;
@@ -458,6 +495,36 @@ module _ (header : Header) (v new : StoreValue) (m : Machine Value) (memory : St
 
   -- ---- calls of the heap beside a job
 
+  -- an extent of the group is beside the live chains and beside what is out for a job
+  record IsApart (e : Extent) : Type 0 where
+    pub is : IsExtent e
+    pub live : AreBeside e.number (live w.layout)
+    pub others : AllByRecursion (λ (k : ℕ). k ≢ e.number) v.transactions.reserved
+
+  extent-apart : 0 < v.transactions.group → (k : ℕ) (e : Extent) (rest : List Extent) → drop k (extents_of ((group_of w.layout v.transactions m).members)) ≡ e ∷ rest → IsApart e
+  extent-apart some k e rest found =
+      let all : List Extent = extents_of ((group_of w.layout v.transactions m).members) in
+      let room = room-left header v m order in_step slots_are w some in
+      let named = joining.numbers header v.transactions m w.layout w.reading memory machine order w.laid w.stands built w.built w.kept w.packed some room in
+      let number : Extent → ℕ = λ f. f.number in
+      let split : take k all ++ e ∷ rest ≡ all = ap (λ (l : List Extent). take k all ++ l) (sym found) ∙ take-append-drop k all in
+      let behind : List ℕ = flat_map numbers_of (drop v.transactions.group v.transactions.queue) in
+      let numbers : flat_map numbers_of v.transactions.queue ≡ (map number (take k all) ++ e.number ∷ map number rest) ++ behind =
+      numbers-split v.transactions.group v.transactions.queue
+      ∙ ap (λ (l : List ℕ). l ++ behind) (sym named ∙ ap (map number) (sym split) ∙ map-append number (take k all) (e ∷ rest)) in
+      let whole : flat_map numbers_of v.transactions.queue ++ v.transactions.reserved ≡ map number (take k all) ++ e.number ∷ ((map number rest ++ behind) ++ v.transactions.reserved) =
+      ap (λ (l : List ℕ). l ++ v.transactions.reserved) numbers
+      ∙ ap (λ (l : List ℕ). l ++ v.transactions.reserved) (append_assoc (map number (take k all)) (e.number ∷ map number rest) behind)
+      ∙ append_assoc (map number (take k all)) (e.number ∷ (map number rest ++ behind)) v.transactions.reserved in
+      let middle = out-middle v.transactions.usages (map number (take k all)) ((map number rest ++ behind) ++ v.transactions.reserved) e.number (subst (AreOut v.transactions.usages) whole order.out) in
+      let each : AllByRecursion IsExtent (take k all ++ e ∷ rest) =
+      subst (AllByRecursion IsExtent) (sym split) (joining.group_are header v.transactions m w.layout w.reading memory machine order w.laid w.stands built w.built w.kept w.packed some room) in
+      record {
+        is = (all_of_back IsExtent (take k all) (e ∷ rest) each).0;
+        live = beside-out v.transactions.usages e.number middle.0 (live w.layout) (live_extents_are header w.layout w.reading w.laid) w.kept;
+        others = all_of_back (λ (k : ℕ). k ≢ e.number) (map number rest ++ behind) v.transactions.reserved middle.1;
+      }
+
   -- what a refused write of an extent leaves
   wrote-leaves : (member extent : ℕ) → v.transactions.stage ≡ Storing member extent → member < v.transactions.group → (stored : StoredExtent)
       → groups.extent_at (slice_get v.transactions.queue member) extent ≡ Some stored → Writes Heap (extent_start stored.extent) stored.image (Err (record {})) v.disk.areas new.disk.areas
@@ -465,34 +532,55 @@ module _ (header : Header) (v new : StoreValue) (m : Machine Value) (memory : St
   wrote-leaves member extent is low stored there call image left =
       let some : 0 < v.transactions.group = omega (arith, low) in
       let found : IsNext (drop (written_before v.transactions.queue member extent) (extents_of ((group_of w.layout v.transactions m).members))) stored = next-is v.transactions.group m.published v.transactions.queue m.queue member extent stored w.packed low there in
-      let base : Areas = resting-areas header v m w in
-      let all : List Extent = extents_of ((group_of w.layout v.transactions m).members) in
       let k : ℕ = written_before v.transactions.queue member extent in
-      let here = subst (λ (s : GroupStage). IsAtStage header w.layout (group_of w.layout v.transactions m) v.transactions.queue s v.turn base) is w.at in
-      let at = subst (λ (es : List Extent). turns.IsStoring header w.layout (group_of w.layout v.transactions m) (take k all) es base) found.is here in
       let before = (left_by_write Heap (extent_start stored.extent) stored.image (Err (record {})) v.disk.areas new.disk.areas call w.sound).each image left in
       let torn : AreaState = loosened (extent_start stored.extent) (length stored.image) v.disk.areas.heap.bytes v.disk.areas.heap in
-      let keeps : KeepsExtents (live w.layout) torn =
-      subst (λ (n : ℕ). KeepsExtents (live w.layout) (loosened (extent_start n) (length stored.image) v.disk.areas.heap.bytes v.disk.areas.heap)) found.number
-      (subst (λ (bytes : List ℕ). KeepsExtents (live w.layout) (loosened (extent_start found.extent.number) (length bytes) v.disk.areas.heap.bytes v.disk.areas.heap)) found.bytes
-      (joining.torn_kept header v.transactions m w.layout w.reading memory machine order w.laid w.stands built w.built w.kept w.packed some (room-left header v m order in_step slots_are w some) (take k all) found.extent found.rest base at (resting-sound header v m w))) in
-      by-job header v m order in_step slots_are built (archives-built header.profile built) w (record v.disk.areas { heap = torn }) image v.job refl
-      (job-beside-heap header w.layout w.reading m.published v.job v.disk.areas torn keeps w.job) before
+      let apart = extent-apart some k found.extent found.rest found.is in
+      let beside : IsBeside found.extent.number v.disk.areas.heap torn =
+      subst (λ (n : ℕ). IsBeside found.extent.number v.disk.areas.heap (loosened (extent_start n) (length stored.image) v.disk.areas.heap.bytes v.disk.areas.heap)) found.number
+      (subst (λ (bytes : List ℕ). IsBeside found.extent.number v.disk.areas.heap (loosened (extent_start found.extent.number) (length bytes) v.disk.areas.heap.bytes v.disk.areas.heap)) found.bytes
+      (torn-beside found.extent apart.is v.disk.areas.heap (w.sound Heap))) in
+      by-job header v m order in_step slots_are built w (record v.disk.areas { heap = torn }) image v.job refl
+      (job-beside-heap header w.layout w.reading m.published v.transactions.reserved v.job v.disk.areas torn found.extent.number beside apart.live apart.others w.job) before
       (λ still. goes-leaves m.gate (record {}) v.disk.areas new.disk.areas
       (wrote-goes (Err (record {})) member extent is low stored there v.disk.areas new.disk.areas w.sound (now-at header v m w still) call) (λ no. absurd no) image left)
 
   -- what is left by a call that changed nothing
   same-leaves : m.gate ≡ gate_of v.turn → new.disk.areas ≡ v.disk.areas → (image : Image) → LeavesImage new.disk.areas image → OnFront (IsImageOf header image) m
   same-leaves gate same image left =
-      works-leave header v m memory machine order in_step slots_are built (archives-built header.profile built) gate w image (subst (λ (a : Areas). LeavesImage a image) same left)
+      works-leave header v m memory machine order in_step slots_are built gate w image (subst (λ (a : Areas). LeavesImage a image) same left)
 
   -- the store after a call of the heap that was made
-  heap-works : (s : GroupStage) → AreSound new.disk.areas → (heap : AreaState) → new.disk.areas ≡ record v.disk.areas { heap = heap } → KeepsExtents (live w.layout) heap
+  heap-works : (s : GroupStage) → AreSound new.disk.areas → (heap : AreaState) → new.disk.areas ≡ record v.disk.areas { heap = heap } → (n : ℕ) → IsBeside n v.disk.areas.heap heap → AreBeside n (live w.layout) → AllByRecursion (λ (k : ℕ). k ≢ n) v.transactions.reserved
       → IsAtStage header w.layout (group_of w.layout v.transactions m) v.transactions.queue s v.turn (record new.disk.areas { status = w.rested }) → Works header (with_parts v new (groups.at_stage s v.transactions) v.log v.turn) m
-  heap-works s sound heap is keeps at =
+  heap-works s sound heap is n beside apart others at =
       staged-works s v.log v.turn refl sound w.rested
       (subst (λ (a : Areas). IsRested header w.layout (turn_of v.job) w.rested a.status) (sym is) w.rests) at
-      (subst (λ (a : Areas). HasJob header w.layout w.reading m.published v.job a) (sym is) (job-beside-heap header w.layout w.reading m.published v.job v.disk.areas heap keeps w.job))
+      (subst (λ (a : Areas). HasJob header w.layout w.reading m.published v.transactions.reserved v.job a) (sym is)
+      (job-beside-heap header w.layout w.reading m.published v.transactions.reserved v.job v.disk.areas heap n beside apart others w.job))
+
+  -- so after the write of the group's next extent
+  heap-wrote : (member extent : ℕ) → member < v.transactions.group → (stored : StoredExtent) → groups.extent_at (slice_get v.transactions.queue member) extent ≡ Some stored
+      → Writes Heap (extent_start stored.extent) stored.image (Ok tt) v.disk.areas new.disk.areas → (s : GroupStage) → AreSound new.disk.areas
+      → IsAtStage header w.layout (group_of w.layout v.transactions m) v.transactions.queue s v.turn (record new.disk.areas { status = w.rested }) → Works header (with_parts v new (groups.at_stage s v.transactions) v.log v.turn) m
+  heap-wrote member extent low stored there call s sound at =
+      let some : 0 < v.transactions.group = omega (arith, low) in
+      let k : ℕ = written_before v.transactions.queue member extent in
+      let found : IsNext (drop k (extents_of ((group_of w.layout v.transactions m).members))) stored = next-is v.transactions.group m.published v.transactions.queue m.queue member extent stored w.packed low there in
+      let apart = extent-apart some k found.extent found.rest found.is in
+      let heap : AreaState = written (extent_start stored.extent) stored.image v.disk.areas.heap in
+      let beside : IsBeside found.extent.number v.disk.areas.heap heap =
+      subst (λ (n : ℕ). IsBeside found.extent.number v.disk.areas.heap (written (extent_start n) stored.image v.disk.areas.heap)) found.number
+      (subst (λ (bytes : List ℕ). IsBeside found.extent.number v.disk.areas.heap (written (extent_start found.extent.number) bytes v.disk.areas.heap)) found.bytes
+      (write-beside found.extent apart.is v.disk.areas.heap (w.sound Heap))) in
+      heap-works s sound heap call.written found.extent.number beside apart.live apart.others at
+
+  -- and after a sync of the heap
+  heap-synced : Syncs Heap (Ok tt) v.disk.areas new.disk.areas → (s : GroupStage) → AreSound new.disk.areas
+      → IsAtStage header w.layout (group_of w.layout v.transactions m) v.transactions.queue s v.turn (record new.disk.areas { status = w.rested }) → Works header (with_parts v new (groups.at_stage s v.transactions) v.log v.turn) m
+  heap-synced call s sound at =
+      heap-works s sound (synced v.disk.areas.heap) call.synced 0 (sync-beside v.disk.areas.heap (w.sound Heap)) (beside-none (live w.layout) (live_extents_are header w.layout w.reading w.laid))
+      (none-number v.transactions.reserved (all-numbered v.transactions.usages v.transactions.reserved (reserved-out v.transactions order).each)) at
 
   -- ---- the slot is begun, or goes on
 
@@ -531,10 +619,10 @@ module _ (header : Header) (v new : StoreValue) (m : Machine Value) (memory : St
 
   -- ---- the group is published
 
-  -- a run that may come next still may, behind the group
-  next-run : (some : 0 < v.transactions.group) (run : StoredRun) → IsNextRun w.layout w.reading m.published run
-      → IsNextRun (laid_out w.layout (group_of w.layout v.transactions m)) (with_group w.reading (turns.members_of (group_of w.layout v.transactions m))) (m.published ++ take m.group m.queue) run
-  next-run some run next =
+  -- what may come next still may, behind the group
+  next-product : (some : 0 < v.transactions.group) (p : Product) → MayBeNext w.layout w.reading m.published p
+      → MayBeNext (laid_out w.layout (group_of w.layout v.transactions m)) (with_group w.reading (turns.members_of (group_of w.layout v.transactions m))) (m.published ++ take m.group m.queue) p
+  next-product some p next =
       let room = room-left header v m order in_step slots_are w some in
       let group : turns.Group = group_of w.layout v.transactions m in
       let joins = joining.joins header v.transactions m w.layout w.reading memory machine order w.laid w.stands built w.built w.kept w.packed some room in
@@ -543,19 +631,35 @@ module _ (header : Header) (v new : StoreValue) (m : Machine Value) (memory : St
       (let up = last-later (last m.published) (take v.transactions.group m.queue) (rising-from_following IsValue m.published (take v.transactions.group m.queue) joins.is_group.may) in
       omega (arith, up, last_after-append 0 m.published (take v.transactions.group m.queue))) in
       let same : archived_upto (with_group w.reading (turns.members_of group)) ≡ archived_upto w.reading = same_archived w.reading m.published m.floors w.stands (turns.members_of group) (take v.transactions.group m.queue) joins.is_group space in
-      subst (λ (n : ℕ). IsNextRun (laid_out w.layout group) (with_group w.reading (turns.members_of group)) (m.published ++ take n m.queue) run) memory.group (record {
-        plan = archive-plan-stays w.reading m.published (take v.transactions.group m.queue) m.floors (turns.members_of group) w.stands joins.is_group space run.entry.upto run.records next.by_last next.plan;
-        later = omega (arith, same, next.later);
-        by_last = omega (arith, grown, next.by_last);
-        stored = next.stored;
-        behind = next.behind ∙ ap (row_end 0) (sym (runs_more header w.layout w.reading m.published (take v.transactions.group m.queue) m.floors group w.laid w.stands joins));
-        in_range = next.in_range;
-      })
+      let mark : reclaimed_upto (with_group w.reading (turns.members_of group)) ≡ reclaimed_upto w.reading = reclaim_mark-append 0 w.reading.log (Commits (map (λ (x : Member). x.head) (turns.members_of group)) ∷ []) in
+      let by-kind : (q : Product) → MayBeNext w.layout w.reading m.published q → MayBeNext (laid_out w.layout group) (with_group w.reading (turns.members_of group)) (m.published ++ take v.transactions.group m.queue) q =
+      next-by joins space grown same mark in
+      subst (λ (n : ℕ). MayBeNext (laid_out w.layout group) (with_group w.reading (turns.members_of group)) (m.published ++ take n m.queue) p) memory.group (by-kind p next)
+  where
+    next-by : (joins : turns.MayJoin header w.layout w.reading m.published (take v.transactions.group m.queue) (group_of w.layout v.transactions m)) → HasRoom w.reading
+        → last m.published ≤ last (m.published ++ take v.transactions.group m.queue) → archived_upto (with_group w.reading (turns.members_of (group_of w.layout v.transactions m))) ≡ archived_upto w.reading
+        → reclaimed_upto (with_group w.reading (turns.members_of (group_of w.layout v.transactions m))) ≡ reclaimed_upto w.reading → (q : Product) → MayBeNext w.layout w.reading m.published q
+        → MayBeNext (laid_out w.layout (group_of w.layout v.transactions m)) (with_group w.reading (turns.members_of (group_of w.layout v.transactions m))) (m.published ++ take v.transactions.group m.queue) q
+    next-by joins space grown same mark (OfRun run) next = record {
+      plan = archive-plan-stays w.reading m.published (take v.transactions.group m.queue) m.floors (turns.members_of (group_of w.layout v.transactions m)) w.stands joins.is_group space run.entry.upto run.records next.by_last next.plan;
+      later = omega (arith, same, next.later);
+      by_last = omega (arith, grown, next.by_last);
+      stored = next.stored;
+      behind = next.behind ∙ ap (row_end 0) (sym (runs_more header w.layout w.reading m.published (take v.transactions.group m.queue) m.floors (group_of w.layout v.transactions m) w.laid w.stands joins));
+      in_range = next.in_range;
+    }
+    next-by joins space grown same mark (OfAnchors a) next = record {
+      plan = reclaim-plan-stays w.reading m.published (take v.transactions.group m.queue) m.floors (turns.members_of (group_of w.layout v.transactions m)) w.stands joins.is_group space a.olds next.plan;
+      upto = next.upto ∙ sym same;
+      later = omega (arith, same, mark, next.later);
+      chain = next.chain;
+      in_range = next.in_range;
+    }
 
-  published-works : 0 < v.transactions.group → turn_of v.job ≡ None → (number : ℕ) → number ≡ length w.layout.slots → AreSound new.disk.areas → (status : AreaState) → new.disk.areas ≡ record v.disk.areas { status = status }
+  published-works : 0 < v.transactions.group → is_turning v.transactions.stage ≡ true → turn_of v.job ≡ None → (number : ℕ) → number ≡ length w.layout.slots → AreSound new.disk.areas → (status : AreaState) → new.disk.areas ≡ record v.disk.areas { status = status }
       → IsTurnAt header w.layout named (laid_out w.layout (group_of w.layout v.transactions m)) slots.Opened new.disk.areas
       → Works header (with_parts v new (groups.published v.transactions) (record v.log { used = number + 1; writing = false }) None) (steps.group_published m)
-  published-works some still number last sound status is at =
+  published-works some turning still number last sound status is at =
       let room = room-left header v m order in_step slots_are w some in
       let joins = joining.joins header v.transactions m w.layout w.reading memory machine order w.laid w.stands built w.built w.kept w.packed some room in
       let space = has_room header w.layout w.reading m.published (take v.transactions.group m.queue) m.floors (group_of w.layout v.transactions m) w.laid w.stands joins in
@@ -574,9 +678,9 @@ module _ (header : Header) (v new : StoreValue) (m : Machine Value) (memory : St
             (joining.out header v.transactions m w.layout w.reading memory machine order w.laid w.stands built w.built w.kept w.packed some room)
             (joining.numbers header v.transactions m w.layout w.reading memory machine order w.laid w.stands built w.built w.kept w.packed some room)
             w.kept);
+        times = published-times header v m w joins.each some;
         heap = λ key.
-            writes-behind v.transactions.versions (take v.transactions.group v.transactions.queue) (take v.transactions.group m.queue) key
-            (wait-front v.transactions.group v.transactions.versions v.transactions.queue m.queue memory.queue)
+            behind-group v.transactions m memory turning key
             ∙ ap (λ (ws : List (TimedWrite Value)). ws ++ histories.writes_of (take v.transactions.group m.queue) key) (w.heap key)
             ∙ sym (more_facts w.reading m.published m.floors w.stands (turns.members_of (group_of w.layout v.transactions m)) (take v.transactions.group m.queue) joins.is_group space key);
         packed = subst (λ (n : ℕ). AllPacked (m.published ++ take n m.queue) (drop v.transactions.group v.transactions.queue) (drop n m.queue)) size (packed-rest v.transactions.group m.published v.transactions.queue m.queue w.packed);
@@ -585,8 +689,8 @@ module _ (header : Header) (v new : StoreValue) (m : Machine Value) (memory : St
         rested = new.disk.areas.status;
         rests = rested-now header (laid_out w.layout (group_of w.layout v.transactions m)) (turn_of v.job) new.disk.areas.status still;
         at = record { status = at.status; parts = at.new_parts };
-        job = job-moves header w.layout (laid_out w.layout (group_of w.layout v.transactions m)) w.reading (with_group w.reading (turns.members_of (group_of w.layout v.transactions m))) m.published (m.published ++ take m.group m.queue) v.job new.disk.areas still (next-run some)
-            (subst (λ (a : Areas). HasJob header w.layout w.reading m.published v.job a) (sym is) (job-beside-status header w.layout w.reading m.published v.job v.disk.areas status still w.job));
+        job = job-moves header w.layout (laid_out w.layout (group_of w.layout v.transactions m)) w.reading (with_group w.reading (turns.members_of (group_of w.layout v.transactions m))) m.published (m.published ++ take m.group m.queue) v.transactions.reserved v.job new.disk.areas still (next-product some)
+            (subst (λ (a : Areas). HasJob header w.layout w.reading m.published v.transactions.reserved v.job a) (sym is) (job-beside-status header w.layout w.reading m.published v.transactions.reserved v.job v.disk.areas status still w.job));
         sound = sound;
       }
 
@@ -622,7 +726,8 @@ fails-parts tells v new m parts machine works gate log turn same many used leave
   order = broken-order v.transactions parts.order;
   in_step = record { slots = many ∙ parts.in_step.slots; used = used ∙ parts.in_step.used; turns = λ no. absurd cc };
   gate = λ no. absurd cc;
-  plain = parts.plain;
+  marks = parts.marks;
+  job = parts.job;
   disk = λ told.
       let d = parts.disk told in
       breaks-disk d.header v new m parts.memory machine parts.order parts.in_step d.profile d.slots d.profile_built (d.works works) gate log turn (leaves told) same many;
@@ -668,11 +773,7 @@ behind-turning : (qs : List QueuedValue) (member extent : ℕ) (o : Option Queue
 behind-turning qs member extent None = refl
 behind-turning qs member extent (Some q) = elim (nat_lt (extent + 1) (length q.stored)) as (λ (b : Bool). is_turning (cond b (Storing member (extent + 1)) (Storing (member + 1) 0)) ≡ false) [ true ↦ refl | false ↦ refl ]
 
--- a call of the heap changes the heap alone
-heap-alone : (old new : Areas) (heap : AreaState) → new ≡ record old { heap = heap } → new ≡ record old { heap = new.heap }
-heap-alone old new heap is = is ∙ ap (λ (a : Areas). record old { heap = a.heap }) (sym is)
-
--- and one of the status area that area alone
+-- a call of the status area changes that area alone
 status-alone : (old new : Areas) (status : AreaState) → new ≡ record old { status = status } → new ≡ record old { status = new.status }
 status-alone old new status is = is ∙ ap (λ (a : Areas). record old { status = a.status }) (sym is)
 
@@ -699,10 +800,10 @@ wrote-step tells v new answer m parts machine works asks sound (Some stored) fou
         (wrote-leaves d.header v new m parts.memory machine parts.order parts.in_step d.profile d.slots d.profile_built (d.works works) at.member at.extent at.is at.low stored there (takes.call.areas told) image left))
     by-answer (Ok said) at there takes =
         let stage = groups.stage_behind v.transactions.queue v.transactions.stage in
-        let memory = restaged v.transactions m stage parts.memory (λ _. omega (arith, at.low)) in
-        let order = keeps-wrote v.transactions parts.order asks in
         let turning : is_turning stage ≡ is_turning v.transactions.stage =
         ap (λ (s : GroupStage). is_turning (groups.stage_behind v.transactions.queue s)) at.is ∙ behind-turning v.transactions.queue at.member at.extent (slice_get v.transactions.queue at.member) ∙ sym (ap is_turning at.is) in
+        let memory = restaged v.transactions m stage parts.memory (λ _. omega (arith, at.low)) (λ turns. let no : true ≡ false = sym turns ∙ turning ∙ ap is_turning at.is in absurd cc) in
+        let order = keeps-wrote v.transactions parts.order asks in
         let in_step : IsInStep (with_parts v new (groups.wrote_extent v.transactions) v.log v.turn) = record {
           slots = parts.in_step.slots;
           used = parts.in_step.used;
@@ -713,7 +814,8 @@ wrote-step tells v new answer m parts machine works asks sound (Some stored) fou
           order = order;
           in_step = in_step;
           gate = parts.gate;
-          plain = parts.plain;
+          marks = parts.marks;
+  job = parts.job;
           disk = λ told.
               let d = parts.disk told in
               let w = d.works works in
@@ -723,9 +825,8 @@ wrote-step tells v new answer m parts machine works asks sound (Some stored) fou
               let sound' = resting-sound d.header v m w in
               let goes = wrote-goes d.header v new m parts.memory machine parts.order parts.in_step d.profile d.slots d.profile_built w (Ok tt) at.member at.extent at.is at.low stored there base then sound' w.at call in
               let on = goes-on d.header v new m parts.memory machine parts.order parts.in_step d.profile d.slots d.profile_built w base then goes in
-              let is : new.disk.areas ≡ record v.disk.areas { heap = new.disk.areas.heap } = heap-alone v.disk.areas new.disk.areas _ (takes.call.areas told).written in
               on-disk d.header (with_parts v new (groups.wrote_extent v.transactions) v.log v.turn) m memory machine order in_step d.profile d.slots d.profile_built (parts.gate works)
-              (heap-works d.header v new m parts.memory machine parts.order parts.in_step d.profile d.slots d.profile_built w stage (sound told) new.disk.areas.heap is on.rests.parts.extents
+              (heap-wrote d.header v new m parts.memory machine parts.order parts.in_step d.profile d.slots d.profile_built w at.member at.extent at.low stored there (takes.call.areas told) stage (sound told)
               (wrote-at d.header v new m parts.memory machine parts.order parts.in_step d.profile d.slots d.profile_built w (Ok tt) at.member at.extent at.is at.low stored there base then sound' w.at call on));
         })
 
@@ -759,7 +860,7 @@ synced-step tells v new answer m parts machine works asks sound takes =
         left-shut (λ (x : Machine Value). OnFront (IsImageOf d.header image) x) m (gate-shut v m parts.in_step parts.memory.failed parts.gate works (ap is_turning at.is))
         (same-leaves d.header v new m parts.memory machine parts.order parts.in_step d.profile d.slots d.profile_built (d.works works) (parts.gate works) (takes.call.areas told).same image left))
     by-answer (Ok said) at takes =
-        let memory = restaged v.transactions m Stored parts.memory (λ _. at.some) in
+        let memory = restaged v.transactions m Stored parts.memory (λ _. at.some) (λ turns. absurd cc) in
         let order = keeps-synced v.transactions parts.order asks in
         let in_step : IsInStep (with_parts v new (groups.at_stage Stored v.transactions) v.log v.turn) = record {
           slots = parts.in_step.slots;
@@ -771,7 +872,8 @@ synced-step tells v new answer m parts machine works asks sound takes =
           order = order;
           in_step = in_step;
           gate = parts.gate;
-          plain = parts.plain;
+          marks = parts.marks;
+  job = parts.job;
           disk = λ told.
               let d = parts.disk told in
               let w = d.works works in
@@ -780,10 +882,28 @@ synced-step tells v new answer m parts machine works asks sound takes =
               let goes = synced-goes d.header v new m parts.memory machine parts.order parts.in_step d.profile d.slots d.profile_built w (Ok tt) at.member at.extent at.is at.past at.some base then (resting-sound d.header v m w) w.at
               (rested-sync w.rested v.disk.areas new.disk.areas (takes.call.areas told)) in
               let on = goes-on d.header v new m parts.memory machine parts.order parts.in_step d.profile d.slots d.profile_built w base then goes in
-              let is : new.disk.areas ≡ record v.disk.areas { heap = new.disk.areas.heap } = heap-alone v.disk.areas new.disk.areas _ (takes.call.areas told).synced in
               on-disk d.header (with_parts v new (groups.at_stage Stored v.transactions) v.log v.turn) m memory machine order in_step d.profile d.slots d.profile_built (parts.gate works)
-              (heap-works d.header v new m parts.memory machine parts.order parts.in_step d.profile d.slots d.profile_built w Stored (sound told) new.disk.areas.heap is on.old_parts.extents on);
+              (heap-synced d.header v new m parts.memory machine parts.order parts.in_step d.profile d.slots d.profile_built w (takes.call.areas told) Stored (sound told) on);
         })
+
+-- ---- what memory keeps of a job while commits are published
+
+pub published-later : (m : Machine Value) → IsMachine IsValue m → last m.published ≤ last (steps.group_published m).published
+published-later m machine =
+    let queued = rising-from_following IsValue m.published m.queue (may_follow-behind IsValue [] m.published m.queue machine.history) in
+    let taken = rising-front (last m.published) (take m.group m.queue) (drop m.group m.queue) (subst (λ (h : History Value). HasRisingTimes (last m.published) h) (sym (take-append-drop m.group m.queue)) queued) in
+    let up = last-later (last m.published) (take m.group m.queue) taken in
+    omega (arith, up, last_after-append 0 m.published (take m.group m.queue))
+
+-- a job whose slot is not in the writing
+pub job-later : (o : Option Job) (archived early late : ℕ) (opened : List (Option ℕ)) (pending : Option (List KeyWrites)) (versions versions' : List KeyWrites) → turn_of o ≡ None → early ≤ late
+    → KeepsJobOf o archived early opened pending versions → KeepsJobOf o archived late opened pending versions'
+job-later None archived early late opened pending versions versions' still grown keeps = tt
+job-later (Some j) archived early late opened pending versions versions' still grown keeps = by-work j.work keeps
+  where
+    by-work : (work : JobWork) → KeepsWork work j.stage archived early opened pending versions → KeepsWork work j.stage archived late opened pending versions'
+    by-work (ArchiveWork run writer) keeps = (keeps.0, (let upto = keeps.1 in omega (arith, upto, grown)))
+    by-work (Reclaim anchors source written) keeps = record { is = keeps.is; recent = keeps.recent; made = λ turning. (let none : is_some (turn_in j.stage) ≡ false = ap (λ (o : Option TurnState). is_some o) still in let no : true ≡ false = sym turning ∙ none in absurd cc) }
 
 -- ---- the slot
 
@@ -838,7 +958,8 @@ module _ (tells : Bool) (v new : StoreValue) (m : Machine Value) (t : TurnState)
         order = parts.order;
         in_step = in_step;
         gate = λ on. refl;
-        plain = parts.plain;
+        marks = parts.marks;
+  job = parts.job;
         disk = λ told.
             let d = parts.disk told in
             let w = d.works works in
@@ -852,15 +973,17 @@ module _ (tells : Bool) (v new : StoreValue) (m : Machine Value) (t : TurnState)
               built = w.built;
               used = w.used;
               kept = w.kept;
+              times = w.times;
               heap = w.heap;
               packed = w.packed;
               archived = w.archived;
+              reclaimed = w.reclaimed;
               runs_end = w.runs_end;
               rested = new.disk.areas.status;
               rests = rested-now d.header w.layout (turn_of v.job) new.disk.areas.status still;
               at = subst (λ (s : GroupStage). IsAtStage d.header w.layout (group_of w.layout v.transactions m) v.transactions.queue s after new.disk.areas) (sym turning) at;
-              job = subst (λ (a : Areas). HasJob d.header w.layout w.reading m.published v.job a) (sym (slot-alone t.stage t.number t.body v.disk.areas new.disk.areas (call told)))
-                  (job-beside-status d.header w.layout w.reading m.published v.job v.disk.areas new.disk.areas.status still w.job);
+              job = subst (λ (a : Areas). HasJob d.header w.layout w.reading m.published v.transactions.reserved v.job a) (sym (slot-alone t.stage t.number t.body v.disk.areas new.disk.areas (call told)))
+                  (job-beside-status d.header w.layout w.reading m.published v.transactions.reserved v.job v.disk.areas new.disk.areas.status still w.job);
               sound = sound told;
             });
       } in
@@ -871,7 +994,8 @@ module _ (tells : Bool) (v new : StoreValue) (m : Machine Value) (t : TurnState)
       → new.transactions ≡ groups.published v.transactions → new.log ≡ record v.log { used = t.number + 1; writing = false } → new.turn ≡ None → Ends tells m (Ok said) new
   opens is call asks said same a b c =
       let log : LogState = record v.log { used = t.number + 1; writing = false } in
-      let memory = publishes v.transactions m parts.memory machine in
+      let memory = publishes v.transactions m parts.memory machine (ap is_turning turning) in
+      let grown = published-later m machine in
       let rest : AreOut v.transactions.usages ((flat_map numbers_of (take v.transactions.group v.transactions.queue) ++ flat_map numbers_of (drop v.transactions.group v.transactions.queue)) ++ v.transactions.reserved) =
       subst (λ (l : List ℕ). AreOut v.transactions.usages (l ++ v.transactions.reserved)) (numbers-split v.transactions.group v.transactions.queue) parts.order.out in
       let order = keeps-published v.transactions parts.order asks
@@ -888,12 +1012,13 @@ module _ (tells : Bool) (v new : StoreValue) (m : Machine Value) (t : TurnState)
         order = order;
         in_step = in_step;
         gate = λ on. refl;
-        plain = parts.plain;
+        marks = (parts.marks.0, (let archived = parts.marks.1 in omega (arith, archived, grown)));
+        job = job-later v.job v.archived (last m.published) (last (steps.group_published m).published) v.transactions.opened v.transactions.pending v.transactions.versions (groups.published v.transactions).versions still grown parts.job;
         disk = λ told.
             let d = parts.disk told in
             let w = d.works works in
             on-disk d.header (with_parts v new (groups.published v.transactions) log None) (steps.group_published m) memory machine' order in_step d.profile d.slots d.profile_built refl
-            (published-works d.header v new m parts.memory machine parts.order parts.in_step d.profile d.slots d.profile_built w group-some still t.number (own told).number (sound told) new.disk.areas.status
+            (published-works d.header v new m parts.memory machine parts.order parts.in_step d.profile d.slots d.profile_built w group-some (ap is_turning turning) still t.number (own told).number (sound told) new.disk.areas.status
             (slot-alone t.stage t.number t.body v.disk.areas new.disk.areas (call told)) (led slots.GateWritten is call told));
       } in
       subst (λ (e : Did). Ends tells m (Ok e) new) (sym same)
@@ -926,27 +1051,13 @@ begin-is Turning group asks = absurd cc
 begin-is (Storing member extent) group asks =
     elim (nat_lt member group) as (λ (b : Bool). cond b next.WriteExtent next.SyncHeap ≡ next.BeginSlot → Storing member extent ≡ Stored) [ true ↦ λ no. absurd cc | false ↦ λ no. absurd cc ] asks
 
--- where nothing was reclaimed, a group leaves the versions that its last commit was queued with
-pub never-stale : (t : TransactionsValue) → t.reclaimed ≡ 0 → groups.is_stale t ≡ true → ⊥
-never-stale t none stale = by-commit (slice_get t.queue (t.group - 1)) stale
-  where
-    by-commit : (o : Option QueuedValue) → groups.is_older t.reclaimed o ≡ true → ⊥
-    by-commit None is = absurd cc
-    by-commit (Some q) is = let less : q.reclaimed < t.reclaimed = grind (arith, nat_tests) in absurd (omega (arith, less, none))
-
-fresh-same : (t : TransactionsValue) → t.reclaimed ≡ 0 → groups.freshened t ≡ t
-fresh-same t none = ap (λ (qs : List QueuedValue). record t { queue = qs }) (none-fresh t.reclaimed (t.group - 1) t.queue (slice_get t.queue (t.group - 1)) (none-stale (slice_get t.queue (t.group - 1))))
-  where
-    none-stale : (o : Option QueuedValue) → MatchOption o (Unit {0}) (λ q. nat_lt q.reclaimed t.reclaimed ≡ false)
-    none-stale None = tt
-    none-stale (Some q) = grind (arith, nat_tests)
-
 -- the group's slot is in the writing
 abbrev plainly : StoreValue → StoreValue
 plainly v = record v { transactions = groups.at_stage Turning v.transactions; log = record v.log { writing = true } }
 
 -- the group's slot is in the writing, and no call of it is made: the store is on its way to the first one
 module _ (tells : Bool) (v new : StoreValue) (m : Machine Value) (parts : Parts tells v m) (machine : IsMachine IsValue m) (works : m.failed ≡ false) (stored : v.transactions.stage ≡ Stored)
+    (fresh : mark_after v.transactions.reclaimed (take v.transactions.group v.transactions.queue) ≡ v.transactions.reclaimed)
     (sound : IsTrue tells → AreSound new.disk.areas) (body : Body) (commit : IsCommitOf (groups.entries v.transactions) body) (still : turn_of v.job ≡ None) (keeps : KeepsJob v new) where
   abbrev first : TurnState
   first = record { number = v.log.used; body = spelling v.log.profile (record { number = v.log.used; body = body }); stage = slots.Begun }
@@ -973,7 +1084,7 @@ module _ (tells : Bool) (v new : StoreValue) (m : Machine Value) (parts : Parts 
   begun-step asks (Ok what) to =
       let after : Option TurnState = Some (record first { stage = slots.BodyWritten }) in
       let log : LogState = record v.log { writing = true } in
-      let memory = restaged v.transactions m Turning parts.memory (λ _. some-stored) in
+      let memory = restaged v.transactions m Turning parts.memory (λ _. some-stored) (λ _. fresh) in
       let order = keeps-begun v.transactions parts.order asks in
       let in_step : IsInStep (with_parts v new (groups.at_stage Turning v.transactions) log after) = record {
         slots = parts.in_step.slots;
@@ -990,7 +1101,8 @@ module _ (tells : Bool) (v new : StoreValue) (m : Machine Value) (parts : Parts 
         order = order;
         in_step = in_step;
         gate = λ on. shut;
-        plain = parts.plain;
+        marks = parts.marks;
+  job = parts.job;
         disk = λ told.
             let d = parts.disk told in
             let w = d.works works in
@@ -999,8 +1111,8 @@ module _ (tells : Bool) (v new : StoreValue) (m : Machine Value) (parts : Parts 
             on-disk d.header (with_parts v new (groups.at_stage Turning v.transactions) log after) m memory machine order in_step d.profile d.slots d.profile_built shut
             (staged-works d.header v new m parts.memory machine parts.order parts.in_step d.profile d.slots d.profile_built w Turning log after refl (sound told) new.disk.areas.status
             (rested-now d.header w.layout (turn_of v.job) new.disk.areas.status still) (record { number = mine.number; long = mine.long; spelled = mine.spelled; at = on })
-            (subst (λ (a : Areas). HasJob d.header w.layout w.reading m.published v.job a) (sym (slot-alone slots.Begun first.number first.body v.disk.areas new.disk.areas (to.call.areas told)))
-            (job-beside-status d.header w.layout w.reading m.published v.job v.disk.areas new.disk.areas.status still w.job)));
+            (subst (λ (a : Areas). HasJob d.header w.layout w.reading m.published v.transactions.reserved v.job a) (sym (slot-alone slots.Begun first.number first.body v.disk.areas new.disk.areas (to.call.areas told)))
+            (job-beside-status d.header w.layout w.reading m.published v.transactions.reserved v.job v.disk.areas new.disk.areas.status still w.job)));
       })
   begun-step asks (Err why) to =
       let log : LogState = record v.log { writing = true } in
@@ -1015,17 +1127,40 @@ module _ (tells : Bool) (v new : StoreValue) (m : Machine Value) (parts : Parts 
         breaks-run m works m.gate refl,
         subst (λ (x : StoreValue). Parts tells x after)
             (same-store v new (groups.at_stage Turning (groups.broken v.transactions)) log None keeps to.answer.transactions to.answer.log to.answer.turn) (record {
-              memory = restaged (groups.broken v.transactions) after Turning parts'.memory (λ _. some-stored);
+              memory = restaged (groups.broken v.transactions) after Turning parts'.memory (λ _. some-stored) (λ _. fresh);
               order = broken-order (groups.at_stage Turning v.transactions) (keeps-begun v.transactions parts.order asks);
               in_step = record { slots = parts'.in_step.slots; used = parts'.in_step.used; turns = λ no. absurd cc };
               gate = λ no. absurd cc;
-              plain = parts'.plain;
+              marks = parts'.marks;
+              job = parts'.job;
               disk = λ told.
                   let d = parts'.disk told in record { header = d.header; profile = d.profile; slots = d.slots; profile_built = d.profile_built; leaves = d.leaves; works = λ no. absurd cc };
             }),
       )
 
 -- ---- every step
+
+-- the store whose group leaves versions that have forgotten all that ended by the mark
+fresh-parts : (tells : Bool) (v : StoreValue) (m : Machine Value) (parts : Parts tells v m) → IsMachine IsValue m → (works : m.failed ≡ false) → v.transactions.stage ≡ Stored → 0 < v.transactions.group → Parts tells (freshly v) m
+fresh-parts tells v m parts machine works stored some =
+    let memory = freshens v.transactions m parts.memory machine in
+    let order = fresh-order v.transactions parts.order in
+    let in_step : IsInStep (freshly v) = record {
+      slots = parts.in_step.slots;
+      used = parts.in_step.used;
+      turns = λ on. let was = parts.in_step.turns on in record { turning = was.turning; writing = was.writing; turn = was.turn; job = was.job };
+    } in
+    record {
+      memory = memory;
+      order = order;
+      in_step = in_step;
+      gate = parts.gate;
+      marks = parts.marks;
+      job = parts.job;
+      disk = λ told.
+          let d = parts.disk told in
+          on-disk d.header (freshly v) m memory machine order in_step d.profile d.slots d.profile_built (parts.gate works) (fresh-works d.header v m stored (d.works works));
+    }
 
 -- while a group's slot is in the writing no job's is
 no-job-turn : (o turn : Option TurnState) (t : TurnState) → turn ≡ Some t → (n : ℕ) → MatchOption o (Unit {0}) (λ u. (u.number ≡ n) × IsOnItsWay u.stage × (turn ≡ None)) → o ≡ None
@@ -1069,15 +1204,18 @@ step tells next.BeginSlot v new answer m parts machine works asks sound takes = 
     by-job-turn (Some u) at busy = subst (λ (r : Result Did PumpFault). Ends tells m r new) (sym busy.0) (m, refl, subst (λ (x : StoreValue). Parts tells x m) (sym busy.1) parts)
     by-job-turn None still (inl short) = subst (λ (r : Result Did PumpFault). Ends tells m r new) (sym short.1) (m, refl, subst (λ (x : StoreValue). Parts tells x m) (sym short.2) parts)
     by-job-turn None still (inr first) =
-        let turns = subst (λ (t : TransactionsValue). TurnsSlot tells (record { number = v.log.used; body = spelling v.log.profile (record { number = v.log.used; body = first.body }); stage = slots.Begun }) (record v { transactions = groups.at_stage Turning t; log = record v.log { writing = true } }) answer new)
-        (fresh-same v.transactions parts.plain.0) first.turns in
-        let keeps : KeepsJob v new = (let k = first.turns.job in record { job = k.job; archived = k.archived; runs_end = k.runs_end }) in
-        begun-step tells v new m parts machine works (begin-is v.transactions.stage v.transactions.group asks) sound first.body first.commit still keeps asks answer turns
+        let stored = begin-is v.transactions.stage v.transactions.group asks in
+        let some : 0 < v.transactions.group = subst (λ (s : GroupStage). StageFits s v.transactions.group v.transactions.queue) stored parts.order.stage_fits in
+        let fresh = fresh-parts tells v m parts machine works stored some in
+        let keeps : KeepsJob (freshly v) new = (let k = first.turns.job in record { job = k.job; archived = k.archived; runs_end = k.runs_end }) in
+        begun-step tells (freshly v) new m fresh machine works stored (fresh-marks v.transactions m parts.memory some parts.order.group_within) sound first.body
+        (subst (λ (es : List Entry). IsCommitOf es first.body) (sym (fresh-entries v.transactions)) first.commit) still keeps asks answer first.turns
 step tells next.AdvanceSlot v new answer m parts machine works asks sound takes = advance-step tells v new m parts machine works asks sound answer takes
 
--- a group that begins changes nothing of the mark
-pub grouped-mark : (t : TransactionsValue) → (groups.grouped t).reclaimed ≡ t.reclaimed
-grouped-mark t = elim ((t.group == 0) && nat_lt 0 (length t.queue)) as (λ (b : Bool). (cond b (record t { group = min (length t.queue) 16; stage = Storing 0 0 }) t).reclaimed ≡ t.reclaimed) [ true ↦ refl | false ↦ refl ]
+-- what holds of the transactions, whether a group has begun or not
+grouped-has : (P : TransactionsValue → Type 0) (t : TransactionsValue) → P t → P (record t { group = min (length t.queue) 16; stage = Storing 0 0 }) → P (groups.grouped t)
+grouped-has P t still began =
+    elim ((t.group == 0) && nat_lt 0 (length t.queue)) as (λ (b : Bool). P (cond b (record t { group = min (length t.queue) 16; stage = Storing 0 0 }) t)) [ true ↦ began | false ↦ still ]
 
 -- the store whose group may have begun
 started-parts : (tells : Bool) (v : StoreValue) (m : Machine Value) (size : ℕ) → Stands tells v m → m.failed ≡ false → StandsInMemory (groups.grouped v.transactions) (record m { group = size }) → IsMachine IsValue (record m { group = size }) → Parts tells (started v) (record m { group = size })
@@ -1089,7 +1227,8 @@ started-parts tells v m size stands works memory machine =
       order = order;
       in_step = in_step;
       gate = stands.gate;
-      plain = (grouped-mark v.transactions ∙ stands.plain.0, stands.plain.1);
+      marks = (grouped-has (λ (t : TransactionsValue). t.reclaimed ≤ v.archived) v.transactions stands.marks.0 stands.marks.0, stands.marks.1);
+      job = grouped-has (λ (t : TransactionsValue). KeepsJobOf v.job v.archived (last m.published) t.opened t.pending t.versions) v.transactions stands.job stands.job;
       disk = λ told.
           let d = stands.disk told in
           on-disk d.header (started v) (record m { group = size }) memory machine order in_step d.profile d.slots d.profile_built (stands.gate works) (begun-works d.header v m size stands.order (d.works works) memory);
@@ -1122,7 +1261,8 @@ pump-stands tells old new answer m stands sound pumps =
             order = ends.2.order;
             in_step = ends.2.in_step;
             gate = ends.2.gate;
-            plain = ends.2.plain;
+            marks = ends.2.marks;
+            job = ends.2.job;
             disk = ends.2.disk;
           },
         )
