@@ -17,12 +17,12 @@ use Rattle.history.proofs.Machines.{opened-machine}
 use Rattle.history.proofs.Members.{Contains-nil}
 use Rattle.image.specs.Values.{Value, IsValue}
 use Rattle.image.specs.Reading.{Head, Reading}
-use Rattle.image.specs.Log.{AreRisingAfter, last_time_after, reclaim_mark_after}
-use Rattle.image.specs.Facts.{old_writes}
+use Rattle.image.specs.Log.{AreRisingAfter, last_time_after}
+use Rattle.image.specs.Facts.{old_writes, heap_facts}
 use Rattle.image.specs.StandsFor.{head_of, reclaimed_upto}
 use Rattle.image.proofs.Standing.{last_time-heads, heads-rising, rises, facts-rise, archived-range, floor-range}
-use Rattle.chains.specs.KeyWrites.{IsOrdered}
-use Rattle.chains.specs.Writes.{last_time}
+use Rattle.chains.specs.KeyWrites.{IsOrdered, writes_of}
+use Rattle.chains.specs.Writes.{last_time, kept_after}
 use Rattle.extents.specs.declared.usage.Usage.{Usage}
 use Rattle.extents.specs.Usages.{IsKept}
 use Rattle.group.specs.CommitOrder as orders
@@ -47,11 +47,12 @@ use Rattle.store.specs.Heads.{head_as}
 use Rattle.store.specs.Values.{StoreValue, IsInStep}
 use Rattle.store.specs.Opens.{Opens, opened_on}
 use Rattle.store.proofs.Opened.{rising-opened, last-opened}
-use Rattle.standing.specs.Standing.{Name, name_of, name_at, HasWrites, StandsInMemory}
+use Rattle.standing.specs.Standing.{Name, name_of, name_at, HasWrites, HasForgotten, StandsInMemory}
 use Rattle.standing.specs.OnDisk.{IsImageOf, Works, StandsOnDisk}
 use Rattle.standing.specs.Stands.{Stands}
-use Rattle.standing.proofs.Unreclaimed.{no_reclaim}
+use Rattle.standing.proofs.HeapForgets.{heap-forgot}
 use Rattle.standing.proofs.Held.{last-held}
+use Rattle.opened.proofs.Times.{opened-times, opened-long}
 use Rattle.opened.proofs.Versions.{latest-upto}
 
 -- ---- the disk, once it is synced
@@ -113,9 +114,14 @@ module _ (old : DiskState) (mark : ℕ) (disk : DiskState) (r : Recovered) (head
   marked : r.reclaimed ≡ reclaimed_upto image.reading
   marked = is.reclaimed
 
-  -- no slot of a reclaim is built yet
-  unmarked : r.reclaimed ≡ 0
-  unmarked = marked ∙ ap (λ l. reclaim_mark_after 0 l) (sym image.laid.heap.log_is) ∙ no_reclaim header.profile 0 image.layout.slots image.built
+  -- it has forgotten what ended by the mark
+  forgot : HasForgotten r.reclaimed r.chains
+  forgot key =
+      let facts : writes_of r.chains key ≡ heap_facts image.reading key = is.writes key in
+      ap (λ (ws : List (TimedWrite Value)). kept_after r.reclaimed ws) facts
+      ∙ ap (λ (n : ℕ). kept_after n (heap_facts image.reading key)) marked
+      ∙ heap-forgot image.reading h floors image.stands key
+      ∙ sym facts
 
   abbrev anchors : Key → List (TimedWrite Value)
   anchors key = old_writes image.reading.anchors key
@@ -154,9 +160,10 @@ module _ (old : DiskState) (mark : ℕ) (disk : DiskState) (r : Recovered) (head
     rising = heads_rise;
     published = many;
     versions = versions_held;
-    unreclaimed = unmarked;
+    forgot = forgot;
     recent = λ snapshot there. absurd (Contains-nil snapshot there);
     queue = tt;
+    fresh = λ turning. absurd cc;
     group = refl;
     staged = λ staged. absurd staged;
     snapshots = IsPermutation-refl [];
@@ -204,9 +211,12 @@ module _ (old : DiskState) (mark : ℕ) (disk : DiskState) (r : Recovered) (head
     built = image.built;
     used = is.used;
     kept = kept-numbers r.extents (live image.layout) is.extents.kept;
+    times = opened-times r image.layout is.live;
+    times_long = opened-long r;
     heap = is.writes;
     packed = tt;
     archived = is.archived;
+    reclaimed = marked;
     runs_end = ap (row_end 0) is.runs;
     rested = disk.areas.status;
     rests = refl;
@@ -237,7 +247,8 @@ module _ (old : DiskState) (mark : ℕ) (disk : DiskState) (r : Recovered) (head
     order = order;
     in_step = in_step;
     gate = λ works. refl;
-    plain = (unmarked, tt);
+    marks = (let order = image.stands.homes.marks in omega (arith, marked, is.archived, order), (let upto = archived-range image.reading h floors image.stands in omega (arith, is.archived, upto)));
+    job = tt;
     disk = λ tells_so. on_disk;
   }
 

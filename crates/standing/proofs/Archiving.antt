@@ -8,15 +8,17 @@ use Rattle.history.specs.declared.key.KeyWrite.{KeyWrite}
 use Rattle.history.specs.declared.time.Version.{Version}
 use Rattle.history.specs.declared.time.TimedWrite.{TimedWrite}
 use Rattle.history.specs.Key.{IsKey, same_key, write_in}
-use Rattle.history.specs.Time.{IsRisingAfter}
+use Rattle.history.specs.Time.{IsRisingAfter, writes_after}
 use Rattle.history.specs.Versions.{versions, version_of, first_time, ends_after, ends_by}
 use Rattle.history.specs.Histories as histories
 use Rattle.history.specs.Histories.{History, last, IsWrite, MayAllFollow}
 use Rattle.history.specs.Machine.{Machine, IsMachine}
 use Rattle.history.proofs.Filters.{AllByRecursion-append}
-use Rattle.history.proofs.Histories.{writes_of-rising}
+use Rattle.history.proofs.Histories.{writes_of-commits_after}
 use Rattle.image.specs.Values.{Value, IsValue}
-use Rattle.image.specs.Reading.{ArchiveRecord, Reading}
+use Rattle.image.specs.Reading.{ArchiveRecord, OldRecord, Reading}
+use Rattle.image.specs.Facts.{old_writes, heap_commits}
+use Rattle.image.specs.StandsFor.{reclaimed_upto}
 use Rattle.image.specs.PlansMade.{archive_record}
 use Rattle.image.proofs.Standing.{rises, last-range}
 use Rattle.disk.specs.Areas.{Areas, AreSound}
@@ -34,7 +36,7 @@ use Rattle.chains.specs.KeyWrites.{KeyWrites, is_of, IsOrdered, AreRising, write
 use Rattle.chains.proofs.Order.{find-below}
 use Rattle.chains.proofs.Commits.{key-same}
 use Rattle.status.specs.Rules.{is_built, log_of, runs_of, row_end}
-use Rattle.reading.specs.Records.{archive_bytes, key_bytes, IsArchiveRecord}
+use Rattle.reading.specs.Records.{archive_bytes, key_bytes, IsOldRecord, IsArchiveRecord}
 use Rattle.reading.specs.Runs.{StoredRun, run_bytes, index_from}
 use Rattle.reading.specs.Opening.{AreBuilt}
 use Rattle.reading.specs.Layouts.{Layout}
@@ -53,9 +55,10 @@ use Rattle.store.specs.declared.job.JobStage.TheVariants as job
 use Rattle.store.specs.declared.job.StartFault.{StartFault}
 use Rattle.store.specs.declared.job.StartFault.TheVariants as fault
 use Rattle.standing.specs.Standing.{StandsInMemory}
-use Rattle.standing.specs.OnDisk.{IsNextRun, IsRested, HasJob, Works}
+use Rattle.standing.specs.OnDisk.{OfRun, IsNextRun, IsRested, HasJob, Works}
 use Rattle.standing.specs.Stands.{Stands}
-use Rattle.standing.proofs.Memory.{last-is, all-held}
+use Rattle.standing.proofs.Held.{rising-held}
+use Rattle.standing.proofs.Memory.{last-is}
 use Rattle.standing.proofs.Jobs.{resting}
 use Rattle.standing.proofs.JobPumping.{keeps-parts}
 use Rattle.standing.proofs.Pumping.{on-disk}
@@ -139,6 +142,39 @@ all-rising : (m : List KeyWrites) → AllByRecursion (λ (c : KeyWrites). IsRisi
 all-rising [] each = tt
 all-rising (c ∷ cs) each = (each.0, all-rising cs each.1)
 
+-- what stands in the anchors is in range
+anchors-in-range : (key : Key) (olds : List OldRecord) → AllByRecursion IsOldRecord olds → AllByRecursion (IsInRange key) (old_writes olds key)
+anchors-in-range key [] each = tt
+anchors-in-range key (old ∷ olds) each =
+    let rest = anchors-in-range key olds each.1 in
+    elim (same_key old.key key) as (λ (b : Bool). same_key old.key key ≡ b → AllByRecursion (IsInRange key) (cons_option (cond b (Some (record { time = old.from; write = Some old.value })) None) (old_writes olds key))) [
+      | true ↦ λ same. ((subst IsKey (key-same old.key key same) (each.0).key, (each.0).value), rest)
+      | false ↦ λ other. rest
+    ] refl
+
+later-in-range : (mark : ℕ) (key : Key) (ws : List Write) → AllByRecursion (IsInRange key) ws → AllByRecursion (IsInRange key) (writes_after mark ws)
+later-in-range mark key [] each = tt
+later-in-range mark key (w ∷ ws) each =
+    let rest = later-in-range mark key ws each.1 in
+    elim (nat_lt mark w.time) as (λ (b : Bool). AllByRecursion (IsInRange key) (cond b (w ∷ writes_after mark ws) (writes_after mark ws))) [
+      | true ↦ (each.0, rest)
+      | false ↦ rest
+    ]
+
+-- so is what memory has, which are the facts of the heap
+pub memory-in-range : (header : Header) (v : StoreValue) (m : Machine Value) → StandsInMemory v.transactions m → Works header v m
+    → AllByRecursion (λ (c : KeyWrites). IsRisingAfter 0 c.writes × AllByRecursion (IsInRange c.key) c.writes) v.transactions.versions
+memory-in-range header v m memory w =
+    let reading = w.reading in
+    let rising = rises w.reading m.published m.floors w.stands in
+    let of-heap = λ (key : Key). writes_of-commits_after (reclaimed_upto w.reading) m.published key in
+    let facts = λ (key : Key). AllByRecursion-append (IsInRange key) (old_writes w.reading.anchors key) (histories.writes_of (heap_commits w.reading) key)
+    (anchors-in-range key w.reading.anchors w.laid.heap.anchors_are.each)
+    (subst (λ (ws : List Write). AllByRecursion (IsInRange key) ws) (sym (ap (λ (h : History Value). histories.writes_of h key) w.stands.opens.write_sets ∙ of-heap key))
+    (later-in-range (reclaimed_upto w.reading) key (histories.writes_of m.published key) (writes-in-range [] m.published key w.stands.opens.history))) in
+    each-chain (λ key ws. IsRisingAfter 0 ws × AllByRecursion (IsInRange key) ws) (λ key. (tt, tt)) v.transactions.versions memory.versions.ordered (λ key.
+    (rising-held memory.versions rising key, subst (λ (ws : List Write). AllByRecursion (IsInRange key) ws) (sym (w.heap key)) (facts key)))
+
 -- ---- the records are in range
 
 version-in-range : (key : Key) (w : Write) (to : ℕ) → IsInRange key w → AllByRecursion (λ (v : Version Value). IsKey key × IsValue v.value) (version_of w.time to w.write)
@@ -206,9 +242,10 @@ lent-memory v m stands = record {
   rising = stands.rising;
   published = stands.published;
   versions = stands.versions;
-  unreclaimed = stands.unreclaimed;
+  forgot = stands.forgot;
   recent = stands.recent;
   queue = stands.queue;
+  fresh = stands.fresh;
   group = stands.group;
   staged = stands.staged;
   snapshots = stands.snapshots;
@@ -244,10 +281,7 @@ module _ (header : Header) (v : StoreValue) (m : Machine Value) (memory : Stands
   low = omega (arith, may.by_last, last-is v.transactions m memory, last-range w.reading m.published m.floors w.stands)
 
   chains : AllByRecursion (λ (c : KeyWrites). IsRisingAfter 0 c.writes × AllByRecursion (IsInRange c.key) c.writes) v.transactions.versions
-  chains =
-      each-chain (λ key ws. IsRisingAfter 0 ws × AllByRecursion (IsInRange key) ws) (λ key. (tt, tt)) v.transactions.versions memory.versions.ordered (λ key.
-      subst (λ (ws : List Write). IsRisingAfter 0 ws × AllByRecursion (IsInRange key) ws) (sym (all-held v.transactions m memory key))
-      (writes_of-rising 0 m.published key (rises w.reading m.published m.floors w.stands), writes-in-range [] m.published key w.stands.opens.history))
+  chains = memory-in-range header v m memory w
 
   in-memory : AreInMemory v.transactions.versions
   in-memory = record {
@@ -281,16 +315,19 @@ module _ (header : Header) (v : StoreValue) (m : Machine Value) (memory : Stands
     built = w.built;
     used = w.used;
     kept = w.kept;
+    times = w.times;
+    times_long = w.times_long;
     heap = w.heap;
     packed = w.packed;
     archived = w.archived;
+    reclaimed = w.reclaimed;
     runs_end = w.runs_end;
     rested = w.rested;
     rests = subst (λ (o : Option Job). IsRested header w.layout (turn_of o) w.rested v.disk.areas.status) may.free w.rests;
     at = w.at;
     job = record {
-      run = record { entry = run_of upto v.runs_end (archive_of v upto); records = archive_of v upto };
-      entry = refl;
+      product = OfRun (record { entry = run_of upto v.runs_end (archive_of v upto); records = archive_of v upto });
+      made = refl;
       next = next-run;
       at = record {
         front = [];
@@ -330,7 +367,8 @@ archive-start-stands tells old new upto answer m stands starts = by-refusal (ref
           order = order;
           in_step = in_step;
           gate = stands.gate;
-          plain = (stands.plain.0, tt);
+          marks = stands.marks;
+          job = (let low = may.later in omega (arith, low), (let by = may.by_last in omega (arith, by, last-is old.transactions m stands.memory)));
           disk = λ told.
               let d = stands.disk told in record {
                 header = d.header;

@@ -113,6 +113,7 @@ fresh-works header v m stored w =
       used = w.used;
       kept = w.kept;
       times = w.times;
+      times_long = w.times_long;
       heap = w.heap;
       packed = fresh-packed v.transactions m.published m.queue w.packed;
       archived = w.archived;

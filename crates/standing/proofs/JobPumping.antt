@@ -4,6 +4,7 @@ use Rattle.std.specs.Prelude.{IsTrue}
 use Rattle.std.specs.List.{AllByRecursion, flat_map}
 use Rattle.std.proofs.lemmas.List.{append-nil, map-append, take-append-drop, length-replicate}
 use Rattle.std.proofs.lemmas.Grind.{flat_map-append}
+use Rattle.history.specs.declared.key.Key.{Key}
 use Rattle.history.specs.Machine.{Machine, IsMachine}
 use Rattle.history.specs.Fronts.{OnFront}
 use Rattle.history.specs.Histories.{History, last}
@@ -89,10 +90,11 @@ use Rattle.standing.proofs.Chains.{fill-is, all-filled}
 use Rattle.standing.proofs.HeapForgets.{heap-forgets}
 use Rattle.standing.proofs.Joining as joining
 use Rattle.standing.proofs.Joining.{numbers-split}
-use Rattle.standing.proofs.Publishing.{breaks, prepares, reclaims}
-use Rattle.standing.proofs.Retired.{reclaimed-kept, reclaimed-times, reclaimed-order}
-use Rattle.standing.proofs.Jobs.{resting, adds, made_extents, made-are, live-with, product-built, laid-after, stands-after, built-after, product-leaves-within, product-leads}
-use Rattle.standing.proofs.Pumping.{Parts, now-at, job-room, job-free, room-left, reserved-out, out-middle, stage-leaves, works-leave, on-disk, broken-order, slot-alone}
+use Rattle.standing.proofs.Publishing.{breaks}
+use Rattle.standing.proofs.Reclaimed.{prepares, reclaims}
+use Rattle.standing.proofs.Retired.{reserved-out, reclaimed-kept, reclaimed-times, reclaimed-order, times-long}
+use Rattle.standing.proofs.Jobs.{IsFree, resting, adds, made_extents, made-are, live-with, product-built, laid-after, stands-after, built-after, product-leaves-within, product-leads}
+use Rattle.standing.proofs.Pumping.{Parts, now-at, job-room, job-free, room-left, out-middle, stage-leaves, works-leave, on-disk, broken-order, slot-alone}
 
 -- ---- what a group's stage says of the areas
 
@@ -241,6 +243,7 @@ module _ (header : Header) (v : StoreValue) (m : Machine Value) (w : Works heade
     used = w.used;
     kept = w.kept;
     times = w.times;
+    times_long = w.times_long;
     heap = w.heap;
     packed = w.packed;
     archived = w.archived;
@@ -307,10 +310,10 @@ module _ (tells : Bool) (v new : StoreValue) (m : Machine Value) (parts : Parts 
       }
 
 -- the first of these have what all have
-all-front-of : {X : Type 0} {P : X → Type 0} (n : ℕ) (xs : List X) → AllByRecursion P xs → AllByRecursion P (take n xs)
-all-front-of zero xs all = tt
-all-front-of (suc n) [] all = tt
-all-front-of (suc n) (x ∷ xs) all = (all.0, all-front-of n xs all.1)
+all-front-of : {X : Type 0} (P : X → Type 0) (n : ℕ) (xs : List X) → AllByRecursion P xs → AllByRecursion P (take n xs)
+all-front-of P zero xs all = tt
+all-front-of P (suc n) [] all = tt
+all-front-of P (suc n) (x ∷ xs) all = (all.0, all-front-of P n xs all.1)
 
 -- ---- a run is written
 
@@ -516,8 +519,8 @@ module _ (tells : Bool) (v new : StoreValue) (m : Machine Value) (parts : Parts 
       record {
         extent = e;
         is_extent = (all_of_back IsExtent (take done a.extents) (e ∷ drop (done + 1) a.extents) each).0;
-        number_is = fill.number;
-        image_is = fill.image;
+        number_is = fill.number_is;
+        image_is = fill.image_is;
         front = fill.front;
         rest = fill.rest;
         live = beside-out v.transactions.usages e.number middle.0 (live w.layout) (live_extents_are d.header w.layout w.reading w.laid) w.kept;
@@ -550,7 +553,7 @@ module _ (tells : Bool) (v new : StoreValue) (m : Machine Value) (parts : Parts 
       let held : AllByRecursion (HoldsExtent heap.bytes) (take done has.stored.extents ++ mine.extent ∷ []) =
       subst (λ (n : ℕ). AllByRecursion (HoldsExtent (overlaid v.disk.areas.heap.bytes (extent_start n) takes.image)) (take done has.stored.extents ++ mine.extent ∷ [])) mine.number_is
       (subst (λ (bytes : List ℕ). AllByRecursion (HoldsExtent (overlaid v.disk.areas.heap.bytes (extent_start mine.extent.number) bytes)) (take done has.stored.extents ++ mine.extent ∷ [])) (sym mine.image_is)
-      (one_more_held mine.extent mine.is_extent (take done has.stored.extents) (all-front-of done has.stored.extents has.next.chain.is_chain.each) mine.before v.disk.areas.heap.bytes has.at.held)) in
+      (one_more_held mine.extent mine.is_extent (take done has.stored.extents) (all-front-of IsExtent done has.stored.extents has.next.chain.is_chain.each) mine.before v.disk.areas.heap.bytes has.at.held)) in
       works-with d.header v m w now is new j' none-turning refl (sound told) (record v.disk.areas { heap = heap }) (takes.call.areas told).written refl
       (on-heap told (record v.disk.areas { status = w.rested }) heap number beside live-apart group-is w.at)
       (record {
@@ -641,6 +644,7 @@ module _ (header : Header) (v new : StoreValue) (m : Machine Value) (order : IsI
   place : length w.layout.slots < total header
   place = job-room header v m order in_step slots_are w (ap lent_to is)
 
+  free-now : IsFree w.layout product
   free-now = job-free header v m order w j.work product mine.made mine.next
 
   -- the slot is begun: what the job made is kept, and the status area rests
@@ -704,6 +708,7 @@ module _ (header : Header) (v new : StoreValue) (m : Machine Value) (order : IsI
           used = used ∙ w.used;
           kept = w.kept;
           times = w.times;
+          times_long = w.times_long;
           heap = w.heap;
           packed = w.packed;
           archived = w.archived;
@@ -722,6 +727,7 @@ module _ (header : Header) (v new : StoreValue) (m : Machine Value) (order : IsI
     record IsDone (after : StoreValue) (layout : Layout) (reading : Reading) : Type 0 where
       pub kept : AllByRecursion (λ (e : Extent). IsKept after.transactions.usages e.number) (live layout)
       pub times : HasTimes after.transactions.times layout.members
+      pub times_long : length after.transactions.times ≡ 65536
       pub heap : (key : Key) → writes_of after.transactions.versions key ≡ heap_facts reading key
       pub archived : after.archived ≡ archived_upto reading
       pub reclaimed : after.transactions.reclaimed ≡ reclaimed_upto reading
@@ -735,6 +741,7 @@ module _ (header : Header) (v new : StoreValue) (m : Machine Value) (order : IsI
         record {
           kept = w.kept;
           times = w.times;
+          times_long = w.times_long;
           heap = w.heap;
           archived = ap (λ (x : WireRun). x.upto) (sym made) ∙ sym (archive_mark-append 0 w.reading.log (Archived r.entry.upto ∷ []));
           reclaimed = w.reclaimed ∙ sym (reclaim_mark-append 0 w.reading.log (Archived r.entry.upto ∷ []));
@@ -750,15 +757,16 @@ module _ (header : Header) (v new : StoreValue) (m : Machine Value) (order : IsI
         let more : runs_of (w.layout.slots ++ slot' ∷ []) ≡ runs_of w.layout.slots = flat_map-append (λ (s : Slot). runs_in s.body) w.layout.slots (slot' ∷ []) ∙ append-nil (runs_of w.layout.slots) in
         record {
           kept = subst (λ (n : ℕ). AllByRecursion (λ (e : Extent). IsKept (reclaimed_to v.transactions anchors.upto).usages e.number) (live (reclaimed w.layout slot' n a.extents))) (sym upto)
-              (reclaimed-kept v.transactions w.layout slot' anchors.upto a.extents order w.kept w.times made.1);
+              (reclaimed-kept v.transactions anchors.upto w.layout slot' a.extents order made.1 w.kept w.times);
           times = subst (λ (n : ℕ). HasTimes (reclaimed_to v.transactions anchors.upto).times (reclaimed w.layout slot' n a.extents).members) (sym upto)
-              (reclaimed-times v.transactions w.layout slot' anchors.upto a.extents order w.kept w.times made.1);
+              (reclaimed-times v.transactions anchors.upto w.layout slot' a.extents order w.kept w.times);
+          times_long = times-long v.transactions.times v.transactions.reserved 0 ∙ w.times_long;
           heap = λ key.
               ap (λ (o : Option (List KeyWrites)). writes_of (versions_once o v.transactions.versions) key) pending
               ∙ writes_of-forgotten anchors.upto v.transactions.versions key sorted
               ∙ ap (kept_after anchors.upto) (w.heap key)
               ∙ ap (λ (n : ℕ). kept_after n (heap_facts w.reading key)) mark
-              ∙ sym (heap-forgets w.reading m.published m.floors a.olds w.stands next.plan next.later key);
+              ∙ sym (heap-forgets w.reading m.published m.floors w.stands a.olds next.plan key);
           archived = w.archived ∙ sym (archive_mark-append 0 w.reading.log (ReclaimedSlot (archived_upto w.reading) ∷ []));
           reclaimed = mark ∙ sym (reclaim_mark-append 0 w.reading.log (ReclaimedSlot (archived_upto w.reading) ∷ []));
           runs_end = w.runs_end ∙ sym (ap (row_end 0) more);
@@ -782,6 +790,7 @@ module _ (header : Header) (v new : StoreValue) (m : Machine Value) (order : IsI
       used = long-used;
       kept = done.kept;
       times = done.times;
+      times_long = done.times_long;
       heap = done.heap;
       packed = packed;
       archived = done.archived;
@@ -801,7 +810,9 @@ module _ (header : Header) (v new : StoreValue) (m : Machine Value) (order : IsI
         let areas = slot-alone t.stage t.number t.body v.disk.areas new.disk.areas call in
         let opened : IsTurnAt header w.layout slot behind-it slots.Opened new.disk.areas = subst (λ (s : SlotStage). IsTurnAt header w.layout slot behind-it (slots.slot_stage_after s) new.disk.areas) gate (turn-leads call) in
         let kept : KeepsParts behind-it (record v.disk.areas { status = new.disk.areas.status }) = subst (λ (a : Areas). KeepsParts behind-it a) areas opened.new_parts in
-        let stage = stage-behind header w.layout v.transactions m product v.transactions.queue v.transactions.stage v.turn (record v.disk.areas { status = w.rested }) new.disk.areas.status free opened.status
+        let added = adds header m w.layout w.reading w.laid w.stands built w.built place product mine.next free-now in
+        let rests : StatusRests header behind-it.slots new.disk.areas.status = subst (λ (ss : List Slot). StatusRests header ss new.disk.areas.status) (sym added.slots_are) opened.status in
+        let stage = stage-behind header w.layout v.transactions m product v.transactions.queue v.transactions.stage v.turn (record v.disk.areas { status = w.rested }) new.disk.areas.status free rests
         (record { extents = kept.extents; runs = kept.runs }) stands in
         by-work j.work (done-by j.work product mine.made mine.next keeps sorted)
         (subst (λ (a : Areas). IsAtStage header behind-it (group_of behind-it v.transactions m) v.transactions.queue v.transactions.stage v.turn a) (sym areas) stage)
@@ -1053,6 +1064,7 @@ prepared-works header v m mark w = record {
   used = w.used;
   kept = w.kept;
   times = w.times;
+  times_long = w.times_long;
   heap = w.heap;
   packed = w.packed;
   archived = w.archived;

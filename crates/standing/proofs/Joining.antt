@@ -142,7 +142,7 @@ module _ (header : Header) (v : TransactionsValue) (m : Machine Value) (layout :
   taken = take v.group v.queue
 
   waits : AllWait v.reclaimed v.versions taken next
-  waits = wait-front v.group v.versions v.queue m.queue memory.queue
+  waits = wait-front v.group v.reclaimed v.versions v.queue m.queue memory.queue
 
   each : AllPacked m.published taken next
   each = packed-front v.group m.published v.queue m.queue packed
@@ -159,7 +159,7 @@ module _ (header : Header) (v : TransactionsValue) (m : Machine Value) (layout :
   in_range = numbered v.usages (flat_map numbers_of taken) out.each
 
   many : length next ≡ v.group
-  many = length-taken v.group m.queue (omega (arith, order.group_within, as-many v.versions v.queue m.queue memory.queue))
+  many = length-taken v.group m.queue (omega (arith, order.group_within, as-many v.reclaimed v.versions v.queue m.queue memory.queue))
 
   taken-many : length taken ≡ v.group
   taken-many = length-taken v.group v.queue order.group_within
@@ -168,7 +168,7 @@ module _ (header : Header) (v : TransactionsValue) (m : Machine Value) (layout :
   group = group_of layout v m
 
   stored : AllByRecursion IsStoredMember group.members
-  stored = members-stored v.versions m.published taken next waits each may in_range
+  stored = members-stored v.reclaimed v.versions m.published taken next waits each may in_range
 
   values : (λ (key : Key). latest (heap_facts reading key)) ≡ values_in m.published
   values = fun_ext (λ key. sym (latest-is reading m.published m.floors stands key))
@@ -176,7 +176,7 @@ module _ (header : Header) (v : TransactionsValue) (m : Machine Value) (layout :
   is_group : IsGroupOf reading m.published next (map (λ (s : StoredMember). s.member) group.members)
   is_group =
       subst (λ (ms : List Member). IsGroupOf reading m.published next ms)
-      (ap (λ (f : Key → Option Value). stored_members f next) values ∙ sym (members-are v.versions m.published taken next waits may))
+      (ap (λ (f : Key → Option Value). stored_members f next) values ∙ sym (members-are v.reclaimed v.versions m.published taken next waits may))
       (stored-is_group reading m.published m.floors stands next may (omega (arith, many, some)) (omega (arith, many, order.group_few)))
 
   pub numbers : map (λ (e : Extent). e.number) (extents_of group.members) ≡ flat_map numbers_of taken
@@ -193,7 +193,7 @@ module _ (header : Header) (v : TransactionsValue) (m : Machine Value) (layout :
     is_group = is_group;
     room = room;
     each = stored;
-    named = ap (λ es. CommitBody (record { items = es })) (sym (entries-named v.versions m.published taken next waits));
+    named = ap (λ es. CommitBody (record { items = es })) (sym (entries-named v.reclaimed v.versions m.published taken next waits));
     free = free;
   }
 
@@ -206,7 +206,7 @@ module _ (header : Header) (v : TransactionsValue) (m : Machine Value) (layout :
   long = spelling-long header.profile (length layout.slots) (map (λ (q : QueuedValue). q.entry) taken) (omega (arith, length-mapped (λ (q : QueuedValue). q.entry) taken, taken-many, order.group_few))
 
   pub spelled : IsSpelled header.profile (length layout.slots) body group.slot
-  spelled = slot-spelled header.profile (length layout.slots) v.versions m.published taken next waits each may in_range (omega (arith, taken-many, some)) (omega (arith, taken-many, order.group_few))
+  spelled = slot-spelled header.profile (length layout.slots) v.reclaimed v.versions m.published taken next waits each may in_range (omega (arith, taken-many, some)) (omega (arith, taken-many, order.group_few))
 
   -- ---- images
 

@@ -1,5 +1,5 @@
 -- A step of a group keeps what the store stands for, in memory and on its disk.
-use Rattle.std.proofs.Common.{◌≡◌, cond, slice_get, ℕ, suc, ◌+◌, ◌-◌, ◌<◌, ◌≤◌, ◌==◌, ◌&&◌, min, nat_lt, Bool, true, false, List, [], ◌∷◌, ◌++◌, length, take, drop, Option, None, Some, is_some, ◌||◌, Result, Ok, Err, MatchBool, MatchOption, refl, arith, ap, sym, subst, ◌∙◌, inl, inr, length-append}
+use Rattle.std.proofs.Common.{◌≡◌, ◌≢◌, cond, slice_get, ℕ, suc, ◌+◌, ◌-◌, ◌<◌, ◌≤◌, ◌==◌, ◌&&◌, min, nat_lt, Bool, true, false, List, [], ◌∷◌, ◌++◌, length, take, drop, map, Option, None, Some, is_some, ◌||◌, Result, Ok, Err, MatchBool, MatchOption, refl, arith, ap, sym, subst, ◌∙◌, inl, inr, length-append, append_assoc}
 use Rattle.std.specs.Prelude.{IsTrue, min}
 use Rattle.std.specs.List.{flat_map}
 use Rattle.std.proofs.lemmas.Bool.{cases_lt}
@@ -69,7 +69,7 @@ use Rattle.transactions.specs.declared.stage.GroupStage.TheVariants.{NoGroup, St
 use Rattle.transactions.specs.declared.stage.NextStep.{NextStep}
 use Rattle.transactions.specs.declared.stage.NextStep.TheVariants as next
 use Rattle.transactions.proofs.Kept.{advance-is, keeps-grouped, keeps-wrote, keeps-synced, keeps-begun, keeps-published}
-use Rattle.transactions.proofs.Publishing.{out-beside, out-front, out-swapped}
+use Rattle.transactions.proofs.Publishing.{out-beside}
 use Rattle.store.specs.Values.{StoreValue, KeepsJob, IsInStep, IsOnItsWay, turn_in, turn_of, lent_to}
 use Rattle.store.specs.declared.job.Job.{Job}
 use Rattle.store.specs.declared.job.JobWork.{JobWork}
@@ -84,7 +84,7 @@ use Rattle.standing.specs.Stands.{Stands, HasMarks, KeepsWork, KeepsJobOf, Keeps
 use Rattle.standing.specs.Laws.{begins_in, breaks_in, ends_in}
 use Rattle.standing.proofs.Conflicts.{rising-front, behind-group}
 use Rattle.standing.proofs.Packed.{packed-rest, length-mapped}
-use Rattle.standing.proofs.Retired.{published-times}
+use Rattle.standing.proofs.Retired.{reserved-out, published-times, chains-long}
 use Rattle.standing.proofs.Places.{IsNext, next-is, behind-is, take-next, drop-next, none-left}
 use Rattle.standing.proofs.Usages.{AllKept, all-published}
 use Rattle.standing.proofs.Joining as joining
@@ -179,10 +179,6 @@ resting-sound header v m w = sound-at v.disk.areas w.rested w.sound (rested-soun
 pub job-room : (header : Header) (v : StoreValue) (m : Machine Value) → IsInOrder v.transactions → IsInStep v → (v.log.slots ≡ total header) → (w : Works header v m) → lent_to v.job ≡ 1 → length w.layout.slots < total header
 job-room header v m order in_step slots_are w lent = omega (arith, lent, order.room, in_step.slots, in_step.used, slots_are, w.used)
 
--- what is out for a job
-pub reserved-out : (v : TransactionsValue) → IsInOrder v → AreOut v.usages v.reserved
-reserved-out v order = out-front v.usages v.reserved (flat_map numbers_of v.queue) (out-swapped v.usages (flat_map numbers_of v.queue) v.reserved order.out)
-
 -- what a job makes is in no live chain
 pub job-free : (header : Header) (v : StoreValue) (m : Machine Value) → IsInOrder v.transactions → (w : Works header v m) → (work : JobWork) (p : Product) → IsMadeBy v.transactions.reserved work p → MayBeNext w.layout w.reading m.published p → IsFree w.layout p
 job-free header v m order w (ArchiveWork run writer) (OfRun r) made next = subst AreDistinct (sym (append-nil (live w.layout))) w.laid.heap.apart
@@ -256,6 +252,7 @@ started-works header v m size order none w =
       used = w.used;
       kept = w.kept;
       times = w.times;
+      times_long = w.times_long;
       heap = w.heap;
       packed = w.packed;
       archived = w.archived;
@@ -278,6 +275,7 @@ regrouped header v m size w = record {
   used = w.used;
   kept = w.kept;
   times = w.times;
+  times_long = w.times_long;
   heap = w.heap;
   packed = w.packed;
   archived = w.archived;
@@ -323,7 +321,7 @@ begun-works header v m size order w stands =
 -- ---- extents apart
 
 -- of what is out, one in the middle is none of those behind it
-out-middle : (us : List Usage) (xs ys : List ℕ) (n : ℕ) → AreOut us (xs ++ n ∷ ys) → IsOut us n × AllByRecursion (λ (k : ℕ). k ≢ n) ys
+pub out-middle : (us : List Usage) (xs ys : List ℕ) (n : ℕ) → AreOut us (xs ++ n ∷ ys) → IsOut us n × AllByRecursion (λ (k : ℕ). k ≢ n) ys
 out-middle us [] ys n out = (out.each.0, out.distinct.0)
 out-middle us (x ∷ xs) ys n out = out-middle us xs ys n (record { each = out.each.1; distinct = out.distinct.1 })
 
@@ -402,6 +400,7 @@ module _ (header : Header) (v new : StoreValue) (m : Machine Value) (memory : St
     used = used ∙ w.used;
     kept = w.kept;
     times = w.times;
+    times_long = w.times_long;
     heap = w.heap;
     packed = w.packed;
     archived = w.archived;
@@ -635,26 +634,26 @@ module _ (header : Header) (v new : StoreValue) (m : Machine Value) (memory : St
       let by-kind : (q : Product) → MayBeNext w.layout w.reading m.published q → MayBeNext (laid_out w.layout group) (with_group w.reading (turns.members_of group)) (m.published ++ take v.transactions.group m.queue) q =
       next-by joins space grown same mark in
       subst (λ (n : ℕ). MayBeNext (laid_out w.layout group) (with_group w.reading (turns.members_of group)) (m.published ++ take n m.queue) p) memory.group (by-kind p next)
-  where
-    next-by : (joins : turns.MayJoin header w.layout w.reading m.published (take v.transactions.group m.queue) (group_of w.layout v.transactions m)) → HasRoom w.reading
-        → last m.published ≤ last (m.published ++ take v.transactions.group m.queue) → archived_upto (with_group w.reading (turns.members_of (group_of w.layout v.transactions m))) ≡ archived_upto w.reading
-        → reclaimed_upto (with_group w.reading (turns.members_of (group_of w.layout v.transactions m))) ≡ reclaimed_upto w.reading → (q : Product) → MayBeNext w.layout w.reading m.published q
-        → MayBeNext (laid_out w.layout (group_of w.layout v.transactions m)) (with_group w.reading (turns.members_of (group_of w.layout v.transactions m))) (m.published ++ take v.transactions.group m.queue) q
-    next-by joins space grown same mark (OfRun run) next = record {
-      plan = archive-plan-stays w.reading m.published (take v.transactions.group m.queue) m.floors (turns.members_of (group_of w.layout v.transactions m)) w.stands joins.is_group space run.entry.upto run.records next.by_last next.plan;
-      later = omega (arith, same, next.later);
-      by_last = omega (arith, grown, next.by_last);
-      stored = next.stored;
-      behind = next.behind ∙ ap (row_end 0) (sym (runs_more header w.layout w.reading m.published (take v.transactions.group m.queue) m.floors (group_of w.layout v.transactions m) w.laid w.stands joins));
-      in_range = next.in_range;
-    }
-    next-by joins space grown same mark (OfAnchors a) next = record {
-      plan = reclaim-plan-stays w.reading m.published (take v.transactions.group m.queue) m.floors (turns.members_of (group_of w.layout v.transactions m)) w.stands joins.is_group space a.olds next.plan;
-      upto = next.upto ∙ sym same;
-      later = omega (arith, same, mark, next.later);
-      chain = next.chain;
-      in_range = next.in_range;
-    }
+    where
+      next-by : (joins : turns.MayJoin header w.layout w.reading m.published (take v.transactions.group m.queue) (group_of w.layout v.transactions m)) → HasRoom w.reading
+          → last m.published ≤ last (m.published ++ take v.transactions.group m.queue) → archived_upto (with_group w.reading (turns.members_of (group_of w.layout v.transactions m))) ≡ archived_upto w.reading
+          → reclaimed_upto (with_group w.reading (turns.members_of (group_of w.layout v.transactions m))) ≡ reclaimed_upto w.reading → (q : Product) → MayBeNext w.layout w.reading m.published q
+          → MayBeNext (laid_out w.layout (group_of w.layout v.transactions m)) (with_group w.reading (turns.members_of (group_of w.layout v.transactions m))) (m.published ++ take v.transactions.group m.queue) q
+      next-by joins space grown same mark (OfRun run) next = record {
+        plan = archive-plan-stays w.reading m.published (take v.transactions.group m.queue) m.floors (turns.members_of (group_of w.layout v.transactions m)) w.stands joins.is_group space run.entry.upto run.records next.by_last next.plan;
+        later = omega (arith, same, next.later);
+        by_last = omega (arith, grown, next.by_last);
+        stored = next.stored;
+        behind = next.behind ∙ ap (row_end 0) (sym (runs_more header w.layout w.reading m.published (take v.transactions.group m.queue) m.floors (group_of w.layout v.transactions m) w.laid w.stands joins));
+        in_range = next.in_range;
+      }
+      next-by joins space grown same mark (OfAnchors a) next = record {
+        plan = reclaim-plan-stays w.reading m.published (take v.transactions.group m.queue) m.floors (turns.members_of (group_of w.layout v.transactions m)) w.stands joins.is_group space a.olds next.plan;
+        upto = next.upto ∙ sym same;
+        later = omega (arith, same, mark, next.later);
+        chain = next.chain;
+        in_range = next.in_range;
+      }
 
   published-works : 0 < v.transactions.group → is_turning v.transactions.stage ≡ true → turn_of v.job ≡ None → (number : ℕ) → number ≡ length w.layout.slots → AreSound new.disk.areas → (status : AreaState) → new.disk.areas ≡ record v.disk.areas { status = status }
       → IsTurnAt header w.layout named (laid_out w.layout (group_of w.layout v.transactions m)) slots.Opened new.disk.areas
@@ -678,13 +677,15 @@ module _ (header : Header) (v new : StoreValue) (m : Machine Value) (memory : St
             (joining.out header v.transactions m w.layout w.reading memory machine order w.laid w.stands built w.built w.kept w.packed some room)
             (joining.numbers header v.transactions m w.layout w.reading memory machine order w.laid w.stands built w.built w.kept w.packed some room)
             w.kept);
-        times = published-times header v m w joins.each some;
+        times = published-times v.transactions w.layout m order w.times_long w.kept w.times;
+        times_long = chains-long v.transactions.times (take v.transactions.group v.transactions.queue) ∙ w.times_long;
         heap = λ key.
             behind-group v.transactions m memory turning key
             ∙ ap (λ (ws : List (TimedWrite Value)). ws ++ histories.writes_of (take v.transactions.group m.queue) key) (w.heap key)
             ∙ sym (more_facts w.reading m.published m.floors w.stands (turns.members_of (group_of w.layout v.transactions m)) (take v.transactions.group m.queue) joins.is_group space key);
         packed = subst (λ (n : ℕ). AllPacked (m.published ++ take n m.queue) (drop v.transactions.group v.transactions.queue) (drop n m.queue)) size (packed-rest v.transactions.group m.published v.transactions.queue m.queue w.packed);
         archived = w.archived ∙ sym (same_archived w.reading m.published m.floors w.stands (turns.members_of (group_of w.layout v.transactions m)) (take v.transactions.group m.queue) joins.is_group space);
+        reclaimed = w.reclaimed ∙ sym (reclaim_mark-append 0 w.reading.log (Commits (map (λ (x : Member). x.head) (turns.members_of (group_of w.layout v.transactions m))) ∷ []));
         runs_end = w.runs_end ∙ ap (row_end 0) (sym (runs_more header w.layout w.reading m.published (take v.transactions.group m.queue) m.floors (group_of w.layout v.transactions m) w.laid w.stands joins));
         rested = new.disk.areas.status;
         rests = rested-now header (laid_out w.layout (group_of w.layout v.transactions m)) (turn_of v.job) new.disk.areas.status still;
@@ -815,7 +816,7 @@ wrote-step tells v new answer m parts machine works asks sound (Some stored) fou
           in_step = in_step;
           gate = parts.gate;
           marks = parts.marks;
-  job = parts.job;
+          job = parts.job;
           disk = λ told.
               let d = parts.disk told in
               let w = d.works works in
@@ -873,7 +874,7 @@ synced-step tells v new answer m parts machine works asks sound takes =
           in_step = in_step;
           gate = parts.gate;
           marks = parts.marks;
-  job = parts.job;
+          job = parts.job;
           disk = λ told.
               let d = parts.disk told in
               let w = d.works works in
@@ -959,7 +960,7 @@ module _ (tells : Bool) (v new : StoreValue) (m : Machine Value) (t : TurnState)
         in_step = in_step;
         gate = λ on. refl;
         marks = parts.marks;
-  job = parts.job;
+        job = parts.job;
         disk = λ told.
             let d = parts.disk told in
             let w = d.works works in
@@ -974,6 +975,7 @@ module _ (tells : Bool) (v new : StoreValue) (m : Machine Value) (t : TurnState)
               used = w.used;
               kept = w.kept;
               times = w.times;
+              times_long = w.times_long;
               heap = w.heap;
               packed = w.packed;
               archived = w.archived;
@@ -1102,7 +1104,7 @@ module _ (tells : Bool) (v new : StoreValue) (m : Machine Value) (parts : Parts 
         in_step = in_step;
         gate = λ on. shut;
         marks = parts.marks;
-  job = parts.job;
+        job = parts.job;
         disk = λ told.
             let d = parts.disk told in
             let w = d.works works in

@@ -254,6 +254,7 @@ pub record Works (header : Header) (v : StoreValue) (m : Machine Value) : Type 0
   pub kept : AllByRecursion (λ e. IsKept v.transactions.usages e.number) (live layout)
   -- each extent of a commit's chain is known by the time of its commit
   pub times : HasTimes v.transactions.times layout.members
+  pub times_long : length v.transactions.times ≡ 65536
   -- memory has the facts of the heap
   pub heap : (key : Key) → writes_of v.transactions.versions key ≡ heap_facts reading key
   pub packed : AllPacked m.published v.transactions.queue m.queue
