@@ -16,6 +16,7 @@ pub mod Places
 pub mod Usages
 pub mod Joining
 pub mod Unreclaimed
+pub mod Retired
 pub mod Jobs
 pub mod Pumping
 pub mod JobPumping
