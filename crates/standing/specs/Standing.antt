@@ -93,7 +93,7 @@ pub record StandsInMemory (v : TransactionsValue) (m : Machine Value) : Type 0 w
   pub failed : v.failed ≡ m.failed
 
 -- A reclaim up to the archive mark is being made: no open transaction reads what is to be forgotten, and while its slot is in the writing, what memory is to be once it is done is made.
-pub record Reclaims (archived upto : ℕ) (turning : Bool) (v : TransactionsValue) : Type 0 where
+pub record Reclaims (archived upto : ℕ) (turning : Bool) (opened : List (Option ℕ)) (pending : Option (List KeyWrites)) (versions : List KeyWrites) : Type 0 where
   pub is : upto ≡ archived
-  pub recent : (snapshot : ℕ) → Contains (snapshots_of v.opened) snapshot → upto ≤ snapshot
-  pub made : turning ≡ true → v.pending ≡ Some (forgotten upto v.versions)
+  pub recent : (snapshot : ℕ) → Contains (snapshots_of opened) snapshot → upto ≤ snapshot
+  pub made : turning ≡ true → pending ≡ Some (forgotten upto versions)

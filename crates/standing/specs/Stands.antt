@@ -1,5 +1,5 @@
 -- A store, and the state of the machine that it stands for.
-use Rattle.std.specs.Prelude.{ℕ, ◌≡◌, ◌≤◌, Bool, false, is_some, IsTrue, Option, None, Some}
+use Rattle.std.specs.Prelude.{ℕ, ◌≡◌, ◌≤◌, Bool, false, is_some, IsTrue, List, Option, None, Some}
 use Rattle.history.specs.Histories as histories
 use Rattle.history.specs.Machine.{Machine, Gate, Shut, Due, MayBeOpen, OfGroup, IsMachine}
 use Rattle.image.specs.Values.{Value, IsValue}
@@ -7,7 +7,7 @@ use Rattle.transactions.specs.Order.{IsInOrder}
 use Rattle.status.specs.SlotCalls.{SlotStage, Begun, BodyWritten, BodySynced, GateWritten, Opened}
 use Rattle.status.specs.TurnState.{TurnState}
 use Rattle.store.specs.Values.{StoreValue, IsInStep, turn_in}
-use Rattle.transactions.specs.Values.{TransactionsValue}
+use Rattle.chains.specs.KeyWrites.{KeyWrites}
 use Rattle.store.specs.declared.job.JobStage.{JobStage}
 use Rattle.store.specs.declared.job.Job.{Job}
 use Rattle.store.specs.declared.job.JobWork.{JobWork}
@@ -33,18 +33,20 @@ abbrev pub HasGate : StoreValue → Machine Value → Type 0
 HasGate v m = m.failed ≡ false → m.gate ≡ gate_of v.turn
 
 -- what is reclaimed is archived, and what is archived is published
-pub record HasMarks (v : StoreValue) (m : Machine Value) : Type 0 where
-  pub reclaimed : v.transactions.reclaimed ≤ v.archived
-  pub archived : v.archived ≤ histories.last m.published
+abbrev pub HasMarks : StoreValue → Machine Value → Type 0
+HasMarks v m = (v.transactions.reclaimed ≤ v.archived) × (v.archived ≤ histories.last m.published)
 
--- what memory keeps of a job
-abbrev pub KeepsWork : JobWork → JobStage → ℕ → TransactionsValue → Machine Value → Type 0
-KeepsWork (Archive run writer) stage archived v m = (archived ≤ run.upto) × (run.upto ≤ histories.last m.published)
-KeepsWork (Reclaim anchors source written) stage archived v m = Reclaims archived anchors.upto (is_some (turn_in stage)) v
+-- what memory keeps of a job, whose archive is up to a published time
+abbrev pub KeepsWork : JobWork → JobStage → (archived last : ℕ) → List (Option ℕ) → Option (List KeyWrites) → List KeyWrites → Type 0
+KeepsWork (Archive run writer) stage archived last opened pending versions = (archived ≤ run.upto) × (run.upto ≤ last)
+KeepsWork (Reclaim anchors source written) stage archived last opened pending versions = Reclaims archived anchors.upto (is_some (turn_in stage)) opened pending versions
 
-abbrev pub KeepsJobOf : Option Job → ℕ → TransactionsValue → Machine Value → Type 0
-KeepsJobOf None archived v m = Unit {0}
-KeepsJobOf (Some job) archived v m = KeepsWork job.work job.stage archived v m
+abbrev pub KeepsJobOf : Option Job → (archived last : ℕ) → List (Option ℕ) → Option (List KeyWrites) → List KeyWrites → Type 0
+KeepsJobOf None archived last opened pending versions = Unit {0}
+KeepsJobOf (Some job) archived last opened pending versions = KeepsWork job.work job.stage archived last opened pending versions
+
+abbrev pub KeepsJobIn : StoreValue → Machine Value → Type 0
+KeepsJobIn v m = KeepsJobOf v.job v.archived (histories.last m.published) v.transactions.opened v.transactions.pending v.transactions.versions
 
 -- What is said of the disk is said where it tells its bytes.
 pub record Stands (tells : Bool) (v : StoreValue) (m : Machine Value) : Type 0 where
@@ -54,5 +56,5 @@ pub record Stands (tells : Bool) (v : StoreValue) (m : Machine Value) : Type 0 w
   pub in_step : IsInStep v
   pub gate : HasGate v m
   pub marks : HasMarks v m
-  pub job : KeepsJobOf v.job v.archived v.transactions m
+  pub job : KeepsJobIn v m
   pub disk : IsTrue tells → StandsOnDisk v m
