@@ -17,6 +17,8 @@ pub mod Usages
 pub mod Joining
 pub mod Unreclaimed
 pub mod Retired
+pub mod Chains
+pub mod Ranges
 pub mod Jobs
 pub mod Pumping
 pub mod JobPumping

@@ -117,7 +117,7 @@ times-stay times [] time other lows low none = refl
 times-stay times (n ∷ ns) time other lows low none = times-stay (with_time times n time) ns time other lows.1 low none.1 ∙ time-other times n other time lows.0 low none.0
 
 -- the others get the time
-times-now : (times : List ℕ) (ns : List ℕ) (time : ℕ) → length times ≡ 65536 → AllByRecursion (λ (n : ℕ). (1 ≤ n) × (n ≤ 65536)) ns → AreDistinct ns
+pub times-now : (times : List ℕ) (ns : List ℕ) (time : ℕ) → length times ≡ 65536 → AllByRecursion (λ (n : ℕ). (1 ≤ n) × (n ≤ 65536)) ns → AreDistinct ns
     → AllByRecursion (λ (n : ℕ). time_of (with_times times ns time) n ≡ time) ns
 times-now times [] time whole each distinct = tt
 times-now times (n ∷ ns) time whole each distinct =
