@@ -20,6 +20,9 @@ pub mod Joining
 pub mod Unreclaimed
 pub mod Besides
 pub mod Freshening
+pub mod Retired
+pub mod Chains
+pub mod Ranges
 pub mod Jobs
 pub mod Pumping
 pub mod JobPumping
