@@ -61,6 +61,7 @@ use Rattle.standing.proofs.Held.{rising-held}
 use Rattle.standing.proofs.Memory.{last-is}
 use Rattle.standing.proofs.Jobs.{resting}
 use Rattle.standing.proofs.JobPumping.{keeps-parts}
+use Rattle.standing.proofs.Ranges.{IsInRange, each-chain, all-rising, versions-in-range, facts-in-range}
 use Rattle.standing.proofs.Pumping.{on-disk}
 
 -- ---- a run has one spelling
@@ -93,101 +94,17 @@ run-same : (rs : List ArchiveRecord) → written.run_bytes rs ≡ run_bytes rs
 unfolding run_bytes
 run-same rs = let one = records-same rs in let rest = index-same 0 rs in λ i. one i ++ rest i
 
--- ---- what a history writes is in range
+-- ---- what is in range
 
-abbrev IsInRange : Key → Write → Type 0
-IsInRange key w = IsKey key × MatchOption w.write (Unit {0}) IsValue
-
-write-in-range : (time : ℕ) (ws : List (KeyWrite Value)) (key : Key) → AllByRecursion (IsWrite IsValue) ws
-    → MatchOption (write_in ws key) (Unit {0}) (λ write. IsInRange key (record { time = time; write = write }))
-write-in-range time [] key each = tt
-write-in-range time (w ∷ ws) key each =
-    elim (same_key w.key key) as (λ (b : Bool). same_key w.key key ≡ b → MatchOption (cond b (Some w.write) (write_in ws key)) (Unit {0}) (λ write. IsInRange key (record { time = time; write = write }))) [
-      | true ↦ λ same. (subst IsKey (key-same w.key key same) (each.0).key, (each.0).value)
-      | false ↦ λ other. write-in-range time ws key each.1
-    ] refl
-
-writes-in-range : (before h : History Value) (key : Key) → MayAllFollow IsValue before h → AllByRecursion (IsInRange key) (histories.writes_of h key)
-writes-in-range before [] key may = tt
-writes-in-range before (c ∷ cs) key may =
-    let rest = writes-in-range (before ++ c ∷ []) cs key may.1 in
-    let one = write-in-range c.time c.writes key (may.0).writes in
-    by-write (write_in c.writes key) one rest
-  where
-    by-write : (o : Option (Option Value)) → MatchOption o (Unit {0}) (λ write. IsInRange key (record { time = c.time; write = write })) → AllByRecursion (IsInRange key) (histories.writes_of cs key)
-        → AllByRecursion (IsInRange key) (cons_option (option_map (λ write. record { time = c.time; write = write }) o) (histories.writes_of cs key))
-    by-write None one rest = rest
-    by-write (Some write) one rest = (one, rest)
-
--- ---- what holds of the writes of each key holds of each chain
-
-same-self : (key : Key) → same_key key key ≡ true
-same-self key = grind (arith, nat_tests)
-
-each-chain : (P : Key → List Write → Type 0) → ((key : Key) → P key []) → (m : List KeyWrites) → IsOrdered m → ((key : Key) → P key (writes_of m key)) → AllByRecursion (λ c. P c.key c.writes) m
-each-chain P none [] ordered each = tt
-each-chain P none (c ∷ cs) ordered each =
-    let own : writes_of (c ∷ cs) c.key ≡ c.writes = rw (same-self c.key) refl in
-    (subst (P c.key) own (each c.key), each-chain P none cs ordered.1 other)
-  where
-    other : (key : Key) → P key (writes_of cs key)
-    other key = elim (same_key c.key key) as (λ (b : Bool). same_key c.key key ≡ b → P key (writes_of cs key)) [
-      | true ↦ λ same.
-          let absent : P c.key (writes_of cs c.key) = rw (find-below c.key cs ordered.0) (none c.key) in
-          subst (λ (k : Key). P k (writes_of cs k)) (key-same c.key key same) absent
-      | false ↦ λ apart. subst (λ (b : Bool). P key (writes_in (cond b (Some c) (find (is_of key) cs)))) apart (each key)
-    ] refl
-
-all-rising : (m : List KeyWrites) → AllByRecursion (λ (c : KeyWrites). IsRisingAfter 0 c.writes) m → AreRising m
-all-rising [] each = tt
-all-rising (c ∷ cs) each = (each.0, all-rising cs each.1)
-
--- what stands in the anchors is in range
-anchors-in-range : (key : Key) (olds : List OldRecord) → AllByRecursion IsOldRecord olds → AllByRecursion (IsInRange key) (old_writes olds key)
-anchors-in-range key [] each = tt
-anchors-in-range key (old ∷ olds) each =
-    let rest = anchors-in-range key olds each.1 in
-    elim (same_key old.key key) as (λ (b : Bool). same_key old.key key ≡ b → AllByRecursion (IsInRange key) (cons_option (cond b (Some (record { time = old.from; write = Some old.value })) None) (old_writes olds key))) [
-      | true ↦ λ same. ((subst IsKey (key-same old.key key same) (each.0).key, (each.0).value), rest)
-      | false ↦ λ other. rest
-    ] refl
-
-later-in-range : (mark : ℕ) (key : Key) (ws : List Write) → AllByRecursion (IsInRange key) ws → AllByRecursion (IsInRange key) (writes_after mark ws)
-later-in-range mark key [] each = tt
-later-in-range mark key (w ∷ ws) each =
-    let rest = later-in-range mark key ws each.1 in
-    elim (nat_lt mark w.time) as (λ (b : Bool). AllByRecursion (IsInRange key) (cond b (w ∷ writes_after mark ws) (writes_after mark ws))) [
-      | true ↦ (each.0, rest)
-      | false ↦ rest
-    ]
-
--- so is what memory has, which are the facts of the heap
+-- what memory has are the facts of the heap
 pub memory-in-range : (header : Header) (v : StoreValue) (m : Machine Value) → StandsInMemory v.transactions m → Works header v m
     → AllByRecursion (λ (c : KeyWrites). IsRisingAfter 0 c.writes × AllByRecursion (IsInRange c.key) c.writes) v.transactions.versions
 memory-in-range header v m memory w =
-    let reading = w.reading in
     let rising = rises w.reading m.published m.floors w.stands in
-    let of-heap = λ (key : Key). writes_of-commits_after (reclaimed_upto w.reading) m.published key in
-    let facts = λ (key : Key). AllByRecursion-append (IsInRange key) (old_writes w.reading.anchors key) (histories.writes_of (heap_commits w.reading) key)
-    (anchors-in-range key w.reading.anchors w.laid.heap.anchors_are.each)
-    (subst (λ (ws : List Write). AllByRecursion (IsInRange key) ws) (sym (ap (λ (h : History Value). histories.writes_of h key) w.stands.opens.write_sets ∙ of-heap key))
-    (later-in-range (reclaimed_upto w.reading) key (histories.writes_of m.published key) (writes-in-range [] m.published key w.stands.opens.history))) in
     each-chain (λ key ws. IsRisingAfter 0 ws × AllByRecursion (IsInRange key) ws) (λ key. (tt, tt)) v.transactions.versions memory.versions.ordered (λ key.
-    (rising-held memory.versions rising key, subst (λ (ws : List Write). AllByRecursion (IsInRange key) ws) (sym (w.heap key)) (facts key)))
+    (rising-held memory.versions rising key, subst (λ (ws : List Write). AllByRecursion (IsInRange key) ws) (sym (w.heap key)) (facts-in-range w.reading m.published m.floors key w.stands w.laid.heap.anchors_are.each)))
 
 -- ---- the records are in range
-
-version-in-range : (key : Key) (w : Write) (to : ℕ) → IsInRange key w → AllByRecursion (λ (v : Version Value). IsKey key × IsValue v.value) (version_of w.time to w.write)
-version-in-range key w to is = by-write w.write is.1
-  where
-    by-write : (o : Option Value) → MatchOption o (Unit {0}) IsValue → AllByRecursion (λ (v : Version Value). IsKey key × IsValue v.value) (version_of w.time to o)
-    by-write None value = tt
-    by-write (Some value) ok = ((is.0, ok), tt)
-
-versions-in-range : (key : Key) (ws : List Write) → AllByRecursion (IsInRange key) ws → AllByRecursion (λ (v : Version Value). IsKey key × IsValue v.value) (versions ws)
-versions-in-range key [] each = tt
-versions-in-range key (w ∷ ws) each =
-    AllByRecursion-append (λ (v : Version Value). IsKey key × IsValue v.value) (version_of w.time (first_time ws) w.write) (versions ws) (version-in-range key w (first_time ws) each.0) (versions-in-range key ws each.1)
 
 filtered-in-range : (key : Key) (after upto : ℕ) (vs : List (Version Value)) → upto < 2 ^ 63 → AllByRecursion (λ (v : Version Value). IsKey key × IsValue v.value) vs
     → AllByRecursion IsArchiveRecord (map (archive_record key) (filter (ends_by upto) (filter (ends_after after) vs)))

@@ -503,9 +503,9 @@ module _ (tells : Bool) (v new : StoreValue) (m : Machine Value) (parts : Parts 
       let w = d.works works in
       let has = own-anchors told in
       let a : StoredAnchors = has.stored in
-      let fill = fill-is a source done v.disk.areas.heap v.transactions.reserved number takes.0 takes.1 takes.2.left has.next.chain has.numbers has.at there takes.3 in
+      let fill = fill-is a v.transactions.reserved source done number v.disk.areas.heap takes.0 takes.1 takes.2.left has.next.chain has.numbers has.at there takes.3 in
       let e : Extent = fill.extent in
-      let split : take done a.extents ++ e ∷ drop (done + 1) a.extents ≡ a.extents = ap (λ (l : List Extent). take done a.extents ++ l) (sym fill.is) ∙ take-append-drop done a.extents in
+      let split : take done a.extents ++ e ∷ drop (done + 1) a.extents ≡ a.extents = ap (λ (l : List Extent). take done a.extents ++ l) (sym fill.rest) ∙ take-append-drop done a.extents in
       let each = subst (AllByRecursion IsExtent) (sym split) has.next.chain.is_chain.each in
       let of : Extent → ℕ = λ f. f.number in
       let named : map of (take done a.extents) ++ e.number ∷ map of (drop (done + 1) a.extents) ≡ v.transactions.reserved = sym (map-append of (take done a.extents) (e ∷ drop (done + 1) a.extents)) ∙ ap (map of) split ∙ has.numbers in
@@ -522,7 +522,7 @@ module _ (tells : Bool) (v new : StoreValue) (m : Machine Value) (parts : Parts 
         number_is = fill.number_is;
         image_is = fill.image_is;
         front = fill.front;
-        rest = fill.rest;
+        rest = fill.others;
         live = beside-out v.transactions.usages e.number middle.0 (live w.layout) (live_extents_are d.header w.layout w.reading w.laid) w.kept;
         before = all_of_back (λ (f : Extent). f.number ≢ e.number) (live w.layout) (take done a.extents) apart;
         queued = all_of_back (λ (k : ℕ). k ≢ e.number) (map of (drop (done + 1) a.extents)) (flat_map numbers_of v.transactions.queue) middle.1;
@@ -595,7 +595,7 @@ module _ (tells : Bool) (v new : StoreValue) (m : Machine Value) (parts : Parts 
         product = OfAnchors has.stored;
         made = (has.entry, has.numbers);
         next = has.next;
-        at = extents_synced has.stored.extents v.disk.areas.heap (subst (AllByRecursion (HoldsExtent v.disk.areas.heap.bytes)) (all-filled has.stored done v.transactions.reserved has.numbers none) has.at.held);
+        at = extents_synced has.stored.extents v.disk.areas.heap (subst (AllByRecursion (HoldsExtent v.disk.areas.heap.bytes)) (all-filled has.stored v.transactions.reserved done has.numbers none) has.at.held);
       })))
   synced-anchors none (Err why) takes =
       fails tells v new m why v.log now parts works takes.moves.0 refl refl refl (ap lent_to is) chain-kept takes.moves.1

@@ -2,6 +2,7 @@ pub mod Openings
 pub mod Held
 mod Forgetting
 pub mod KeptWrites
+pub mod Waiting
 pub mod HeapForgets
 pub mod Names
 pub mod Memory
@@ -9,6 +10,7 @@ pub mod Conflicts
 pub mod Deciding
 pub mod Submitting
 pub mod Publishing
+pub mod Reclaimed
 pub mod Answering
 pub mod Queries
 pub mod Contents
