@@ -61,6 +61,7 @@ call-done w (call.ScanBetween i relation a b) time next does = absurd does
 call-done w (call.End i) time next does = absurd does
 call-done w (call.TimesOf label) time next does = absurd does
 call-done w (call.Archive upto) time next does = absurd does
+call-done w call.Reclaim time next does = absurd does
 call-done w call.JobPump time next does = absurd does
 
 -- what is published stays so
@@ -98,4 +99,5 @@ call-acknowledges w c (answer.ScanBetween x) next times does follows all = follo
 call-acknowledges w c answer.End next times does follows all = follows-have w next times follows all
 call-acknowledges w c (answer.TimesOf x) next times does follows all = follows-have w next times follows all
 call-acknowledges w c (answer.Archive x) next times does follows all = follows-have w next times follows all
+call-acknowledges w c (answer.Reclaim x) next times does follows all = follows-have w next times follows all
 call-acknowledges w c (answer.JobPump x) next times does follows all = follows-have w next times follows all

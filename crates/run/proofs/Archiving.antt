@@ -1,6 +1,7 @@
 -- The beginning of an archive, and the steps of a job.
 use Rattle.std.proofs.Common.{◌≡◌, ℕ, ◌+◌, ◌<◌, ◌≤◌, ◌==◌, nat_lt, nat_le, Bool, true, false, cond, List, [], ◌∷◌, ◌++◌, Some, None, Option, is_some, Result, Ok, Err, MatchBool, MatchOption, slice_get, refl, sym, ◌∙◌, ap, subst, inl, inr, arith}
-use Rattle.std.specs.Prelude.{IsTrue, IfErr}
+use Rattle.std.specs.Prelude.{IsTrue, IfErr, Contains}
+use Rattle.std.proofs.lemmas.List.Sorted.{IsPermutation-sym, Contains-permutation}
 use Rattle.std.proofs.lemmas.Bool.Decides.{nat_tests}
 use Rattle.disk.specs.Areas.{AreSound}
 use Rattle.history.specs.Histories.{History, last}
@@ -17,6 +18,8 @@ use Rattle.transactions.specs.Steps as groups
 use Rattle.store.specs.Values.{StoreValue}
 use Rattle.store.specs.Calls as stores
 use Rattle.store.specs.Archives.{refusal_now, BeginsRun, StartsArchive, IsRunRefusal}
+use Rattle.store.specs.Reclaims.{below, reclaim_refusal, BeginsReclaim, StartsReclaim}
+use Rattle.transactions.specs.Reclaims.{oldest}
 use Rattle.store.specs.Jobs.{PumpsJob, TakesJobStep, Stores, WritesOrSyncs, AnchorsOrSync, BeginsJobSlot, TurnsJob, IsJobTurned, JobMoves, work_done, slot_opened, made_ready, first_turn, slot_taken}
 use Rattle.archive.specs.Pieces.{InWriting}
 use Rattle.vacuum.specs.Anchors.{Sourced}
@@ -32,20 +35,22 @@ use Rattle.store.specs.declared.job.JobDid.TheVariants as did
 use Rattle.store.specs.declared.job.StartFault.{StartFault}
 use Rattle.store.specs.declared.job.StartFault.TheVariants as start
 use Rattle.standing.specs.Laws.{job_ends_in}
-use Rattle.standing.specs.Stands.{IsArchive, IsNoReclaim, Stands}
+use Rattle.standing.specs.Stands.{Stands}
 use Rattle.standing.proofs.Archiving.{archive-start-stands}
 use Rattle.standing.proofs.JobPumping.{job-pump-stands}
 use Rattle.standing.proofs.Memory.{last-is}
+use Rattle.standing.proofs.Reclaiming.{reclaim-start-stands, least-open}
+use Rattle.standing.specs.Standing.{snapshots_of}
 use Rattle.run.specs.declared.calls.Call.TheVariants as call
 use Rattle.run.specs.declared.calls.Answer.TheVariants as answer
 use Rattle.run.specs.declared.held.Held.{Held}
 use Rattle.run.specs.declared.held.Held.TheVariants as held
 use Rattle.run.specs.Places.{Free, ArePlaces}
 use Rattle.run.specs.Worlds.{World, IsWorld, moved, same}
-use Rattle.run.specs.Runs.{Does, Goes, Follows, IsStepFault, Archives}
+use Rattle.run.specs.Runs.{Does, Goes, Follows, IsStepFault, Archives, Reclaims}
 use Rattle.run.proofs.Runs.{no-step}
 use Rattle.run.proofs.Places.{push_nothing, move, GoesOn, goes_on-same, run-goes_on, stays}
-use Rattle.run.proofs.Pumping.{Leaves, leaves-so, counted-few, pump-keeps}
+use Rattle.run.proofs.Pumping.{Leaves, leaves-so, counted-few, pump-keeps, any-fault}
 
 -- what is left alone is left alone by a store that is the same but for its transactions
 same-leaves : (old : TransactionsValue) (so new : StoreValue) → Leaves old so.transactions → new ≡ so → Leaves old new.transactions
@@ -127,6 +132,93 @@ start-goes tells v v' xs upto r starts w is = (
   },
 )
 
+-- ---- the beginning of a reclaim
+
+below-is : (o : Option ℕ) (mark snapshot : ℕ) → below o mark ≡ Some snapshot → o ≡ Some snapshot
+below-is None mark snapshot is = absurd cc
+below-is (Some s) mark snapshot is = by-test (nat_lt s mark) is
+  where
+    by-test : (b : Bool) → cond b (Some s) None ≡ Some snapshot → Some s ≡ Some snapshot
+    by-test true is = is
+    by-test false is = absurd cc
+
+-- what is said by use and by room
+abbrev use-said : Option ℕ → Bool → Option StartFault
+use-said (Some snapshot) e = Some (start.InUse snapshot)
+use-said None e = cond e (Some start.StatusFull) None
+
+reclaim-leaves : (old new : StoreValue) (r : Result (Unit {0}) StartFault) → StartsReclaim old r new → Leaves old.transactions new.transactions
+reclaim-leaves old new r starts = by-refusal (reclaim_refusal old) starts
+  where
+    begins : (r : Result (Unit {0}) StartFault) → BeginsReclaim old r new → Leaves old.transactions new.transactions
+    begins (Ok done) is = same-leaves old.transactions _ new (record { mark = refl; opened = refl; heads = refl }) (is.1).new_is
+    begins (Err why) is = nothing-left old new is.1
+
+    by-refusal : (o : Option StartFault) → MatchOption o (BeginsReclaim old r new) (λ why. (r ≡ Err why) × (new ≡ old)) → Leaves old.transactions new.transactions
+    by-refusal None is = begins r is
+    by-refusal (Some why) is = nothing-left old new is.1
+
+pub reclaim-few : (old new : StoreValue) (r : Result (Unit {0}) StartFault) → StartsReclaim old r new → new.disk.made ≤ old.disk.made + 1
+reclaim-few old new r starts = by-refusal (reclaim_refusal old) starts
+  where
+    at-rest : {so : StoreValue} → so.disk.made ≡ old.disk.made → new ≡ so → new.disk.made ≤ old.disk.made + 1
+    at-rest few is = let made = ap (λ (v : StoreValue). v.disk.made) is in omega (arith, made, few)
+
+    begins : (r : Result (Unit {0}) StartFault) → BeginsReclaim old r new → new.disk.made ≤ old.disk.made + 1
+    begins (Ok done) is = at-rest refl (is.1).new_is
+    begins (Err why) is = at-rest refl is.1
+
+    by-refusal : (o : Option StartFault) → MatchOption o (BeginsReclaim old r new) (λ why. (r ≡ Err why) × (new ≡ old)) → new.disk.made ≤ old.disk.made + 1
+    by-refusal None is = begins r is
+    by-refusal (Some why) is = at-rest refl is.1
+
+-- what a reclaim's start says of the machine
+reclaim-says : (tells : Bool) (v v' : StoreValue) (w : World) (r : Result (Unit {0}) StartFault) → Stands tells v w.machine → StartsReclaim v r v' → Reclaims w r (same w)
+reclaim-says tells v v' w r stands starts = by-tests v.transactions.failed refl (is_some v.job) (v.archived == v.transactions.reclaimed) (below (oldest v.transactions) v.archived) refl (spare v.transactions == 0) starts
+  where
+    says : (x : Result (Unit {0}) StartFault) → r ≡ x → Reclaims w x (same w) → Reclaims w r (same w)
+    says x is so = subst (λ (y : Result (Unit {0}) StartFault). Reclaims w y (same w)) (sym is) so
+
+    begins : v.transactions.failed ≡ false → (x : Result (Unit {0}) StartFault) → BeginsReclaim v x v' → Reclaims w x (same w)
+    begins on (Ok done) is = (sym stands.memory.failed ∙ on, refl)
+    begins on (Err start.HeapFull) is = refl
+    begins on (Err start.NoMemory) is = refl
+    begins on (Err start.Failed) is = absurd is.0
+    begins on (Err start.JobBusy) is = absurd is.0
+    begins on (Err start.NothingToDo) is = absurd is.0
+    begins on (Err (start.NotYet time)) is = absurd is.0
+    begins on (Err (start.InUse time)) is = absurd is.0
+    begins on (Err start.StatusFull) is = absurd is.0
+    begins on (Err start.ArchiveFull) is = absurd is.0
+
+    in-use : (snapshot : ℕ) → below (oldest v.transactions) v.archived ≡ Some snapshot → Contains w.machine.snapshots snapshot
+    in-use snapshot is =
+        Contains-permutation (snapshots_of v.transactions.opened) w.machine.snapshots snapshot (IsPermutation-sym w.machine.snapshots (snapshots_of v.transactions.opened) stands.memory.snapshots)
+        (least-open v.transactions.opened snapshot (below-is (oldest v.transactions) v.archived snapshot is))
+
+    by-tests : (a : Bool) → v.transactions.failed ≡ a → (b c : Bool) (o : Option ℕ) → below (oldest v.transactions) v.archived ≡ o → (e : Bool)
+        → MatchOption (cond a (Some start.Failed) (cond b (Some start.JobBusy) (cond c (Some start.NothingToDo) (use-said o e)))) (BeginsReclaim v r v') (λ why. (r ≡ Err why) × (v' ≡ v))
+        → Reclaims w r (same w)
+    by-tests true on b c o use e is = says (Err start.Failed) is.0 (sym stands.memory.failed ∙ on, refl)
+    by-tests false on true c o use e is = says (Err start.JobBusy) is.0 refl
+    by-tests false on false true o use e is = says (Err start.NothingToDo) is.0 refl
+    by-tests false on false false (Some snapshot) use e is = says (Err (start.InUse snapshot)) is.0 (in-use snapshot use, refl)
+    by-tests false on false false None use true is = says (Err start.StatusFull) is.0 refl
+    by-tests false on false false None use false is = begins on r is
+
+pub reclaim-goes : (tells : Bool) (v v' : StoreValue) (xs : List Held) (r : Result (Unit {0}) StartFault) → StartsReclaim v r v' → Goes tells v xs call.Reclaim (answer.Reclaim r) v' (xs ++ held.Nothing ∷ [])
+reclaim-goes tells v v' xs r starts w is = (
+  same w,
+  reclaim-says tells v v' w r is.stands starts,
+  no-step w.machine,
+  record {
+    stands = reclaim-start-stands tells v v' r w.machine is.stands starts;
+    places = push_nothing v'.transactions w.machine.published xs w.places
+        (move v.transactions v'.transactions w.machine.published w.machine.published xs w.places is.places
+        (λ i x p at shows. stays v.transactions v'.transactions w.machine.published w.machine.published x p (pump-keeps v.transactions v'.transactions x (reclaim-leaves v v' r starts)) (goes_on-same w.machine.published) shows));
+  },
+)
+
 -- ---- a step
 
 moves-leave : (what : JobDid) (made refused : Job) (old new : StoreValue) (r : Result JobDid PumpFault) → JobMoves what made refused old r new → Leaves old.transactions new.transactions
@@ -189,45 +281,9 @@ pumped-leaves tells old new r pumps = by-failure old.transactions.failed pumps
 
 -- ---- refusals
 
-refused-so : (r : Result JobDid PumpFault) (why : PumpFault) → r ≡ Err why → IsStepFault why → IfErr r IsStepFault
-refused-so r why is fault = subst (λ (x : Result JobDid PumpFault). IfErr x IsStepFault) (sym is) fault
-
-moves-refused : (what : JobDid) (made refused : Job) (old new : StoreValue) (r : Result JobDid PumpFault) → JobMoves what made refused old r new → IfErr r IsStepFault
-moves-refused what made refused old new (Ok said) is = tt
-moves-refused what made refused old new (Err why) is = inl is.0
-
-turn-refused : (tells : Bool) (j : Job) (turn : TurnState) (old new : StoreValue) (r : Result JobDid PumpFault) → TurnsJob tells j turn old r new → IfErr r IsStepFault
-turn-refused tells j turn old new (Ok what) is = tt
-turn-refused tells j turn old new (Err why) is = inl is.answer.0
-
-job-refused : (tells : Bool) (s : JobStage) (run : WireRun) (writer : InWriting) (old new : StoreValue) (r : Result JobDid PumpFault) → TakesJobStep tells s (record { work = Archive run writer; stage = s }) old r new → IfErr r IsStepFault
-job-refused tells stages.Writing run writer old new r is = by-left writer.left is
-  where
-    by-left : (left : List ℕ) → WritesOrSyncs tells left run writer (record { work = Archive run writer; stage = stages.Writing }) old r new → IfErr r IsStepFault
-    by-left [] syncs = moves-refused _ _ _ old new r syncs.moves
-    by-left (b ∷ bs) writes = moves-refused _ _ _ old new r writes.moves
-job-refused tells stages.Stored run writer old new r is = by-turn (is_some old.turn) is
-  where
-    by-turn : (b : Bool) → MatchBool b ((r ≡ Err pump.Busy) × (new ≡ old)) (BeginsJobSlot tells (record { work = Archive run writer; stage = stages.Stored }) old r new) → IfErr r IsStepFault
-    by-turn true busy = refused-so r pump.Busy busy.0 (inr refl)
-    by-turn false (inl short) = absurd short.0
-    by-turn false (inr first) = turn-refused tells (record { work = Archive run writer; stage = stages.Stored }) (first_turn old (record { work = Archive run writer; stage = stages.Stored })) (slot_taken old) new r first
-job-refused tells (stages.Turning turn) run writer old new r is = turn-refused tells (record { work = Archive run writer; stage = stages.Turning turn }) turn old new r is
-
-pumped-refused : (tells : Bool) (old new : StoreValue) (r : Result JobDid PumpFault) → IsNoReclaim old.job → PumpsJob tells old r new → IfErr r IsStepFault
-pumped-refused tells old new r archives pumps = by-failure old.transactions.failed pumps
-  where
-    by-work : (w : JobWork) (s : JobStage) → IsArchive w → TakesJobStep tells s (record { work = w; stage = s }) old r new → IfErr r IsStepFault
-    by-work (Archive run writer) s plain is = job-refused tells s run writer old new r is
-    by-work (Reclaim anchors source written) s plain is = absurd plain
-
-    by-job : (o : Option Job) → IsNoReclaim o → MatchOption o ((r ≡ Ok did.Idle) × (new ≡ old)) (λ j. TakesJobStep tells j.stage j old r new) → IfErr r IsStepFault
-    by-job None plain is = subst (λ (x : Result JobDid PumpFault). IfErr x IsStepFault) (sym is.0) tt
-    by-job (Some j) plain is = by-work j.work j.stage plain is
-
-    by-failure : (b : Bool) → MatchBool b ((r ≡ Err pump.Failed) × (new ≡ old)) (MatchOption old.job ((r ≡ Ok did.Idle) × (new ≡ old)) (λ j. TakesJobStep tells j.stage j old r new)) → IfErr r IsStepFault
-    by-failure true is = refused-so r pump.Failed is.0 (inl refl)
-    by-failure false is = by-job old.job archives is
+pumped-refused : (r : Result JobDid PumpFault) → IfErr r IsStepFault
+pumped-refused (Ok what) = tt
+pumped-refused (Err why) = any-fault why
 
 -- ---- device calls
 
@@ -275,7 +331,7 @@ pumped-few tells old new r pumps = by-failure old.transactions.failed pumps
 
 pub pumped-goes : (tells : Bool) (v v' : StoreValue) (xs : List Held) (r : Result JobDid PumpFault) → (IsTrue tells → AreSound v'.disk.areas) → PumpsJob tells v r v' → Goes tells v xs call.JobPump (answer.JobPump r) v' (xs ++ held.Nothing ∷ [])
 pumped-goes tells v v' xs r sound pumps w is =
-    by-failure w.machine.failed refl (pumped-refused tells v v' r is.stands.plain.1 pumps) (job-pump-stands tells v v' r w.machine is.stands sound pumps)
+    by-failure w.machine.failed refl (pumped-refused r) (job-pump-stands tells v v' r w.machine is.stands sound pumps)
   where
     places : (h' : History Value) → GoesOn w.machine.published h' → ArePlaces v'.transactions h' (xs ++ held.Nothing ∷ []) (w.places ++ Free ∷ [])
     places h' goes = push_nothing v'.transactions h' xs w.places

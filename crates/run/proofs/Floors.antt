@@ -32,7 +32,7 @@ use Rattle.run.specs.declared.calls.RedeemOutcome.TheVariants as told
 use Rattle.run.specs.Places.{Place, Free, Running, Waits, Views, place_at}
 use Rattle.run.specs.Worlds.{World, same, moved, spent}
 use Rattle.run.specs.Runs.{Does, Begins, Puts, Deletes, Submits, Submitted, Aborts, Redeems, Shows, submission}
-use Rattle.run.proofs.Passing.{get-same, scan-same, asks-same, asks_scan-same, asks_between-same, asks_scan_between-same, give_up-spent, closes-spent, archive-same}
+use Rattle.run.proofs.Passing.{get-same, scan-same, asks-same, asks_scan-same, asks_between-same, asks_scan_between-same, give_up-spent, closes-spent, archive-same, reclaim-same}
 
 -- the floors, and the one in the making, are the same
 abbrev pub SameFloors : Machine Value → Machine Value → Type 0
@@ -196,5 +196,6 @@ call-floors w (call.ScanBetween i relation a b) (answer.ScanBetween said) next d
 call-floors w (call.End i) answer.End next does = spent-floors w i next (closes-spent w i (place_at w.places i) next does)
 call-floors w (call.TimesOf label) (answer.TimesOf said) next does = same-floors w next does.1
 call-floors w (call.Archive upto) (answer.Archive said) next does = same-floors w next (archive-same w upto said next does)
+call-floors w call.Reclaim (answer.Reclaim said) next does = same-floors w next (reclaim-same w said next does)
 call-floors w call.JobPump (answer.JobPump said) next does = moves-floors w next w.machine.failed _ _ (job_ends_in said) (job_ends-keep said) does
 call-floors w c a next does = absurd does

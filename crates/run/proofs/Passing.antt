@@ -37,7 +37,7 @@ use Rattle.run.specs.declared.calls.RedeemOutcome.{RedeemOutcome}
 use Rattle.run.specs.declared.calls.RedeemOutcome.TheVariants as told
 use Rattle.run.specs.Places.{Place, Free, Running, Waits, Views, place_at}
 use Rattle.run.specs.Worlds.{World, leaves, put, moved, same, spent}
-use Rattle.run.specs.Runs.{Does, Begins, Puts, Deletes, Gets, Scans, Submits, Submitted, Aborts, Redeems, GivesUp, Shows, Asks, AsksScan, AsksBetween, AsksScanBetween, Closes, Archives, PutSays, DeleteSays, deleted, submission}
+use Rattle.run.specs.Runs.{Does, Begins, Puts, Deletes, Gets, Scans, Submits, Submitted, Aborts, Redeems, GivesUp, Shows, Asks, AsksScan, AsksBetween, AsksScanBetween, Closes, Archives, Reclaims, PutSays, DeleteSays, deleted, submission}
 use Rattle.run.specs.Traces.{LeavesKey}
 use Rattle.run.proofs.Lists.{length-set, length-push, place-push_old, place-push_new}
 
@@ -301,6 +301,18 @@ archive-same w upto (Err (start.InUse time)) next does = absurd does
 archive-same w upto (Err start.HeapFull) next does = absurd does
 archive-same w upto (Err start.NoMemory) next does = does
 
+pub reclaim-same : (w : World) (said : Result (Unit {0}) StartFault) (next : World) → Reclaims w said next → next ≡ same w
+reclaim-same w (Ok u) next does = does.1
+reclaim-same w (Err start.Failed) next does = does.1
+reclaim-same w (Err start.JobBusy) next does = does
+reclaim-same w (Err start.NothingToDo) next does = does
+reclaim-same w (Err (start.InUse time)) next does = does.1
+reclaim-same w (Err start.StatusFull) next does = does
+reclaim-same w (Err start.HeapFull) next does = does
+reclaim-same w (Err start.NoMemory) next does = does
+reclaim-same w (Err (start.NotYet time)) next does = absurd does
+reclaim-same w (Err start.ArchiveFull) next does = absurd does
+
 view-passes : (w : World) (said : Result (Unit {0}) AllocError) (next : World) → Shows w said next → Passes w call.View (answer.View said) next
 view-passes w (Ok u) next does = leaves-passes w w (Views w.machine.published w.machine.floors) call.View (answer.View (Ok u)) next (beside-same call.View w) does (refl, refl, refl, refl)
 view-passes w (Err why) next does = gives-nothing w w call.View (answer.View (Err why)) next (beside-same call.View w) does
@@ -359,5 +371,6 @@ passes w (call.ScanBetween i relation a b) (answer.ScanBetween said) next does =
 passes w (call.End i) answer.End next does = spent-passes w i (call.End i) answer.End next (closes-spent w i (place_at w.places i) next does)
 passes w (call.TimesOf label) (answer.TimesOf said) next does = same-passes w (call.TimesOf label) (answer.TimesOf said) next does.1
 passes w (call.Archive upto) (answer.Archive said) next does = same-passes w (call.Archive upto) (answer.Archive said) next (archive-same w upto said next does)
+passes w call.Reclaim (answer.Reclaim said) next does = same-passes w call.Reclaim (answer.Reclaim said) next (reclaim-same w said next does)
 passes w call.JobPump (answer.JobPump said) next does = moves-passes w call.JobPump (answer.JobPump said) next w.machine.failed _ _ _ does
 passes w c a next does = absurd does

@@ -106,33 +106,15 @@ pump-leaves tells old new r pumps = by-failure old.transactions.failed pumps
 
 -- ---- refusals
 
-wrote-refused : (tells : Bool) (o : Option StoredExtent) (old new : StoreValue) (why : PumpFault) → MatchOption o ⊥ (λ stored. WritesExtent tells stored old (Err why) new) → why ≡ pump.Failed
-wrote-refused tells None old new why takes = absurd takes
-wrote-refused tells (Some stored) old new why takes = takes.steps.answer.0
+-- a fault is one of three
+pub any-fault : (why : PumpFault) → IsStepFault why
+any-fault pump.Failed = inl refl
+any-fault pump.Busy = inr (inl refl)
+any-fault pump.NoMemory = inr (inr refl)
 
-advance-refused : (tells : Bool) (o : Option TurnState) (old new : StoreValue) (why : PumpFault) → MatchOption o ⊥ (λ turn. TurnsSlot tells turn old (Err why) new) → why ≡ pump.Failed
-advance-refused tells None old new why takes = absurd takes
-advance-refused tells (Some turn) old new why takes = takes.answer.fault
-
-step-refused : (tells : Bool) (s : NextStep) (old new : StoreValue) (why : PumpFault) → (groups.is_stale old.transactions ≡ true → ⊥) → TakesStep tells s old (Err why) new → IsStepFault why
-step-refused tells next.Idle old new why fresh takes = let is : Path (Result Did PumpFault) (Err why) (Ok did.Idle) = takes.0 in absurd cc
-step-refused tells next.WriteExtent old new why fresh takes = inl (wrote-refused tells (groups.next_extent old.transactions) old new why takes)
-step-refused tells next.SyncHeap old new why fresh takes = inl takes.steps.answer.0
-step-refused tells next.BeginSlot old new why fresh takes = by-job (is_some (turn_of old.job)) takes
-  where
-    by-job : (b : Bool) → MatchBool b (Path (Result Did PumpFault) (Err why) (Err pump.Busy) × (new ≡ old)) (MayBeginSlot tells old (Err why) new) → IsStepFault why
-    by-job true is = let same = is.0 in inr cc
-    by-job false (inl short) = absurd (fresh short.0)
-    by-job false (inr first) = inl first.turns.answer.fault
-step-refused tells next.AdvanceSlot old new why fresh takes = inl (advance-refused tells old.turn old new why takes)
-
-pump-refused : (tells : Bool) (old new : StoreValue) (r : Result Did PumpFault) → old.transactions.reclaimed ≡ 0 → Pumps tells old r new → IfErr r IsStepFault
-pump-refused tells old new (Ok what) none pumps = tt
-pump-refused tells old new (Err why) none pumps = by-failure old.transactions.failed pumps
-  where
-    by-failure : (b : Bool) → MatchBool b (Path (Result Did PumpFault) (Err why) (Err pump.Failed) × (new ≡ old)) (TakesStep tells (groups.next_step old.transactions) (started old) (Err why) new) → IsStepFault why
-    by-failure true is = let same = is.0 in inl cc
-    by-failure false takes = step-refused tells (groups.next_step old.transactions) (started old) new why (never-stale (started old).transactions (grouped-mark old.transactions ∙ none)) takes
+pump-refused : (r : Result Did PumpFault) → IfErr r IsStepFault
+pump-refused (Ok what) = tt
+pump-refused (Err why) = any-fault why
 
 -- ---- device calls
 
@@ -174,7 +156,7 @@ pump-keeps v v' (held.View t) leaves = leaves.mark
 
 pub pump-goes : (tells : Bool) (v v' : StoreValue) (xs : List Held) (r : Result Did PumpFault) → (IsTrue tells → AreSound v'.disk.areas) → Pumps tells v r v' → Goes tells v xs call.Pump (answer.Pump r) v' (xs ++ held.Nothing ∷ [])
 pump-goes tells v v' xs r sound pumps w is =
-    by-failure w.machine.failed refl (pump-refused tells v v' r is.stands.plain.0 pumps) (pump-stands tells v v' r w.machine is.stands sound pumps)
+    by-failure w.machine.failed refl (pump-refused r) (pump-stands tells v v' r w.machine is.stands sound pumps)
   where
     places : (h' : History Value) → GoesOn w.machine.published h' → ArePlaces v'.transactions h' (xs ++ held.Nothing ∷ []) (w.places ++ Free ∷ [])
     places h' goes = push_nothing v'.transactions h' xs w.places

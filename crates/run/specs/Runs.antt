@@ -1,5 +1,5 @@
 -- What each call answers and does, and lists of calls.
-use Rattle.std.specs.Prelude.{ℕ, ◌≡◌, ◌≢◌, ◌<◌, ◌≤◌, ◌⊎◌, ◌+◌, ◌↔◌, ◌++◌, Bool, true, false, List, [], ◌∷◌, map, is_some, IsSome, Option, None, Some, Result, Ok, Err, IfOk, IfErr, OnOk, OnErr, MatchBool, Vec, if◌then◌else◌}
+use Rattle.std.specs.Prelude.{ℕ, ◌≡◌, ◌≢◌, ◌<◌, ◌≤◌, ◌⊎◌, ◌+◌, ◌↔◌, ◌++◌, Bool, true, false, List, [], ◌∷◌, map, is_some, IsSome, Option, None, Some, Contains, Result, Ok, Err, IfOk, IfErr, OnOk, OnErr, MatchBool, Vec, if◌then◌else◌}
 use Rattle.std.specs.declared.alloc.Global.{Global}
 use Rattle.std.specs.declared.alloc.AllocError.{AllocError}
 use Rattle.history.specs.declared.key.Key.{Key}
@@ -121,7 +121,7 @@ Aborts w i place next = ⊥
 
 -- a step is refused where a device call is, or where another slot is in the writing
 abbrev pub IsStepFault : PumpFault → Type 0
-IsStepFault why = (why ≡ pump.Failed) ⊎ (why ≡ pump.Busy)
+IsStepFault why = (why ≡ pump.Failed) ⊎ (why ≡ pump.Busy) ⊎ (why ≡ pump.NoMemory)
 
 -- a step of a group is a run of the machine, and nothing where the store has failed
 abbrev pub Pumps : World → Result Did PumpFault → World → Type 0
@@ -186,7 +186,20 @@ Archives w upto (Err (start.InUse time)) next = ⊥
 Archives w upto (Err start.HeapFull) next = ⊥
 Archives w upto (Err start.NoMemory) next = next ≡ same w
 
--- nor does a step of it, but for one that the device refuses
+-- nor does a reclaim; it does not begin where an open transaction reads what it is to forget
+abbrev pub Reclaims : World → Result (Unit {0}) StartFault → World → Type 0
+Reclaims w (Ok u) next = (w.machine.failed ≡ false) × (next ≡ same w)
+Reclaims w (Err start.Failed) next = (w.machine.failed ≡ true) × (next ≡ same w)
+Reclaims w (Err start.JobBusy) next = next ≡ same w
+Reclaims w (Err start.NothingToDo) next = next ≡ same w
+Reclaims w (Err (start.InUse time)) next = Contains w.machine.snapshots time × (next ≡ same w)
+Reclaims w (Err start.StatusFull) next = next ≡ same w
+Reclaims w (Err start.HeapFull) next = next ≡ same w
+Reclaims w (Err start.NoMemory) next = next ≡ same w
+Reclaims w (Err (start.NotYet time)) next = ⊥
+Reclaims w (Err start.ArchiveFull) next = ⊥
+
+-- nor does a step of either, but for one that the device refuses
 abbrev pub JobPumps : World → Result JobDid PumpFault → World → Type 0
 JobPumps w said next = MatchBool w.machine.failed ((said ≡ Err pump.Failed) × (next ≡ same w))
     ((after : Machine Value) × IfErr said IsStepFault × steps.Run IsValue w.machine (job_ends_in said) after × (next ≡ same (moved w after)))
@@ -213,6 +226,7 @@ NamesNone w (call.ScanBetween i relation a b) = IsNoView (place_at w.places i)
 NamesNone w (call.End i) = IsNoView (place_at w.places i)
 NamesNone w (call.TimesOf label) = ⊥
 NamesNone w (call.Archive upto) = ⊥
+NamesNone w call.Reclaim = ⊥
 NamesNone w call.JobPump = ⊥
 
 -- The call may have this answer, and then lead to this world. It is Unknown exactly where the place that it names holds no such value.
@@ -236,6 +250,7 @@ Does w (call.ScanBetween i relation a b) (answer.ScanBetween said) next = AsksSc
 Does w (call.End i) answer.End next = Closes w i (place_at w.places i) next
 Does w (call.TimesOf label) (answer.TimesOf said) next = ListsTimes w label said next
 Does w (call.Archive upto) (answer.Archive said) next = Archives w upto said next
+Does w call.Reclaim (answer.Reclaim said) next = Reclaims w said next
 Does w call.JobPump (answer.JobPump said) next = JobPumps w said next
 Does w c a next = ⊥
 

@@ -81,6 +81,8 @@ pub enum Call<'a> {
     Archive {
         upto: u64,
     },
+    /// Begins a reclaim: the heap and memory are to give up what ended by the archive mark.
+    Reclaim,
     /// The next step of the job that runs.
     JobPump,
 }
@@ -130,5 +132,6 @@ pub enum Answer {
     End,
     TimesOf(Result<Vec<u64>, AllocError>),
     Archive(Result<(), StartFault>),
+    Reclaim(Result<(), StartFault>),
     JobPump(Result<JobDid, PumpFault>),
 }

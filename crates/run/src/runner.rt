@@ -159,6 +159,7 @@ fn answer_call<D: Disk>(
         Call::End { view: place } => (end(store, places, place), Held::Nothing),
         Call::TimesOf { label } => (times_of(store, places, label), Held::Nothing),
         Call::Archive { upto } => (archive(store, places, upto), Held::Nothing),
+        Call::Reclaim => (reclaim(store, places), Held::Nothing),
         Call::JobPump => (job_pump(store, places), Held::Nothing),
     }
 }
@@ -177,6 +178,14 @@ fn archive<D: Disk>(store: &mut Store<D>, places: &[Held], upto: u64) -> Answer
 {
     let _ = places;
     Answer::Archive(store.archive_start(upto))
+}
+
+fn reclaim<D: Disk>(store: &mut Store<D>, places: &[Held]) -> Answer
+    ensures goes { Goes D.tells store.old places.now Call.Reclaim result store.new (places.now ++ Held.Nothing ∷ []) }
+    ensures made { MakesFew store.old store.new }
+{
+    let _ = places;
+    Answer::Reclaim(store.reclaim_start())
 }
 
 fn job_pump<D: Disk>(store: &mut Store<D>, places: &[Held]) -> Answer
