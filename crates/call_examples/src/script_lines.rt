@@ -101,6 +101,7 @@ fn an_archive_names_its_time(rt: HostRuntime) {
             "{text}"
         );
     }
+    assert!(rt; matches!(line("reclaim"), Some(Line::Reclaim)));
     assert!(rt; matches!(line("job"), Some(Line::Job)));
     assert!(rt; matches!(line("finish"), Some(Line::Finish)));
 }
@@ -153,6 +154,7 @@ fn a_line_of_no_form_asks_for_nothing(rt: HostRuntime) {
         "archive soon",
         "archive 18446744073709551616",
         "archive 100 7",
+        "reclaim 100",
         "ARCHIVE 100",
         "job 1",
         "finish 100",

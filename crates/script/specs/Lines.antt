@@ -92,10 +92,11 @@ line_of (command ∷ rest) =
     else (if bytes_eq command (codes "scan") then scan_of rest
     else (if bytes_eq command (codes "times") then times_of rest
     else (if bytes_eq command (codes "archive") then archive_of rest
+    else (if bytes_eq command (codes "reclaim") then alone line.Reclaim rest
     else (if bytes_eq command (codes "job") then alone line.Job rest
     else (if bytes_eq command (codes "finish") then alone line.Finish rest
     else (if bytes_eq command (codes "reopen") then alone line.Reopen rest
-    else None))))))))))))))))
+    else None)))))))))))))))))
 
 -- what a line of the script asks for, if it has such a form
 abbrev pub said : Text → Option Line

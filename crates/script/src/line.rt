@@ -41,7 +41,9 @@ pub enum Line<'a> {
     Times(u64),
     /// Begins an archive of what ended by a time.
     Archive(u64),
-    /// Takes one step of the archive that is being made.
+    /// Begins a reclaim of what is archived.
+    Reclaim,
+    /// Takes one step of the archive or reclaim that is being made.
     Job,
     /// Takes steps of it until nothing is left to do, or one is refused.
     Finish,
@@ -211,6 +213,8 @@ fn read<'a>(command: &[u8], words: Words<'a>) -> Option<Line<'a>>
         times(words)
     } else if is(command, "archive") {
         archive(words)
+    } else if is(command, "reclaim") {
+        alone(Line::Reclaim, words)
     } else if is(command, "job") {
         alone(Line::Job, words)
     } else if is(command, "finish") {

@@ -13,7 +13,7 @@ use Rattle.timequery.specs.declared.fault.QueryFault.{QueryFault}
 use Rattle.timequery.specs.declared.fault.QueryFault.TheVariants as query
 use Rattle.script.specs.declared.line.Line.{Line}
 use Rattle.script.specs.declared.line.Line.TheVariants as line
-use Rattle.session.specs.Session.{State, KeepsNames, StepsGroup, StepsJob, PumpStep, TakesSteps, Flushes, JobStep, TakesJobSteps, Finishes, ArchiveStep, AtStep, ScanStep, BetweenStep, TimesStep}
+use Rattle.session.specs.Session.{State, KeepsNames, StepsGroup, StepsJob, PumpStep, TakesSteps, Flushes, JobStep, TakesJobSteps, Finishes, ArchiveStep, ReclaimStep, AtStep, ScanStep, BetweenStep, TimesStep}
 use Rattle.session.specs.Session as session
 use Rattle.session.specs.Texts.{Text}
 use Rattle.session.specs.declared.fault.Fault.TheVariants as fault
@@ -33,7 +33,7 @@ use Rattle.run.specs.declared.held.Held.TheVariants as held
 use Rattle.run.specs.Moments.{Moment, IsAtMoment, with_answer}
 use Rattle.run.specs.Promise.{Chain}
 use Rattle.run.specs.Runs.{Goes}
-use Rattle.run.proofs.Archiving.{start-goes, start-few, pumped-goes, pumped-few}
+use Rattle.run.proofs.Archiving.{start-goes, reclaim-goes, start-few, reclaim-few, pumped-goes, pumped-few}
 use Rattle.run.proofs.Pumping.{pump-goes, pump-few}
 use Rattle.run.proofs.Views.{view-goes, at-goes, scan_at-goes, between-goes, end-goes, times-goes}
 use Rattle.script_promise.specs.ScriptMoments.{ScriptMoment, held_of, moment_of, with_reply}
@@ -110,6 +110,11 @@ pub archive-line : (tells : Bool) (m : ScriptMoment) → IsScriptMoment tells m 
 archive-line tells m is upto r new step names =
     by-call tells m is (line.Archive upto) r (call.Archive upto) (answer.Archive step.0) (step.0, refl, step.2) (silent r _ m.done step.2 (started-silent step.0 m.done))
     new.store (held_of m.state ++ held.Nothing ∷ []) (start-goes tells m.state.store new.store (held_of m.state) upto step.0 step.1) (start-few m.state.store new.store upto step.0 step.1) new refl (kept-more m new names)
+
+pub reclaim-line : (tells : Bool) (m : ScriptMoment) → IsScriptMoment tells m → (r : Reply) (new : State) → ReclaimStep m.state.store r new.store → KeepsNames m.state new → LeadsTo tells line.Reclaim r m new
+reclaim-line tells m is r new step names =
+    by-call tells m is line.Reclaim r call.Reclaim (answer.Reclaim step.0) (step.0, refl, step.2) (silent r _ m.done step.2 (started-silent step.0 m.done))
+    new.store (held_of m.state ++ held.Nothing ∷ []) (reclaim-goes tells m.state.store new.store (held_of m.state) step.0 step.1) (reclaim-few m.state.store new.store step.0 step.1) new refl (kept-more m new names)
 
 worked-silent : (o : Result JobDid PumpFault) (done : List ℕ) → with_reply (session.worked o) done ≡ done
 worked-silent (Ok step) done = refl

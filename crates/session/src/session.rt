@@ -526,6 +526,16 @@ impl<D: Disk> Session<D> {
         }
     }
 
+    fn reclaim(&mut self) -> Reply
+        ensures steps { told.ReclaimStep self.old.store result self.new.store }
+        ensures names { told.KeepsNames self.old self.new }
+    {
+        match self.store.reclaim_start() {
+            Ok(()) => Reply::Started,
+            Err(fault) => Reply::Refused(Fault::Start(fault)),
+        }
+    }
+
     fn job(&mut self) -> Reply
         ensures steps { told.JobStep D.tells self.old.store result self.new.store }
         ensures names { told.KeepsNames self.old self.new }
@@ -563,6 +573,7 @@ impl<D: Disk> Session<D> {
             Line::Scan(relation, time) => Some(self.scan(relation, time)),
             Line::Times(label) => Some(self.times(label)),
             Line::Archive(upto) => Some(self.archive(upto)),
+            Line::Reclaim => Some(self.reclaim()),
             Line::Job => Some(self.job()),
             Line::Finish => Some(self.finish()),
             Line::Reopen => None,
