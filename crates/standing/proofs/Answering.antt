@@ -119,9 +119,10 @@ redeemed-stands v m time stands = record {
   rising = redeemed-rising 0 time v.heads stands.rising;
   published = stands.published;
   versions = stands.versions;
-  unreclaimed = stands.unreclaimed;
+  forgot = stands.forgot;
   recent = stands.recent;
   queue = stands.queue;
+  fresh = stands.fresh;
   group = stands.group;
   staged = stands.staged;
   snapshots = stands.snapshots;
@@ -178,9 +179,9 @@ times-of_label v m label stands =
 
 -- ---- views
 
-pub view-stands : (v : StoreValue) (view : ViewValue) (m : Machine Value) → StandsInMemory v.transactions m → stores.IsViewOf v view → ViewStands view m.published m.floors
-view-stands v view m stands is =
-    subst (λ (w : ViewValue). ViewStands w m.published m.floors) (sym is) (record { last_is = last-is v.transactions m stands; floor_is = stands.floors; ordered = stands.versions.ordered; state_is = all-held v.transactions m stands })
+pub view-stands : (v : StoreValue) (view : ViewValue) (m : Machine Value) → StandsInMemory v.transactions m → v.transactions.reclaimed ≡ 0 → stores.IsViewOf v view → ViewStands view m.published m.floors
+view-stands v view m stands none is =
+    subst (λ (w : ViewValue). ViewStands w m.published m.floors) (sym is) (record { last_is = last-is v.transactions m stands; floor_is = stands.floors; ordered = stands.versions.ordered; state_is = all-held v.transactions m stands none })
 
 at-said : (view : ViewValue) (h : History Value) (floors : ℕ → ℕ) (key : Key) (time : ℕ) (answer : Result (Option Value) QueryFault) → ViewStands view h floors
     → MatchResult answer (λ o. AnswersAt view time o (value_at (writes_of view.state key) time)) (stores.RefusesAt view time) → SaysAt (answers.at_answer h floors key time) answer

@@ -1,5 +1,6 @@
 -- The calls that ask nothing of the disk keep what the store stands for.
-use Rattle.std.proofs.Common.{◌≡◌, ℕ, suc, ◌+◌, ◌<◌, ◌≤◌, ◌^◌, ◌==◌, nat_lt, nat_le, Bool, true, false, cond, List, [], ◌∷◌, ◌++◌, length, take, drop, map, Option, None, Some, Result, Ok, Err, MatchBool, MatchOption, refl, arith, ap, sym, subst, ◌∙◌, inl, inr}
+use Rattle.std.proofs.Common.{◌≡◌, ℕ, suc, ◌+◌, ◌<◌, ◌≤◌, ◌^◌, ◌==◌, nat_lt, nat_le, Bool, true, false, cond, List, [], ◌∷◌, ◌++◌, length, take, drop, map, Option, None, Some, Result, Ok, Err, MatchBool, MatchOption, refl, arith, ap, sym, subst, ◌∙◌, inl, inr, ⊎_elim}
+use Rattle.std.specs.Prelude.{◌⊎◌, Contains}
 use Rattle.std.specs.List.{flat_map}
 use Rattle.std.proofs.lemmas.List.{take-append-le}
 use Rattle.std.proofs.lemmas.Bool.Decides.{nat_tests}
@@ -17,7 +18,7 @@ use Rattle.history.proofs.Histories.{last_after-append}
 use Rattle.history.proofs.Runs.{last-later}
 use Rattle.image.specs.Values.{Value, IsValue}
 use Rattle.disk.specs.Areas.{Areas, Image}
-use Rattle.chains.specs.KeyWrites.{latest}
+use Rattle.chains.specs.KeyWrites.{KeyWrites, IsOrdered, forgotten, latest}
 use Rattle.chains.proofs.Commits.{latest-with_commit}
 use Rattle.deltas.specs.Extents.{extent_bytes}
 use Rattle.status.specs.declared.header.Header.{Header}
@@ -56,14 +57,17 @@ use Rattle.transactions.proofs.Kept.{by-last}
 use Rattle.transactions.proofs.Queueing.{keeps-queued}
 use Rattle.store.specs.Calls as stores
 use Rattle.store.specs.Values.{StoreValue, HasRest}
-use Rattle.standing.specs.Standing.{HasWrites, StandsInMemory}
+use Rattle.store.specs.declared.job.Job.{Job}
+use Rattle.store.specs.declared.job.JobWork.{JobWork}
+use Rattle.store.specs.declared.job.JobWork.TheVariants.{Archive, Reclaim}
+use Rattle.standing.specs.Standing.{HasWrites, StandsInMemory, snapshots_of}
 use Rattle.standing.specs.OnDisk.{IsImageOf, packed, IsPacked, members_of, slot_for, group_of, written_before, IsAtStage, Works, StandsOnDisk}
-use Rattle.standing.specs.Stands.{Stands}
+use Rattle.standing.specs.Stands.{KeepsWork, KeepsJobOf, Stands}
 use Rattle.standing.specs.Laws.{submission_of, event_of, RedeemsAs}
 use Rattle.standing.specs.Calls.{BeginsOn}
-use Rattle.standing.proofs.Memory.{begin-step, abort-step}
+use Rattle.standing.proofs.Memory.{last-is, opened-were, closed-were, own-is, begin-step, abort-step}
 use Rattle.standing.proofs.Conflicts.{rising-behind}
-use Rattle.standing.proofs.Submitting.{order-has, order-rising, submit-step}
+use Rattle.standing.proofs.Submitting.{order-has, order-sorted, order-rising, submit-step}
 use Rattle.standing.proofs.Answering.{redeem-answered}
 use Rattle.standing.proofs.Packed.{bodies-packed, packed-more, as-many}
 use Rattle.standing.proofs.Usages.{all-taken}
@@ -80,9 +84,11 @@ same-works header v m opened heads snapshots w = record {
   built = w.built;
   used = w.used;
   kept = w.kept;
+  times = w.times;
   heap = w.heap;
   packed = w.packed;
   archived = w.archived;
+  reclaimed = w.reclaimed;
   runs_end = w.runs_end;
   rested = w.rested;
   rests = w.rests;
@@ -123,16 +129,32 @@ with_transactions v t = record v { transactions = t }
 same-rest : (old new : StoreValue) (t : TransactionsValue) → HasRest old new → new.transactions ≡ t → with_transactions old t ≡ new
 same-rest old new t rest is = let a = sym is in let b = sym rest.log in let c = sym rest.turn in let d = sym rest.disk in let j = sym rest.job.job in let k = sym rest.job.archived in let l = sym rest.job.runs_end in λ i. record { transactions = a i; log = b i; turn = c i; job = j i; archived = k i; runs_end = l i; disk = d i }
 
+-- what memory keeps of a job is kept where each snapshot that is open was so, or is from the archive mark on
+keeps-opened : (o : Option Job) (archived newest : ℕ) (old new : List (Option ℕ)) (pending : Option (List KeyWrites)) (versions : List KeyWrites) → ((s : ℕ) → Contains (snapshots_of new) s → Contains (snapshots_of old) s ⊎ (archived ≤ s))
+    → KeepsJobOf o archived newest old pending versions → KeepsJobOf o archived newest new pending versions
+keeps-opened None archived newest old new pending versions were keeps = tt
+keeps-opened (Some job) archived newest old new pending versions were keeps = by-work job.work keeps
+  where
+    by-work : (work : JobWork) → KeepsWork work job.stage archived newest old pending versions → KeepsWork work job.stage archived newest new pending versions
+    by-work (Archive run writer) keeps = keeps
+    by-work (Reclaim anchors source written) keeps = record {
+      is = keeps.is;
+      recent = λ s there. ⊎_elim (λ (was : Contains (snapshots_of old) s). keeps.recent s was) (λ (late : archived ≤ s). let upto = keeps.is in omega (arith, upto, late)) (were s there);
+      made = keeps.made;
+    }
+
 -- the store once a transaction has begun or is over
-opened-stands : (tells : Bool) (v : StoreValue) (m : Machine Value) (opened : List (Option ℕ)) (snapshots : List ℕ) → Stands tells v m → StandsInMemory (record v.transactions { opened = opened }) (record m { snapshots = snapshots })
+opened-stands : (tells : Bool) (v : StoreValue) (m : Machine Value) (opened : List (Option ℕ)) (snapshots : List ℕ) → Stands tells v m → ((s : ℕ) → Contains (snapshots_of opened) s → Contains (snapshots_of v.transactions.opened) s ⊎ (v.archived ≤ s))
+    → StandsInMemory (record v.transactions { opened = opened }) (record m { snapshots = snapshots })
     → IsMachine IsValue (record m { snapshots = snapshots }) → Stands tells (with_transactions v (record v.transactions { opened = opened })) (record m { snapshots = snapshots })
-opened-stands tells v m opened snapshots stands memory machine = record {
+opened-stands tells v m opened snapshots stands were memory machine = record {
   memory = memory;
   machine = machine;
   order = opened-order v.transactions opened stands.order;
   in_step = record { slots = stands.in_step.slots; used = stands.in_step.used; turns = λ on. let was = stands.in_step.turns on in record { turning = was.turning; writing = was.writing; turn = was.turn; job = was.job } };
   gate = stands.gate;
-  plain = stands.plain;
+  marks = stands.marks;
+  job = keeps-opened v.job v.archived (last m.published) v.transactions.opened opened v.transactions.pending v.transactions.versions were stands.job;
   disk = λ told. same-disk v m opened v.transactions.heads snapshots (stands.disk told);
 }
 
@@ -148,7 +170,10 @@ begin-stands tells old new (Ok txn) m stands begins =
     let memory = subst (λ (t : TransactionsValue). StandsInMemory t (begun m)) is.new_is done.1 in (
       done.0,
       subst (λ (x : StoreValue). Stands tells x (begun m)) (same-rest old new (record old.transactions { opened = with_opened old.transactions.opened txn.number txn.snapshot }) begins.rest is.new_is)
-          (opened-stands tells old m (with_opened old.transactions.opened txn.number txn.snapshot) (begun m).snapshots stands memory (step-machine IsValue m (begun m) (Began txn.snapshot) stands.machine done.0)),
+          (opened-stands tells old m (with_opened old.transactions.opened txn.number txn.snapshot) (begun m).snapshots stands
+          (λ s there. ⊎_elim (λ (same : txn.snapshot ≡ s). inr (let newest = is.snapshot ∙ last-is old.transactions m stands.memory in let reached = stands.marks.1 in omega (arith, newest, reached, same))) (λ (was : Contains (snapshots_of old.transactions.opened) s). inl was)
+          (opened-were old.transactions.opened txn.number txn.snapshot is.fresh s there))
+          memory (step-machine IsValue m (begun m) (Began txn.snapshot) stands.machine done.0)),
     )
 begin-stands tells old new (Err fault.NoMemory) m stands begins =
     let done = begin-step old.transactions new.transactions (Err fault.NoMemory) m stands.memory begins.transactions in
@@ -162,18 +187,18 @@ begin-stands tells old new (Err fault.Failed) m stands begins =
 pub abort-stands : (tells : Bool) (old new : StoreValue) (txn : TxnValue) (m : Machine Value) → Stands tells old m → stores.Aborts old txn new
     → MatchBool (is_own old.transactions txn) ((after : Machine Value) × Step IsValue m (Aborted txn.snapshot) after × Stands tells new after) (Stands tells new m)
 abort-stands tells old new txn m stands aborts =
-    by-own (is_own old.transactions txn) aborts.transactions (abort-step old.transactions new.transactions txn m stands.memory aborts.transactions)
+    by-own (is_own old.transactions txn) refl aborts.transactions (abort-step old.transactions new.transactions txn m stands.memory aborts.transactions)
   where
-    by-own : (b : Bool) → new.transactions ≡ cond b (over old.transactions txn.number) old.transactions → MatchBool b ((after : Machine Value) × Step IsValue m (Aborted txn.snapshot) after × StandsInMemory new.transactions after) (StandsInMemory new.transactions m)
+    by-own : (b : Bool) → is_own old.transactions txn ≡ b → new.transactions ≡ cond b (over old.transactions txn.number) old.transactions → MatchBool b ((after : Machine Value) × Step IsValue m (Aborted txn.snapshot) after × StandsInMemory new.transactions after) (StandsInMemory new.transactions m)
         → MatchBool b ((after : Machine Value) × Step IsValue m (Aborted txn.snapshot) after × Stands tells new after) (Stands tells new m)
-    by-own true is done =
+    by-own true own is done =
         let rest : List ℕ = done.1.0 in
         let after : done.0 ≡ record m { snapshots = rest } = done.1.2 in
         let memory : StandsInMemory (over old.transactions txn.number) (record m { snapshots = rest }) = subst (λ (x : Machine Value). StandsInMemory (over old.transactions txn.number) x) after (subst (λ (t : TransactionsValue). StandsInMemory t done.0) is done.2) in
         let machine = subst (λ (x : Machine Value). IsMachine IsValue x) after (step-machine IsValue m done.0 (Aborted txn.snapshot) stands.machine done.1) in
-        let now = opened-stands tells old m (with_closed old.transactions.opened txn.number) rest stands memory machine in
+        let now = opened-stands tells old m (with_closed old.transactions.opened txn.number) rest stands (λ s there. inl (closed-were old.transactions.opened txn.number txn.snapshot (own-is old.transactions txn own) s there)) memory machine in
         (done.0, done.1, subst (λ (x : StoreValue). Stands tells x done.0) (same-rest old new (over old.transactions txn.number) aborts.rest is) (subst (λ (x : Machine Value). Stands tells (with_transactions old (over old.transactions txn.number)) x) (sym after) now))
-    by-own false is done = same-stands tells old new m stands aborts.rest is
+    by-own false own is done = same-stands tells old new m stands aborts.rest is
 
 -- ---- redeem
 
@@ -213,7 +238,8 @@ redeemed-stands tells v m time stands memory = record {
   order = redeemed-order v.transactions time stands.order;
   in_step = record { slots = stands.in_step.slots; used = stands.in_step.used; turns = λ on. let was = stands.in_step.turns on in record { turning = was.turning; writing = was.writing; turn = was.turn; job = was.job } };
   gate = stands.gate;
-  plain = stands.plain;
+  marks = stands.marks;
+  job = stands.job;
   disk = λ told. same-disk v m v.transactions.opened (orders.redeemed time v.transactions.heads) m.snapshots (stands.disk told);
 }
 
@@ -264,14 +290,14 @@ may-queue v snapshot [] now time is = absurd cc
 may-queue v snapshot (w ∷ ws) now time is = conflict-queues v (w ∷ ws) now time (first_conflict (ordered v) snapshot (w ∷ ws)) (omega arith) is
 
 -- the commit waits with its records in the extents that it took
-queued-packed : (v : TransactionsValue) (h : History Value) (c : Commit Value) (label time : ℕ) (numbers : List ℕ) (floors : ℕ → ℕ) → HasWrites floors v.reclaimed (ordered v) h → HasRisingTimes 0 h → ((relation : ℕ) → floors relation ≤ last h) → length numbers ≡ length (bodies_for v c.writes) → IsPacked h (queued_as v label time c.writes numbers) c
-queued-packed v h c label time numbers floors has rising reached many =
+queued-packed : (v : TransactionsValue) (h : History Value) (c : Commit Value) (label time : ℕ) (numbers : List ℕ) (floors : ℕ → ℕ) → IsOrdered (ordered v) → HasWrites floors v.reclaimed (forgotten v.reclaimed (ordered v)) h → HasRisingTimes 0 h → ((relation : ℕ) → floors relation ≤ last h) → length numbers ≡ length (bodies_for v c.writes) → IsPacked h (queued_as v label time c.writes numbers) c
+queued-packed v h c label time numbers floors sorted has rising reached many =
     let q : QueuedValue = queued_as v label time c.writes numbers in
     let images : List (List ℕ) = map extent_bytes (chain_of numbers (bodies_for v c.writes)) in
     let sealed : length images ≡ length numbers = length-sealed numbers (bodies_for v c.writes) (sym many) in
     let named : numbers_of q ≡ numbers = numbers-stored numbers images sealed in
     let long : length q.stored ≡ length numbers = length-stored numbers images sealed in
-    let same : bodies_for v c.writes ≡ packed h c = bodies-packed floors v.reclaimed (ordered v) h c has rising reached in
+    let same : bodies_for v c.writes ≡ packed h c = bodies-packed floors v.reclaimed (ordered v) h c sorted has rising reached in
     record {
       many = long ∙ many ∙ ap (λ (l : List (List ℕ)). length l) same;
       stored = let back = sym named in λ i. stored_as (back i) (map extent_bytes (chain_of (back i) (same i)));
@@ -313,7 +339,7 @@ queued-works : (header : Header) (v : StoreValue) (m : Machine Value) (label tim
     → Works header (with_transactions v (with_queued v.transactions label time c.writes numbers)) (record m { queue = m.queue ++ c ∷ []; snapshots = snapshots })
 queued-works header v m label time numbers snapshots c order memory machine least many w =
     let q : QueuedValue = queued_as v.transactions label time c.writes numbers in
-    let long = as-many v.transactions.versions v.transactions.queue m.queue memory.queue in
+    let long = as-many v.transactions.reclaimed v.transactions.versions v.transactions.queue m.queue memory.queue in
     let members = group-same w.layout v.transactions m q c order.group_within long in
     let entries : take v.transactions.group (v.transactions.queue ++ q ∷ []) ≡ take v.transactions.group v.transactions.queue = take-append-le v.transactions.group v.transactions.queue (q ∷ []) order.group_within in
     let groups : Path Group (group_of w.layout v.transactions m) (record { members = members_of m.published (take v.transactions.group (v.transactions.queue ++ q ∷ [])) (take v.transactions.group (m.queue ++ c ∷ [])); slot = slot_for (length w.layout.slots) (take v.transactions.group (v.transactions.queue ++ q ∷ [])) }) =
@@ -326,11 +352,13 @@ queued-works header v m label time numbers snapshots c order memory machine leas
       built = w.built;
       used = w.used;
       kept = all-taken v.transactions.usages numbers (live w.layout) least w.kept;
+      times = w.times;
       heap = w.heap;
-      packed = packed-more m.published v.transactions.queue m.queue q c w.packed (queued-packed v.transactions (commit_order m) c label time numbers m.floors (order-has v.transactions m memory machine) (order-rising m machine) (floors-order m machine) many);
+      packed = packed-more m.published v.transactions.queue m.queue q c w.packed (queued-packed v.transactions (commit_order m) c label time numbers m.floors (order-sorted v.transactions m memory) (order-has v.transactions m memory machine) (order-rising m machine) (floors-order m machine) many);
       at = subst (λ (g : Group). IsAtStage header w.layout g (v.transactions.queue ++ q ∷ []) v.transactions.stage v.turn (record v.disk.areas { status = w.rested })) groups
           (stage-same header w.layout (group_of w.layout v.transactions m) v.transactions.queue q v.transactions.group v.transactions.stage v.turn (record v.disk.areas { status = w.rested }) order.stage_fits order.group_within w.at);
       archived = w.archived;
+      reclaimed = w.reclaimed;
       runs_end = w.runs_end;
       rested = w.rested;
       rests = w.rests;
@@ -342,7 +370,7 @@ queued-disk : (v : StoreValue) (m : Machine Value) (label time : ℕ) (numbers s
     → length numbers ≡ length (bodies_for v.transactions c.writes) → StandsOnDisk v m
     → StandsOnDisk (with_transactions v (with_queued v.transactions label time c.writes numbers)) (record m { queue = m.queue ++ c ∷ []; snapshots = snapshots })
 queued-disk v m label time numbers snapshots c order memory machine least many d =
-    let long = as-many v.transactions.versions v.transactions.queue m.queue memory.queue in
+    let long = as-many v.transactions.reclaimed v.transactions.versions v.transactions.queue m.queue memory.queue in
     let size = memory.group in
     let front : take m.group (m.queue ++ c ∷ []) ≡ take m.group m.queue = take-append-le m.group m.queue (c ∷ []) (omega (arith, order.group_within, long, size)) in
     record {
@@ -369,18 +397,19 @@ queued-disk v m label time numbers snapshots c order memory machine least many d
     by-front image same (inr new) = inr (by-gate image same m.gate new)
 
 -- a commit is queued as its transaction ends
-queued-stands : (tells : Bool) (v : StoreValue) (m : Machine Value) (label time : ℕ) (numbers snapshots : List ℕ) (opened : List (Option ℕ)) (c : Commit Value) → Stands tells v m → MayQueue v.transactions c.writes time → AreLeastFree v.transactions.usages numbers
+queued-stands : (tells : Bool) (v : StoreValue) (m : Machine Value) (label time : ℕ) (numbers snapshots : List ℕ) (opened : List (Option ℕ)) (c : Commit Value) → Stands tells v m → ((s : ℕ) → Contains (snapshots_of opened) s → Contains (snapshots_of v.transactions.opened) s ⊎ (v.archived ≤ s)) → MayQueue v.transactions c.writes time → AreLeastFree v.transactions.usages numbers
     → length numbers ≡ length (bodies_for v.transactions c.writes) → StandsInMemory (record (with_queued v.transactions label time c.writes numbers) { opened = opened }) (record m { queue = m.queue ++ c ∷ []; snapshots = snapshots })
     → IsMachine IsValue (record m { queue = m.queue ++ c ∷ []; snapshots = snapshots })
     → Stands tells (with_transactions v (record (with_queued v.transactions label time c.writes numbers) { opened = opened })) (record m { queue = m.queue ++ c ∷ []; snapshots = snapshots })
-queued-stands tells v m label time numbers snapshots opened c stands may least many memory machine = record {
+queued-stands tells v m label time numbers snapshots opened c stands were may least many memory machine = record {
   memory = memory;
   machine = machine;
   order = opened-order (with_queued v.transactions label time c.writes numbers) opened (keeps-queued v.transactions label time c.writes numbers stands.order least many may.some
       (latest-with_commit time (ordered v.transactions) c.writes (let last = by-last (orders.last_time v.transactions.heads) v.transactions.versions v.transactions.queue stands.order.latest in omega (arith, last, may.later))) (let after = may.later in omega (arith, after)) may.room);
   in_step = record { slots = stands.in_step.slots; used = stands.in_step.used; turns = λ on. let was = stands.in_step.turns on in record { turning = was.turning; writing = was.writing; turn = was.turn; job = was.job } };
   gate = stands.gate;
-  plain = stands.plain;
+  marks = stands.marks;
+  job = keeps-opened v.job v.archived (last m.published) v.transactions.opened opened v.transactions.pending v.transactions.versions were stands.job;
   disk = λ told.
       same-disk (with_transactions v (with_queued v.transactions label time c.writes numbers)) (record m { queue = m.queue ++ c ∷ [] }) opened (with_queued v.transactions label time c.writes numbers).heads snapshots
       (queued-disk v m label time numbers m.snapshots c stands.order stands.memory stands.machine least many (stands.disk told));
@@ -389,9 +418,12 @@ queued-stands tells v m label time numbers snapshots opened c stands may least m
 abbrev SubmitsTo : Bool → Machine Value → Submission Value → Result Submitted SubmitFault → StoreValue → Type 0
 SubmitsTo tells m s answer new = (after : Machine Value) × Step IsValue m (event_of m s answer) after × Stands tells new after
 
-module _ (tells : Bool) (old new : StoreValue) (txn : TxnValue) (label now : ℕ) (m : Machine Value) (stands : Stands tells old m) (rest : HasRest old new) where
+module _ (tells : Bool) (old new : StoreValue) (txn : TxnValue) (label now : ℕ) (m : Machine Value) (stands : Stands tells old m) (own : is_own old.transactions txn ≡ true) (rest : HasRest old new) where
   abbrev ended : TransactionsValue
   ended = over old.transactions txn.number
+
+  were : (s : ℕ) → Contains (snapshots_of (with_closed old.transactions.opened txn.number)) s → Contains (snapshots_of old.transactions.opened) s ⊎ (old.archived ≤ s)
+  were s there = inl (closed-were old.transactions.opened txn.number txn.snapshot (own-is old.transactions txn own) s there)
 
   -- the transaction is over, and nothing else
   ends-alone : (answer : Result Submitted SubmitFault) (after : Machine Value) (snapshots : List ℕ) → Step IsValue m (event_of m (submission_of txn label now) answer) after → after ≡ record m { snapshots = snapshots } → StandsInMemory new.transactions after → new.transactions ≡ ended
@@ -399,7 +431,7 @@ module _ (tells : Bool) (old new : StoreValue) (txn : TxnValue) (label now : ℕ
   ends-alone answer after snapshots step is memory same =
       let machine = subst (λ (x : Machine Value). IsMachine IsValue x) is (step-machine IsValue m after (event_of m (submission_of txn label now) answer) stands.machine step) in
       let here : StandsInMemory ended (record m { snapshots = snapshots }) = subst (λ (x : Machine Value). StandsInMemory ended x) is (subst (λ (t : TransactionsValue). StandsInMemory t after) same memory) in
-      let whole = opened-stands tells old m (with_closed old.transactions.opened txn.number) snapshots stands here machine in
+      let whole = opened-stands tells old m (with_closed old.transactions.opened txn.number) snapshots stands were here machine in
       (after, step, subst (λ (x : StoreValue). Stands tells x after) (same-rest old new ended rest same) (subst (λ (x : Machine Value). Stands tells (with_transactions old ended) x) (sym is) whole))
 
   by-answer : (answer : Result Submitted SubmitFault) → SubmitsOwn ended txn label now answer new.transactions → ((after : Machine Value) × Step IsValue m (event_of m (submission_of txn label now) answer) after × StandsInMemory new.transactions after)
@@ -437,17 +469,17 @@ module _ (tells : Bool) (old new : StoreValue) (txn : TxnValue) (label now : ℕ
           let machine = subst (λ (x : Machine Value). IsMachine IsValue x) is (step-machine IsValue m done.0 (event_of m (submission_of txn label now) (Ok (submitted.Queued ticket))) stands.machine done.1) in
           let t : TransactionsValue = with_queued ended label ticket.time txn.writes join.numbers in
           let memory : StandsInMemory t (record m { queue = m.queue ++ c ∷ []; snapshots = snapshots }) = subst (λ (x : Machine Value). StandsInMemory t x) is (subst (λ (y : TransactionsValue). StandsInMemory y done.0) join.new_is done.2) in
-          let whole = queued-stands tells old m label ticket.time join.numbers snapshots (with_closed old.transactions.opened txn.number) c stands (may-queue old.transactions txn.snapshot txn.writes now ticket.time own.0) join.least join.many memory machine in
+          let whole = queued-stands tells old m label ticket.time join.numbers snapshots (with_closed old.transactions.opened txn.number) c stands were (may-queue old.transactions txn.snapshot txn.writes now ticket.time own.0) join.least join.many memory machine in
           (done.0, done.1, subst (λ (x : StoreValue). Stands tells x done.0) (same-rest old new t rest join.new_is) (subst (λ (x : Machine Value). Stands tells (with_transactions old t) x) (sym is) whole))
 
 pub submit-stands : (tells : Bool) (old new : StoreValue) (txn : TxnValue) (label now : ℕ) (answer : Result Submitted SubmitFault) (m : Machine Value) → Stands tells old m
     → AreTxnWrites txn.state txn.snapshot txn.writes → label < 2 ^ 64 → stores.Submits old txn label now answer new
     → MatchBool (is_own old.transactions txn) ((after : Machine Value) × Step IsValue m (event_of m (submission_of txn label now) answer) after × Stands tells new after) (Stands tells new m)
 submit-stands tells old new txn label now answer m stands are low submits =
-    by-own (is_own old.transactions txn) submits.transactions (submit-step old.transactions new.transactions txn label now answer m stands.memory stands.machine are low submits.transactions)
+    by-own (is_own old.transactions txn) refl submits.transactions (submit-step old.transactions new.transactions txn label now answer m stands.memory stands.machine are low submits.transactions)
   where
-    by-own : (b : Bool) → MatchBool b (SubmitsOwn (over old.transactions txn.number) txn label now answer new.transactions) ((answer ≡ Err refused.Stranger) × (new.transactions ≡ old.transactions))
+    by-own : (b : Bool) → is_own old.transactions txn ≡ b → MatchBool b (SubmitsOwn (over old.transactions txn.number) txn label now answer new.transactions) ((answer ≡ Err refused.Stranger) × (new.transactions ≡ old.transactions))
         → MatchBool b ((after : Machine Value) × Step IsValue m (event_of m (submission_of txn label now) answer) after × StandsInMemory new.transactions after) (StandsInMemory new.transactions m)
         → MatchBool b ((after : Machine Value) × Step IsValue m (event_of m (submission_of txn label now) answer) after × Stands tells new after) (Stands tells new m)
-    by-own true own done = by-answer tells old new txn label now m stands submits.rest answer own done
-    by-own false is done = same-stands tells old new m stands submits.rest is.1
+    by-own true own ends done = by-answer tells old new txn label now m stands own submits.rest answer ends done
+    by-own false own is done = same-stands tells old new m stands submits.rest is.1

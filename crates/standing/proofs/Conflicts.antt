@@ -1,20 +1,25 @@
 -- Conflicts in memory are those of the commit order.
-use Rattle.std.proofs.Common.{◌≡◌, ℕ, ◌≤◌, ◌&&◌, ◌||◌, nat_lt, Bool, true, false, cond, List, [], ◌∷◌, ◌++◌, find, Option, None, Some, refl, arith, ap, sym, subst, ◌∙◌, append_assoc, append-nil}
+use Rattle.std.proofs.Common.{◌≡◌, ℕ, ◌≤◌, ◌&&◌, ◌||◌, nat_lt, Bool, true, false, cond, List, [], ◌∷◌, ◌++◌, take, find, Option, None, Some, refl, arith, ap, sym, subst, ◌∙◌}
 use Rattle.std.proofs.lemmas.Bool.Decides.{nat_tests}
 use Rattle.history.specs.declared.key.Key.{Key}
 use Rattle.history.specs.Key.{write_in}
 use Rattle.history.specs.Histories as histories
-use Rattle.history.specs.Histories.{Commit, History, timed_write, HasRisingTimes, last, last_after}
+use Rattle.history.specs.Histories.{History, HasRisingTimes, last, last_after}
 use Rattle.history.specs.declared.time.TimedWrite.{TimedWrite}
-use Rattle.history.proofs.Histories.{last_after-append, writes_of-append}
 use Rattle.history.specs.Conflicts.{is_written_after, first_conflict}
+use Rattle.history.specs.Machine.{Machine}
 use Rattle.image.specs.Values.{Value}
-use Rattle.chains.specs.KeyWrites.{KeyWrites, writes_of}
+use Rattle.chains.specs.KeyWrites.{KeyWrites, writes_of, IsOrdered, forgotten}
 use Rattle.chains.specs.Writes.{last_time, last_time_after}
+use Rattle.chains.proofs.Order.{ordered-forgotten}
+use Rattle.chains.proofs.Versions.{writes_of-forgotten}
 use Rattle.group.specs.Queued.{QueuedValue}
-use Rattle.transactions.specs.Values.{versions_after}
-use Rattle.standing.specs.Standing.{HasWrites, AllWait}
-use Rattle.standing.proofs.Held.{later-held, one-more, written-is}
+use Rattle.transactions.specs.Values.{TransactionsValue, versions_after, mark_after, is_turning}
+use Rattle.standing.specs.Standing.{HasWrites, HasForgotten, AllWait, StandsInMemory}
+use Rattle.standing.proofs.KeptWrites.{later-kept}
+use Rattle.standing.proofs.Held.{later-held, many-more}
+use Rattle.standing.proofs.Packed.{wait-front}
+use Rattle.standing.proofs.Waiting.{AreRising, kept-behind, ordered-behind, forgot-behind}
 
 -- the last write of a key is later than a time exactly where a commit later than it wrote the key
 later-written : (s before : ℕ) (h : History Value) (key : Key) → HasRisingTimes before h → nat_lt s (last_time_after before (histories.writes_of h key)) ≡ (nat_lt s before || is_written_after h s key)
@@ -61,32 +66,38 @@ find-same : (p q : Key → Bool) (keys : List Key) → ((key : Key) → p key �
 find-same p q [] same = refl
 find-same p q (k ∷ ks) same = rw (same k) (ap (λ (o : Option Key). cond (q k) (Some k) o) (find-same p q ks same))
 
-pub conflicts-same : (s : ℕ) (floors : ℕ → ℕ) (reclaimed : ℕ) (versions : List KeyWrites) (h : History Value) (keys : List Key) → HasRisingTimes 0 h → HasWrites floors reclaimed versions h → reclaimed ≤ s
+-- versions that are ordered, and whether one of them was written later than a time from the mark on
+pub conflicts-same : (s : ℕ) (floors : ℕ → ℕ) (reclaimed : ℕ) (versions : List KeyWrites) (h : History Value) (keys : List Key) → HasRisingTimes 0 h → IsOrdered versions → AreRising versions → HasWrites floors reclaimed (forgotten reclaimed versions) h → reclaimed ≤ s
     → find (λ key. nat_lt s (last_time (writes_of versions key))) keys ≡ first_conflict h s keys
-conflicts-same s floors reclaimed versions h keys rising has recent =
-    find-same (λ key. nat_lt s (last_time (writes_of versions key))) (is_written_after h s) keys (λ key. later-held has rising key s recent ∙ key-later s h key rising)
+conflicts-same s floors reclaimed versions h keys rising ordered rise has recent =
+    find-same (λ key. nat_lt s (last_time (writes_of versions key))) (is_written_after h s) keys
+    (λ key.
+    sym (later-kept s reclaimed (writes_of versions key) recent (rise key))
+    ∙ ap (λ (ws : List (TimedWrite Value)). nat_lt s (last_time ws)) (sym (writes_of-forgotten reclaimed versions key ordered))
+    ∙ later-held has rising key s recent
+    ∙ key-later s h key rising)
 
--- what waits adds its writes
-pub writes-behind : (versions : List KeyWrites) (qs : List QueuedValue) (cs : History Value) (key : Key) → AllWait versions qs cs → writes_of (versions_after versions qs) key ≡ writes_of versions key ++ histories.writes_of cs key
-writes-behind versions [] [] key all = sym (append-nil (writes_of versions key))
-writes-behind versions [] (c ∷ cs) key all = absurd all
-writes-behind versions (q ∷ qs) [] key all = absurd all
-writes-behind versions (q ∷ qs) (c ∷ cs) key all =
-    writes-behind q.after qs cs key all.1
-    ∙ ap (λ (ws : List (TimedWrite Value)). ws ++ histories.writes_of cs key) (all.0.after key ∙ ap (λ (ws : List (TimedWrite Value)). writes_of versions key ++ ws) (written-is c key))
-    ∙ append_assoc (writes_of versions key) (histories.writes_of (c ∷ []) key) (histories.writes_of cs key)
-    ∙ ap (λ (ws : List (TimedWrite Value)). writes_of versions key ++ ws) (sym (writes_of-append (c ∷ []) cs key))
+-- what waits adds its writes, where the versions behind it have forgotten what ended by the mark
+pub writes-behind : (mark : ℕ) (versions : List KeyWrites) (qs : List QueuedValue) (cs : History Value) (key : Key) → HasForgotten mark versions → mark_after mark qs ≡ mark → AllWait mark versions qs cs
+    → writes_of (versions_after versions qs) key ≡ writes_of versions key ++ histories.writes_of cs key
+writes-behind mark versions qs cs key forgot fresh all =
+    sym (subst (λ (n : ℕ). HasForgotten n (versions_after versions qs)) fresh (forgot-behind mark mark versions qs cs forgot all) key)
+    ∙ kept-behind mark versions qs cs key all
+    ∙ ap (λ (ws : List (TimedWrite Value)). ws ++ histories.writes_of cs key) (forgot key)
 
--- the versions after some that wait are those of the commits
-pub ordered-has : (floors : ℕ → ℕ) (reclaimed : ℕ) (before : History Value) (versions : List KeyWrites) (qs : List QueuedValue) (cs : History Value) → HasWrites floors reclaimed versions before → AllWait versions qs cs
-    → HasRisingTimes 0 (before ++ cs) → ((relation : ℕ) → floors relation ≤ last before) → HasWrites floors reclaimed (versions_after versions qs) (before ++ cs)
-ordered-has floors reclaimed before versions [] [] has all rising reached = subst (λ (h : History Value). HasWrites floors reclaimed versions h) (sym (append-nil before)) has
-ordered-has floors reclaimed before versions [] (c ∷ cs) has all rising reached = absurd all
-ordered-has floors reclaimed before versions (q ∷ qs) [] has all rising reached = absurd all
-ordered-has floors reclaimed before versions (q ∷ qs) (c ∷ cs) has all rising reached =
-    let whole : HasRisingTimes 0 ((before ++ c ∷ []) ++ cs) = subst (λ (h : History Value). HasRisingTimes 0 h) (sym (append_assoc before (c ∷ []) cs)) rising in
-    let next = rising-behind 0 before (c ∷ cs) rising in
-    let first = next.0 in
-    let one : HasWrites floors reclaimed q.after (before ++ c ∷ []) = one-more has (rising-front 0 before (c ∷ cs) rising) q.after c reached (next.0, next.1, tt) all.0.ordered all.0.after in
-    subst (λ (h : History Value). HasWrites floors reclaimed (versions_after q.after qs) h) (append_assoc before (c ∷ []) cs)
-    (ordered-has floors reclaimed (before ++ c ∷ []) q.after qs cs one all.1 whole (λ relation. let low = reached relation in let more = last_after-append 0 before (c ∷ []) in omega arith))
+-- so does a group whose slot is in the writing
+pub behind-group : (v : TransactionsValue) (m : Machine Value) → StandsInMemory v m → is_turning v.stage ≡ true → (key : Key)
+    → writes_of (versions_after v.versions (take v.group v.queue)) key ≡ writes_of v.versions key ++ histories.writes_of (take v.group m.queue) key
+behind-group v m stands turning key =
+    writes-behind v.reclaimed v.versions (take v.group v.queue) (take v.group m.queue) key stands.forgot (stands.fresh turning) (wait-front v.group v.reclaimed v.versions v.queue m.queue stands.queue)
+
+-- the versions after some that wait are those of the commits, from the mark on
+pub ordered-has : (floors : ℕ → ℕ) (reclaimed : ℕ) (before : History Value) (versions : List KeyWrites) (qs : List QueuedValue) (cs : History Value) → HasWrites floors reclaimed versions before → HasForgotten reclaimed versions → AllWait reclaimed versions qs cs
+    → HasRisingTimes 0 (before ++ cs) → ((relation : ℕ) → floors relation ≤ last before) → HasWrites floors reclaimed (forgotten reclaimed (versions_after versions qs)) (before ++ cs)
+ordered-has floors reclaimed before versions qs cs has forgot all rising reached =
+    let ordered : IsOrdered (versions_after versions qs) = ordered-behind reclaimed versions qs cs has.ordered all in
+    many-more has (rising-front 0 before cs rising) (forgotten reclaimed (versions_after versions qs)) cs reached (rising-behind 0 before cs rising) (ordered-forgotten reclaimed (versions_after versions qs) ordered)
+    (λ key.
+    writes_of-forgotten reclaimed (versions_after versions qs) key ordered
+    ∙ kept-behind reclaimed versions qs cs key all
+    ∙ ap (λ (ws : List (TimedWrite Value)). ws ++ histories.writes_of cs key) (forgot key))

@@ -8,10 +8,12 @@ use Rattle.history.specs.Machine.{Machine, commit_order}
 use Rattle.history.specs.Submissions as submissions
 use Rattle.history.specs.Submissions.{Submission, Decision, decision, conflict_of, commit_made, unless_conflict, timed}
 use Rattle.image.specs.Values.{Value}
+use Rattle.chains.specs.KeyWrites.{IsOrdered, forgotten}
 use Rattle.group.specs.CommitOrder.{last_time}
 use Rattle.transactions.specs.Values.{TransactionsValue, ordered, spare}
 use Rattle.transactions.specs.Submits.{Verdict, Reads, Conflicts, HeapIsFull, StatusIsFull, ClockEnds, Queues, verdict, verdict_on_conflict, verdict_on_clock, first_conflict, bodies_for, free_count, time_now}
 use Rattle.standing.specs.Standing.{HasWrites}
+use Rattle.standing.proofs.Waiting.{AreRising}
 use Rattle.standing.proofs.Conflicts.{conflicts-same}
 
 -- what a verdict says of the machine
@@ -47,10 +49,10 @@ by-conflict v m s times some is (Some key) found = is ∙ rw found refl
 by-conflict v m s times some is None none =
     by-room m s (time_now v s.now) some none (is ∙ rw none refl) (ap (λ (t : ℕ). max (t + 1) s.now) times) (nat_lt (free_count v) (length (bodies_for v s.writes))) (nat_le (spare v) 2)
 
-pub decides : (v : TransactionsValue) (m : Machine Value) (snapshot label now : ℕ) (writes : List (KeyWrite Value)) → HasWrites m.floors v.reclaimed (ordered v) (commit_order m) → v.reclaimed ≤ snapshot → HasRisingTimes 0 (commit_order m) → last_time v.heads ≡ last (commit_order m)
+pub decides : (v : TransactionsValue) (m : Machine Value) (snapshot label now : ℕ) (writes : List (KeyWrite Value)) → IsOrdered (ordered v) → AreRising (ordered v) → HasWrites m.floors v.reclaimed (forgotten v.reclaimed (ordered v)) (commit_order m) → v.reclaimed ≤ snapshot → HasRisingTimes 0 (commit_order m) → last_time v.heads ≡ last (commit_order m)
     → DecidesAs m (record { snapshot = snapshot; label = label; now = now; writes = writes }) (verdict v snapshot writes now)
-decides v m snapshot label now [] has recent rising times = (refl, refl)
-decides v m snapshot label now (w ∷ ws) has recent rising times =
+decides v m snapshot label now [] sorted rise has recent rising times = (refl, refl)
+decides v m snapshot label now (w ∷ ws) sorted rise has recent rising times =
     let s : Submission Value = record { snapshot = snapshot; label = label; now = now; writes = w ∷ ws } in
-    let same : first_conflict (ordered v) snapshot (w ∷ ws) ≡ conflict_of m s = conflicts-same snapshot m.floors v.reclaimed (ordered v) (commit_order m) (map (λ x. x.key) (w ∷ ws)) rising has recent in
+    let same : first_conflict (ordered v) snapshot (w ∷ ws) ≡ conflict_of m s = conflicts-same snapshot m.floors v.reclaimed (ordered v) (commit_order m) (map (λ x. x.key) (w ∷ ws)) rising sorted rise has recent in
     by-conflict v m s times some-writes refl (first_conflict (ordered v) snapshot (w ∷ ws)) (sym same)

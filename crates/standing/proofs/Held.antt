@@ -15,6 +15,7 @@ use Rattle.history.specs.Homes.{AreAtHome}
 use Rattle.history.proofs.Orders.{not_lt, is_le}
 use Rattle.history.proofs.Values.{standing_at-versions, writes_after-all, rising_earlier}
 use Rattle.history.proofs.Histories.{writes_of-append, writes_of-rising, last_after-range, last_after-append}
+use Rattle.history.proofs.Runs.{last-later}
 use Rattle.history.proofs.Views.{at-recent, between-recent}
 use Rattle.image.specs.Values.{Value}
 use Rattle.image.specs.Facts.{latest}
@@ -32,7 +33,7 @@ last-of-both : (t : ℕ) (xs ys : Writes) → last_time_after t (xs ++ ys) ≡ l
 last-of-both t [] ys = refl
 last-of-both t (x ∷ xs) ys = last-of-both x.time xs ys
 
-rising-both : (t : ℕ) (xs ys : Writes) → IsRisingAfter t xs → IsRisingAfter (last_time_after t xs) ys → IsRisingAfter t (xs ++ ys)
+pub rising-both : (t : ℕ) (xs ys : Writes) → IsRisingAfter t xs → IsRisingAfter (last_time_after t xs) ys → IsRisingAfter t (xs ++ ys)
 rising-both t [] ys up later = later
 rising-both t (x ∷ xs) ys up later = (up.0, up.1, rising-both x.time xs ys up.2 later)
 
@@ -157,37 +158,35 @@ module _ {floors : ℕ → ℕ} {reclaimed : ℕ} {versions-in : List KeyWrites}
       ∙ ap (λ (n : ℕ). nat_lt time n) (last-of-both 0 (has.before key) (writes_after reclaimed (histories.writes_of h key)))
       ∙ later-same time reclaimed (last_time (has.before key)) 0 (histories.writes_of h key) (writes_of-rising 0 h key up) recent (omega arith) (omega arith)
 
-  -- ---- one commit more
+  -- ---- commits more
 
-  pub one-more : (after : List KeyWrites) (c : Commit Value) → ((relation : ℕ) → floors relation ≤ last h) → HasRisingTimes (last h) (c ∷ []) → IsOrdered after
-      → ((key : Key) → writes_of after key ≡ writes_of versions-in key ++ written c.time c.writes key) → HasWrites floors reclaimed after (h ++ c ∷ [])
-  one-more after c reached later ordered is = record {
+  pub many-more : (after : List KeyWrites) (next : History Value) → ((relation : ℕ) → floors relation ≤ last h) → HasRisingTimes (last h) next → IsOrdered after
+      → ((key : Key) → writes_of after key ≡ writes_of versions-in key ++ histories.writes_of next key) → HasWrites floors reclaimed after (h ++ next)
+  many-more after next reached later ordered is = record {
     ordered = ordered;
-    marked = let low = has.marked in let first = later.0 in let whole = last_after-append 0 h (c ∷ []) in omega arith;
+    marked = let low = has.marked in let more = last-later (last h) next later in let whole = last_after-append 0 h next in omega arith;
     before = has.before;
     rising = has.rising;
     early = has.early;
     writes = λ key.
         is key
-        ∙ ap (λ (l : Writes). l ++ written c.time c.writes key) (has.writes key)
-        ∙ append_assoc (has.before key) (writes_after reclaimed (histories.writes_of h key)) (written c.time c.writes key)
+        ∙ ap (λ (l : Writes). l ++ histories.writes_of next key) (has.writes key)
+        ∙ append_assoc (has.before key) (writes_after reclaimed (histories.writes_of h key)) (histories.writes_of next key)
         ∙ ap (λ (l : Writes). has.before key ++ l)
-        (ap (λ (l : Writes). writes_after reclaimed (histories.writes_of h key) ++ l) (sym (kept key) ∙ ap (λ (l : Writes). writes_after reclaimed l) (written-is c key))
-        ∙ sym (filter-append (λ (w : TimedWrite Value). nat_lt reclaimed w.time) (histories.writes_of h key) (histories.writes_of (c ∷ []) key))
-        ∙ ap (λ (l : Writes). writes_after reclaimed l) (sym (writes_of-append h (c ∷ []) key)));
+        (ap (λ (l : Writes). writes_after reclaimed (histories.writes_of h key) ++ l) (sym (kept key))
+        ∙ sym (filter-append (λ (w : TimedWrite Value). nat_lt reclaimed w.time) (histories.writes_of h key) (histories.writes_of next key))
+        ∙ ap (λ (l : Writes). writes_after reclaimed l) (sym (writes_of-append h next key)));
     at_home = λ key.
-        ap (λ (l : Writes). filter (ends_after (floors key.relation)) (versions l)) (is key ∙ ap (λ (l : Writes). writes_of versions-in key ++ l) (written-is c key))
-        ∙ versions-more (floors key.relation) reclaimed (last h) (writes_of versions-in key) (histories.writes_of h key) (histories.writes_of (c ∷ []) key) (reached key.relation) has.marked
-        (last_after-range 0 h (omega arith) up) (rising-held key) (writes_of-rising 0 h key up) (writes_of-rising (last h) (c ∷ []) key later) (has.at_home key)
-        ∙ ap (λ (l : Writes). filter (ends_after (floors key.relation)) (filter (ends_after reclaimed) (versions l))) (sym (writes_of-append h (c ∷ []) key));
+        ap (λ (l : Writes). filter (ends_after (floors key.relation)) (versions l)) (is key)
+        ∙ versions-more (floors key.relation) reclaimed (last h) (writes_of versions-in key) (histories.writes_of h key) (histories.writes_of next key) (reached key.relation) has.marked
+        (last_after-range 0 h (omega arith) up) (rising-held key) (writes_of-rising 0 h key up) (writes_of-rising (last h) next key later) (has.at_home key)
+        ∙ ap (λ (l : Writes). filter (ends_after (floors key.relation)) (filter (ends_after reclaimed) (versions l))) (sym (writes_of-append h next key));
   }
     where
-      kept : (key : Key) → writes_after reclaimed (written c.time c.writes key) ≡ written c.time c.writes key
+      kept : (key : Key) → writes_after reclaimed (histories.writes_of next key) ≡ histories.writes_of next key
       kept key =
           let marked = has.marked in
-          let up' : IsRisingAfter reclaimed (written c.time c.writes key) =
-          rising_earlier reclaimed (last h) (written c.time c.writes key) marked (subst (λ (l : Writes). IsRisingAfter (last h) l) (sym (written-is c key)) (writes_of-rising (last h) (c ∷ []) key later)) in
-          writes_after-all reclaimed (written c.time c.writes key) up'
+          writes_after-all reclaimed (histories.writes_of next key) (rising_earlier reclaimed (last h) (histories.writes_of next key) marked (writes_of-rising (last h) next key later))
 
 -- ---- where nothing is reclaimed
 

@@ -1,5 +1,8 @@
 pub mod Openings
+pub mod KeptWrites
+pub mod HeapForgets
 pub mod Held
+pub mod Waiting
 mod Forgetting
 pub mod Names
 pub mod Memory
@@ -7,6 +10,7 @@ pub mod Conflicts
 pub mod Deciding
 pub mod Submitting
 pub mod Publishing
+pub mod Reclaimed
 pub mod Answering
 pub mod Queries
 pub mod Contents

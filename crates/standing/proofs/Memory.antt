@@ -1,6 +1,6 @@
 -- The calls that ask nothing of the disk are steps of the machine.
 use Rattle.std.proofs.Common.{◌≡◌, ℕ, ◌<◌, ◌≤◌, ◌^◌, ◌==◌, Bool, true, false, List, [], ◌∷◌, length, take, Option, None, Some, Result, Ok, Err, MatchBool, cond, refl, arith, ap, sym, subst, ◌∙◌, ⊎_elim}
-use Rattle.std.specs.Prelude.{IsPermutation, Contains}
+use Rattle.std.specs.Prelude.{◌⊎◌, IsPermutation, Contains}
 use Rattle.std.specs.List.{AllByRecursion, list_all}
 use Rattle.std.proofs.lemmas.Bool.Decides.{nat_tests}
 use Rattle.std.proofs.lemmas.List.Sorted.{IsPermutation-refl, IsPermutation-sym, IsPermutation-cons, IsPermutation-trans, Contains-permutation}
@@ -38,8 +38,8 @@ pub published-rises : (v : TransactionsValue) (m : Machine Value) → StandsInMe
 published-rises v m stands = rising-front 0 m.published m.queue (rising-named 0 v.heads (commit_order m) stands.names stands.rising)
 
 -- where nothing is reclaimed it has all writes
-pub all-held : (v : TransactionsValue) (m : Machine Value) → StandsInMemory v m → (key : Key) → writes_of v.versions key ≡ histories.writes_of m.published key
-all-held v m stands key = whole stands.versions (published-rises v m stands) stands.unreclaimed key
+pub all-held : (v : TransactionsValue) (m : Machine Value) → StandsInMemory v m → v.reclaimed ≡ 0 → (key : Key) → writes_of v.versions key ≡ histories.writes_of m.published key
+all-held v m stands none key = whole stands.versions (published-rises v m stands) none key
 
 pub all-of : (P : ℕ → Type 0) (xs : List ℕ) (y : ℕ) → AllByRecursion P xs → Contains xs y → P y
 all-of P [] y all has = absurd (Contains-nil y has)
@@ -59,6 +59,18 @@ begun-sees v m stands machine snapshot newest key =
     let marked = stands.versions.marked in
     sees-at v m stands snapshot (record { published = omega arith; kept = λ relation. let reached = machine.floors_reached relation in omega arith }) (omega arith) key
 
+-- the snapshots once one more is open, and once one is closed
+pub opened-were : (opened : List (Option ℕ)) (number snapshot : ℕ) → snapshot_of number opened ≡ None → (s : ℕ) → Contains (snapshots_of (with_opened opened number snapshot)) s → (snapshot ≡ s) ⊎ Contains (snapshots_of opened) s
+opened-were opened number snapshot none s is =
+    Contains-cons_cases snapshot (snapshots_of opened) s
+    (Contains-permutation (snapshots_of (with_opened opened number snapshot)) (snapshot ∷ snapshots_of opened) s
+    (IsPermutation-sym (snapshot ∷ snapshots_of opened) (snapshots_of (with_opened opened number snapshot)) (opened_one opened number snapshot none)) is)
+
+pub closed-were : (opened : List (Option ℕ)) (number snapshot : ℕ) → snapshot_of number opened ≡ Some snapshot → (s : ℕ) → Contains (snapshots_of (with_closed opened number)) s → Contains (snapshots_of opened) s
+closed-were opened number snapshot is s there =
+    let rest = snapshots_of (with_closed opened number) in
+    Contains-permutation (snapshot ∷ rest) (snapshots_of opened) s (IsPermutation-sym (snapshots_of opened) (snapshot ∷ rest) (closed_one opened number snapshot is)) (Contains-tail snapshot rest s there)
+
 -- with one more open
 pub opens-one : (v : TransactionsValue) (m : Machine Value) (number snapshot : ℕ) → StandsInMemory v m → snapshot_of number v.opened ≡ None → snapshot ≡ last m.published
     → StandsInMemory (record v { opened = with_opened v.opened number snapshot }) (begun m)
@@ -67,13 +79,12 @@ opens-one v m number snapshot stands fresh newest = record {
   rising = stands.rising;
   published = stands.published;
   versions = stands.versions;
-  unreclaimed = stands.unreclaimed;
+  forgot = stands.forgot;
   recent = λ s is.
       let marked = stands.versions.marked in
-      let there = Contains-permutation (snapshots_of (with_opened v.opened number snapshot)) (snapshot ∷ snapshots_of v.opened) s
-      (IsPermutation-sym (snapshot ∷ snapshots_of v.opened) (snapshots_of (with_opened v.opened number snapshot)) (opened_one v.opened number snapshot fresh)) is in
-      ⊎_elim (λ (same : snapshot ≡ s). omega arith) (λ (old : Contains (snapshots_of v.opened) s). stands.recent s old) (Contains-cons_cases snapshot (snapshots_of v.opened) s there);
+      ⊎_elim (λ (same : snapshot ≡ s). omega arith) (λ (old : Contains (snapshots_of v.opened) s). stands.recent s old) (opened-were v.opened number snapshot fresh s is);
   queue = stands.queue;
+  fresh = stands.fresh;
   group = stands.group;
   staged = stands.staged;
   snapshots = subst (λ (s : ℕ). IsPermutation (s ∷ m.snapshots) (snapshots_of (with_opened v.opened number snapshot))) newest
@@ -104,10 +115,10 @@ closes-so v m number snapshot stands is =
         rising = stands.rising;
         published = stands.published;
         versions = stands.versions;
-        unreclaimed = stands.unreclaimed;
-        recent = λ s there.
-            stands.recent s (Contains-permutation (snapshot ∷ rest) (snapshots_of v.opened) s (IsPermutation-sym (snapshots_of v.opened) (snapshot ∷ rest) (closed_one v.opened number snapshot is)) (Contains-tail snapshot rest s there));
+        forgot = stands.forgot;
+        recent = λ s there. stands.recent s (closed-were v.opened number snapshot is s there);
         queue = stands.queue;
+        fresh = stands.fresh;
         group = stands.group;
         staged = stands.staged;
         snapshots = IsPermutation-refl rest;

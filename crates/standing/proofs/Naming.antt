@@ -62,8 +62,8 @@ first-in_range : (ns : List ℕ) → 0 < length ns → AllByRecursion IsNumber n
 first-in_range [] some all = absurd (omega (arith, some))
 first-in_range (n ∷ ns) some all = all.0
 
-entry-is : (versions : List KeyWrites) (before : History Value) (q : QueuedValue) (c : Commit Value) → Waits versions q c → IsPacked before q c → MayFollow IsValue before c → AllByRecursion IsNumber (numbers_of q) → IsMember q.entry
-entry-is versions before q c waits is may numbered =
+entry-is : (reclaimed : ℕ) (versions : List KeyWrites) (before : History Value) (q : QueuedValue) (c : Commit Value) → Waits reclaimed versions q c → IsPacked before q c → MayFollow IsValue before c → AllByRecursion IsNumber (numbers_of q) → IsMember q.entry
+entry-is reclaimed versions before q c waits is may numbered =
     let many = records-many before c in
     let some : 0 < length (packed before c) = bodies-some (map record_bytes (map (stored_record (values_in before)) c.writes)) (omega (arith, many, may.write_set.some)) in
     let few : length (packed before c) ≤ length c.writes = omega (arith, bodies-few (map record_bytes (map (stored_record (values_in before)) c.writes)), many) in
@@ -89,15 +89,15 @@ last-one h c = go 0 h
     go t [] = refl
     go t (d ∷ ds) = go d.time ds
 
-entries-rise : (before : List KeyWrites) (h : History Value) (qs : List QueuedValue) (cs : History Value) → AllWait before qs cs → AllPacked h qs cs → MayAllFollow IsValue h cs → AllByRecursion IsNumber (flat_map numbers_of qs)
+entries-rise : (reclaimed : ℕ) (before : List KeyWrites) (h : History Value) (qs : List QueuedValue) (cs : History Value) → AllWait reclaimed before qs cs → AllPacked h qs cs → MayAllFollow IsValue h cs → AllByRecursion IsNumber (flat_map numbers_of qs)
     → Rises (last h) (map (λ (q : QueuedValue). q.entry) qs)
-entries-rise before h [] [] all each may numbered = tt
-entries-rise before h [] (c ∷ cs) all each may numbered = absurd all
-entries-rise before h (q ∷ qs) [] all each may numbered = absurd all
-entries-rise before h (q ∷ qs) (c ∷ cs) all each may numbered =
+entries-rise reclaimed before h [] [] all each may numbered = tt
+entries-rise reclaimed before h [] (c ∷ cs) all each may numbered = absurd all
+entries-rise reclaimed before h (q ∷ qs) [] all each may numbered = absurd all
+entries-rise reclaimed before h (q ∷ qs) (c ∷ cs) all each may numbered =
     let both : AllByRecursion IsNumber (numbers_of q ++ flat_map numbers_of qs) = subst (AllByRecursion IsNumber) (flat_map-cons numbers_of q qs) numbered in
-    let rest = entries-rise q.after (h ++ c ∷ []) qs cs all.1 each.1 may.1 (all-last IsNumber (numbers_of q) (flat_map numbers_of qs) both) in (
-      entry-is before h q c all.0 each.0 may.0 (all-first IsNumber (numbers_of q) (flat_map numbers_of qs) both),
+    let rest = entries-rise reclaimed q.after (h ++ c ∷ []) qs cs all.1 each.1 may.1 (all-last IsNumber (numbers_of q) (flat_map numbers_of qs) both) in (
+      entry-is reclaimed before h q c all.0 each.0 may.0 (all-first IsNumber (numbers_of q) (flat_map numbers_of qs) both),
       subst (λ (t : ℕ). last h < t) (sym (all.0).time) (may.0).later,
       subst (λ (t : ℕ). Rises t (map (λ (p : QueuedValue). p.entry) qs)) (last-one h c ∙ sym (all.0).time) rest,
     )
@@ -120,16 +120,16 @@ unfolding spelling
 spelling-long profile number ms few = let front = front-long profile number ms in simp (length-append, length-replicate) (omega (arith, front, few))
 
 -- the slot of a group is spelled in one way
-pub slot-spelled : (profile number : ℕ) (before : List KeyWrites) (h : History Value) (qs : List QueuedValue) (cs : History Value) → AllWait before qs cs → AllPacked h qs cs → MayAllFollow IsValue h cs → AllByRecursion IsNumber (flat_map numbers_of qs)
+pub slot-spelled : (profile number reclaimed : ℕ) (before : List KeyWrites) (h : History Value) (qs : List QueuedValue) (cs : History Value) → AllWait reclaimed before qs cs → AllPacked h qs cs → MayAllFollow IsValue h cs → AllByRecursion IsNumber (flat_map numbers_of qs)
     → 0 < length qs → length qs ≤ 16 → IsSpelled profile number (spelling profile (slot_for number qs)) (slot_for number qs)
-slot-spelled profile number before h qs cs all each may numbered some few =
+slot-spelled profile number reclaimed before h qs cs all each may numbered some few =
     let many = length-mapped (λ (q : QueuedValue). q.entry) qs in
     record {
       own = refl;
       in_range = record {
         some = omega (arith, many, some);
         few = omega (arith, many, few);
-        rises = rises-lower 0 (last h) (map (λ (q : QueuedValue). q.entry) qs) (omega arith) (entries-rise before h qs cs all each may numbered);
+        rises = rises-lower 0 (last h) (map (λ (q : QueuedValue). q.entry) qs) (omega arith) (entries-rise reclaimed before h qs cs all each may numbered);
       };
       bytes_are = refl;
     }

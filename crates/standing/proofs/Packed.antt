@@ -15,12 +15,13 @@ use Rattle.history.specs.Histories.{Commit, History, HasRisingTimes, last, IsWri
 use Rattle.history.specs.Queries.{values_after}
 use Rattle.history.proofs.Orders.{is_le}
 use Rattle.history.proofs.Values.{value_after-append}
-use Rattle.history.proofs.Histories.{writes_of-append}
+use Rattle.history.proofs.Histories.{writes_of-append, last_after-range}
 use Rattle.image.specs.Values.{Value, IsValue}
 use Rattle.image.specs.Reading.{HeapRecord, Member}
 use Rattle.image.specs.Facts.{latest}
 use Rattle.image.specs.Plans.{stored_record, stored_member, stored_members}
-use Rattle.chains.specs.KeyWrites.{KeyWrites}
+use Rattle.chains.specs.KeyWrites.{KeyWrites, IsOrdered, forgotten}
+use Rattle.chains.proofs.Versions.{writes_of-forgotten}
 use Rattle.chains.specs.KeyWrites as chains
 use Rattle.deltas.specs.Extents.{Extent, IsExtent, AreLinked, first_of}
 use Rattle.deltas.specs.Records.{spelling, record_of}
@@ -38,6 +39,7 @@ use Rattle.group.specs.declared.queued.StoredExtent.{StoredExtent}
 use Rattle.transactions.specs.Submits.{bodies_over}
 use Rattle.standing.specs.Standing.{HasWrites, Waits, AllWait}
 use Rattle.standing.specs.OnDisk.{values_in, packed, IsPacked, AllPacked, member_of, members_of}
+use Rattle.standing.proofs.KeptWrites.{latest-kept}
 use Rattle.standing.proofs.Held.{latest-held}
 use Rattle.standing.proofs.Contents.{records-are}
 
@@ -58,10 +60,16 @@ after-one h c key below =
 values-after : (h : History Value) (c : Commit Value) → c.time < 2 ^ 63 → values_after (values_in h) c ≡ values_in (h ++ c ∷ [])
 values-after h c below = fun_ext (λ key. after-one h c key below)
 
--- memory has the values of the history
-pub values-held : (floors : ℕ → ℕ) (reclaimed : ℕ) (versions : List KeyWrites) (h : History Value) → HasWrites floors reclaimed versions h → HasRisingTimes 0 h → ((relation : ℕ) → floors relation ≤ last h)
+-- versions that are ordered, from the mark on, have the values of the history
+pub values-held : (floors : ℕ → ℕ) (reclaimed : ℕ) (versions : List KeyWrites) (h : History Value) → IsOrdered versions → HasWrites floors reclaimed (forgotten reclaimed versions) h → HasRisingTimes 0 h → ((relation : ℕ) → floors relation ≤ last h)
     → (λ (key : Key). latest (chains.writes_of versions key)) ≡ values_in h
-values-held floors reclaimed versions h has rising reached = fun_ext (λ key. latest-held has rising key (reached key.relation))
+values-held floors reclaimed versions h ordered has rising reached =
+    let range : last h < 2 ^ 63 = last_after-range 0 h (omega arith) rising in
+    let marked = has.marked in
+    fun_ext (λ key.
+    sym (latest-kept reclaimed (chains.writes_of versions key) (omega (arith, range, marked)))
+    ∙ ap latest (sym (writes_of-forgotten reclaimed versions key ordered))
+    ∙ latest-held has rising key (reached key.relation))
 
 -- ---- bytes
 
@@ -70,10 +78,10 @@ unfolding record_bytes
 bytes-are [] = refl
 bytes-are (r ∷ rs) = ap (λ (l : List (List ℕ)). spelling (record_of r) ∷ l) (bytes-are rs)
 
-pub bodies-packed : (floors : ℕ → ℕ) (reclaimed : ℕ) (versions : List KeyWrites) (h : History Value) (c : Commit Value) → HasWrites floors reclaimed versions h → HasRisingTimes 0 h → ((relation : ℕ) → floors relation ≤ last h)
+pub bodies-packed : (floors : ℕ → ℕ) (reclaimed : ℕ) (versions : List KeyWrites) (h : History Value) (c : Commit Value) → IsOrdered versions → HasWrites floors reclaimed (forgotten reclaimed versions) h → HasRisingTimes 0 h → ((relation : ℕ) → floors relation ≤ last h)
     → bodies_over versions c.writes ≡ packed h c
-bodies-packed floors reclaimed versions h c has rising reached =
-    ap (λ (f : Key → Option Value). bodies (map spelling (map record_of (map (stored_record f) c.writes)))) (values-held floors reclaimed versions h has rising reached)
+bodies-packed floors reclaimed versions h c ordered has rising reached =
+    ap (λ (f : Key → Option Value). bodies (map spelling (map record_of (map (stored_record f) c.writes)))) (values-held floors reclaimed versions h ordered has rising reached)
     ∙ ap bodies (bytes-are (map (stored_record (values_in h)) c.writes))
 
 -- ---- the chain of numbers and bodies
@@ -156,9 +164,9 @@ length-mapped f (x ∷ xs) = ap suc (length-mapped f xs)
 -- ---- one commit
 
 -- a commit that waits is stored as its slot is to say
-pub member-stored : (versions : List KeyWrites) (before : History Value) (q : QueuedValue) (c : Commit Value) → Waits versions q c → IsPacked before q c → AllByRecursion (IsWrite IsValue) c.writes → AllByRecursion IsNumber (numbers_of q)
+pub member-stored : (reclaimed : ℕ) (versions : List KeyWrites) (before : History Value) (q : QueuedValue) (c : Commit Value) → Waits reclaimed versions q c → IsPacked before q c → AllByRecursion (IsWrite IsValue) c.writes → AllByRecursion IsNumber (numbers_of q)
     → IsStoredMember (member_of before q c)
-member-stored versions before q c waits is writes numbered =
+member-stored reclaimed versions before q c waits is writes numbered =
     let rs : List HeapRecord = map (stored_record (values_in before)) c.writes in
     let each : AllByRecursion IsRecord rs = records-are (values_in before) c.writes writes in
     let ns = numbers_of q in
@@ -185,18 +193,18 @@ member-stored versions before q c waits is writes numbered =
 -- ---- the commits of a group
 
 -- two lists of all that waits are as long as one another
-pub as-many : (before : List KeyWrites) (qs : List QueuedValue) (cs : History Value) → AllWait before qs cs → length qs ≡ length cs
-as-many before [] [] all = refl
-as-many before [] (c ∷ cs) all = absurd all
-as-many before (q ∷ qs) [] all = absurd all
-as-many before (q ∷ qs) (c ∷ cs) all = ap suc (as-many q.after qs cs all.1)
+pub as-many : (reclaimed : ℕ) (before : List KeyWrites) (qs : List QueuedValue) (cs : History Value) → AllWait reclaimed before qs cs → length qs ≡ length cs
+as-many reclaimed before [] [] all = refl
+as-many reclaimed before [] (c ∷ cs) all = absurd all
+as-many reclaimed before (q ∷ qs) [] all = absurd all
+as-many reclaimed before (q ∷ qs) (c ∷ cs) all = ap suc (as-many reclaimed q.after qs cs all.1)
 
-pub wait-front : (n : ℕ) (before : List KeyWrites) (qs : List QueuedValue) (cs : History Value) → AllWait before qs cs → AllWait before (take n qs) (take n cs)
-wait-front zero before qs cs all = tt
-wait-front (suc n) before [] [] all = tt
-wait-front (suc n) before [] (c ∷ cs) all = absurd all
-wait-front (suc n) before (q ∷ qs) [] all = absurd all
-wait-front (suc n) before (q ∷ qs) (c ∷ cs) all = (all.0, wait-front n q.after qs cs all.1)
+pub wait-front : (n reclaimed : ℕ) (before : List KeyWrites) (qs : List QueuedValue) (cs : History Value) → AllWait reclaimed before qs cs → AllWait reclaimed before (take n qs) (take n cs)
+wait-front zero reclaimed before qs cs all = tt
+wait-front (suc n) reclaimed before [] [] all = tt
+wait-front (suc n) reclaimed before [] (c ∷ cs) all = absurd all
+wait-front (suc n) reclaimed before (q ∷ qs) [] all = absurd all
+wait-front (suc n) reclaimed before (q ∷ qs) (c ∷ cs) all = (all.0, wait-front n reclaimed q.after qs cs all.1)
 
 pub packed-front : (n : ℕ) (h : History Value) (qs : List QueuedValue) (cs : History Value) → AllPacked h qs cs → AllPacked h (take n qs) (take n cs)
 packed-front zero h qs cs all = tt
@@ -218,19 +226,19 @@ packed-more h [] (d ∷ ds) q c all is = absurd all
 packed-more h (p ∷ ps) [] q c all is = absurd all
 packed-more h (p ∷ ps) (d ∷ ds) q c all is = (all.0, packed-more (h ++ d ∷ []) ps ds q c all.1 (subst (λ (l : History Value). IsPacked l q c) (sym (append_assoc h (d ∷ []) ds)) is))
 
-pub entries-named : (before : List KeyWrites) (h : History Value) (qs : List QueuedValue) (cs : History Value) → AllWait before qs cs → map (λ (s : StoredMember). s.entry) (members_of h qs cs) ≡ map (λ (q : QueuedValue). q.entry) qs
-entries-named before h [] [] all = refl
-entries-named before h [] (c ∷ cs) all = absurd all
-entries-named before h (q ∷ qs) [] all = absurd all
-entries-named before h (q ∷ qs) (c ∷ cs) all = ap (λ (l : List Entry). q.entry ∷ l) (entries-named q.after (h ++ c ∷ []) qs cs all.1)
+pub entries-named : (reclaimed : ℕ) (before : List KeyWrites) (h : History Value) (qs : List QueuedValue) (cs : History Value) → AllWait reclaimed before qs cs → map (λ (s : StoredMember). s.entry) (members_of h qs cs) ≡ map (λ (q : QueuedValue). q.entry) qs
+entries-named reclaimed before h [] [] all = refl
+entries-named reclaimed before h [] (c ∷ cs) all = absurd all
+entries-named reclaimed before h (q ∷ qs) [] all = absurd all
+entries-named reclaimed before h (q ∷ qs) (c ∷ cs) all = ap (λ (l : List Entry). q.entry ∷ l) (entries-named reclaimed q.after (h ++ c ∷ []) qs cs all.1)
 
-pub members-are : (before : List KeyWrites) (h : History Value) (qs : List QueuedValue) (cs : History Value) → AllWait before qs cs → MayAllFollow IsValue h cs → map (λ (s : StoredMember). s.member) (members_of h qs cs) ≡ stored_members (values_in h) cs
-members-are before h [] [] all may = refl
-members-are before h [] (c ∷ cs) all may = absurd all
-members-are before h (q ∷ qs) [] all may = absurd all
-members-are before h (q ∷ qs) (c ∷ cs) all may =
+pub members-are : (reclaimed : ℕ) (before : List KeyWrites) (h : History Value) (qs : List QueuedValue) (cs : History Value) → AllWait reclaimed before qs cs → MayAllFollow IsValue h cs → map (λ (s : StoredMember). s.member) (members_of h qs cs) ≡ stored_members (values_in h) cs
+members-are reclaimed before h [] [] all may = refl
+members-are reclaimed before h [] (c ∷ cs) all may = absurd all
+members-are reclaimed before h (q ∷ qs) [] all may = absurd all
+members-are reclaimed before h (q ∷ qs) (c ∷ cs) all may =
     ap (λ (l : List Member). stored_member (values_in h) c ∷ l)
-    (members-are q.after (h ++ c ∷ []) qs cs all.1 may.1 ∙ ap (λ (f : Key → Option Value). stored_members f cs) (sym (values-after h c (may.0).in_range)))
+    (members-are reclaimed q.after (h ++ c ∷ []) qs cs all.1 may.1 ∙ ap (λ (f : Key → Option Value). stored_members f cs) (sym (values-after h c (may.0).in_range)))
 
 pub all-first : (P : ℕ → Type 0) (xs ys : List ℕ) → AllByRecursion P (xs ++ ys) → AllByRecursion P xs
 all-first P [] ys all = tt
@@ -240,14 +248,14 @@ pub all-last : (P : ℕ → Type 0) (xs ys : List ℕ) → AllByRecursion P (xs 
 all-last P [] ys all = all
 all-last P (x ∷ xs) ys all = all-last P xs ys all.1
 
-pub members-stored : (before : List KeyWrites) (h : History Value) (qs : List QueuedValue) (cs : History Value) → AllWait before qs cs → AllPacked h qs cs → MayAllFollow IsValue h cs → AllByRecursion IsNumber (flat_map numbers_of qs) → AllByRecursion IsStoredMember (members_of h qs cs)
-members-stored before h [] [] all each may numbered = tt
-members-stored before h [] (c ∷ cs) all each may numbered = absurd all
-members-stored before h (q ∷ qs) [] all each may numbered = absurd all
-members-stored before h (q ∷ qs) (c ∷ cs) all each may numbered =
+pub members-stored : (reclaimed : ℕ) (before : List KeyWrites) (h : History Value) (qs : List QueuedValue) (cs : History Value) → AllWait reclaimed before qs cs → AllPacked h qs cs → MayAllFollow IsValue h cs → AllByRecursion IsNumber (flat_map numbers_of qs) → AllByRecursion IsStoredMember (members_of h qs cs)
+members-stored reclaimed before h [] [] all each may numbered = tt
+members-stored reclaimed before h [] (c ∷ cs) all each may numbered = absurd all
+members-stored reclaimed before h (q ∷ qs) [] all each may numbered = absurd all
+members-stored reclaimed before h (q ∷ qs) (c ∷ cs) all each may numbered =
     let both : AllByRecursion IsNumber (numbers_of q ++ flat_map numbers_of qs) = subst (AllByRecursion IsNumber) (flat_map-cons numbers_of q qs) numbered in (
-      member-stored before h q c all.0 each.0 (may.0).writes (all-first IsNumber (numbers_of q) (flat_map numbers_of qs) both),
-      members-stored q.after (h ++ c ∷ []) qs cs all.1 each.1 may.1 (all-last IsNumber (numbers_of q) (flat_map numbers_of qs) both),
+      member-stored reclaimed before h q c all.0 each.0 (may.0).writes (all-first IsNumber (numbers_of q) (flat_map numbers_of qs) both),
+      members-stored reclaimed q.after (h ++ c ∷ []) qs cs all.1 each.1 may.1 (all-last IsNumber (numbers_of q) (flat_map numbers_of qs) both),
     )
 
 -- the numbers of a group's extents are those that its commits have taken
