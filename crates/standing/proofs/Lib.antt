@@ -1,9 +1,9 @@
 pub mod Openings
-pub mod Held
-mod Forgetting
 pub mod KeptWrites
-pub mod Waiting
 pub mod HeapForgets
+pub mod Held
+pub mod Waiting
+mod Forgetting
 pub mod Names
 pub mod Memory
 pub mod Conflicts
