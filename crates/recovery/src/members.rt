@@ -35,12 +35,12 @@ fn with_records(
     alloc: Global,
     chains: Frozen,
     time: u64,
-    records: &[Record],
+    records: Vec<Record>,
 ) -> Result<Option<Frozen>, AllocError>
-    requires records { AreRecordsOf OfCommit records.now }
+    requires records { AreRecordsOf OfCommit records.items }
     requires later { latest chains < time }
     requires in_range { time < 2 ^ 63 }
-    ensures found { IfOk result (λ o. MatchOption o (¬ AllByRecursion (IsStored (before_of chains)) (map heap_record records.now)) (λ next. AllByRecursion (IsStored (before_of chains)) (map heap_record records.now) × ((key : Key) → writes_of next key ≡ writes_of chains key ++ written time (map (write_of (before_of chains)) (map heap_record records.now)) key))) }
+    ensures found { IfOk result (λ o. MatchOption o (¬ AllByRecursion (IsStored (before_of chains)) (map heap_record records.items)) (λ next. AllByRecursion (IsStored (before_of chains)) (map heap_record records.items) × ((key : Key) → writes_of next key ≡ writes_of chains key ++ written time (map (write_of (before_of chains)) (map heap_record records.items)) key))) }
     ensures latest { IfOk result (λ o. IfSome o (λ next. latest next ≤ time)) }
 {
     let Some(writes) = resolve(alloc, &chains, records)? else {
@@ -87,7 +87,7 @@ fn read_member<D: Disk>(
     let Some(read) = read_records(alloc, disk, heap_len, &mut extents, entry)? else {
         return Ok(None);
     };
-    let Some(chains) = with_records(alloc, chains, entry.time, &read.records)? else {
+    let Some(chains) = with_records(alloc, chains, entry.time, read.records)? else {
         return Ok(None);
     };
     let live = with_chain(live, entry.time, read.numbers)?;
