@@ -93,6 +93,33 @@ impl Piece {
         Self::of(alloc, longer)
     }
 
+    /// The piece with a later write, which is put behind the others in place where no other piece holds
+    /// them.
+    pub(crate) fn into_write(
+        self,
+        alloc: Global,
+        write: TimedWrite<SharedValue>,
+    ) -> Result<Self, AllocError>
+        requires later { last_time self < write.time }
+        requires in_range { write.time < 2 ^ 63 }
+        ensures { IfOk result (λ p. p ≡ self ++ write ∷ []) }
+    {
+        let mut longer = self.into_writes(alloc)?;
+        longer.push(write)?;
+        Self::of(alloc, longer)
+    }
+
+    /// Its writes: moved where no other piece holds them, and else shared, with room for one more.
+    fn into_writes(self, alloc: Global) -> Result<Writes, AllocError>
+        ensures is { IfOk result (λ ws. ws.items ≡ self) }
+        ensures rising { IsRisingAfter 0 self }
+    {
+        match Arc::try_unwrap(self.writes) {
+            Ok(own) => Ok(own),
+            Err(others) => shared(alloc, others.as_slice(), 1),
+        }
+    }
+
     /// When the first of its writes was made.
     pub(crate) fn first_time(&self) -> u64
         ensures is { result ≡ first_time self.now }
