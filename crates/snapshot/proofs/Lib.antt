@@ -1,3 +1,4 @@
+pub mod Opened
 pub mod WriteSetLemmas
 pub mod TxnLemmas
 pub mod ScanLemmas

@@ -1,25 +1,29 @@
 //! The open transactions of a store.
-ghost use Rattle.std.specs.Prelude.{◌≡◌, ◌≤◌, [], length, IfOk, OnErr, None};
-ghost use Rattle.snapshot.specs.OpenTable.{snapshot_of, with_opened, with_closed, lesser, least_open};
+ghost use Rattle.std.specs.Prelude.{◌≡◌, ◌≤◌, [], length, max, IfOk, OnErr, None};
+ghost use Rattle.snapshot.specs.OpenTable.{snapshot_of, with_opened, with_closed, lesser, least_open, least_free, open_count};
 
 use std::alloc::{AllocError, Global};
 use std::marker::Model;
 
 /// The snapshots of the open transactions. Each has a number that no other open one has, and a
-/// number is given again once its transaction is over.
+/// number is given again once its transaction is over: the table is never longer than the most
+/// transactions that were open at once.
 #[derive(Drop)]
 pub struct OpenTable {
     places: Vec<Option<u64>>,
-    // Places to be used again. One that isn't empty any more is passed over.
-    free: Vec<usize>,
+    // Each place before this one is taken.
+    all_taken: usize,
 }
 
 impl Model for OpenTable {
-    ghost use Rattle.std.specs.Prelude.{List, ℕ, Option};
+    ghost use Rattle.std.specs.Prelude.{◌≤◌, List, ℕ, Option};
+    ghost use Rattle.snapshot.specs.OpenTable.{least_free};
 
     ghost Value = { List (Option ℕ) };
 
     ghost view = { λ t. t.places.items };
+
+    ghost invariant = { λ t. t.all_taken ≤ least_free t.places.items };
 }
 
 impl OpenTable {
@@ -29,7 +33,7 @@ impl OpenTable {
     {
         OpenTable {
             places: Vec::new(alloc),
-            free: Vec::new(alloc),
+            all_taken: 0,
         }
     }
 
@@ -43,24 +47,36 @@ impl OpenTable {
         }
     }
 
-    /// Opens a transaction with this snapshot, and gives its number.
+    /// Opens a transaction with this snapshot, and gives its number: the least that no open one has.
     pub fn open(&mut self, snapshot: u64) -> Result<u64, AllocError>
+        ensures least { IfOk result (λ number. number ≡ least_free self.old) }
         ensures fresh { IfOk result (λ number. snapshot_of number self.old ≡ None) }
         ensures ok { IfOk result (λ number. self.new ≡ with_opened self.old number snapshot) }
         ensures within { IfOk result (λ number. number ≤ length self.old) }
+        ensures short { IfOk result (λ _. length self.new ≤ max (length self.old) (open_count self.new)) }
         ensures err { OnErr result (self.new ≡ self.old) }
     {
-        if let Some(place) = self.free.pop() {
-            if place < self.places.len() && self.places[place].is_none() {
-                self.places[place] = Some(snapshot);
-                return Ok(place as u64);
-            }
+        let place = self.least_free();
+        if place < self.places.len() {
+            self.places[place] = Some(snapshot);
+            self.all_taken = place + 1;
+            return Ok(place as u64);
         }
-        // Closing takes no memory: there is a free place for each number.
-        self.free.reserve(self.places.len() + 1 - self.free.len().min(self.places.len()))?;
-        let number = self.places.len();
         self.places.push(Some(snapshot))?;
-        Ok(number as u64)
+        self.all_taken = place + 1;
+        Ok(place as u64)
+    }
+
+    // The least place that is free, or the one behind the last.
+    fn least_free(&self) -> usize
+        ensures is { result ≡ least_free self.now }
+        ensures within { result ≤ length self.now }
+    {
+        let mut place = self.all_taken;
+        while self.snapshot_of(place as u64).is_some() {
+            place += 1;
+        }
+        place
     }
 
     /// The transaction of this number is over.
@@ -70,9 +86,7 @@ impl OpenTable {
         let place = number as usize;
         if place < self.places.len() {
             self.places[place] = None;
-            if self.free.len() < self.free.capacity() {
-                self.free.push_reserved(place);
-            }
+            self.all_taken = self.all_taken.min(place);
         }
     }
 

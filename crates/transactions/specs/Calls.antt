@@ -1,6 +1,6 @@
 -- The calls that ask nothing of the disk.
 use Rattle.std.specs.Prelude.{ℕ, ◌≡◌, ◌≤◌, ◌==◌, true, false, [], length, None, Result, Ok, Err, MatchBool, if◌then◌else◌}
-use Rattle.snapshot.specs.OpenTable.{snapshot_of, with_opened}
+use Rattle.snapshot.specs.OpenTable.{snapshot_of, with_opened, least_free}
 use Rattle.snapshot.specs.Txn.{TxnValue}
 use Rattle.group.specs.CommitOrder as orders
 use Rattle.group.specs.Tickets.{TicketValue}
@@ -20,7 +20,7 @@ order_of v = record { heads = v.heads; published = v.published; room = 0 }
 abbrev pub last : TransactionsValue → ℕ
 last v = orders.last_published (order_of v)
 
--- a new transaction reads what is published, and has a number that no other open one has
+-- a new transaction reads what is published, and has the least number that no other open one has
 pub record IsBegun (old : TransactionsValue) (txn : TxnValue) (new : TransactionsValue) : Type 0 where
   pub works : old.failed ≡ false
   pub mark : txn.mark ≡ old.mark
@@ -28,6 +28,7 @@ pub record IsBegun (old : TransactionsValue) (txn : TxnValue) (new : Transaction
   pub state : txn.state ≡ old.versions
   pub writes : txn.writes ≡ []
   pub fresh : snapshot_of txn.number old.opened ≡ None
+  pub least : txn.number ≡ least_free old.opened
   pub within : txn.number ≤ length old.opened
   pub new_is : new ≡ record old { opened = with_opened old.opened txn.number txn.snapshot }
 

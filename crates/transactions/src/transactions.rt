@@ -1,6 +1,7 @@
 //! What a store keeps in memory of its transactions.
-ghost use Rattle.std.specs.Prelude.{◌≡◌, ◌<◌, ◌≤◌, ◌^◌, [], length, false, None, IfOk, if◌then◌else◌};
+ghost use Rattle.std.specs.Prelude.{◌≡◌, ◌<◌, ◌≤◌, ◌^◌, [], length, max, false, None, IfOk, if◌then◌else◌};
 ghost use Rattle.chains.specs.KeyWrites.{latest};
+ghost use Rattle.snapshot.specs.OpenTable.{open_count};
 ghost use Rattle.group.specs.CommitOrder.{IsRisingAfter, last_time, times_of};
 ghost use Rattle.transactions.specs.declared.stage.GroupStage.TheVariants.{NoGroup};
 ghost use Rattle.transactions.specs.Values.{ordered, ordered_mark, over, is_own_of, KeepsSlots};
@@ -134,9 +135,12 @@ impl Transactions {
 
     /// A transaction on what is published now.
     ///
-    /// Answers `Failed` once a write or sync of the device was refused, before any growth.
+    /// Its number is the least that no open one has, so the table of the open ones is never longer
+    /// than the most that were open at once. Answers `Failed` once a write or sync of the device was
+    /// refused, before any growth.
     pub fn begin(&mut self, alloc: Global) -> Result<Txn, BeginFault>
         ensures is { Begins self.old result self.new }
+        ensures short { length self.new.opened ≤ max (length self.old.opened) (open_count self.new.opened) }
         ensures slots { KeepsSlots self.old self.new }
     {
         if self.failed {
