@@ -1,6 +1,6 @@
 -- Areas are sound after a write and after a sync.
-use Rattle.std.specs.Prelude.{◌≡◌, ◌<◌, ◌≤◌, ◌+◌, ℕ, List, length}
-use Rattle.std.proofs.Common.{refl, sym, subst, arith}
+use Rattle.std.specs.Prelude.{ℕ, List}
+use Rattle.std.proofs.Common.{refl, arith}
 use Rattle.disk.specs.Areas.{Areas, AreaState, AreSound, IsSound, AreBytes, area_of, with_area, written, synced}
 use Rattle.disk.specs.declared.area.Area.{Area}
 use Rattle.disk.specs.declared.area.Area.TheVariants.{Status, Heap, Archive}

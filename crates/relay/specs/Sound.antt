@@ -1,5 +1,5 @@
 -- Every disk of slices is sound.
-use Rattle.std.specs.Prelude.{◌≡◌, ◌≤◌, List, ℕ, length}
+use Rattle.std.specs.Prelude.{List, ℕ}
 use Rattle.std.proofs.Common.{refl, arith}
 use Rattle.disk.specs.Areas.{AreSound, IsSound, AreBytes, settled_area}
 use Rattle.disk.specs.declared.area.Area.TheVariants.{Status, Heap, Archive}
