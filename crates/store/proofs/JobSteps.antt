@@ -10,7 +10,7 @@ use Rattle.status.specs.SlotCalls as slots
 use Rattle.status.specs.TurnState.{TurnState, LogState}
 use Rattle.group.specs.declared.answers.PumpFault.{PumpFault}
 use Rattle.transactions.specs.Values.{TransactionsValue}
-use Rattle.store.specs.Values.{StoreValue}
+use Rattle.store.specs.Values.{ArchiveValue, StoreValue}
 use Rattle.store.specs.Parts.{parts_of}
 use Rattle.disk.specs.declared.area.Area.TheVariants as areas
 use Rattle.store.specs.Jobs.{TakesJobStep, Stores, writing, WritesOrSyncs, WritesRun, SyncsStored, BeginsJobSlot, TurnsJob, IsJobTurned, JobTurnFails, slot_taken, made_ready, slot_body}
@@ -53,35 +53,35 @@ pub turns-alike : (tells : Bool) (turn : TurnState) (work : JobWork) (a b : JobS
 turns-alike tells turn work a b old result new turns = record { call = turns.call; answer = answered-alike turn work a b old result new turns.answer }
 
 -- a turn that the log began is the job's first one
-pub began : (tells : Bool) (job : Job) (body : Body) (turn : TurnState) (log taken : LogState) (transactions made : TransactionsValue) (other : Option TurnState) (before : Option Job) (archived runs_end : ℕ) (disk : DiskState) (result : Result JobDid PumpFault) (new : StoreValue)
+pub began : (tells : Bool) (job : Job) (body : Body) (turn : TurnState) (log taken : LogState) (transactions made : TransactionsValue) (other : Option TurnState) (before : Option Job) (archived runs_end : ℕ) (archive : ArchiveValue) (disk : DiskState) (result : Result JobDid PumpFault) (new : StoreValue)
     → body ≡ slot_body job.work → turn.number ≡ log.used → turn.body ≡ spelling log.profile (record { number = log.used; body = body }) → turn.stage ≡ slots.Begun → taken ≡ record log { writing = true }
-    → parts_of made log other before archived runs_end disk ≡ made_ready job.work (parts_of transactions log other before archived runs_end disk)
-    → TurnsJob tells job turn (parts_of made taken other before archived runs_end disk) result new
-    → BeginsJobSlot tells job (parts_of transactions log other before archived runs_end disk) result new
-began tells job body turn log taken transactions made other before archived runs_end disk result new body_is number text stage taken_is made_is turns =
+    → parts_of made log other before archived runs_end archive disk ≡ made_ready job.work (parts_of transactions log other before archived runs_end archive disk)
+    → TurnsJob tells job turn (parts_of made taken other before archived runs_end archive disk) result new
+    → BeginsJobSlot tells job (parts_of transactions log other before archived runs_end archive disk) result new
+began tells job body turn log taken transactions made other before archived runs_end archive disk result new body_is number text stage taken_is made_is turns =
     let spelled : turn.body ≡ spelling log.profile (record { number = log.used; body = slot_body job.work }) = subst (λ (b : Body). turn.body ≡ spelling log.profile (record { number = log.used; body = b })) body_is text in
     let turn_is : turn ≡ record { number = log.used; body = spelling log.profile (record { number = log.used; body = slot_body job.work }); stage = slots.Begun } = λ i. record { number = number i; body = spelled i; stage = stage i } in
     inr (subst (λ (v : StoreValue). TurnsJob tells job (record { number = log.used; body = spelling log.profile (record { number = log.used; body = slot_body job.work }); stage = slots.Begun }) (slot_taken v) result new) made_is
-    (subst (λ (t : TurnState). TurnsJob tells job t (slot_taken (parts_of made log other before archived runs_end disk)) result new) turn_is
-    (subst (λ (l : LogState). TurnsJob tells job turn (parts_of made l other before archived runs_end disk) result new) taken_is turns)))
+    (subst (λ (t : TurnState). TurnsJob tells job t (slot_taken (parts_of made log other before archived runs_end archive disk)) result new) turn_is
+    (subst (λ (l : LogState). TurnsJob tells job turn (parts_of made l other before archived runs_end archive disk) result new) taken_is turns)))
 
 -- ---- by the job's stage
 
-pub at-writing : (tells : Bool) (work : JobWork) (stage : JobStage) (transactions : TransactionsValue) (log : LogState) (turn : Option TurnState) (archived runs_end : ℕ) (disk : DiskState) (result : Result JobDid PumpFault) (new : StoreValue)
+pub at-writing : (tells : Bool) (work : JobWork) (stage : JobStage) (transactions : TransactionsValue) (log : LogState) (turn : Option TurnState) (archived runs_end : ℕ) (archive : ArchiveValue) (disk : DiskState) (result : Result JobDid PumpFault) (new : StoreValue)
     → stage ≡ stages.Writing
-    → Stores tells work (writing work) (parts_of transactions log turn (Some (writing work)) archived runs_end disk) result new
-    → TakesJobStep tells stage (record { work = work; stage = stage }) (parts_of transactions log turn (Some (record { work = work; stage = stage })) archived runs_end disk) result new
-at-writing tells work stage transactions log turn archived runs_end disk result new is takes = rw is takes
+    → Stores tells work (writing work) (parts_of transactions log turn (Some (writing work)) archived runs_end archive disk) result new
+    → TakesJobStep tells stage (record { work = work; stage = stage }) (parts_of transactions log turn (Some (record { work = work; stage = stage })) archived runs_end archive disk) result new
+at-writing tells work stage transactions log turn archived runs_end archive disk result new is takes = rw is takes
 
-pub at-stored : (tells : Bool) (work : JobWork) (stage : JobStage) (transactions : TransactionsValue) (log : LogState) (turn : Option TurnState) (archived runs_end : ℕ) (disk : DiskState) (result : Result JobDid PumpFault) (new : StoreValue)
+pub at-stored : (tells : Bool) (work : JobWork) (stage : JobStage) (transactions : TransactionsValue) (log : LogState) (turn : Option TurnState) (archived runs_end : ℕ) (archive : ArchiveValue) (disk : DiskState) (result : Result JobDid PumpFault) (new : StoreValue)
     → stage ≡ stages.Stored → is_some turn ≡ false
-    → BeginsJobSlot tells (record { work = work; stage = stages.Stored }) (parts_of transactions log turn (Some (record { work = work; stage = stages.Stored })) archived runs_end disk) result new
-    → TakesJobStep tells stage (record { work = work; stage = stage }) (parts_of transactions log turn (Some (record { work = work; stage = stage })) archived runs_end disk) result new
-at-stored tells work stage transactions log turn archived runs_end disk result new is free begins = rw (is, free) begins
+    → BeginsJobSlot tells (record { work = work; stage = stages.Stored }) (parts_of transactions log turn (Some (record { work = work; stage = stages.Stored })) archived runs_end archive disk) result new
+    → TakesJobStep tells stage (record { work = work; stage = stage }) (parts_of transactions log turn (Some (record { work = work; stage = stage })) archived runs_end archive disk) result new
+at-stored tells work stage transactions log turn archived runs_end archive disk result new is free begins = rw (is, free) begins
 
-pub at-turning : (tells : Bool) (work : JobWork) (stage : JobStage) (own : TurnState) (transactions : TransactionsValue) (log : LogState) (turn : Option TurnState) (archived runs_end : ℕ) (disk : DiskState) (result : Result JobDid PumpFault) (new : StoreValue)
+pub at-turning : (tells : Bool) (work : JobWork) (stage : JobStage) (own : TurnState) (transactions : TransactionsValue) (log : LogState) (turn : Option TurnState) (archived runs_end : ℕ) (archive : ArchiveValue) (disk : DiskState) (result : Result JobDid PumpFault) (new : StoreValue)
     → stage ≡ stages.Turning own
-    → ((before : Option Job) → TurnsJob tells (record { work = work; stage = stages.Stored }) own (parts_of transactions log turn before archived runs_end disk) result new)
-    → TakesJobStep tells stage (record { work = work; stage = stage }) (parts_of transactions log turn (Some (record { work = work; stage = stage })) archived runs_end disk) result new
-at-turning tells work stage own transactions log turn archived runs_end disk result new is turns =
-    rw is (turns-alike tells own work stages.Stored (stages.Turning own) (parts_of transactions log turn (Some (record { work = work; stage = stages.Turning own })) archived runs_end disk) result new (turns (Some (record { work = work; stage = stages.Turning own }))))
+    → ((before : Option Job) → TurnsJob tells (record { work = work; stage = stages.Stored }) own (parts_of transactions log turn before archived runs_end archive disk) result new)
+    → TakesJobStep tells stage (record { work = work; stage = stage }) (parts_of transactions log turn (Some (record { work = work; stage = stage })) archived runs_end archive disk) result new
+at-turning tells work stage own transactions log turn archived runs_end archive disk result new is turns =
+    rw is (turns-alike tells own work stages.Stored (stages.Turning own) (parts_of transactions log turn (Some (record { work = work; stage = stages.Turning own })) archived runs_end archive disk) result new (turns (Some (record { work = work; stage = stages.Turning own }))))

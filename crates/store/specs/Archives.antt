@@ -1,8 +1,9 @@
 -- The beginning of an archive.
-use Rattle.std.specs.Prelude.{ℕ, ◌≡◌, ◌+◌, ◌^◌, ◌<◌, ◌≤◌, ◌==◌, max, nat_le, nat_lt, is_some, List, length, Option, Some, None, Result, Ok, Err, MatchOption, if◌then◌else◌}
+use Rattle.std.specs.Prelude.{ℕ, ◌≡◌, ◌+◌, ◌^◌, ◌<◌, ◌≤◌, ◌==◌, max, nat_le, nat_lt, is_some, List, [], ◌∷◌, ◌++◌, length, Option, Some, None, Result, Ok, Err, MatchOption, if◌then◌else◌}
 use Rattle.image.specs.Reading.{ArchiveRecord}
 use Rattle.wire.specs.Spelling.{IsRun}
 use Rattle.archive.specs.Runs.{run_bytes}
+use Rattle.archive.specs.declared.run.RunEntry.{RunEntry}
 use Rattle.vacuum.specs.Archives.{records_of, run_of, unwritten}
 use Rattle.transactions.specs.Values.{spare, with_slot_lent}
 use Rattle.store.specs.Calls.{last, floor}
@@ -43,12 +44,21 @@ archive_of v upto = records_of (max v.archived (floor v)) upto v.transactions.ve
 abbrev pub IsPastEnd : StoreValue → ℕ → Type 0
 IsPastEnd v upto = 2 ^ 63 ≤ v.runs_end + length (run_bytes (archive_of v upto))
 
--- the archive has begun: it has a slot lent, and nothing of its run is written
-abbrev pub with_archive : StoreValue → ℕ → StoreValue
-with_archive v upto = record v {
+-- the archive has begun: it has a slot lent and a place among the runs, and nothing of its run is written
+abbrev pub with_archive : StoreValue → ℕ → RunEntry → StoreValue
+with_archive v upto entry = record v {
   transactions = with_slot_lent v.transactions;
   job = Some (record { work = Archive (run_of upto v.runs_end (archive_of v upto)) (unwritten v.runs_end (archive_of v upto)); stage = Writing });
+  archive = record v.archive { next = v.archive.runs ++ entry ∷ [] };
 }
+
+-- so it has, where queries will know the run by its slot and the marks before that
+pub record IsArchiveBegun (v : StoreValue) (upto : ℕ) (new : StoreValue) : Type 0 where
+  pub entry : RunEntry
+  pub slot : entry.slot ≡ run_of upto v.runs_end (archive_of v upto)
+  pub mark : entry.mark ≡ v.archived
+  pub floor_is : entry.floor ≡ floor v
+  pub new_is : new ≡ with_archive v upto entry
 
 abbrev pub IsRunRefusal : StoreValue → ℕ → StartFault → Type 0
 IsRunRefusal v upto fault.ArchiveFull = IsPastEnd v upto
@@ -62,7 +72,7 @@ IsRunRefusal v upto fault.StatusFull = ⊥
 IsRunRefusal v upto fault.HeapFull = ⊥
 
 abbrev pub BeginsRun : StoreValue → ℕ → Result (Unit {0}) StartFault → StoreValue → Type 0
-BeginsRun v upto (Ok done) new = (v.runs_end + length (run_bytes (archive_of v upto)) < 2 ^ 63) × (upto < 2 ^ 63 → IsRun (run_of upto v.runs_end (archive_of v upto))) × (new ≡ with_archive v upto)
+BeginsRun v upto (Ok done) new = (v.runs_end + length (run_bytes (archive_of v upto)) < 2 ^ 63) × (upto < 2 ^ 63 → IsRun (run_of upto v.runs_end (archive_of v upto))) × IsArchiveBegun v upto new
 BeginsRun v upto (Err why) new = IsRunRefusal v upto why × (new ≡ v)
 
 -- no device call is made

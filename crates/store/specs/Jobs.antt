@@ -22,7 +22,7 @@ use Rattle.group.specs.declared.answers.PumpFault.TheVariants as fault
 use Rattle.transactions.specs.Steps.{broken}
 use Rattle.transactions.specs.Reclaims.{prepared, reclaimed_to}
 use Rattle.transactions.specs.Values.{with_slot_used}
-use Rattle.store.specs.Values.{StoreValue}
+use Rattle.store.specs.Values.{ArchiveValue, StoreValue}
 use Rattle.store.specs.Pumps.{Calls}
 use Rattle.store.specs.declared.job.Job.{Job}
 use Rattle.store.specs.declared.job.JobWork.{JobWork}
@@ -110,9 +110,13 @@ abbrev pub TakesMemory : JobWork → Type 0
 TakesMemory (Archive run writer) = ⊥
 TakesMemory (Reclaim anchors source written) = Unit {0}
 
+-- the run that was made is one of the log's
+abbrev pub with_next_run : ArchiveValue → ArchiveValue
+with_next_run archive = record archive { runs = archive.next; next = [] }
+
 -- what stands once the slot is open
 abbrev pub work_done : JobWork → StoreValue → StoreValue
-work_done (Archive run writer) v = record v { archived = run.upto; runs_end = run.start + run.len }
+work_done (Archive run writer) v = record v { archived = run.upto; runs_end = run.start + run.len; archive = with_next_run v.archive }
 work_done (Reclaim anchors source written) v = record v { transactions = reclaimed_to v.transactions anchors.upto }
 
 -- ---- the slot

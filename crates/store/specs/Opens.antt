@@ -15,7 +15,9 @@ use Rattle.recovery.specs.declared.recovered.LiveChain.{LiveChain}
 use Rattle.recovery.specs.declared.recovered.Recovered.{Recovered}
 use Rattle.transactions.specs.declared.stage.GroupStage.TheVariants.{NoGroup}
 use Rattle.store.specs.Heads.{head_as}
-use Rattle.store.specs.Values.{StoreValue}
+use Rattle.archive.specs.declared.run.RunEntry.{RunEntry}
+use Rattle.wire.specs.declared.slot.Run.{Run}
+use Rattle.store.specs.Values.{ArchiveValue, StoreValue}
 
 -- the extents of each chain of a commit are in the chain of its time
 abbrev pub with_live : List ℕ → List LiveChain → List ℕ
@@ -25,15 +27,29 @@ with_live times (chain ∷ chains) = with_live (with_times times chain.extents.i
 abbrev pub times_of : List LiveChain → List ℕ
 times_of live = with_live (replicate 65536 0) live
 
+-- The runs of a log as queries know them, behind an archive mark. No floor comes before any: a log with a floor is not opened.
+abbrev pub AreEntriesOf : ℕ → List Run → List RunEntry → Type 0
+AreEntriesOf mark [] [] = Unit {0}
+AreEntriesOf mark [] (entry ∷ entries) = ⊥
+AreEntriesOf mark (run ∷ runs) [] = ⊥
+AreEntriesOf mark (run ∷ runs) (entry ∷ entries) = (entry.slot ≡ run) × (entry.mark ≡ mark) × (entry.floor ≡ 0) × AreEntriesOf run.upto runs entries
+
+-- nothing of the archive is read
+pub record IsUnread (runs : List Run) (archive : ArchiveValue) : Type 0 where
+  pub entries : AreEntriesOf 0 runs archive.runs
+  pub next : archive.next ≡ []
+  pub kept : archive.kept ≡ []
+
 -- the store on what was read: all commits of the log are published, and nothing waits
-abbrev pub opened_on : ℕ → Recovered → DiskState → StoreValue
-opened_on mark r disk = record {
+abbrev pub opened_on : ℕ → Recovered → ArchiveValue → DiskState → StoreValue
+opened_on mark r archive disk = record {
   transactions = record { mark = mark; opened = []; heads = map head_as r.commits.items; published = length r.commits.items; versions = r.chains; pending = None; queue = []; usages = r.extents; times = times_of r.live.items; reserved = []; slots = total r.header; used = r.used; group = 0; stage = NoGroup; floor = r.floor; reclaimed = r.reclaimed; failed = false };
   log = record { profile = r.header.profile; slots = total r.header; used = r.used; writing = false };
   turn = None;
   job = None;
   archived = r.archived;
   runs_end = row_end 0 r.runs.items;
+  archive = archive;
   disk = disk;
 }
 
@@ -41,7 +57,8 @@ opened_on mark r disk = record {
 pub record Opens (tells : Bool) (old : DiskState) (mark : ℕ) (v : StoreValue) : Type 0 where
   pub recovered : Recovered
   pub read : IsTrue tells → IsReadFrom (image_of old.areas) recovered
-  pub new_is : v ≡ opened_on mark recovered v.disk
+  pub new_is : v ≡ opened_on mark recovered v.archive v.disk
+  pub unread : IsUnread recovered.runs.items v.archive
   pub ordered : IsOrdered v.transactions.versions
   pub settled : IsTrue tells → v.disk.areas ≡ settled_on (image_of old.areas)
   pub left : IsTrue tells → LeavesNoMore old.areas v.disk.areas

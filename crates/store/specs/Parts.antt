@@ -5,15 +5,15 @@ use Rattle.status.specs.SlotCalls.{SlotStage}
 use Rattle.status.specs.SlotCalls as slots
 use Rattle.status.specs.TurnState.{TurnState, LogState}
 use Rattle.transactions.specs.Values.{TransactionsValue}
-use Rattle.store.specs.Values.{StoreValue}
+use Rattle.store.specs.Values.{ArchiveValue, StoreValue}
 use Rattle.store.specs.declared.job.Job.{Job}
 use Rattle.store.specs.declared.job.JobWork.{JobWork}
 use Rattle.store.specs.declared.job.JobWork.TheVariants.{Archive, Reclaim}
 use Rattle.store.specs.declared.job.JobDid.{JobDid}
 use Rattle.store.specs.declared.job.JobDid.TheVariants as did
 
-abbrev pub parts_of : TransactionsValue → LogState → Option TurnState → Option Job → ℕ → ℕ → DiskState → StoreValue
-parts_of transactions log turn job archived runs_end disk = record { transactions = transactions; log = log; turn = turn; job = job; archived = archived; runs_end = runs_end; disk = disk }
+abbrev pub parts_of : TransactionsValue → LogState → Option TurnState → Option Job → ℕ → ℕ → ArchiveValue → DiskState → StoreValue
+parts_of transactions log turn job archived runs_end archive disk = record { transactions = transactions; log = log; turn = turn; job = job; archived = archived; runs_end = runs_end; archive = archive; disk = disk }
 
 -- what was done of a job's slot that is at this stage
 abbrev pub job_did_at : SlotStage → JobDid

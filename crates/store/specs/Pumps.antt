@@ -1,5 +1,5 @@
 -- The steps of a group to the disk.
-use Rattle.std.specs.Prelude.{◌≡◌, ◌+◌, ◌⊎◌, Bool, true, false, is_some, IsTrue, length, Option, Some, None, Result, Ok, Err, MatchBool, MatchOption, MatchResult}
+use Rattle.std.specs.Prelude.{◌≡◌, ◌+◌, ◌⊎◌, Bool, true, false, is_some, IsTrue, [], length, Option, Some, None, Result, Ok, Err, MatchBool, MatchOption, MatchResult}
 use Rattle.disk.specs.Areas.{Areas}
 use Rattle.disk.specs.Calls.{DiskState, Writes, Syncs, Counts, refused_answer}
 use Rattle.disk.specs.declared.area.Area.TheVariants.{Heap}
@@ -52,7 +52,7 @@ pub record SyncsHeap (tells : Bool) (old : StoreValue) (result : Result Did Pump
 
 -- a store of these parts, on which no job runs
 abbrev pub store_of : TransactionsValue → LogState → Option TurnState → DiskState → StoreValue
-store_of transactions log turn disk = record { transactions = transactions; log = log; turn = turn; job = None; archived = 0; runs_end = 0; disk = disk }
+store_of transactions log turn disk = record { transactions = transactions; log = log; turn = turn; job = None; archived = 0; runs_end = 0; archive = record { runs = []; next = []; kept = [] }; disk = disk }
 
 -- what was done of a slot that is at this stage
 abbrev pub did_at : SlotStage → Did

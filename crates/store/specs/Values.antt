@@ -1,5 +1,6 @@
 -- What a clause sees of a store.
-use Rattle.std.specs.Prelude.{◌≡◌, ◌+◌, ◌||◌, ℕ, false, Option, None, Some, is_some, MatchOption}
+use Rattle.std.specs.Prelude.{◌≡◌, ◌+◌, ◌||◌, ℕ, false, List, Option, None, Some, is_some, MatchOption}
+use Rattle.archive.specs.declared.run.RunEntry.{RunEntry}
 use Rattle.disk.specs.Calls.{DiskState}
 use Rattle.status.specs.SlotCalls.{SlotStage, Begun, BodyWritten, BodySynced, GateWritten, Opened}
 use Rattle.status.specs.TurnState.{TurnState, LogState}
@@ -7,6 +8,15 @@ use Rattle.transactions.specs.Values.{TransactionsValue, is_turning}
 use Rattle.store.specs.declared.job.Job.{Job}
 use Rattle.store.specs.declared.job.JobStage.{JobStage}
 use Rattle.store.specs.declared.job.JobStage.TheVariants.{Writing, Stored, Turning}
+
+-- What a store has of its archive.
+pub record ArchiveValue : Type 0 where
+  -- the runs of the log, in order
+  pub runs : List RunEntry
+  -- while an archive is made, those and its run
+  pub next : List RunEntry
+  -- the parts of the archive that the reader keeps: where each begins, and its bytes
+  pub kept : List (ℕ × List ℕ)
 
 pub record StoreValue : Type 0 where
   pub transactions : TransactionsValue
@@ -18,6 +28,7 @@ pub record StoreValue : Type 0 where
   -- the archive mark, and where the last run of the log ends
   pub archived : ℕ
   pub runs_end : ℕ
+  pub archive : ArchiveValue
   pub disk : DiskState
 
 -- what a group's steps do not touch
@@ -25,6 +36,7 @@ pub record KeepsJob (old new : StoreValue) : Type 0 where
   pub job : new.job ≡ old.job
   pub archived : new.archived ≡ old.archived
   pub runs_end : new.runs_end ≡ old.runs_end
+  pub archive : new.archive ≡ old.archive
 
 -- but for its transactions, the store is what it was
 pub record HasRest (old new : StoreValue) : Type 0 where

@@ -7,11 +7,13 @@ ghost use Rattle.store.specs.Jobs.{PumpsJob, TakesJobStep, Stores, writing, Writ
 ghost use Rattle.disk.specs.Calls.{DiskState};
 ghost use Rattle.transactions.specs.Values.{KeepsSlots};
 ghost use Rattle.store.specs.Parts.{parts_of, job_did_at, IsInPlace};
+ghost use Rattle.store.specs.Values.{ArchiveValue};
 ghost use Rattle.store.specs.declared.job.Job.{Job};
 
 use crate::job::{Job, JobDid, JobStage, JobWork, put_job};
 use crate::starting::first_number;
 use crate::store::Store;
+use crate::store_archive::StoreArchive;
 use archive::RunWriter;
 use deltas::{EXTENT_LEN, fill_extent};
 use disk::{Area, DeviceFault, Disk};
@@ -52,6 +54,7 @@ impl<D: Disk> Store<D> {
                     &mut self.disk,
                     &mut self.archived,
                     &mut self.runs_end,
+                    &mut self.archive,
                     is_turning,
                     job,
                 );
@@ -78,6 +81,7 @@ fn step_job<D: Disk>(
     disk: &mut D,
     archived: &mut u64,
     runs_end: &mut u64,
+    archive: &mut StoreArchive,
     is_turning: bool,
     job: Job,
 ) -> Stepped
@@ -86,7 +90,7 @@ fn step_job<D: Disk>(
     requires free { is_turning ≡ false → job.stage ≡ JobStage.Stored → log.old.writing ≡ false }
     requires room { log.old.used < log.old.slots }
     ensures { (turn : Option TurnState) → is_some turn ≡ is_turning
-        → TakesJobStep D.tells job.stage job (parts_of transactions.old log.old turn (Some job) archived.old runs_end.old (D.state disk.old)) result.0 (parts_of transactions.new log.new turn result.1 archived.new runs_end.new (D.state disk.new)) }
+        → TakesJobStep D.tells job.stage job (parts_of transactions.old log.old turn (Some job) archived.old runs_end.old archive.old (D.state disk.old)) result.0 (parts_of transactions.new log.new turn result.1 archived.new runs_end.new archive.new (D.state disk.new)) }
 {
     let Job { work, stage } = job;
     match stage {
@@ -99,7 +103,16 @@ fn step_job<D: Disk>(
             if is_turning {
                 return (Err(PumpFault::Busy), Some(job));
             }
-            begin_slot(alloc, transactions, log, disk, archived, runs_end, job)
+            begin_slot(
+                alloc,
+                transactions,
+                log,
+                disk,
+                archived,
+                runs_end,
+                archive,
+                job,
+            )
         }
         JobStage::Turning(turn) => {
             let job = Job {
@@ -113,6 +126,7 @@ fn step_job<D: Disk>(
                 disk,
                 archived,
                 runs_end,
+                archive,
                 job,
                 turn,
             )
@@ -124,8 +138,8 @@ fn step_job<D: Disk>(
 
 // Writes the next piece of what the slot is to name; where all is written it is synced.
 fn store_next<D: Disk>(transactions: &mut Transactions, disk: &mut D, work: JobWork) -> Stepped
-    ensures { (log : LogState) (turn : Option TurnState) (archived runs_end : ℕ)
-        → Stores D.tells work (writing work) (parts_of transactions.old log turn (Some (writing work)) archived runs_end (D.state disk.old)) result.0 (parts_of transactions.new log turn result.1 archived runs_end (D.state disk.new)) }
+    ensures { (log : LogState) (turn : Option TurnState) (archived runs_end : ℕ) (archive : ArchiveValue)
+        → Stores D.tells work (writing work) (parts_of transactions.old log turn (Some (writing work)) archived runs_end archive (D.state disk.old)) result.0 (parts_of transactions.new log turn result.1 archived runs_end archive (D.state disk.new)) }
 {
     match work {
         JobWork::Archive { run, writer } => store_run(transactions, disk, run, writer),
@@ -144,8 +158,8 @@ fn store_run<D: Disk>(
     run: Run,
     writer: RunWriter<ArchiveWalk>,
 ) -> Stepped
-    ensures { (log : LogState) (turn : Option TurnState) (archived runs_end : ℕ)
-        → WritesOrSyncs D.tells writer.left run writer (writing (JobWork.Archive run writer)) (parts_of transactions.old log turn (Some (writing (JobWork.Archive run writer))) archived runs_end (D.state disk.old)) result.0 (parts_of transactions.new log turn result.1 archived runs_end (D.state disk.new)) }
+    ensures { (log : LogState) (turn : Option TurnState) (archived runs_end : ℕ) (archive : ArchiveValue)
+        → WritesOrSyncs D.tells writer.left run writer (writing (JobWork.Archive run writer)) (parts_of transactions.old log turn (Some (writing (JobWork.Archive run writer))) archived runs_end archive (D.state disk.old)) result.0 (parts_of transactions.new log turn result.1 archived runs_end archive (D.state disk.new)) }
 {
     if writer.left() == 0 {
         sync_stored(
@@ -168,8 +182,8 @@ fn write_run<D: Disk>(
     writer: RunWriter<ArchiveWalk>,
 ) -> Stepped
     requires { 0 < length writer.left }
-    ensures { (log : LogState) (turn : Option TurnState) (archived runs_end : ℕ)
-        → WritesRun D.tells run writer (writing (JobWork.Archive run writer)) (parts_of transactions.old log turn (Some (writing (JobWork.Archive run writer))) archived runs_end (D.state disk.old)) result.0 (parts_of transactions.new log turn result.1 archived runs_end (D.state disk.new)) }
+    ensures { (log : LogState) (turn : Option TurnState) (archived runs_end : ℕ) (archive : ArchiveValue)
+        → WritesRun D.tells run writer (writing (JobWork.Archive run writer)) (parts_of transactions.old log turn (Some (writing (JobWork.Archive run writer))) archived runs_end archive (D.state disk.old)) result.0 (parts_of transactions.new log turn result.1 archived runs_end archive (D.state disk.new)) }
 {
     let mut writer = writer;
     let written = writer.write_piece(disk);
@@ -194,8 +208,8 @@ fn store_anchors<D: Disk>(
     source: AnchorSource,
     written: usize,
 ) -> Stepped
-    ensures { (log : LogState) (turn : Option TurnState) (archived runs_end : ℕ)
-        → AnchorsOrSync D.tells (slice_get transactions.old.reserved written) anchors source written (writing (JobWork.Reclaim anchors source written)) (parts_of transactions.old log turn (Some (writing (JobWork.Reclaim anchors source written))) archived runs_end (D.state disk.old)) result.0 (parts_of transactions.new log turn result.1 archived runs_end (D.state disk.new)) }
+    ensures { (log : LogState) (turn : Option TurnState) (archived runs_end : ℕ) (archive : ArchiveValue)
+        → AnchorsOrSync D.tells (slice_get transactions.old.reserved written) anchors source written (writing (JobWork.Reclaim anchors source written)) (parts_of transactions.old log turn (Some (writing (JobWork.Reclaim anchors source written))) archived runs_end archive (D.state disk.old)) result.0 (parts_of transactions.new log turn result.1 archived runs_end archive (D.state disk.new)) }
 {
     let Some((number, next)) = next_extent(transactions.reserved(), written) else {
         let work = JobWork::Reclaim {
@@ -247,8 +261,8 @@ fn sync_stored<D: Disk>(
     did: JobDid,
     work: JobWork,
 ) -> Stepped
-    ensures { (log : LogState) (turn : Option TurnState) (archived runs_end : ℕ)
-        → SyncsStored D.tells area did (writing work) (parts_of transactions.old log turn (Some (writing work)) archived runs_end (D.state disk.old)) result.0 (parts_of transactions.new log turn result.1 archived runs_end (D.state disk.new)) }
+    ensures { (log : LogState) (turn : Option TurnState) (archived runs_end : ℕ) (archive : ArchiveValue)
+        → SyncsStored D.tells area did (writing work) (parts_of transactions.old log turn (Some (writing work)) archived runs_end archive (D.state disk.old)) result.0 (parts_of transactions.new log turn result.1 archived runs_end archive (D.state disk.new)) }
 {
     match disk.sync(area) {
         Err(DeviceFault) => {
@@ -299,8 +313,8 @@ fn make_ready(
     transactions: &mut Transactions,
     work: &JobWork,
 ) -> Result<(), AllocError>
-    ensures ok { OnOk result ((log : LogState) (turn : Option TurnState) (job : Option Job) (archived runs_end : ℕ) (disk : DiskState)
-        → parts_of transactions.new log turn job archived runs_end disk ≡ made_ready work.now (parts_of transactions.old log turn job archived runs_end disk)) }
+    ensures ok { OnOk result ((log : LogState) (turn : Option TurnState) (job : Option Job) (archived runs_end : ℕ) (archive : ArchiveValue) (disk : DiskState)
+        → parts_of transactions.new log turn job archived runs_end archive disk ≡ made_ready work.now (parts_of transactions.old log turn job archived runs_end archive disk)) }
     ensures err { OnErr result (TakesMemory work.now × (transactions.new ≡ transactions.old)) }
     ensures slots { KeepsSlots transactions.old transactions.new }
 {
@@ -319,6 +333,7 @@ fn begin_slot<D: Disk>(
     disk: &mut D,
     archived: &mut u64,
     runs_end: &mut u64,
+    archive: &mut StoreArchive,
     job: Job,
 ) -> Stepped
     requires slots { transactions.old.slots < 65536 }
@@ -327,7 +342,7 @@ fn begin_slot<D: Disk>(
     requires free { log.old.writing ≡ false }
     requires room { log.old.used < log.old.slots }
     ensures { (turn : Option TurnState)
-        → BeginsJobSlot D.tells job (parts_of transactions.old log.old turn (Some job) archived.old runs_end.old (D.state disk.old)) result.0 (parts_of transactions.new log.new turn result.1 archived.new runs_end.new (D.state disk.new)) }
+        → BeginsJobSlot D.tells job (parts_of transactions.old log.old turn (Some job) archived.old runs_end.old archive.old (D.state disk.old)) result.0 (parts_of transactions.new log.new turn result.1 archived.new runs_end.new archive.new (D.state disk.new)) }
 {
     let Ok(()) = make_ready(alloc, transactions, &job.work) else {
         return (Err(PumpFault::NoMemory), Some(job));
@@ -341,6 +356,7 @@ fn begin_slot<D: Disk>(
             disk,
             archived,
             runs_end,
+            archive,
             job,
             turn,
         ),
@@ -354,17 +370,19 @@ fn finish(
     transactions: &mut Transactions,
     archived: &mut u64,
     runs_end: &mut u64,
+    archive: &mut StoreArchive,
     work: &JobWork,
 )
     requires { IsInPlace work.now }
     ensures is { (log : LogState) (turn : Option TurnState) (job : Option Job) (disk : DiskState)
-        → parts_of transactions.new log turn job archived.new runs_end.new disk ≡ work_done work.now (parts_of transactions.old log turn job archived.old runs_end.old disk) }
+        → parts_of transactions.new log turn job archived.new runs_end.new archive.new disk ≡ work_done work.now (parts_of transactions.old log turn job archived.old runs_end.old archive.old disk) }
     ensures slots { KeepsSlots transactions.old transactions.new }
 {
     match work {
         JobWork::Archive { run, .. } => {
             *archived = run.upto;
             *runs_end = run.start + run.len;
+            archive.put_run();
         }
         JobWork::Reclaim { anchors, .. } => transactions.reclaim(alloc, anchors.upto),
     }
@@ -380,6 +398,7 @@ fn turn_slot<D: Disk>(
     disk: &mut D,
     archived: &mut u64,
     runs_end: &mut u64,
+    archive: &mut StoreArchive,
     job: Job,
     turn: SlotTurn,
 ) -> Stepped
@@ -387,7 +406,7 @@ fn turn_slot<D: Disk>(
     requires end { IsInPlace job.work }
     requires stage { job.stage ≡ JobStage.Stored }
     ensures { (other : Option TurnState) (before : Option Job)
-        → TurnsJob D.tells job turn (parts_of transactions.old log.old other before archived.old runs_end.old (D.state disk.old)) result.0 (parts_of transactions.new log.new other result.1 archived.new runs_end.new (D.state disk.new)) }
+        → TurnsJob D.tells job turn (parts_of transactions.old log.old other before archived.old runs_end.old archive.old (D.state disk.old)) result.0 (parts_of transactions.new log.new other result.1 archived.new runs_end.new archive.new (D.state disk.new)) }
 {
     match log.advance(turn, disk) {
         Err(DeviceFault) => {
@@ -395,7 +414,7 @@ fn turn_slot<D: Disk>(
             (Err(PumpFault::Failed), Some(job))
         }
         Ok(Step::Open(_)) => {
-            finish(alloc, transactions, archived, runs_end, &job.work);
+            finish(alloc, transactions, archived, runs_end, archive, &job.work);
             transactions.slot_used();
             job.give_up();
             (Ok(JobDid::JobDone), None)

@@ -9,6 +9,7 @@ mod pump;
 mod queries;
 mod starting;
 mod store;
+mod store_archive;
 
 pub use group::{BeginFault, Did, PumpFault, Redeemed, SubmitFault, Submitted, Ticket};
 pub use job::{JobDid, StartFault};

@@ -8,6 +8,7 @@ ghost use Rattle.extents.specs.Times.{with_times};
 ghost use Rattle.store.specs.Opens.{Opens, OpenRefuses, times_of};
 
 use crate::store::Store;
+use crate::store_archive::StoreArchive;
 use chains::Bound;
 use disk::Disk;
 use extents::ChainTimes;
@@ -92,6 +93,10 @@ impl<D: Disk> Store<D> {
             Ok(times) => times,
             Err(_) => return Err((OpenFault::NoMemory, disk)),
         };
+        let archive = match StoreArchive::new(alloc, &recovered.runs) {
+            Ok(archive) => archive,
+            Err(_) => return Err((OpenFault::NoMemory, disk)),
+        };
         let log = StatusLog::new(&recovered.header, recovered.used);
         let slots = log.slots();
         let Recovered {
@@ -123,6 +128,7 @@ impl<D: Disk> Store<D> {
             job: None,
             archived,
             runs_end: end_of(&runs),
+            archive,
             disk,
         })
     }

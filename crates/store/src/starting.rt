@@ -1,11 +1,12 @@
 //! The beginning of a job.
-ghost use Rattle.std.specs.Prelude.{◌≡◌};
+ghost use Rattle.std.specs.Prelude.{◌≡◌, ◌<◌, ◌^◌, IfNone};
 ghost use Rattle.deltas.specs.Chains.{first_number};
 ghost use Rattle.store.specs.Archives.{StartsArchive, refusal_now};
 ghost use Rattle.store.specs.Reclaims.{StartsReclaim, reclaim_refusal};
 
 use crate::job::{Job, JobStage, JobWork, StartFault, put_job};
 use crate::store::Store;
+use archive::RunEntry;
 use deltas::count_extents;
 use disk::Disk;
 use extents::Extent;
@@ -30,6 +31,14 @@ impl<D: Disk> Store<D> {
         match archive_run(versions, self.archived, floor, upto, self.runs_end) {
             None => Err(StartFault::ArchiveFull),
             Some((run, writer)) => {
+                let entry = RunEntry {
+                    slot: run,
+                    mark: self.archived,
+                    floor,
+                };
+                let Ok(()) = self.archive.make_place(self.alloc, entry) else {
+                    return Err(StartFault::NoMemory);
+                };
                 self.transactions.lend_slot();
                 let job = Job {
                     work: JobWork::Archive { run, writer },
@@ -43,7 +52,8 @@ impl<D: Disk> Store<D> {
 
     // Why no archive up to a time begins, by what is known before its run is counted.
     fn refusal_now(&self, upto: u64) -> Option<StartFault>
-        ensures { result ≡ refusal_now self.now upto }
+        ensures is { result ≡ refusal_now self.now upto }
+        ensures in_range { IfNone result ((0 < upto) × (upto < 2 ^ 63)) }
     {
         if self.transactions.has_failed() {
             return Some(StartFault::Failed);

@@ -3,6 +3,7 @@ ghost use Rattle.std.specs.Prelude.{◌≡◌, IfOk};
 ghost use Rattle.store.specs.Calls.{Begins, Aborts, Submits, Redeems, IsViewOf, IsTimesOf, last, floor};
 
 use crate::job::Job;
+use crate::store_archive::StoreArchive;
 use disk::Disk;
 use group::{BeginFault, Redeemed, SubmitFault, Submitted, Ticket};
 use snapshot::Txn;
@@ -23,6 +24,7 @@ pub struct Store<D: Disk> {
     // The archive mark, and where the last run of the log ends.
     pub(crate) archived: u64,
     pub(crate) runs_end: u64,
+    pub(crate) archive: StoreArchive,
     pub(crate) disk: D,
 }
 
@@ -32,10 +34,10 @@ impl<D: Disk> Model for Store<D> {
 
     ghost Value = { StoreValue };
 
-    ghost view = { λ s. parts_of s.transactions s.log s.turn s.job s.archived s.runs_end (D.state s.disk) };
+    ghost view = { λ s. parts_of s.transactions s.log s.turn s.job s.archived s.runs_end s.archive (D.state s.disk) };
 
-    ghost invariant = { λ s. IsInStep (parts_of s.transactions s.log s.turn s.job s.archived s.runs_end (D.state s.disk))
-        × IsInRange (parts_of s.transactions s.log s.turn s.job s.archived s.runs_end (D.state s.disk)) };
+    ghost invariant = { λ s. IsInStep (parts_of s.transactions s.log s.turn s.job s.archived s.runs_end s.archive (D.state s.disk))
+        × IsInRange (parts_of s.transactions s.log s.turn s.job s.archived s.runs_end s.archive (D.state s.disk)) };
 }
 
 impl<D: Disk> Store<D> {
@@ -51,6 +53,7 @@ impl<D: Disk> Store<D> {
             job,
             archived: _,
             runs_end: _,
+            archive: _,
             disk,
         } = self;
         transactions.spend();
@@ -114,11 +117,14 @@ impl<D: Disk> Store<D> {
         self.transactions.times_of(self.alloc, label)
     }
 
-    /// A view of what is published now, which later commits do not change.
+    /// A view of what is published now, which later commits do not change, and no job: it shares the
+    /// versions in memory and the runs of the log.
     pub fn view(&self) -> Result<View, AllocError>
         ensures { IfOk result (IsViewOf self.now) }
     {
-        self.transactions.view()
+        let runs = self.archive.runs.share()?;
+        let view = self.transactions.view()?;
+        Ok(view.with_archive(self.transactions.reclaimed(), runs))
     }
 
     /// Ends a view.

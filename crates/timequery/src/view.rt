@@ -9,6 +9,7 @@ ghost use Rattle.timequery.specs.View.{RefusesTime, RefusesScan, RefusesInterval
 
 use crate::fault::QueryFault;
 use crate::runs::Runs;
+use archive::RunEntry;
 use chains::{Bound, Frozen, SharedValue};
 use history::{Key, Version};
 use std::alloc::Global;
@@ -64,6 +65,13 @@ impl View {
         ensures { result ≡ self.now.mark }
     {
         self.mark
+    }
+
+    /// The runs of the archive that it reads, oldest first.
+    pub fn runs(&self) -> &[RunEntry]
+        ensures { result.now ≡ self.now.runs }
+    {
+        self.runs.as_slice()
     }
 
     /// Lets go of what it holds.

@@ -1,0 +1,114 @@
+//! What a store has of its archive.
+ghost use Rattle.std.specs.Prelude.{◌≡◌, ◌++◌, ◌∷◌, [], IfOk, OnOk, OnErr};
+ghost use Rattle.std.specs.List.{AllByRecursion};
+ghost use Rattle.wire.specs.Spelling.{IsRun};
+ghost use Rattle.store.specs.Calls.{same_run, is_front};
+ghost use Rattle.store.specs.Jobs.{with_next_run};
+ghost use Rattle.store.specs.Opens.{AreEntriesOf, IsUnread};
+
+use archive::{ArchiveReader, RunEntry};
+use std::alloc::{AllocError, Global};
+use std::marker::Model;
+use std::mem;
+use timequery::Runs;
+use wire::Run;
+
+/// The runs of the log, and a reader of the archive.
+#[derive(Drop)]
+pub(crate) struct StoreArchive {
+    pub(crate) reader: ArchiveReader,
+    pub(crate) runs: Runs,
+    // While an archive is made: those and its run, so that its end takes no memory.
+    pub(crate) next: Runs,
+}
+
+impl Model for StoreArchive {
+    ghost use Rattle.archive.specs.Readers.{kept_of};
+    ghost use Rattle.store.specs.Values.{ArchiveValue};
+
+    ghost Value = { ArchiveValue };
+
+    ghost view = { λ a. record { runs = a.runs; next = a.next; kept = kept_of a.reader } };
+}
+
+// The runs of a log as queries know them.
+fn entries_of(alloc: Global, runs: &[Run]) -> Result<Vec<RunEntry>, AllocError>
+    requires { AllByRecursion IsRun runs.now }
+    ensures { IfOk result (λ entries. AreEntriesOf 0 runs.now entries.items) }
+{
+    let mut entries = Vec::new(alloc);
+    let mut mark = 0;
+    let mut rest = runs;
+    while let [run, after @ ..] = rest {
+        let entry = RunEntry {
+            slot: *run,
+            mark,
+            floor: 0,
+        };
+        entries.push(entry)?;
+        mark = run.upto;
+        rest = after;
+    }
+    Ok(entries)
+}
+
+fn is_same_run(a: &RunEntry, b: &RunEntry) -> bool
+    ensures { result ≡ same_run a.now b.now }
+{
+    a.slot.upto == b.slot.upto
+        && a.slot.start == b.slot.start
+        && a.slot.len == b.slot.len
+        && a.slot.records == b.slot.records
+        && a.mark == b.mark
+        && a.floor == b.floor
+}
+
+/// Whether these runs are the first of the others.
+pub(crate) fn is_front(runs: &[RunEntry], others: &[RunEntry]) -> bool
+    ensures { result ≡ is_front runs.now others.now }
+{
+    let mut rest = runs;
+    let mut left = others;
+    while let [run, after @ ..] = rest {
+        let [other, behind @ ..] = left else {
+            return false;
+        };
+        if !is_same_run(run, other) {
+            return false;
+        }
+        rest = after;
+        left = behind;
+    }
+    true
+}
+
+impl StoreArchive {
+    /// That of a log with these runs, of which nothing is read.
+    pub(crate) fn new(alloc: Global, runs: &[Run]) -> Result<Self, AllocError>
+        requires { AllByRecursion IsRun runs.now }
+        ensures { IfOk result (IsUnread runs.now) }
+    {
+        let entries = entries_of(alloc, runs)?;
+        Ok(StoreArchive {
+            reader: ArchiveReader::new(alloc)?,
+            runs: Runs::from_vec(alloc, entries)?,
+            next: Runs::new(),
+        })
+    }
+
+    /// Makes the place of one more run behind those of the log.
+    pub(crate) fn make_place(&mut self, alloc: Global, run: RunEntry) -> Result<(), AllocError>
+        ensures ok { OnOk result (self.new ≡ record self.old { next = self.old.runs ++ run ∷ [] }) }
+        ensures err { OnErr result (self.new ≡ self.old) }
+    {
+        self.next = self.runs.with(alloc, run)?;
+        Ok(())
+    }
+
+    /// The run whose place was made is one of the log's.
+    pub(crate) fn put_run(&mut self)
+        ensures { self.new ≡ with_next_run self.old }
+    {
+        self.runs = mem::replace(&mut self.next, Runs::new());
+    }
+}
