@@ -57,7 +57,7 @@ all-taken-of P (suc n) (x ∷ xs) all = (all.0, all-taken-of P n xs all.1)
 -- where commits are built, so is each kind that a job makes
 pub product-built : (profile : ℕ) (p : Product) → IsTrue (is_built profile 1) → IsTrue (is_built profile (kind_of (body_of p)))
 product-built profile (OfRun run) built = built
-product-built profile (OfAnchors a) built = ?
+product-built profile (OfAnchors a) built = built
 
 -- ---- the status area as it would rest
 
