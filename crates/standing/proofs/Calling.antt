@@ -67,6 +67,7 @@ use Rattle.standing.proofs.Submitting.{order-has, order-rising, submit-step}
 use Rattle.standing.proofs.Answering.{redeem-answered}
 use Rattle.standing.proofs.Packed.{bodies-packed, packed-more, as-many}
 use Rattle.standing.proofs.Usages.{all-taken}
+use Rattle.standing.proofs.RunsCalls.{left-beside}
 
 -- ---- what the open transactions and the tickets are is nothing to the disk
 
@@ -121,7 +122,7 @@ abbrev with_transactions : StoreValue → TransactionsValue → StoreValue
 with_transactions v t = record v { transactions = t }
 
 same-rest : (old new : StoreValue) (t : TransactionsValue) → HasRest old new → new.transactions ≡ t → with_transactions old t ≡ new
-same-rest old new t rest is = let a = sym is in let b = sym rest.log in let c = sym rest.turn in let d = sym rest.disk in let j = sym rest.job.job in let k = sym rest.job.archived in let l = sym rest.job.runs_end in λ i. record { transactions = a i; log = b i; turn = c i; job = j i; archived = k i; runs_end = l i; disk = d i }
+same-rest old new t rest is = let a = sym is in let b = sym rest.log in let c = sym rest.turn in let d = sym rest.disk in let j = sym rest.job.job in let k = sym rest.job.archived in let l = sym rest.job.runs_end in let n = sym rest.job.archive in λ i. record { transactions = a i; log = b i; turn = c i; job = j i; archived = k i; runs_end = l i; archive = n i; disk = d i }
 
 -- the store once a transaction has begun or is over
 opened-stands : (tells : Bool) (v : StoreValue) (m : Machine Value) (opened : List (Option ℕ)) (snapshots : List ℕ) → Stands tells v m → StandsInMemory (record v.transactions { opened = opened }) (record m { snapshots = snapshots })
@@ -134,6 +135,8 @@ opened-stands tells v m opened snapshots stands memory machine = record {
   gate = stands.gate;
   plain = stands.plain;
   disk = λ told. same-disk v m opened v.transactions.heads snapshots (stands.disk told);
+  place = (left-beside tells v m (record m { snapshots = snapshots }) (record v.transactions { opened = opened }) stands.machine refl refl refl refl stands.place stands.runs).place;
+  runs = (left-beside tells v m (record m { snapshots = snapshots }) (record v.transactions { opened = opened }) stands.machine refl refl refl refl stands.place stands.runs).runs;
 }
 
 same-stands : (tells : Bool) (old new : StoreValue) (m : Machine Value) → Stands tells old m → HasRest old new → new.transactions ≡ old.transactions → Stands tells new m
@@ -215,6 +218,8 @@ redeemed-stands tells v m time stands memory = record {
   gate = stands.gate;
   plain = stands.plain;
   disk = λ told. same-disk v m v.transactions.opened (orders.redeemed time v.transactions.heads) m.snapshots (stands.disk told);
+  place = (left-beside tells v m m (record v.transactions { heads = orders.redeemed time v.transactions.heads }) stands.machine refl refl refl refl stands.place stands.runs).place;
+  runs = (left-beside tells v m m (record v.transactions { heads = orders.redeemed time v.transactions.heads }) stands.machine refl refl refl refl stands.place stands.runs).runs;
 }
 
 pub redeem-stands : (tells : Bool) (old new : StoreValue) (ticket : TicketValue) (answer : Redeemed) (m : Machine Value) → Stands tells old m → stores.Redeems old ticket answer new
@@ -384,6 +389,8 @@ queued-stands tells v m label time numbers snapshots opened c stands may least m
   disk = λ told.
       same-disk (with_transactions v (with_queued v.transactions label time c.writes numbers)) (record m { queue = m.queue ++ c ∷ [] }) opened (with_queued v.transactions label time c.writes numbers).heads snapshots
       (queued-disk v m label time numbers m.snapshots c stands.order stands.memory stands.machine least many (stands.disk told));
+  place = (left-beside tells v m (record m { queue = m.queue ++ c ∷ []; snapshots = snapshots }) (record (with_queued v.transactions label time c.writes numbers) { opened = opened }) stands.machine refl refl refl refl stands.place stands.runs).place;
+  runs = (left-beside tells v m (record m { queue = m.queue ++ c ∷ []; snapshots = snapshots }) (record (with_queued v.transactions label time c.writes numbers) { opened = opened }) stands.machine refl refl refl refl stands.place stands.runs).runs;
 }
 
 abbrev SubmitsTo : Bool → Machine Value → Submission Value → Result Submitted SubmitFault → StoreValue → Type 0

@@ -66,7 +66,7 @@ use Rattle.store.specs.Jobs.{PumpsJob, TakesJobStep, WritesOrSyncs, WritesRun, S
 use Rattle.store.specs.Archives.{ArchiveJob, job_of}
 use Rattle.standing.specs.Standing.{StandsInMemory}
 use Rattle.standing.specs.OnDisk.{IsImageOf, group_of, IsAtStage, IsTurnOf, IsNextRun, IsWritten, slot_of_run, IsTurnOfRun, IsAtJob, JobIsAt, HasJob, IsRested, Works, StandsOnDisk}
-use Rattle.standing.specs.Stands.{IsNoReclaim, Stands}
+use Rattle.standing.specs.Stands.{IsNoReclaim, StandsBeside as Stands}
 use Rattle.standing.specs.Laws.{job_ends_in}
 use Rattle.standing.proofs.Publishing.{breaks}
 use Rattle.standing.proofs.Jobs.{resting, archives-built, laid-after, stands-after, built-after, run-leaves-within, run-leads}

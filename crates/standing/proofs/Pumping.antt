@@ -75,7 +75,7 @@ use Rattle.store.specs.Pumps.{Pumps, TakesStep, WritesExtent, MayBeginSlot, Turn
 use Rattle.standing.specs.Standing.{StandsInMemory}
 use Rattle.standing.specs.OnDisk.{IsImageOf, AllPacked, written_before, group_of, IsAtStage, IsTurnOf, IsNextRun, IsAtJob, HasWork, HasJob, IsRested, Works, StandsOnDisk}
 use Rattle.archive.specs.Pieces.{InWriting}
-use Rattle.standing.specs.Stands.{Stands, IsUnreclaimed, HasGate, gate_at, gate_of}
+use Rattle.standing.specs.Stands.{StandsBeside as Stands, IsUnreclaimed, HasGate, gate_at, gate_of}
 use Rattle.standing.specs.Laws.{begins_in, breaks_in, ends_in}
 use Rattle.standing.proofs.Conflicts.{writes-behind}
 use Rattle.standing.proofs.Packed.{packed-rest, wait-front, length-mapped}
@@ -597,8 +597,8 @@ Ends tells m answer v = (after : Machine Value) × Run IsValue m (ends_in m.gate
 
 same-store : (v new : StoreValue) (transactions : TransactionsValue) (log : LogState) (turn : Option TurnState) → KeepsJob v new → new.transactions ≡ transactions → new.log ≡ log → new.turn ≡ turn → with_parts v new transactions log turn ≡ new
 same-store v new transactions log turn keeps a b c =
-    let x = sym a in let y = sym b in let z = sym c in let j = sym keeps.job in let k = sym keeps.archived in let l = sym keeps.runs_end in
-    λ i. record { transactions = x i; log = y i; turn = z i; job = j i; archived = k i; runs_end = l i; disk = new.disk }
+    let x = sym a in let y = sym b in let z = sym c in let j = sym keeps.job in let k = sym keeps.archived in let l = sym keeps.runs_end in let n = sym keeps.archive in
+    λ i. record { transactions = x i; log = y i; turn = z i; job = j i; archived = k i; runs_end = l i; archive = n i; disk = new.disk }
 
 pub broken-order : (v : TransactionsValue) → IsInOrder v → IsInOrder (groups.broken v)
 broken-order v order = record {
@@ -1071,7 +1071,7 @@ step tells next.BeginSlot v new answer m parts machine works asks sound takes = 
     by-job-turn None still (inr first) =
         let turns = subst (λ (t : TransactionsValue). TurnsSlot tells (record { number = v.log.used; body = spelling v.log.profile (record { number = v.log.used; body = first.body }); stage = slots.Begun }) (record v { transactions = groups.at_stage Turning t; log = record v.log { writing = true } }) answer new)
         (fresh-same v.transactions parts.plain.0) first.turns in
-        let keeps : KeepsJob v new = (let k = first.turns.job in record { job = k.job; archived = k.archived; runs_end = k.runs_end }) in
+        let keeps : KeepsJob v new = (let k = first.turns.job in record { job = k.job; archived = k.archived; runs_end = k.runs_end; archive = k.archive }) in
         begun-step tells v new m parts machine works (begin-is v.transactions.stage v.transactions.group asks) sound first.body first.commit still keeps asks answer turns
 step tells next.AdvanceSlot v new answer m parts machine works asks sound takes = advance-step tells v new m parts machine works asks sound answer takes
 
