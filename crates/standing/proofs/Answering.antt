@@ -1,17 +1,12 @@
--- Tickets, labels and views answer as the machine does.
-use Rattle.std.proofs.Common.{◌≡◌, ℕ, zero, suc, ◌<◌, ◌≤◌, ◌==◌, ◌||◌, nat_lt, nat_le, Bool, true, false, cond, List, [], ◌∷◌, length, take, map, Option, Result, Ok, Err, MatchBool, MatchResult, refl, arith, ap, sym, subst, ◌∙◌, inl, inr}
+-- Tickets and labels answer as the machine does.
+use Rattle.std.proofs.Common.{◌≡◌, ℕ, zero, suc, ◌<◌, ◌≤◌, ◌==◌, ◌||◌, nat_lt, nat_le, Bool, true, false, cond, List, [], ◌∷◌, length, take, map, Option, Result, Ok, Err, MatchBool, refl, arith, ap, sym, subst, ◌∙◌, inl, inr}
 use Rattle.std.specs.List.{list_any, filter}
 use Rattle.std.proofs.lemmas.Bool.{cases_eq}
 use Rattle.std.proofs.lemmas.Bool.Decides.{nat_tests}
-use Rattle.history.specs.declared.key.Key.{Key}
-use Rattle.history.specs.declared.time.TimedWrite.{TimedWrite}
-use Rattle.history.specs.Time.{value_at}
-use Rattle.history.specs.Histories as histories
-use Rattle.history.specs.Histories.{Commit, History, last}
+use Rattle.history.specs.Histories.{Commit, History}
 use Rattle.history.specs.Machine.{Machine}
 use Rattle.history.specs.Answers as answers
 use Rattle.image.specs.Values.{Value}
-use Rattle.chains.specs.KeyWrites.{writes_of}
 use Rattle.group.specs.CommitOrder as orders
 use Rattle.group.specs.CommitOrder.{IsRisingAfter, is_awaited, last_time_after, last_published, standing_of}
 use Rattle.group.specs.Tickets.{TicketValue}
@@ -21,16 +16,10 @@ use Rattle.group.specs.declared.commit_order.Standing.TheVariants as standing
 use Rattle.group.specs.declared.answers.Redeemed.{Redeemed}
 use Rattle.group.specs.declared.answers.Redeemed.TheVariants as redeemed
 use Rattle.group.proofs.Heads.{redeemed-rising}
-use Rattle.timequery.specs.View.{ViewValue, AnswersAt}
-use Rattle.timequery.specs.declared.fault.QueryFault.{QueryFault}
-use Rattle.timequery.specs.declared.fault.QueryFault.TheVariants as query
 use Rattle.transactions.specs.Values.{TransactionsValue}
 use Rattle.transactions.specs.Calls as calls
-use Rattle.store.specs.Values.{StoreValue}
-use Rattle.store.specs.Calls as stores
 use Rattle.standing.specs.Standing.{Name, name_of, name_at, StandsInMemory}
-use Rattle.standing.specs.Laws.{RedeemsAs, ViewStands, SaysAt}
-use Rattle.standing.proofs.Memory.{last-is, all-held}
+use Rattle.standing.specs.Laws.{RedeemsAs}
 use Rattle.standing.proofs.Names.{front-named}
 
 -- ---- where a time stands among the commits
@@ -176,50 +165,3 @@ pub times-of_label : (v : TransactionsValue) (m : Machine Value) (label : ℕ) �
 times-of_label v m label stands =
     ap (λ (n : ℕ). map (λ (head : CommitHead). head.time) (filter (λ (head : CommitHead). head.label == label) (take n v.heads))) stands.published
     ∙ named-times label (take (length m.published) v.heads) m.published (front-named v.heads m.published m.queue stands.names)
-
--- ---- views
-
-pub view-stands : (v : StoreValue) (view : ViewValue) (m : Machine Value) → StandsInMemory v.transactions m → v.transactions.reclaimed ≡ 0 → stores.IsViewOf v view → ViewStands view m.published m.floors
-view-stands v view m stands none is =
-    subst (λ (w : ViewValue). ViewStands w m.published m.floors) (sym is) (record { last_is = last-is v.transactions m stands; floor_is = stands.floors; ordered = stands.versions.ordered; state_is = all-held v.transactions m stands none })
-
-at-said : (view : ViewValue) (h : History Value) (floors : ℕ → ℕ) (key : Key) (time : ℕ) (answer : Result (Option Value) QueryFault) → ViewStands view h floors
-    → MatchResult answer (λ o. AnswersAt view time o (value_at (writes_of view.state key) time)) (stores.RefusesAt view time) → SaysAt (answers.at_answer h floors key time) answer
-at-said view h floors key time (Ok o) stands says =
-    let floor = stands.floor_is key.relation in
-    let last_is = stands.last_is in
-    let low : nat_lt time (floors key.relation) ≡ false = let from = says.from_floor in let above : floors key.relation ≤ time = omega arith in grind (arith, nat_tests) in
-    let high : nat_lt (last h) time ≡ false = let upto = says.upto_last in let below : time ≤ last h = omega arith in grind (arith, nat_tests) in
-    rw (low, high) (ap (λ (x : Option Value). Ok x) (sym (says.is ∙ ap (λ (ws : List (TimedWrite Value)). value_at ws time) (stands.state_is key))))
-at-said view h floors key time (Err (query.BeforeKept floor)) stands says =
-    let same = stands.floor_is key.relation in
-    let low : nat_lt time (floors key.relation) ≡ true = let before = says.0 in let below : time < floors key.relation = omega arith in grind (arith, nat_tests) in
-    let named : floors key.relation ≡ floor = sym same ∙ sym says.1 in
-    rw (low, named) refl
-at-said view h floors key time (Err (query.NotYet late)) stands says =
-    let same = stands.floor_is key.relation in
-    let last_is = stands.last_is in
-    let low : nat_lt time (floors key.relation) ≡ false = let from = says.0 in let above : floors key.relation ≤ time = omega arith in grind (arith, nat_tests) in
-    let high : nat_lt (last h) time ≡ true = let after = says.1 in let above : last h < time = omega arith in grind (arith, nat_tests) in
-    let named : last h ≡ late = sym last_is ∙ sym says.2 in
-    rw (low, high, named) refl
-at-said view h floors key time (Err query.NoMemory) stands says =
-    let same = stands.floor_is key.relation in
-    let last_is = stands.last_is in
-    let low : nat_lt time (floors key.relation) ≡ false = let from = says.0 in let above : floors key.relation ≤ time = omega arith in grind (arith, nat_tests) in
-    let high : nat_lt (last h) time ≡ false = let upto = says.1 in let below : time ≤ last h = omega arith in grind (arith, nat_tests) in
-    (value_at (histories.writes_of h key) time, rw (low, high) refl)
-at-said view h floors key time (Err query.EmptyInterval) stands says = absurd says
-at-said view h floors key time (Err query.Device) stands says = absurd says
-at-said view h floors key time (Err (query.Damaged start)) stands says = absurd says
-at-said view h floors key time (Err query.NeedsDisk) stands says = absurd says
-at-said view h floors key time (Err query.Stranger) stands says = absurd says
-
-pub at-answered : (v : StoreValue) (view : ViewValue) (h : History Value) (floors : ℕ → ℕ) (key : Key) (time : ℕ) (answer : Result (Option Value) QueryFault) → ViewStands view h floors → stores.AnswersAtView v view key time answer
-    → MatchBool (view.mark == v.transactions.mark) (SaysAt (answers.at_answer h floors key time) answer) (answer ≡ Err query.Stranger)
-at-answered v view h floors key time answer stands says = by-mark (view.mark == v.transactions.mark) says
-  where
-    by-mark : (b : Bool) → MatchBool b (MatchResult answer (λ o. AnswersAt view time o (value_at (writes_of view.state key) time)) (stores.RefusesAt view time)) (answer ≡ Err query.Stranger)
-        → MatchBool b (SaysAt (answers.at_answer h floors key time) answer) (answer ≡ Err query.Stranger)
-    by-mark true said = at-said view h floors key time answer stands said
-    by-mark false other = other

@@ -48,6 +48,7 @@ use Rattle.vacuum.proofs.Plans.{archive_plan-is}
 use Rattle.transactions.specs.Order.{IsInOrder}
 use Rattle.transactions.specs.Values.{TransactionsValue, spare, claimed, with_slot_lent}
 use Rattle.store.specs.Calls as stores
+use Rattle.archive.specs.declared.run.RunEntry.{RunEntry}
 use Rattle.store.specs.Archives.{refusal_now, archive_of, with_archive, BeginsRun, StartsArchive}
 use Rattle.store.specs.Values.{StoreValue, IsInStep, IsOnItsWay, turn_of, lent_to}
 use Rattle.store.specs.declared.job.Job.{Job}
@@ -56,7 +57,7 @@ use Rattle.store.specs.declared.job.StartFault.{StartFault}
 use Rattle.store.specs.declared.job.StartFault.TheVariants as fault
 use Rattle.standing.specs.Standing.{StandsInMemory}
 use Rattle.standing.specs.OnDisk.{OfRun, IsNextRun, IsRested, HasJob, Works}
-use Rattle.standing.specs.Stands.{Stands}
+use Rattle.standing.specs.Stands.{StandsBeside as Stands}
 use Rattle.standing.proofs.Held.{rising-held}
 use Rattle.standing.proofs.Memory.{last-is}
 use Rattle.standing.proofs.Jobs.{resting}
@@ -90,7 +91,7 @@ index-same place (r ∷ rs) =
     ap (λ (l : List ℕ). u64_bytes place ++ l)
     (ap (λ (bytes : List ℕ). written.index_bytes (place + length bytes) rs) (record-same r) ∙ index-same (place + length (archive_bytes r)) rs)
 
-run-same : (rs : List ArchiveRecord) → written.run_bytes rs ≡ run_bytes rs
+pub run-same : (rs : List ArchiveRecord) → written.run_bytes rs ≡ run_bytes rs
 unfolding run_bytes
 run-same rs = let one = records-same rs in let rest = index-same 0 rs in λ i. one i ++ rest i
 
@@ -223,8 +224,8 @@ module _ (header : Header) (v : StoreValue) (m : Machine Value) (memory : Stands
     in_range = range low;
   }
 
-  begun-works : Works header (with_archive v upto) m
-  begun-works = record {
+  begun-works : (entry : RunEntry) → Works header (with_archive v upto entry) m
+  begun-works entry = record {
     layout = w.layout;
     reading = w.reading;
     laid = w.laid;
@@ -267,7 +268,7 @@ archive-start-stands tells old new upto answer m stands starts = by-refusal (ref
         let memory = lent-memory old.transactions m stands.memory in
         let order = lent-order old.transactions may.room stands.order in
         let free : lent_to old.job ≡ 0 = ap lent_to may.free in
-        let in_step : IsInStep (with_archive old upto) = record {
+        let in_step : IsInStep (with_archive old upto is.2.entry) = record {
           slots = omega (arith, free, stands.in_step.slots, stands.order.room, may.room);
           used = stands.in_step.used;
           turns = λ on.
@@ -278,7 +279,7 @@ archive-start-stands tells old new upto answer m stands starts = by-refusal (ref
                 job = tt;
               };
         } in
-        subst (λ (x : StoreValue). Stands tells x m) (sym is.2) (record {
+        subst (λ (x : StoreValue). Stands tells x m) (sym is.2.new_is) (record {
           memory = memory;
           machine = stands.machine;
           order = order;
@@ -293,7 +294,7 @@ archive-start-stands tells old new upto answer m stands starts = by-refusal (ref
                 slots = d.slots;
                 profile_built = d.profile_built;
                 leaves = d.leaves;
-                works = λ works. begun-works d.header old m stands.memory stands.machine (d.works works) upto may is.1;
+                works = λ works. begun-works d.header old m stands.memory stands.machine (d.works works) upto may is.1 is.2.entry;
               };
         })
 

@@ -71,6 +71,7 @@ use Rattle.standing.proofs.Submitting.{order-has, order-sorted, order-rising, su
 use Rattle.standing.proofs.Answering.{redeem-answered}
 use Rattle.standing.proofs.Packed.{bodies-packed, packed-more, as-many}
 use Rattle.standing.proofs.Usages.{all-taken}
+use Rattle.standing.proofs.RunsCalls.{left-beside}
 
 -- ---- what the open transactions and the tickets are is nothing to the disk
 
@@ -128,7 +129,7 @@ abbrev with_transactions : StoreValue → TransactionsValue → StoreValue
 with_transactions v t = record v { transactions = t }
 
 same-rest : (old new : StoreValue) (t : TransactionsValue) → HasRest old new → new.transactions ≡ t → with_transactions old t ≡ new
-same-rest old new t rest is = let a = sym is in let b = sym rest.log in let c = sym rest.turn in let d = sym rest.disk in let j = sym rest.job.job in let k = sym rest.job.archived in let l = sym rest.job.runs_end in λ i. record { transactions = a i; log = b i; turn = c i; job = j i; archived = k i; runs_end = l i; disk = d i }
+same-rest old new t rest is = let a = sym is in let b = sym rest.log in let c = sym rest.turn in let d = sym rest.disk in let j = sym rest.job.job in let k = sym rest.job.archived in let l = sym rest.job.runs_end in let n = sym rest.job.archive in λ i. record { transactions = a i; log = b i; turn = c i; job = j i; archived = k i; runs_end = l i; archive = n i; disk = d i }
 
 -- what memory keeps of a job is kept where each snapshot that is open was so, or is from the archive mark on
 keeps-opened : (o : Option Job) (archived newest : ℕ) (old new : List (Option ℕ)) (pending : Option (List KeyWrites)) (versions : List KeyWrites) → ((s : ℕ) → Contains (snapshots_of new) s → Contains (snapshots_of old) s ⊎ (archived ≤ s))
@@ -157,6 +158,8 @@ opened-stands tells v m opened snapshots stands were memory machine = record {
   marks = stands.marks;
   job = keeps-opened v.job v.archived (last m.published) v.transactions.opened opened v.transactions.pending v.transactions.versions were stands.job;
   disk = λ told. same-disk v m opened v.transactions.heads snapshots (stands.disk told);
+  place = (left-beside tells v m (record m { snapshots = snapshots }) (record v.transactions { opened = opened }) stands.machine refl refl refl refl stands.place stands.runs).place;
+  runs = (left-beside tells v m (record m { snapshots = snapshots }) (record v.transactions { opened = opened }) stands.machine refl refl refl refl stands.place stands.runs).runs;
 }
 
 same-stands : (tells : Bool) (old new : StoreValue) (m : Machine Value) → Stands tells old m → HasRest old new → new.transactions ≡ old.transactions → Stands tells new m
@@ -242,6 +245,8 @@ redeemed-stands tells v m time stands memory = record {
   marks = stands.marks;
   job = stands.job;
   disk = λ told. same-disk v m v.transactions.opened (orders.redeemed time v.transactions.heads) m.snapshots (stands.disk told);
+  place = (left-beside tells v m m (record v.transactions { heads = orders.redeemed time v.transactions.heads }) stands.machine refl refl refl refl stands.place stands.runs).place;
+  runs = (left-beside tells v m m (record v.transactions { heads = orders.redeemed time v.transactions.heads }) stands.machine refl refl refl refl stands.place stands.runs).runs;
 }
 
 pub redeem-stands : (tells : Bool) (old new : StoreValue) (ticket : TicketValue) (answer : Redeemed) (m : Machine Value) → Stands tells old m → stores.Redeems old ticket answer new
@@ -415,6 +420,8 @@ queued-stands tells v m label time numbers snapshots opened c stands were may le
   disk = λ told.
       same-disk (with_transactions v (with_queued v.transactions label time c.writes numbers)) (record m { queue = m.queue ++ c ∷ [] }) opened (with_queued v.transactions label time c.writes numbers).heads snapshots
       (queued-disk v m label time numbers m.snapshots c stands.order stands.memory stands.machine least many (stands.disk told));
+  place = (left-beside tells v m (record m { queue = m.queue ++ c ∷ []; snapshots = snapshots }) (record (with_queued v.transactions label time c.writes numbers) { opened = opened }) stands.machine refl refl refl refl stands.place stands.runs).place;
+  runs = (left-beside tells v m (record m { queue = m.queue ++ c ∷ []; snapshots = snapshots }) (record (with_queued v.transactions label time c.writes numbers) { opened = opened }) stands.machine refl refl refl refl stands.place stands.runs).runs;
 }
 
 abbrev SubmitsTo : Bool → Machine Value → Submission Value → Result Submitted SubmitFault → StoreValue → Type 0

@@ -83,7 +83,7 @@ use Rattle.store.specs.declared.job.JobDid.TheVariants as did
 use Rattle.store.specs.Jobs.{PumpsJob, TakesJobStep, Stores, WritesOrSyncs, WritesRun, AnchorsOrSync, WritesAnchors, SyncsStored, BeginsJobSlot, TurnsJob, IsJobTurned, with_job, job_fails, work_done, job_done, slot_opened, slot_body, behind_piece, first_turn, slot_taken}
 use Rattle.standing.specs.Standing.{StandsInMemory, Reclaims}
 use Rattle.standing.specs.OnDisk.{IsImageOf, AllPacked, HasTimes, group_of, IsAtStage, IsTurnOf, StoredAnchors, Product, OfRun, OfAnchors, body_of, slot_naming, laid_with, read_with, IsNextRun, IsNextChain, MayBeNext, IsMadeBy, IsWritten, IsFilling, KeepsProduct, IsTurnFor, IsAtJob, JobIsAt, HasJob, IsRested, Works, StandsOnDisk}
-use Rattle.standing.specs.Stands.{HasMarks, KeepsWork, KeepsJobOf, gate_of, Stands}
+use Rattle.standing.specs.Stands.{HasMarks, KeepsWork, KeepsJobOf, gate_of, StandsBeside as Stands}
 use Rattle.standing.specs.Laws.{job_ends_in}
 use Rattle.standing.proofs.Besides.{IsBeside, AreBeside, all-keep, all-hold, write-beside, torn-beside, sync-beside, beside-none, beside-out, beside-numbers}
 use Rattle.standing.proofs.Chains.{fill-is, all-filled}

@@ -30,3 +30,10 @@ pub mod Pumping
 pub mod JobPumping
 pub mod Archiving
 pub mod Calling
+pub mod RunsKept
+pub mod RunsAhead
+pub mod RunsStep
+pub mod RunsCalls
+pub mod Whole
+pub mod Views
+pub mod Asking

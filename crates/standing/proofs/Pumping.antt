@@ -80,7 +80,7 @@ use Rattle.store.specs.Pumps.{Pumps, TakesStep, WritesExtent, MayBeginSlot, Turn
 use Rattle.standing.specs.Standing.{StandsInMemory}
 use Rattle.standing.specs.OnDisk.{IsImageOf, AllPacked, written_before, group_of, IsAtStage, IsTurnOf, Product, OfRun, OfAnchors, IsNextRun, IsNextChain, MayBeNext, IsMadeBy, IsAtJob, HasJob, IsRested, HasTimes, Works, StandsOnDisk}
 use Rattle.std.specs.List.{AllByRecursion}
-use Rattle.standing.specs.Stands.{Stands, HasMarks, KeepsWork, KeepsJobOf, KeepsJobIn, HasGate, gate_at, gate_of}
+use Rattle.standing.specs.Stands.{StandsBeside as Stands, HasMarks, KeepsWork, KeepsJobOf, KeepsJobIn, HasGate, gate_at, gate_of}
 use Rattle.standing.specs.Laws.{begins_in, breaks_in, ends_in}
 use Rattle.standing.proofs.Conflicts.{rising-front, behind-group}
 use Rattle.standing.proofs.Packed.{packed-rest, length-mapped}
@@ -702,8 +702,8 @@ Ends tells m answer v = (after : Machine Value) × Run IsValue m (ends_in m.gate
 
 same-store : (v new : StoreValue) (transactions : TransactionsValue) (log : LogState) (turn : Option TurnState) → KeepsJob v new → new.transactions ≡ transactions → new.log ≡ log → new.turn ≡ turn → with_parts v new transactions log turn ≡ new
 same-store v new transactions log turn keeps a b c =
-    let x = sym a in let y = sym b in let z = sym c in let j = sym keeps.job in let k = sym keeps.archived in let l = sym keeps.runs_end in
-    λ i. record { transactions = x i; log = y i; turn = z i; job = j i; archived = k i; runs_end = l i; disk = new.disk }
+    let x = sym a in let y = sym b in let z = sym c in let j = sym keeps.job in let k = sym keeps.archived in let l = sym keeps.runs_end in let n = sym keeps.archive in
+    λ i. record { transactions = x i; log = y i; turn = z i; job = j i; archived = k i; runs_end = l i; archive = n i; disk = new.disk }
 
 pub broken-order : (v : TransactionsValue) → IsInOrder v → IsInOrder (groups.broken v)
 broken-order v order = record {
@@ -1209,7 +1209,7 @@ step tells next.BeginSlot v new answer m parts machine works asks sound takes = 
         let stored = begin-is v.transactions.stage v.transactions.group asks in
         let some : 0 < v.transactions.group = subst (λ (s : GroupStage). StageFits s v.transactions.group v.transactions.queue) stored parts.order.stage_fits in
         let fresh = fresh-parts tells v m parts machine works stored some in
-        let keeps : KeepsJob (freshly v) new = (let k = first.turns.job in record { job = k.job; archived = k.archived; runs_end = k.runs_end }) in
+        let keeps : KeepsJob (freshly v) new = (let k = first.turns.job in record { job = k.job; archived = k.archived; runs_end = k.runs_end; archive = k.archive }) in
         begun-step tells (freshly v) new m fresh machine works stored (fresh-marks v.transactions m parts.memory some parts.order.group_within) sound first.body
         (subst (λ (es : List Entry). IsCommitOf es first.body) (sym (fresh-entries v.transactions)) first.commit) still keeps asks answer first.turns
 step tells next.AdvanceSlot v new answer m parts machine works asks sound takes = advance-step tells v new m parts machine works asks sound answer takes

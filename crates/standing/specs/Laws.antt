@@ -109,68 +109,41 @@ RedeemsAs said redeemed.Stranger = Unit {0}
 abbrev pub TimesAreOfLabel : Type 0
 TimesAreOfLabel = (v : TransactionsValue) (m : Machine Value) (label : ℕ) → StandsInMemory v m → orders.times_of label (calls.order_of v) ≡ answers.times_of m.published label
 
--- ---- views
+-- ---- queries
 
--- what a view of memory alone stands for
-pub record ViewStands (view : ViewValue) (h : History Value) (floors : ℕ → ℕ) : Type 0 where
-  pub last_is : view.last ≡ last h
-  pub floor_is : (relation : ℕ) → view.floor ≡ floors relation
-  pub ordered : IsOrdered view.state
-  pub state_is : (key : Key) → writes_of view.state key ≡ histories.writes_of h key
+-- An answer to a query is that of the history; where something is found it is for sure where that is known. Or memory or a read was refused, or a run that is not known was damaged, where the history has a value or none.
+abbrev pub SaysAt : Type 0 → Result (Option Value) answers.QueryRefusal → Result (Option Value) QueryFault → Type 0
+SaysAt Sure said (Ok value) = Sure → said ≡ Ok value
+SaysAt Sure said (Err (query.BeforeKept floor)) = said ≡ Err (answers.BeforeKept floor)
+SaysAt Sure said (Err (query.NotYet time)) = said ≡ Err (answers.NotYet time)
+SaysAt Sure said (Err query.NoMemory) = (value : Option Value) × (said ≡ Ok value)
+SaysAt Sure said (Err query.EmptyInterval) = ⊥
+SaysAt Sure said (Err query.Device) = (value : Option Value) × (said ≡ Ok value)
+SaysAt Sure said (Err (query.Damaged start)) = (¬ Sure) × ((value : Option Value) × (said ≡ Ok value))
+SaysAt Sure said (Err query.NeedsDisk) = ⊥
+SaysAt Sure said (Err query.Stranger) = ⊥
 
--- an answer to a query is that of the history, or memory was refused
-abbrev pub SaysAt : Result (Option Value) answers.QueryRefusal → Result (Option Value) QueryFault → Type 0
-SaysAt said (Ok value) = said ≡ Ok value
-SaysAt said (Err (query.BeforeKept floor)) = said ≡ Err (answers.BeforeKept floor)
-SaysAt said (Err (query.NotYet time)) = said ≡ Err (answers.NotYet time)
-SaysAt said (Err query.NoMemory) = (value : Option Value) × (said ≡ Ok value)
-SaysAt said (Err query.EmptyInterval) = ⊥
-SaysAt said (Err query.Device) = ⊥
-SaysAt said (Err (query.Damaged start)) = ⊥
-SaysAt said (Err query.NeedsDisk) = ⊥
-SaysAt said (Err query.Stranger) = ⊥
-
--- an answer that holds something is one that the history may give, or memory was refused where it may give one
-abbrev pub Says : {T X : Type 0} → (T → X) → (Result X answers.QueryRefusal → Type 0) → Result T QueryFault → Type 0
-Says held Is (Ok found) = Is (Ok (held found))
-Says held Is (Err (query.BeforeKept floor)) = Is (Err (answers.BeforeKept floor))
-Says held Is (Err (query.NotYet time)) = Is (Err (answers.NotYet time))
-Says held Is (Err query.EmptyInterval) = Is (Err answers.EmptyInterval)
-Says {T} {X} held Is (Err query.NoMemory) = (found : X) × Is (Ok found)
-Says held Is (Err query.Device) = ⊥
-Says held Is (Err (query.Damaged start)) = ⊥
-Says held Is (Err query.NeedsDisk) = ⊥
-Says held Is (Err query.Stranger) = ⊥
+-- so it is of an answer that holds something, which is one that the history may give
+abbrev pub Says : {T X : Type 0} → Type 0 → (T → X) → (Result X answers.QueryRefusal → Type 0) → Result T QueryFault → Type 0
+Says Sure held Is (Ok found) = Sure → Is (Ok (held found))
+Says Sure held Is (Err (query.BeforeKept floor)) = Is (Err (answers.BeforeKept floor))
+Says Sure held Is (Err (query.NotYet time)) = Is (Err (answers.NotYet time))
+Says Sure held Is (Err query.EmptyInterval) = Is (Err answers.EmptyInterval)
+Says {T} {X} Sure held Is (Err query.NoMemory) = (found : X) × Is (Ok found)
+Says {T} {X} Sure held Is (Err query.Device) = (found : X) × Is (Ok found)
+Says {T} {X} Sure held Is (Err (query.Damaged start)) = (¬ Sure) × ((found : X) × Is (Ok found))
+Says Sure held Is (Err query.NeedsDisk) = ⊥
+Says Sure held Is (Err query.Stranger) = ⊥
 
 -- so the values of a relation at a time, the rows of a key and those of a relation
-abbrev pub SaysScanAt : History Value → (ℕ → ℕ) → ℕ → ℕ → Result (Vec (ℕ × Value) Global) QueryFault → Type 0
-SaysScanAt h floors relation time answer = Says (λ (found : Vec (ℕ × Value) Global). found.items) (answers.IsScanAtAnswer h floors relation time) answer
+abbrev pub SaysScanAt : Type 0 → History Value → (ℕ → ℕ) → ℕ → ℕ → Result (Vec (ℕ × Value) Global) QueryFault → Type 0
+SaysScanAt Sure h floors relation time answer = Says Sure (λ (found : Vec (ℕ × Value) Global). found.items) (answers.IsScanAtAnswer h floors relation time) answer
 
-abbrev pub SaysBetween : History Value → (ℕ → ℕ) → Key → ℕ → ℕ → Result (Vec (Version Value) Global) QueryFault → Type 0
-SaysBetween h floors key a b answer = Says (λ (rows : Vec (Version Value) Global). rows.items) (λ said. answers.between_answer h floors key a b ≡ said) answer
+abbrev pub SaysBetween : Type 0 → History Value → (ℕ → ℕ) → Key → ℕ → ℕ → Result (Vec (Version Value) Global) QueryFault → Type 0
+SaysBetween Sure h floors key a b answer = Says Sure (λ (rows : Vec (Version Value) Global). rows.items) (λ said. answers.between_answer h floors key a b ≡ said) answer
 
-abbrev pub SaysScanBetween : History Value → (ℕ → ℕ) → ℕ → ℕ → ℕ → Result (Vec (ℕ × Version Value) Global) QueryFault → Type 0
-SaysScanBetween h floors relation a b answer = Says (λ (rows : Vec (ℕ × Version Value) Global). rows.items) (answers.IsScanBetweenAnswer h floors relation a b) answer
-
--- a view is one of what is published, and goes on answering by it
-abbrev pub ViewIsOfHistory : Type 0
-ViewIsOfHistory = (v : StoreValue) (view : ViewValue) (m : Machine Value) → StandsInMemory v.transactions m → stores.IsViewOf v view → ViewStands view m.published m.floors
-
-abbrev pub AtIsAnswered : Type 0
-AtIsAnswered = (v : StoreValue) (view : ViewValue) (h : History Value) (floors : ℕ → ℕ) (key : Key) (time : ℕ) (answer : Result (Option Value) QueryFault) → ViewStands view h floors → stores.AnswersAtView v view key time answer
-    → MatchBool (view.mark == v.transactions.mark) (SaysAt (answers.at_answer h floors key time) answer) (answer ≡ Err query.Stranger)
-
-abbrev pub ScanAtIsAnswered : Type 0
-ScanAtIsAnswered = (v : StoreValue) (view : ViewValue) (h : History Value) (floors : ℕ → ℕ) (relation time : ℕ) (answer : Result (Vec (ℕ × Value) Global) QueryFault) → ViewStands view h floors → stores.AnswersScanAt v view relation time answer
-    → MatchBool (view.mark == v.transactions.mark) (SaysScanAt h floors relation time answer) (answer ≡ Err query.Stranger)
-
-abbrev pub BetweenIsAnswered : Type 0
-BetweenIsAnswered = (v : StoreValue) (view : ViewValue) (h : History Value) (floors : ℕ → ℕ) (key : Key) (a b : ℕ) (answer : Result (Vec (Version Value) Global) QueryFault) → ViewStands view h floors → stores.AnswersRows v view key a b answer
-    → MatchBool (view.mark == v.transactions.mark) (SaysBetween h floors key a b answer) (answer ≡ Err query.Stranger)
-
-abbrev pub ScanBetweenIsAnswered : Type 0
-ScanBetweenIsAnswered = (v : StoreValue) (view : ViewValue) (h : History Value) (floors : ℕ → ℕ) (relation a b : ℕ) (answer : Result (Vec (ℕ × Version Value) Global) QueryFault) → ViewStands view h floors → stores.AnswersScanRows v view relation a b answer
-    → MatchBool (view.mark == v.transactions.mark) (SaysScanBetween h floors relation a b answer) (answer ≡ Err query.Stranger)
+abbrev pub SaysScanBetween : Type 0 → History Value → (ℕ → ℕ) → ℕ → ℕ → ℕ → Result (Vec (ℕ × Version Value) Global) QueryFault → Type 0
+SaysScanBetween Sure h floors relation a b answer = Says Sure (λ (rows : Vec (ℕ × Version Value) Global). rows.items) (answers.IsScanBetweenAnswer h floors relation a b) answer
 
 -- ---- what a reclaim makes memory forget
 

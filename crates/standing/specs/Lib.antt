@@ -3,3 +3,5 @@ pub mod Laws
 pub mod OnDisk
 pub mod Stands
 pub mod Calls
+pub mod Homes
+pub mod Views

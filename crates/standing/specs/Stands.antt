@@ -14,6 +14,7 @@ use Rattle.store.specs.declared.job.JobWork.{JobWork}
 use Rattle.store.specs.declared.job.JobWork.TheVariants.{Archive, Reclaim}
 use Rattle.standing.specs.Standing.{StandsInMemory, Reclaims}
 use Rattle.standing.specs.OnDisk.{StandsOnDisk}
+use Rattle.standing.specs.Homes.{JobHasPlace, RunsStand}
 
 -- the gate of a group whose slot is at this stage
 abbrev pub gate_at : SlotStage → Gate
@@ -48,7 +49,18 @@ KeepsJobOf (Some job) archived last opened pending versions = KeepsWork job.work
 abbrev pub KeepsJobIn : StoreValue → Machine Value → Type 0
 KeepsJobIn v m = KeepsJobOf v.job v.archived (histories.last m.published) v.transactions.opened v.transactions.pending v.transactions.versions
 
--- What is said of the disk is said where it tells its bytes.
+-- What is said of the disk is said where it tells its bytes. Nothing is said of the runs of the archive.
+pub record StandsBeside (tells : Bool) (v : StoreValue) (m : Machine Value) : Type 0 where
+  pub memory : StandsInMemory v.transactions m
+  pub machine : IsMachine IsValue m
+  pub order : IsInOrder v.transactions
+  pub in_step : IsInStep v
+  pub gate : HasGate v m
+  pub marks : HasMarks v m
+  pub job : KeepsJobIn v m
+  pub disk : IsTrue tells → StandsOnDisk v m
+
+-- With them: their places are known, and where the disk tells its bytes they stand in the archive's.
 pub record Stands (tells : Bool) (v : StoreValue) (m : Machine Value) : Type 0 where
   pub memory : StandsInMemory v.transactions m
   pub machine : IsMachine IsValue m
@@ -58,3 +70,5 @@ pub record Stands (tells : Bool) (v : StoreValue) (m : Machine Value) : Type 0 w
   pub marks : HasMarks v m
   pub job : KeepsJobIn v m
   pub disk : IsTrue tells → StandsOnDisk v m
+  pub place : JobHasPlace v m
+  pub runs : IsTrue tells → RunsStand v m

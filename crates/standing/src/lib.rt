@@ -2,7 +2,8 @@
 //! with nothing to do.
 #![tactic(auto)]
 
-ghost use Rattle.standing.specs.Laws.{TimesAreOfLabel, ViewIsOfHistory, AtIsAnswered, ScanAtIsAnswered, BetweenIsAnswered, ScanBetweenIsAnswered, ForgottenHolds};
+ghost use Rattle.standing.specs.Laws.{TimesAreOfLabel, ForgottenHolds};
+ghost use Rattle.standing.specs.Views.{ViewIsOfHistory, ViewGoesOn, AtIsAnswered, ScanAtIsAnswered, BetweenIsAnswered, ScanBetweenIsAnswered, RecentIsAnswered, AtIsAnsweredRecently, ScanAtIsAnsweredRecently, BetweenIsAnsweredRecently, ScanBetweenIsAnsweredRecently, AtStands, ScanAtStands, BetweenStands, ScanBetweenStands, PumpGoesOn, JobPumpGoesOn, ArchiveStartGoesOn, RestGoesOn};
 ghost use Rattle.standing.specs.Calls.{BeginStands, AbortStands, SubmitStands, PumpStands, RedeemStands, ArchiveStartStands, JobPumpStands};
 
 /// A begin takes the last published time as its snapshot.
@@ -45,13 +46,37 @@ pub fn times_are_of_label()
     ensures { TimesAreOfLabel }
 {}
 
-/// A view stands for the published history of its moment, and answers by it.
+/// A view stands for the published history of its moment, and goes on answering by it, from memory and
+/// from the archive.
 pub fn view_is_answered()
     ensures view { ViewIsOfHistory }
+    ensures goes_on { ViewGoesOn }
     ensures at { AtIsAnswered }
     ensures scan_at { ScanAtIsAnswered }
     ensures between { BetweenIsAnswered }
     ensures scan_between { ScanBetweenIsAnswered }
+{}
+
+/// A query leaves the store standing for what it stood for, and no call takes from views what they read.
+pub fn views_go_on()
+    ensures at { AtStands }
+    ensures scan_at { ScanAtStands }
+    ensures between { BetweenStands }
+    ensures scan_between { ScanBetweenStands }
+    ensures pump { PumpGoesOn }
+    ensures job_pump { JobPumpGoesOn }
+    ensures archive { ArchiveStartGoesOn }
+    ensures rest { RestGoesOn }
+{}
+
+/// From its reclaim mark on a view answers by its history whatever the disk holds, and so it does from
+/// memory alone.
+pub fn recent_is_answered()
+    ensures alone { RecentIsAnswered }
+    ensures at { AtIsAnsweredRecently }
+    ensures scan_at { ScanAtIsAnsweredRecently }
+    ensures between { BetweenIsAnsweredRecently }
+    ensures scan_between { ScanBetweenIsAnsweredRecently }
 {}
 
 /// Memory that forgets what ended by a mark stands for the same history, from the mark on.

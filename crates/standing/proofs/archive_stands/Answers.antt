@@ -1,5 +1,4 @@
-use Rattle.standing.proofs.Archiving.{archive-start-stands}
-use Rattle.standing.proofs.JobPumping.{job-pump-stands}
+use Rattle.standing.proofs.Whole.{archive-start-stands, job-pump-stands}
 use Rattle.standing.proofs.archive_stands.Goals as goal
 
 pub returns-clause-start : goal.returns-clause-start

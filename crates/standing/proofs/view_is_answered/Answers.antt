@@ -1,9 +1,11 @@
-use Rattle.standing.proofs.Answering.{view-stands, at-answered}
-use Rattle.standing.proofs.Queries.{scan_at-answered, between-answered, scan_between-answered}
+use Rattle.standing.proofs.Views.{view-of-history, view-goes-on, at-answered, scan_at-answered, between-answered, scan_between-answered}
 use Rattle.standing.proofs.view_is_answered.Goals as goal
 
 pub returns-clause-view : goal.returns-clause-view
-returns-clause-view c = view-stands
+returns-clause-view c = view-of-history
+
+pub returns-clause-goes_on : goal.returns-clause-goes_on
+returns-clause-goes_on c = view-goes-on
 
 pub returns-clause-at : goal.returns-clause-at
 returns-clause-at c = at-answered

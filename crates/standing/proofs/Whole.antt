@@ -1,0 +1,120 @@
+-- The calls of a store keep its runs too, and go on.
+use Rattle.std.proofs.Common.{◌≡◌, ℕ, ◌+◌, ◌<◌, ◌≤◌, ◌^◌, ◌++◌, Bool, true, false, IsTrue, List, [], ◌∷◌, Option, None, Some, Result, Ok, Err, MatchBool, MatchOption, refl, arith, ap, sym, subst, ◌∙◌}
+use Rattle.disk.specs.Areas.{AreSound}
+use Rattle.disk.specs.Calls.{DiskState}
+use Rattle.history.specs.Histories.{HasRisingTimes}
+use Rattle.history.specs.Machine.{Machine}
+use Rattle.history.specs.Steps.{Run}
+use Rattle.image.specs.Values.{Value, IsValue}
+use Rattle.archive.specs.declared.run.RunEntry.{RunEntry}
+use Rattle.archive.specs.Runs.{RunsEndBy}
+use Rattle.archive.specs.Searches.{archive_of}
+use Rattle.wire.specs.declared.slot.Run.{Run as WireRun}
+use Rattle.group.specs.declared.answers.Did.{Did}
+use Rattle.group.specs.declared.answers.PumpFault.{PumpFault}
+use Rattle.group.specs.declared.answers.PumpFault.TheVariants as pump
+use Rattle.store.specs.Values.{ArchiveValue, StoreValue, HasRest}
+use Rattle.store.specs.Pumps.{Pumps}
+use Rattle.store.specs.Archives.{refusal_now, BeginsRun, IsArchiveBegun, StartsArchive, with_archive}
+use Rattle.store.specs.Jobs.{PumpsJob}
+use Rattle.store.specs.declared.job.JobDid.{JobDid}
+use Rattle.store.specs.declared.job.StartFault.{StartFault}
+use Rattle.standing.specs.Homes.{JobHasPlace, RunsStand, GoesOn}
+use Rattle.standing.specs.Laws.{begins_in, ends_in, job_ends_in}
+use Rattle.standing.specs.Stands.{Stands, StandsBeside}
+use Rattle.standing.proofs.RunsKept.{IsLater, run-later, same-later, machine-rises, up_to-same, up_to-is}
+use Rattle.standing.proofs.RunsStep.{KeepsArchive, runs-move, goes-same}
+use Rattle.standing.proofs.RunsCalls.{Leaves, StaysBeside, KnowsRun, beside-leaves, pump-stays, job_pump-leaves}
+use Rattle.standing.proofs.RunsAhead.{piece-behind, run-ready}
+use Rattle.standing.proofs.Archiving as archiving
+use Rattle.standing.proofs.JobPumping as jobs
+use Rattle.standing.proofs.Pumping as groups
+
+pub beside : (tells : Bool) (v : StoreValue) (m : Machine Value) → Stands tells v m → StandsBeside tells v m
+beside tells v m s = record { memory = s.memory; machine = s.machine; order = s.order; in_step = s.in_step; gate = s.gate; marks = s.marks; job = s.job; disk = s.disk }
+
+pub whole : (tells : Bool) (old v : StoreValue) (m : Machine Value) → StandsBeside tells v m → Leaves tells old v m → Stands tells v m
+whole tells old v m s left = record { memory = s.memory; machine = s.machine; order = s.order; in_step = s.in_step; gate = s.gate; marks = s.marks; job = s.job; disk = s.disk; place = left.place; runs = left.runs }
+
+-- ---- a group's steps
+
+pump-left : (tells : Bool) (old new : StoreValue) (answer : Result Did PumpFault) (m after : Machine Value) → Stands tells old m → IsLater m after → Pumps tells old answer new → Leaves tells old new after
+pump-left tells old new answer m after stands later pumps = beside-leaves tells old new m after (machine-rises m stands.machine) later (pump-stays tells old new answer pumps) stands.place stands.runs
+
+pub pump-stands : (tells : Bool) (old new : StoreValue) (answer : Result Did PumpFault) (m : Machine Value) → Stands tells old m → (IsTrue tells → AreSound new.disk.areas) → Pumps tells old answer new
+    → MatchBool m.failed ((answer ≡ Err pump.Failed) × Stands tells new m) ((after : Machine Value) × Run IsValue m (begins_in m ++ ends_in m.gate answer) after × Stands tells new after)
+pump-stands tells old new answer m stands sound pumps = by-failure m.failed (groups.pump-stands tells old new answer m (beside tells old m stands) sound pumps)
+  where
+    by-failure : (b : Bool) → MatchBool b ((answer ≡ Err pump.Failed) × StandsBeside tells new m) ((after : Machine Value) × Run IsValue m (begins_in m ++ ends_in m.gate answer) after × StandsBeside tells new after)
+        → MatchBool b ((answer ≡ Err pump.Failed) × Stands tells new m) ((after : Machine Value) × Run IsValue m (begins_in m ++ ends_in m.gate answer) after × Stands tells new after)
+    by-failure true is = (is.0, whole tells old new m is.1 (pump-left tells old new answer m m stands (same-later m) pumps))
+    by-failure false is = (is.0, is.1, whole tells old new is.0 is.2 (pump-left tells old new answer m is.0 stands (run-later m is.0 _ stands.machine is.2.machine is.1) pumps))
+
+pub pump-goes : (tells : Bool) (old new : StoreValue) (answer : Result Did PumpFault) (m : Machine Value) → Stands tells old m → Pumps tells old answer new → GoesOn tells old new
+pump-goes tells old new answer m stands pumps = (pump-left tells old new answer m m stands (same-later m) pumps).goes
+
+-- ---- a job's steps
+
+knows : (tells : Bool) (old : StoreValue) (m : Machine Value) → Stands tells old m → old.transactions.failed ≡ false → IsTrue tells → KnowsRun old m
+knows tells old m stands works told =
+    let d = stands.disk told in
+    let on = d.works (sym stands.memory.failed ∙ works) in
+    record { behind = λ run writer is. piece-behind d.header old m on run writer is; ready = λ run writer t is. run-ready d.header old m on run writer t is }
+
+job_pump-left : (tells : Bool) (old new : StoreValue) (answer : Result JobDid PumpFault) (m after : Machine Value) → Stands tells old m → IsLater m after → PumpsJob tells old answer new → Leaves tells old new after
+job_pump-left tells old new answer m after stands later pumps = job_pump-leaves tells old new m after answer (machine-rises m stands.machine) later stands.place stands.runs (knows tells old m stands) pumps
+
+pub job-pump-stands : (tells : Bool) (old new : StoreValue) (answer : Result JobDid PumpFault) (m : Machine Value) → Stands tells old m → (IsTrue tells → AreSound new.disk.areas) → PumpsJob tells old answer new
+    → MatchBool m.failed ((answer ≡ Err pump.Failed) × Stands tells new m) ((after : Machine Value) × Run IsValue m (job_ends_in answer) after × Stands tells new after)
+job-pump-stands tells old new answer m stands sound pumps = by-failure m.failed (jobs.job-pump-stands tells old new answer m (beside tells old m stands) sound pumps)
+  where
+    by-failure : (b : Bool) → MatchBool b ((answer ≡ Err pump.Failed) × StandsBeside tells new m) ((after : Machine Value) × Run IsValue m (job_ends_in answer) after × StandsBeside tells new after)
+        → MatchBool b ((answer ≡ Err pump.Failed) × Stands tells new m) ((after : Machine Value) × Run IsValue m (job_ends_in answer) after × Stands tells new after)
+    by-failure true is = (is.0, whole tells old new m is.1 (job_pump-left tells old new answer m m stands (same-later m) pumps))
+    by-failure false is = (is.0, is.1, whole tells old new is.0 is.2 (job_pump-left tells old new answer m is.0 stands (run-later m is.0 _ stands.machine is.2.machine is.1) pumps))
+
+pub job-pump-goes : (tells : Bool) (old new : StoreValue) (answer : Result JobDid PumpFault) (m : Machine Value) → Stands tells old m → PumpsJob tells old answer new → GoesOn tells old new
+job-pump-goes tells old new answer m stands pumps = (job_pump-left tells old new answer m m stands (same-later m) pumps).goes
+
+-- ---- the beginning of an archive
+
+begun-left : (tells : Bool) (old new : StoreValue) (upto : ℕ) (m : Machine Value) → Stands tells old m → IsArchiveBegun old upto new → Leaves tells old new m
+begun-left tells old new upto m stands begun =
+    let made : StoreValue = with_archive old upto begun.entry in
+    let keeps : KeepsArchive old made = record { runs = refl; kept = refl; archived = refl; runs_end = refl; mark = refl } in
+    subst (λ (x : StoreValue). Leaves tells old x m) (sym begun.new_is) (record {
+      place = (begun.entry, begun.slot, begun.mark, (λ relation. let same = stands.memory.floors relation in let is = begun.floor_is in omega arith), refl);
+      runs = λ told. runs-move old made m m (machine-rises m stands.machine) (same-later m) keeps (stands.runs told).marks (up_to-same old.runs_end (archive_of old.disk)) (stands.runs told);
+      goes = goes-same tells old made keeps (λ told. up_to-same old.runs_end (archive_of old.disk));
+    })
+
+start-left : (tells : Bool) (old new : StoreValue) (upto : ℕ) (answer : Result (Unit {0}) StartFault) (m : Machine Value) → Stands tells old m → StartsArchive old upto answer new → Leaves tells old new m
+start-left tells old new upto answer m stands starts = by-refusal (refusal_now old upto) starts
+  where
+    same : new ≡ old → Leaves tells old new m
+    same is =
+        subst (λ (x : StoreValue). Leaves tells old x m) (sym is)
+        (beside-leaves tells old old m m (machine-rises m stands.machine) (same-later m)
+        (record { keeps = record { runs = refl; kept = refl; archived = refl; runs_end = refl; mark = refl }; archive = refl; job = refl; reclaimed = refl; bytes = λ told. refl }) stands.place stands.runs)
+
+    by-answer : (answer : Result (Unit {0}) StartFault) → BeginsRun old upto answer new → Leaves tells old new m
+    by-answer (Ok done) is = begun-left tells old new upto m stands is.2
+    by-answer (Err why) is = same is.1
+
+    by-refusal : (o : Option StartFault) → MatchOption o (BeginsRun old upto answer new) (λ why. (answer ≡ Err why) × (new ≡ old)) → Leaves tells old new m
+    by-refusal None is = by-answer answer is
+    by-refusal (Some why) is = same is.1
+
+pub archive-start-stands : (tells : Bool) (old new : StoreValue) (upto : ℕ) (answer : Result (Unit {0}) StartFault) (m : Machine Value) → Stands tells old m → StartsArchive old upto answer new → Stands tells new m
+archive-start-stands tells old new upto answer m stands starts =
+    whole tells old new m (archiving.archive-start-stands tells old new upto answer m (beside tells old m stands) starts) (start-left tells old new upto answer m stands starts)
+
+pub archive-start-goes : (tells : Bool) (old new : StoreValue) (upto : ℕ) (answer : Result (Unit {0}) StartFault) (m : Machine Value) → Stands tells old m → StartsArchive old upto answer new → GoesOn tells old new
+archive-start-goes tells old new upto answer m stands starts = (start-left tells old new upto answer m stands starts).goes
+
+-- ---- calls that change the transactions alone
+
+pub rest-goes : (tells : Bool) (old new : StoreValue) → HasRest old new → new.transactions.mark ≡ old.transactions.mark → GoesOn tells old new
+rest-goes tells old new rest mark =
+    goes-same tells old new (record { runs = ap (λ (a : ArchiveValue). a.runs) rest.job.archive; kept = ap (λ (a : ArchiveValue). a.kept) rest.job.archive; archived = rest.job.archived; runs_end = rest.job.runs_end; mark = mark })
+    (λ told. up_to-is old.runs_end (archive_of old.disk) (archive_of new.disk) (ap archive_of rest.disk))
