@@ -48,7 +48,7 @@ use Rattle.group.proofs.Sealed.{length-sealed}
 use Rattle.transactions.specs.Values.{TransactionsValue, ordered, is_own, over, spare}
 use Rattle.transactions.specs.Order.{AreBy, IsInOrder, StageFits}
 use Rattle.transactions.specs.Calls as calls
-use Rattle.transactions.specs.Submits.{Verdict, Queues, verdict, verdict_on_clock, verdict_on_conflict, first_conflict, free_count, bodies_for, time_now, queued_as, with_queued, JoinsQueue, SubmitsOwn, Submits}
+use Rattle.transactions.specs.Submits.{Verdict, Queues, verdict, verdict_on_clock, verdict_on_conflict, first_conflict, free_count, bodies_for, time_now, queued_as, with_queued, SubmitsOwn, Submits}
 use Rattle.transactions.specs.Submits as verdicts
 use Rattle.transactions.specs.declared.stage.GroupStage.{GroupStage}
 use Rattle.transactions.specs.declared.stage.GroupStage.TheVariants.{NoGroup, Storing, Stored, Turning}

@@ -6,7 +6,7 @@ use Rattle.history.specs.declared.key.KeyWrite.{KeyWrite}
 use Rattle.history.specs.Histories.{last, HasRisingTimes}
 use Rattle.history.specs.Machine.{Machine, commit_order}
 use Rattle.history.specs.Submissions as submissions
-use Rattle.history.specs.Submissions.{Submission, Decision, decision, conflict_of, commit_made, unless_conflict, timed}
+use Rattle.history.specs.Submissions.{Submission, decision, conflict_of, commit_made, unless_conflict, timed}
 use Rattle.image.specs.Values.{Value}
 use Rattle.chains.specs.KeyWrites.{IsOrdered, forgotten}
 use Rattle.group.specs.CommitOrder.{last_time}

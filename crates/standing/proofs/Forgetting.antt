@@ -1,11 +1,10 @@
 -- Memory that forgets what ended by a mark is that of the same history from the mark on.
-use Rattle.std.proofs.Common.{◌≡◌, ℕ, ◌<◌, ◌≤◌, ◌^◌, ◌&&◌, nat_le, nat_lt, Bool, true, false, cond, is_none, List, [], ◌∷◌, ◌++◌, Option, Some, None, refl, arith, ap, sym, subst, ◌∙◌, ⊎_elim}
+use Rattle.std.proofs.Common.{◌≡◌, ℕ, ◌<◌, ◌≤◌, ◌^◌, ◌&&◌, nat_le, nat_lt, Bool, true, false, cond, is_none, List, [], ◌∷◌, ◌++◌, Option, Some, None, refl, arith, ap, sym, ◌∙◌, ⊎_elim}
 use Rattle.std.specs.Prelude.{filter}
 use Rattle.std.proofs.lemmas.Bool.{cases_lt}
 use Rattle.std.proofs.lemmas.List.Elements.{filter-append}
 use Rattle.history.specs.declared.key.Key.{Key}
 use Rattle.history.specs.declared.time.TimedWrite.{TimedWrite}
-use Rattle.history.specs.declared.time.Version.{Version}
 use Rattle.history.specs.Time.{IsRisingAfter, writes_after}
 use Rattle.history.specs.Versions.{versions, ends_after}
 use Rattle.history.specs.Histories as histories

@@ -1,5 +1,5 @@
 -- What a reclaim leaves of the heap's facts: what says something of times from the archive mark on.
-use Rattle.std.proofs.Common.{◌≡◌, ℕ, ◌<◌, ◌≤◌, ◌^◌, nat_lt, Bool, true, false, cond, List, [], ◌∷◌, ◌++◌, map, Option, Some, None, refl, arith, ap, sym, ◌∙◌}
+use Rattle.std.proofs.Common.{◌≡◌, ℕ, ◌<◌, ◌^◌, nat_lt, Bool, true, false, cond, List, [], ◌∷◌, ◌++◌, map, Some, None, refl, arith, ap, sym, ◌∙◌}
 use Rattle.std.specs.Prelude.{filter}
 use Rattle.std.specs.List.{AllByRecursion, cons_option}
 use Rattle.std.specs.List.Sorted.{IsStrictlySortedBy}
@@ -17,7 +17,7 @@ use Rattle.history.proofs.Histories.{writes_of-rising, writes_of-commits_after}
 use Rattle.image.specs.Values.{Value}
 use Rattle.image.specs.Reading.{OldRecord, Reading}
 use Rattle.image.specs.Facts.{old_writes, latest, heap_commits, heap_facts, heap_versions}
-use Rattle.image.specs.StandsFor.{StandsFor, IsAnchorUpto, archived_upto, reclaimed_upto}
+use Rattle.image.specs.StandsFor.{StandsFor, archived_upto, reclaimed_upto}
 use Rattle.image.specs.Plans.{IsReclaimPlan, with_anchors}
 use Rattle.image.proofs.FactsOf.{commits_from-after, old_writes-past, old_writes-latest, latest-standing}
 use Rattle.image.proofs.Standing.{archived-range, last-range, recent-rise, facts-rise}

@@ -6,7 +6,7 @@ use Rattle.std.proofs.lemmas.Bool.Decides.{nat_tests}
 use Rattle.history.specs.Time.{IsRisingAfter, writes_after}
 use Rattle.history.specs.Versions.{first_time, version_of, versions, stands_at, as_write}
 use Rattle.history.proofs.Orders.{is_le, is_lt, not_lt, not_le}
-use Rattle.history.proofs.Values.{rising_earlier, writes_after-all, versions-apart, filter-standing, first_time-later}
+use Rattle.history.proofs.Values.{rising_earlier, writes_after-all, versions-apart, filter-standing}
 use Rattle.image.specs.Facts.{latest}
 use Rattle.chains.specs.Writes.{Value, Write, last_time, last_time_after, kept_after, kept_behind, from_standing}
 use Rattle.chains.proofs.Forgetting.{value-kept, last-kept}

@@ -7,7 +7,7 @@ use Rattle.history.specs.Histories.{History, HasRisingTimes}
 use Rattle.history.specs.Machine.{Machine, Gate, commit_order, IsMachine}
 use Rattle.history.proofs.Histories.{rising-from_following}
 use Rattle.history.specs.Steps as steps
-use Rattle.history.specs.Steps.{Event, Step, Run}
+use Rattle.history.specs.Steps.{Event, Run}
 use Rattle.image.specs.Values.{Value, IsValue}
 use Rattle.chains.specs.KeyWrites.{KeyWrites, writes_of}
 use Rattle.group.specs.Queued.{QueuedValue}

@@ -1,5 +1,5 @@
 -- What the steps of a reclaim leave of what a store holds in memory.
-use Rattle.std.proofs.Common.{◌≡◌, ℕ, ◌≤◌, true, false, Bool, List, Option, Some, refl, ap, sym, subst, ◌∙◌}
+use Rattle.std.proofs.Common.{◌≡◌, ℕ, ◌≤◌, true, false, List, Option, Some, ap, sym, subst, ◌∙◌}
 use Rattle.std.specs.Prelude.{Contains}
 use Rattle.history.specs.Histories.{HasRisingTimes, last}
 use Rattle.history.specs.Machine.{Machine, commit_order}

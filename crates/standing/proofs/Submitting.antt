@@ -1,6 +1,6 @@
 -- A submit is a step of the machine.
-use Rattle.std.proofs.Common.{◌≡◌, ◌≢◌, ℕ, ◌<◌, ◌≤◌, ◌^◌, ◌==◌, ◌&&◌, ◌||◌, nat_lt, Bool, true, false, cond, List, [], ◌∷◌, ◌++◌, length, map, take, Option, Result, Ok, Err, MatchBool, refl, arith, ap, sym, subst, ◌∙◌, inl, inr, ⊎_elim, append_assoc}
-use Rattle.std.specs.Prelude.{IsPermutation, is_some, Contains}
+use Rattle.std.proofs.Common.{◌≡◌, ◌≢◌, ℕ, ◌<◌, ◌≤◌, ◌^◌, ◌==◌, ◌&&◌, ◌||◌, nat_lt, Bool, true, false, cond, List, [], ◌∷◌, ◌++◌, length, map, take, Option, Result, Ok, Err, MatchBool, refl, arith, ap, sym, subst, ◌∙◌, inl, inr, append_assoc}
+use Rattle.std.specs.Prelude.{IsPermutation, is_some}
 use Rattle.std.specs.List.{AllByRecursion, list_all}
 use Rattle.std.specs.List.Sorted.{IsStrictlySortedBy}
 use Rattle.std.proofs.lemmas.Bool.Decides.{nat_tests}
@@ -10,15 +10,14 @@ use Rattle.history.specs.declared.key.Key.{Key}
 use Rattle.history.specs.declared.key.KeyWrite.{KeyWrite}
 use Rattle.history.specs.Key.{key_cmp}
 use Rattle.history.specs.Time.{IsRisingAfter, value_at}
-use Rattle.history.specs.Histories as histories
-use Rattle.history.specs.Histories.{Commit, History, last, state, HasRisingTimes, IsWrite, IsWriteSet, MayAllFollow}
+use Rattle.history.specs.Histories.{Commit, History, last, state, HasRisingTimes}
 use Rattle.history.specs.Machine.{Machine, commit_order, IsMachine, IsKeptSnapshot}
 use Rattle.history.specs.Submissions.{commit_made, EndsASeenValue, IsSubmitted}
 use Rattle.history.specs.Steps.{Event, Step, Aborted}
 use Rattle.history.proofs.Histories.{rising-from_following, times-earlier, state-append, may_follow-behind}
 use Rattle.history.proofs.Machines.{step-machine}
 use Rattle.history.proofs.Orders.{not_lt}
-use Rattle.history.proofs.Members.{Contains-cons_cases, Contains-head, Contains-nil}
+use Rattle.history.proofs.Members.{Contains-head}
 use Rattle.image.specs.Values.{Value, IsValue}
 use Rattle.chains.specs.Writes as chains
 use Rattle.chains.specs.Writes.{Write, kept_after, written}
@@ -37,7 +36,7 @@ use Rattle.group.specs.declared.answers.SubmitFault.TheVariants as refused
 use Rattle.group.specs.Queued.{QueuedValue}
 use Rattle.group.proofs.Heads.{IsRisingAfter-push}
 use Rattle.transactions.specs.Values.{TransactionsValue, versions_after, ordered, mark_after, ordered_mark, is_own, is_snapshot, is_of_value, over}
-use Rattle.transactions.specs.Submits.{Verdict, verdict, queued_as, with_queued, JoinsQueue, AnswersSubmit, SubmitsOwn, Submits}
+use Rattle.transactions.specs.Submits.{Verdict, verdict, queued_as, with_queued, AnswersSubmit, SubmitsOwn, Submits}
 use Rattle.transactions.specs.Submits as verdicts
 use Rattle.standing.specs.Standing.{Name, name_of, name_at, HasWrites, Waits, AllWait, StandsInMemory}
 use Rattle.standing.specs.Laws.{submission_of, event_of}
