@@ -17,6 +17,7 @@ use Rattle.store.specs.Values.{ArchiveValue, StoreValue, HasRest}
 use Rattle.store.specs.Pumps.{Pumps}
 use Rattle.store.specs.Archives.{refusal_now, BeginsRun, IsArchiveBegun, StartsArchive, with_archive}
 use Rattle.store.specs.Jobs.{PumpsJob}
+use Rattle.store.specs.Reclaims.{reclaim_refusal, with_reclaim, BeginsReclaim, StartsReclaim}
 use Rattle.store.specs.declared.job.JobDid.{JobDid}
 use Rattle.store.specs.declared.job.StartFault.{StartFault}
 use Rattle.standing.specs.Homes.{JobHasPlace, RunsStand, GoesOn}
@@ -27,6 +28,7 @@ use Rattle.standing.proofs.RunsStep.{KeepsArchive, runs-move, goes-same}
 use Rattle.standing.proofs.RunsCalls.{Leaves, StaysBeside, KnowsRun, beside-leaves, pump-stays, job_pump-leaves}
 use Rattle.standing.proofs.RunsAhead.{piece-behind, run-ready}
 use Rattle.standing.proofs.Archiving as archiving
+use Rattle.standing.proofs.Reclaiming as reclaiming
 use Rattle.standing.proofs.JobPumping as jobs
 use Rattle.standing.proofs.Pumping as groups
 
@@ -88,14 +90,18 @@ begun-left tells old new upto m stands begun =
       goes = goes-same tells old made keeps (λ told. up_to-same old.runs_end (archive_of old.disk));
     })
 
+-- nothing was done
+left-same : (tells : Bool) (old new : StoreValue) (m : Machine Value) → Stands tells old m → new ≡ old → Leaves tells old new m
+left-same tells old new m stands is =
+    subst (λ (x : StoreValue). Leaves tells old x m) (sym is)
+    (beside-leaves tells old old m m (machine-rises m stands.machine) (same-later m)
+    (record { keeps = record { runs = refl; kept = refl; archived = refl; runs_end = refl; mark = refl }; archive = refl; job = refl; reclaimed = refl; bytes = λ told. refl }) stands.place stands.runs)
+
 start-left : (tells : Bool) (old new : StoreValue) (upto : ℕ) (answer : Result (Unit {0}) StartFault) (m : Machine Value) → Stands tells old m → StartsArchive old upto answer new → Leaves tells old new m
 start-left tells old new upto answer m stands starts = by-refusal (refusal_now old upto) starts
   where
     same : new ≡ old → Leaves tells old new m
-    same is =
-        subst (λ (x : StoreValue). Leaves tells old x m) (sym is)
-        (beside-leaves tells old old m m (machine-rises m stands.machine) (same-later m)
-        (record { keeps = record { runs = refl; kept = refl; archived = refl; runs_end = refl; mark = refl }; archive = refl; job = refl; reclaimed = refl; bytes = λ told. refl }) stands.place stands.runs)
+    same is = left-same tells old new m stands is
 
     by-answer : (answer : Result (Unit {0}) StartFault) → BeginsRun old upto answer new → Leaves tells old new m
     by-answer (Ok done) is = begun-left tells old new upto m stands is.2
@@ -104,6 +110,36 @@ start-left tells old new upto answer m stands starts = by-refusal (refusal_now o
     by-refusal : (o : Option StartFault) → MatchOption o (BeginsRun old upto answer new) (λ why. (answer ≡ Err why) × (new ≡ old)) → Leaves tells old new m
     by-refusal None is = by-answer answer is
     by-refusal (Some why) is = same is.1
+
+-- ---- the beginning of a reclaim
+
+reclaim-begun-left : (tells : Bool) (old new : StoreValue) (numbers : List ℕ) (m : Machine Value) → Stands tells old m → new ≡ with_reclaim old numbers → Leaves tells old new m
+reclaim-begun-left tells old new numbers m stands is =
+    let made : StoreValue = with_reclaim old numbers in
+    let keeps : KeepsArchive old made = record { runs = refl; kept = refl; archived = refl; runs_end = refl; mark = refl } in
+    subst (λ (x : StoreValue). Leaves tells old x m) (sym is) (record {
+      place = omega arith;
+      runs = λ told. runs-move old made m m (machine-rises m stands.machine) (same-later m) keeps (stands.runs told).marks (up_to-same old.runs_end (archive_of old.disk)) (stands.runs told);
+      goes = goes-same tells old made keeps (λ told. up_to-same old.runs_end (archive_of old.disk));
+    })
+
+reclaim-left : (tells : Bool) (old new : StoreValue) (answer : Result (Unit {0}) StartFault) (m : Machine Value) → Stands tells old m → StartsReclaim old answer new → Leaves tells old new m
+reclaim-left tells old new answer m stands starts = by-refusal (reclaim_refusal old) starts
+  where
+    by-answer : (answer : Result (Unit {0}) StartFault) → BeginsReclaim old answer new → Leaves tells old new m
+    by-answer (Ok done) is = reclaim-begun-left tells old new is.1.numbers m stands is.1.new_is
+    by-answer (Err why) is = left-same tells old new m stands is.1
+
+    by-refusal : (o : Option StartFault) → MatchOption o (BeginsReclaim old answer new) (λ why. (answer ≡ Err why) × (new ≡ old)) → Leaves tells old new m
+    by-refusal None is = by-answer answer is
+    by-refusal (Some why) is = left-same tells old new m stands is.1
+
+pub reclaim-start-stands : (tells : Bool) (old new : StoreValue) (answer : Result (Unit {0}) StartFault) (m : Machine Value) → Stands tells old m → StartsReclaim old answer new → Stands tells new m
+reclaim-start-stands tells old new answer m stands starts =
+    whole tells old new m (reclaiming.reclaim-start-stands tells old new answer m (beside tells old m stands) starts) (reclaim-left tells old new answer m stands starts)
+
+pub reclaim-start-goes : (tells : Bool) (old new : StoreValue) (answer : Result (Unit {0}) StartFault) (m : Machine Value) → Stands tells old m → StartsReclaim old answer new → GoesOn tells old new
+reclaim-start-goes tells old new answer m stands starts = (reclaim-left tells old new answer m stands starts).goes
 
 pub archive-start-stands : (tells : Bool) (old new : StoreValue) (upto : ℕ) (answer : Result (Unit {0}) StartFault) (m : Machine Value) → Stands tells old m → StartsArchive old upto answer new → Stands tells new m
 archive-start-stands tells old new upto answer m stands starts =

@@ -18,6 +18,7 @@ use Rattle.store.specs.Calls.{is_own}
 use Rattle.store.specs.Values.{StoreValue, HasRest}
 use Rattle.store.specs.Archives.{StartsArchive}
 use Rattle.store.specs.Jobs.{PumpsJob}
+use Rattle.store.specs.Reclaims.{StartsReclaim}
 use Rattle.store.specs.Pumps.{Pumps}
 use Rattle.store.specs.declared.job.JobDid.{JobDid}
 use Rattle.store.specs.declared.job.StartFault.{StartFault}
@@ -112,6 +113,9 @@ JobPumpGoesOn = (tells : Bool) (old new : StoreValue) (answer : Result JobDid Pu
 
 abbrev pub ArchiveStartGoesOn : Type 0
 ArchiveStartGoesOn = (tells : Bool) (old new : StoreValue) (upto : ℕ) (answer : Result (Unit {0}) StartFault) (m : Machine Value) → Stands tells old m → StartsArchive old upto answer new → GoesOn tells old new
+
+abbrev pub ReclaimStartGoesOn : Type 0
+ReclaimStartGoesOn = (tells : Bool) (old new : StoreValue) (answer : Result (Unit {0}) StartFault) (m : Machine Value) → Stands tells old m → StartsReclaim old answer new → GoesOn tells old new
 
 -- a call that changes the transactions alone
 abbrev pub RestGoesOn : Type 0

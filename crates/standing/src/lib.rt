@@ -3,8 +3,8 @@
 #![tactic(auto)]
 
 ghost use Rattle.standing.specs.Laws.{TimesAreOfLabel, ForgottenHolds};
-ghost use Rattle.standing.specs.Views.{ViewIsOfHistory, ViewGoesOn, AtIsAnswered, ScanAtIsAnswered, BetweenIsAnswered, ScanBetweenIsAnswered, RecentIsAnswered, AtIsAnsweredRecently, ScanAtIsAnsweredRecently, BetweenIsAnsweredRecently, ScanBetweenIsAnsweredRecently, AtStands, ScanAtStands, BetweenStands, ScanBetweenStands, PumpGoesOn, JobPumpGoesOn, ArchiveStartGoesOn, RestGoesOn};
-ghost use Rattle.standing.specs.Calls.{BeginStands, AbortStands, SubmitStands, PumpStands, RedeemStands, ArchiveStartStands, JobPumpStands};
+ghost use Rattle.standing.specs.Views.{ViewIsOfHistory, ViewGoesOn, AtIsAnswered, ScanAtIsAnswered, BetweenIsAnswered, ScanBetweenIsAnswered, RecentIsAnswered, AtIsAnsweredRecently, ScanAtIsAnsweredRecently, BetweenIsAnsweredRecently, ScanBetweenIsAnsweredRecently, AtStands, ScanAtStands, BetweenStands, ScanBetweenStands, PumpGoesOn, JobPumpGoesOn, ArchiveStartGoesOn, ReclaimStartGoesOn, RestGoesOn};
+ghost use Rattle.standing.specs.Calls.{BeginStands, AbortStands, SubmitStands, PumpStands, RedeemStands, ArchiveStartStands, ReclaimStartStands, JobPumpStands};
 
 /// A begin takes the last published time as its snapshot.
 pub fn begin_stands()
@@ -29,10 +29,12 @@ pub fn pump_stands()
     ensures { PumpStands }
 {}
 
-/// An archive that begins, and each of its steps, changes nothing of the machine's. Before each step
-/// and after it, made or refused, whatever a stop may leave stands for what is published.
-pub fn archive_stands()
-    ensures start { ArchiveStartStands }
+/// An archive or a reclaim that begins, and each step of either, changes nothing of the machine's.
+/// Before each step and after it, made or refused, whatever a stop may leave stands for what is
+/// published.
+pub fn jobs_stand()
+    ensures archive { ArchiveStartStands }
+    ensures reclaim { ReclaimStartStands }
     ensures step { JobPumpStands }
 {}
 
@@ -66,6 +68,7 @@ pub fn views_go_on()
     ensures pump { PumpGoesOn }
     ensures job_pump { JobPumpGoesOn }
     ensures archive { ArchiveStartGoesOn }
+    ensures reclaim { ReclaimStartGoesOn }
     ensures rest { RestGoesOn }
 {}
 

@@ -1,0 +1,11 @@
+use Rattle.standing.proofs.Whole.{archive-start-stands, reclaim-start-stands, job-pump-stands}
+use Rattle.standing.proofs.jobs_stand.Goals as goal
+
+pub returns-clause-archive : goal.returns-clause-archive
+returns-clause-archive c = λ tells old new upto answer m stands starts. archive-start-stands tells old new upto answer m stands starts
+
+pub returns-clause-reclaim : goal.returns-clause-reclaim
+returns-clause-reclaim c = λ tells old new answer m stands starts. reclaim-start-stands tells old new answer m stands starts
+
+pub returns-clause-step : goal.returns-clause-step
+returns-clause-step c = λ tells old new answer m stands sound pumps. job-pump-stands tells old new answer m stands sound pumps
