@@ -29,4 +29,5 @@ pub mod Jobs
 pub mod Pumping
 pub mod JobPumping
 pub mod Archiving
+pub mod Reclaiming
 pub mod Calling
