@@ -1,4 +1,5 @@
 pub mod Versions
+pub mod Times
 pub mod Fronts
 pub mod Opened
 pub mod Formatted

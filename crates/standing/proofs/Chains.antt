@@ -1,9 +1,8 @@
 -- The chain of anchors that a reclaim makes: as it begins, and while its extents are filled one after the other.
-use Rattle.std.proofs.Common.{◌≡◌, ◌≢◌, ℕ, zero, suc, ◌+◌, ◌<◌, ◌≤◌, ◌^◌, nat_le, true, false, List, [], ◌∷◌, ◌++◌, length, map, take, drop, slice_get, Option, None, Some, refl, arith, ap, sym, subst, ◌∙◌, ⊎_elim, inl, inr, length-append}
+use Rattle.std.proofs.Common.{◌≡◌, ◌≢◌, ℕ, zero, suc, ◌+◌, ◌<◌, ◌≤◌, ◌^◌, nat_le, true, false, List, [], ◌∷◌, ◌++◌, length, map, take, drop, slice_get, None, Some, refl, arith, ap, sym, subst, ◌∙◌, ⊎_elim, inl, inr, length-append}
 use Rattle.std.specs.List.{AllByRecursion}
 use Rattle.std.proofs.lemmas.Bool.{cases_lt, cases_eq}
 use Rattle.std.proofs.lemmas.Bool.Decides.{nat_tests}
-use Rattle.wire.specs.Numbers.{u16_bytes, u64_bytes}
 use Rattle.wire.specs.Spelling.{AreAnchors}
 use Rattle.image.specs.Reading.{OldRecord}
 use Rattle.deltas.specs.declared.«record».Record.{Record}

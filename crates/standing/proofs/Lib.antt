@@ -29,6 +29,7 @@ pub mod Jobs
 pub mod Pumping
 pub mod JobPumping
 pub mod Archiving
+pub mod Reclaiming
 pub mod Calling
 pub mod RunsKept
 pub mod RunsAhead

@@ -1,7 +1,7 @@
 -- What a history writes is in range, and so is what the heap and the anchors of a reclaim have of it.
 use Rattle.std.proofs.Common.{◌≡◌, ℕ, ◌<◌, ◌≤◌, ◌^◌, ◌&&◌, nat_lt, nat_le, Bool, true, false, cond, List, [], ◌∷◌, ◌++◌, map, Option, None, Some, MatchOption, refl, arith, ap, sym, subst, ◌∙◌}
 use Rattle.std.specs.Prelude.{filter, find, option_map}
-use Rattle.std.specs.List.{AllByRecursion, flat_map, cons_option}
+use Rattle.std.specs.List.{AllByRecursion, cons_option}
 use Rattle.std.proofs.lemmas.Bool.Decides.{nat_tests}
 use Rattle.history.specs.declared.key.Key.{Key}
 use Rattle.history.specs.declared.key.KeyWrite.{KeyWrite}

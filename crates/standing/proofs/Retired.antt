@@ -1,5 +1,5 @@
 -- What a reclaim frees, and what stays kept.
-use Rattle.std.proofs.Common.{◌≡◌, ◌≢◌, ℕ, zero, suc, ◌+◌, ◌-◌, ◌<◌, ◌≤◌, nat_le, nat_lt, Bool, true, false, cond, List, [], ◌∷◌, ◌++◌, length, map, take, drop, get_or, refl, arith, ap, sym, subst, ◌∙◌, inl, inr}
+use Rattle.std.proofs.Common.{◌≡◌, ◌≢◌, ℕ, zero, suc, ◌-◌, ◌<◌, ◌≤◌, nat_le, nat_lt, Bool, true, false, cond, List, [], ◌∷◌, ◌++◌, length, map, take, drop, refl, arith, ap, sym, subst, ◌∙◌}
 use Rattle.std.specs.Prelude.{filter}
 use Rattle.std.specs.List.{AllByRecursion, flat_map}
 use Rattle.std.proofs.lemmas.Bool.Decides.{nat_tests}
@@ -8,7 +8,7 @@ use Rattle.std.proofs.lemmas.List.Concat.{flat_map-append, flat_map-cons}
 use Rattle.std.proofs.lemmas.Grind.{get_or-set_at}
 use Rattle.extents.specs.declared.usage.Usage.{Usage}
 use Rattle.extents.specs.declared.usage.Usage.TheVariants.{Free, Out, Kept}
-use Rattle.extents.specs.Usages.{HasUsage, IsFree, IsOut, IsKept, usage_of, with_usage, with_usages, IsNoneOf, AreDistinct, AreOut}
+use Rattle.extents.specs.Usages.{HasUsage, IsOut, IsKept, usage_of, with_usage, with_usages, IsNoneOf, AreDistinct, AreOut}
 use Rattle.extents.specs.Times.{time_of, with_time, with_times, is_kept, retired, retired_by, all_retired_by}
 use Rattle.extents.proofs.Frames.{other_stays, are_apart, others_stay as frames-stay, list_kept}
 use Rattle.history.specs.Histories.{History}
@@ -30,7 +30,7 @@ use Rattle.transactions.specs.Steps.{with_chains, published}
 use Rattle.transactions.specs.Reclaims.{with_reserved, reclaimed_to}
 use Rattle.transactions.proofs.Publishing.{out-front, out-swapped, out-reserved}
 use Rattle.transactions.proofs.Reclaiming.{keeps-reclaimed}
-use Rattle.standing.specs.OnDisk.{HasTimes, packed, member_of, members_of, group_of}
+use Rattle.standing.specs.OnDisk.{HasTimes, packed, members_of, group_of}
 use Rattle.standing.proofs.Usages.{AllKept, all-taken}
 
 -- ---- what is freed
