@@ -211,7 +211,7 @@ module _ (old : DiskState) (mark : ℕ) (disk : DiskState) (r : Recovered) (head
     built = image.built;
     used = is.used;
     kept = kept-numbers r.extents (live image.layout) is.extents.kept;
-    times = opened-times r image.layout is.live;
+    times = opened-times header image.layout image.reading (unread image.reading) r image.laid is;
     times_long = opened-long r;
     heap = is.writes;
     packed = tt;

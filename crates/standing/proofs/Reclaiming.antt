@@ -37,7 +37,7 @@ use Rattle.store.specs.declared.job.StartFault.TheVariants as fault
 use Rattle.store.proofs.ReclaimStarts.{too-full}
 use Rattle.standing.specs.Standing.{StandsInMemory, Reclaims, snapshots_of}
 use Rattle.standing.specs.OnDisk.{OfAnchors, IsNextChain, IsRested, Works}
-use Rattle.standing.specs.Stands.{HasMarks, Stands}
+use Rattle.standing.specs.Stands.{HasMarks, StandsBeside as Stands}
 use Rattle.standing.proofs.Retired.{reserved-live}
 use Rattle.standing.proofs.Chains.{begun, begun-named, begun-filling, begun-chain, begun-range}
 use Rattle.standing.proofs.Ranges.{IsInRange, each-chain, all-rising, facts-in-range, anchors-in-range}

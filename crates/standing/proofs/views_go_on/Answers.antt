@@ -1,5 +1,5 @@
 use Rattle.standing.proofs.Asking.{query-stands}
-use Rattle.standing.proofs.Whole.{pump-goes, job-pump-goes, archive-start-goes, rest-goes}
+use Rattle.standing.proofs.Whole.{pump-goes, job-pump-goes, archive-start-goes, reclaim-start-goes, rest-goes}
 use Rattle.standing.proofs.views_go_on.Goals as goal
 
 pub returns-clause-at : goal.returns-clause-at
@@ -22,6 +22,9 @@ returns-clause-job_pump c = job-pump-goes
 
 pub returns-clause-archive : goal.returns-clause-archive
 returns-clause-archive c = archive-start-goes
+
+pub returns-clause-reclaim : goal.returns-clause-reclaim
+returns-clause-reclaim c = reclaim-start-goes
 
 pub returns-clause-rest : goal.returns-clause-rest
 returns-clause-rest c = rest-goes
