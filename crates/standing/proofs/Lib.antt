@@ -19,7 +19,6 @@ pub mod Naming
 pub mod Places
 pub mod Usages
 pub mod Joining
-pub mod Unreclaimed
 pub mod Besides
 pub mod Freshening
 pub mod Retired

@@ -26,7 +26,7 @@ use Rattle.standing.specs.Laws.{BeginsAs}
 use Rattle.standing.proofs.Openings.{opened_one, closed_one}
 use Rattle.standing.proofs.Names.{last-named, front-named, rising-named}
 use Rattle.standing.proofs.Conflicts.{rising-front}
-use Rattle.standing.proofs.Held.{whole, state-held}
+use Rattle.standing.proofs.Held.{state-held}
 
 -- the last published time is that of the published history
 pub last-is : (v : TransactionsValue) (m : Machine Value) → StandsInMemory v m → calls.last v ≡ last m.published
@@ -36,10 +36,6 @@ last-is v m stands =
 -- the commits of its memory rise
 pub published-rises : (v : TransactionsValue) (m : Machine Value) → StandsInMemory v m → HasRisingTimes 0 m.published
 published-rises v m stands = rising-front 0 m.published m.queue (rising-named 0 v.heads (commit_order m) stands.names stands.rising)
-
--- where nothing is reclaimed it has all writes
-pub all-held : (v : TransactionsValue) (m : Machine Value) → StandsInMemory v m → v.reclaimed ≡ 0 → (key : Key) → writes_of v.versions key ≡ histories.writes_of m.published key
-all-held v m stands none key = whole stands.versions (published-rises v m stands) none key
 
 pub all-of : (P : ℕ → Type 0) (xs : List ℕ) (y : ℕ) → AllByRecursion P xs → Contains xs y → P y
 all-of P [] y all has = absurd (Contains-nil y has)
