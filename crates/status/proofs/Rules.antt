@@ -4,14 +4,15 @@ use Rattle.std.specs.Prelude.{IsTrue, map, nat_lt}
 use Rattle.std.proofs.lemmas.List.{length-map}
 use Rattle.wire.specs.declared.slot.Member.{Member}
 use Rattle.wire.specs.declared.slot.Run.{Run}
+use Rattle.wire.specs.declared.slot.Anchors.{Anchors}
 use Rattle.wire.specs.declared.slot.Body.{Body}
-use Rattle.wire.specs.declared.slot.Body.TheVariants.{Commit, Archived}
+use Rattle.wire.specs.declared.slot.Body.TheVariants.{Commit, Archived, Reclaimed, Floor}
 use Rattle.wire.specs.declared.slot.Slot.{Slot}
 use Rattle.wire.specs.Spelling.{Rises, AreMembers, InRange, kind_of}
 use Rattle.image.specs.Log.{last_time_after, AreRisingAfter}
 use Rattle.status.specs.Rules.{is_built, head_of, MayFollow}
 use Rattle.status.specs.declared.log_end.LogEnd.{LogEnd}
-use Rattle.status.specs.Walking.{StartsAfter, IsNextRun, EndsAt}
+use Rattle.status.specs.Walking.{StartsAfter, IsNextRun, AreNextAnchors, EndsAt}
 
 is_below : (a b : ℕ) → (IsTrue (nat_lt a b) ↔ (a < b))
 is_below a b = search rules
@@ -62,6 +63,20 @@ run_follows profile before end number run next built ends test = (
   }),
 )
 
+anchors_follow : (profile : ℕ) (before : List Slot) (end : LogEnd) (number : ℕ) (anchors : Anchors) (next : Bool) → IsTrue (is_built profile 3) → EndsAt before end
+    → (IsTrue next ↔ AreNextAnchors end anchors) → (IsTrue next ↔ MayFollow profile before (record { number = number; body = Reclaimed anchors }))
+anchors_follow profile before end number anchors next built ends test = (
+  λ yes. record {
+    built = built;
+    may_come = ((test.0 yes).upto_mark ∙ ends.archived_is, subst (λ (t : ℕ). t < anchors.upto) ends.reclaimed_is (test.0 yes).later);
+    in_row = tt;
+  },
+  λ may. test.1 (record {
+    upto_mark = may.may_come.0 ∙ sym ends.archived_is;
+    later = subst (λ (t : ℕ). t < anchors.upto) (sym ends.reclaimed_is) may.may_come.1;
+  }),
+)
+
 is_true : (b : Bool) → b ≡ true → IsTrue b
 is_true b is = let yes : IsTrue true = search rules in subst IsTrue (sym is) yes
 
@@ -80,6 +95,14 @@ pub runs_follow : (profile : ℕ) (before : List Slot) (slot : Slot) (end : LogE
 runs_follow profile before slot end run next body_is built ends test =
     subst (λ (body : Body). IsTrue next ↔ MayFollow profile before (record { number = slot.number; body = body })) (sym body_is)
     (run_follows profile before end slot.number run next (is_true _ (sym (ap (λ (body : Body). is_built profile (kind_of body)) body_is) ∙ built)) ends test)
+
+-- a reclaim may follow where it is built and is the next one
+pub reclaims_follow : (profile : ℕ) (before : List Slot) (slot : Slot) (end : LogEnd) (anchors : Anchors) (next : Bool)
+    → slot.body ≡ Reclaimed anchors → is_built profile (kind_of slot.body) ≡ true → EndsAt before end
+    → (IsTrue next ↔ AreNextAnchors end anchors) → (IsTrue next ↔ MayFollow profile before slot)
+reclaims_follow profile before slot end anchors next body_is built ends test =
+    subst (λ (body : Body). IsTrue next ↔ MayFollow profile before (record { number = slot.number; body = body })) (sym body_is)
+    (anchors_follow profile before end slot.number anchors next (is_true _ (sym (ap (λ (body : Body). is_built profile (kind_of body)) body_is) ∙ built)) ends test)
 
 -- ---- the last time
 

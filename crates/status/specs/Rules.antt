@@ -11,7 +11,7 @@ use Rattle.image.specs.Log.{MayCome}
 
 -- Which kinds of slot are built, in which profiles. A store of a profile is read once its commits are built.
 abbrev pub is_built : ℕ → ℕ → Bool
-is_built profile kind = (profile == 1) && ((kind == 1) || (kind == 2))
+is_built profile kind = (profile == 1) && ((kind == 1) || ((kind == 2) || (kind == 3)))
 
 -- ---- a slot as the rules see it
 

@@ -3,8 +3,9 @@ use Rattle.std.specs.Prelude.{◌≡◌, ◌≢◌, ◌<◌, ◌≤◌, ℕ, Boo
 use Rattle.wire.specs.Spelling.{IsSpelled}
 use Rattle.wire.specs.declared.slot.Member.{Member}
 use Rattle.wire.specs.declared.slot.Run.{Run}
+use Rattle.wire.specs.declared.slot.Anchors.{Anchors}
 use Rattle.wire.specs.declared.slot.Slot.{Slot}
-use Rattle.image.specs.Log.{last_time, archive_mark}
+use Rattle.image.specs.Log.{last_time, archive_mark, reclaim_mark}
 use Rattle.status.specs.declared.header.Header.{Header}
 use Rattle.status.specs.declared.fault.LogFault.{LogFault}
 use Rattle.status.specs.declared.fault.LogFault.TheVariants.{NotAStore, Damaged, Device, NoMemory}
@@ -19,10 +20,11 @@ abbrev pub StartsAfter : ℕ → List Member → Type 0
 StartsAfter time [] = ⊥
 StartsAfter time (m ∷ ms) = time < m.time
 
--- the log of these slots ends here: the time of its last commit, its archive mark and the end of its last run
+-- the log of these slots ends here: the time of its last commit, its marks and the end of its last run
 pub record EndsAt (slots : List Slot) (end : LogEnd) : Type 0 where
   pub last_is : end.last ≡ last_time (log_of slots)
   pub archived_is : end.archived ≡ archive_mark (log_of slots)
+  pub reclaimed_is : end.reclaimed ≡ reclaim_mark (log_of slots)
   pub runs_end_is : end.runs_end ≡ row_end 0 (runs_of slots)
 
 -- the run goes further than the archive mark, no further than the last commit, and starts where the last run ends
@@ -30,6 +32,11 @@ pub record IsNextRun (end : LogEnd) (run : Run) : Type 0 where
   pub later : end.archived < run.upto
   pub upto_last : run.upto ≤ end.last
   pub next : run.start ≡ end.runs_end
+
+-- the reclaim goes to the archive mark, and the reclaim before it did not
+pub record AreNextAnchors (end : LogEnd) (anchors : Anchors) : Type 0 where
+  pub upto_mark : anchors.upto ≡ end.archived
+  pub later : end.reclaimed < anchors.upto
 
 -- these slots were read, and their log ends here
 pub record IsWalk (profile : ℕ) (slots : List Slot) (end : LogEnd) : Type 0 where

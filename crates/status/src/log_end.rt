@@ -4,11 +4,11 @@ ghost use Rattle.wire.specs.Spelling.{InRange, kind_of};
 ghost use Rattle.wire.specs.declared.slot.Slot.{Slot};
 ghost use Rattle.image.specs.Log.{last_time_after};
 ghost use Rattle.status.specs.Rules.{head_of, MayFollow};
-ghost use Rattle.status.specs.Walking.{StartsAfter, IsNextRun, EndsAt};
+ghost use Rattle.status.specs.Walking.{StartsAfter, IsNextRun, AreNextAnchors, EndsAt};
 
 use crate::reading::is_built;
 use arrayvec::ArrayVec;
-use wire::{Body, Member, Run, Slot};
+use wire::{Anchors, Body, Member, Run, Slot};
 
 /// Where a log ends. Times are microseconds since 1970.
 #[derive(Clone, Copy)]
@@ -17,6 +17,8 @@ pub struct LogEnd {
     pub last: u64,
     /// The archive mark, 0 for none.
     pub archived: u64,
+    /// The reclaim mark, 0 for none.
+    pub reclaimed: u64,
     /// The byte of the archive at which the last run ends, 0 for none.
     pub runs_end: u64,
 }
@@ -61,6 +63,7 @@ impl LogEnd {
         LogEnd {
             last: 0,
             archived: 0,
+            reclaimed: 0,
             runs_end: 0,
         }
     }
@@ -70,6 +73,13 @@ impl LogEnd {
         ensures { IsTrue result ↔ IsNextRun self.now run.now }
     {
         self.archived < run.upto && run.upto <= self.last && run.start == self.runs_end
+    }
+
+    // Whether the reclaim goes to the archive mark, and the reclaim before it did not.
+    fn takes_anchors(&self, anchors: &Anchors) -> bool
+        ensures { IsTrue result ↔ AreNextAnchors self.now anchors.now }
+    {
+        anchors.upto == self.archived && self.reclaimed < anchors.upto
     }
 
     /// Whether this slot may follow in a store of this profile.
@@ -82,7 +92,8 @@ impl LogEnd {
         match &slot.body {
             Body::Commit(members) => starts_after(self.last, members.as_slice()),
             Body::Archived(run) => self.takes_run(run),
-            _ => false,
+            Body::Reclaimed(anchors) => self.takes_anchors(anchors),
+            Body::Floor { .. } => false,
         }
     }
 
@@ -101,7 +112,11 @@ impl LogEnd {
                 runs_end: run.start + run.len,
                 ..*self
             },
-            _ => *self,
+            Body::Reclaimed(anchors) => LogEnd {
+                reclaimed: anchors.upto,
+                ..*self
+            },
+            Body::Floor { .. } => *self,
         }
     }
 }

@@ -3,7 +3,7 @@ use Rattle.std.specs.Prelude.{IsTrue}
 use Rattle.wire.specs.declared.slot.Member.{Member}
 use Rattle.status.specs.Rules.{is_built}
 use Rattle.status.specs.Walking.{StartsAfter}
-use Rattle.status.proofs.Rules.{commits_follow, runs_follow}
+use Rattle.status.proofs.Rules.{commits_follow, runs_follow, reclaims_follow}
 use Rattle.status.proofs.log_end.LogEnd.may_be_followed.Goals as goal
 
 pub returns-in-Commit : goal.returns-in-Commit
@@ -18,3 +18,9 @@ returns-in-Archived c = λ in_range before ends.
     runs_follow c.args.profile before c.args.slot.now c.args.self.now c.in-Archived.run' c.takes_run.result c.in-Archived.is
     (sym (c.is_built.ensures ∙ ap (is_built c.args.profile) c.kind_of.ensures) ∙ c.if-not-is_built.false)
     ends c.takes_run.ensures
+
+pub returns-in-Reclaimed : goal.returns-in-Reclaimed
+returns-in-Reclaimed c = λ in_range before ends.
+    reclaims_follow c.args.profile before c.args.slot.now c.args.self.now c.in-Reclaimed.anchors c.takes_anchors.result c.in-Reclaimed.is
+    (sym (c.is_built.ensures ∙ ap (is_built c.args.profile) c.kind_of.ensures) ∙ c.if-not-is_built.false)
+    ends c.takes_anchors.ensures

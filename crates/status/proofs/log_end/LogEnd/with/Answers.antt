@@ -3,7 +3,7 @@ use Rattle.std.specs.Prelude.{map}
 use Rattle.wire.specs.declared.slot.Member.{Member}
 use Rattle.image.specs.Log.{last_time_after}
 use Rattle.status.specs.Rules.{head_of}
-use Rattle.status.proofs.Ends.{commits_end, run_ends, others_end}
+use Rattle.status.proofs.Ends.{commits_end, run_ends, reclaim_ends, floor_ends}
 use Rattle.status.proofs.log_end.LogEnd.with.Goals as goal
 
 pub returns-in-Commit : goal.returns-in-Commit
@@ -12,10 +12,13 @@ returns-in-Commit c = λ before ends.
     (c.last_after.ensures ∙ ap (λ (ms : List Member). last_time_after c.args.self.now.last (map head_of ms)) c.as_slice.ensures.value)
     refl
     refl
+    refl
 
 pub returns-in-Archived : goal.returns-in-Archived
-returns-in-Archived c = λ before ends. run_ends before c.args.slot.now c.args.self.now _ c.in-Archived.run' c.in-Archived.is ends refl refl refl
+returns-in-Archived c = λ before ends. run_ends before c.args.slot.now c.args.self.now _ c.in-Archived.run' c.in-Archived.is ends refl refl refl refl
 
-pub returns-in_default : goal.returns-in_default
-returns-in_default c = λ before ends.
-    others_end before c.args.slot.now c.args.self.now (λ members. c.in_default.not-Commit (record { items = members })) (λ run. c.in_default.not-Archived run) ends
+pub returns-in-Reclaimed : goal.returns-in-Reclaimed
+returns-in-Reclaimed c = λ before ends. reclaim_ends before c.args.slot.now c.args.self.now _ c.in-Reclaimed.anchors c.in-Reclaimed.is ends refl refl refl refl
+
+pub returns-in-Floor : goal.returns-in-Floor
+returns-in-Floor c = λ before ends. floor_ends before c.args.slot.now c.args.self.now c.in-Floor.relation c.in-Floor.floor c.in-Floor.is ends
