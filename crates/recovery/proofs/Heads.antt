@@ -2,7 +2,6 @@
 use Rattle.std.proofs.Common.{◌≡◌, ◌≤◌, ◌<◌, ◌^◌, ℕ, nat_lt, Bool, true, false, cond, ⊎_elim, arith, length, get_or, List, [], ◌∷◌, ◌++◌, map, refl, sym, ap, subst, ◌∙◌}
 use Rattle.std.specs.Prelude.{filter}
 use Rattle.std.proofs.lemmas.Bool.{cases_lt}
-use Rattle.std.proofs.lemmas.Bool.Decides.{nat_tests}
 use Rattle.std.proofs.lemmas.List.{append-nil, map-append}
 use Rattle.history.proofs.Orders.{is_lt, not_lt}
 use Rattle.wire.specs.declared.slot.Anchors.{Anchors}
@@ -136,9 +135,6 @@ later_heads mark (e ∷ entries) =
     elim (nat_lt mark e.time) as Goal [ true ↦ ap (λ l. head_of e ∷ l) rest | false ↦ rest ]
 
 -- where the first of commits is later than the mark, they all are
-pub later_here : (mark time : ℕ) (rest : List Member) (d : Member) → 1 ≤ length rest → nat_lt mark (get_or rest 0 d).time ≡ true → AreRisingAfter time (map head_of rest) → rest ≡ later_than mark rest
+pub later_here : (mark time : ℕ) (rest : List Member) (d : Member) → 1 ≤ length rest → mark < (get_or rest 0 d).time → AreRisingAfter time (map head_of rest) → rest ≡ later_than mark rest
 later_here mark time [] d some late rising = absurd (omega arith)
-later_here mark time (e ∷ entries) d some late rising =
-    let test : nat_lt mark e.time ≡ true = late in
-    let above : mark < e.time = grind (arith, nat_tests) in
-    sym (later_from mark time e entries above rising)
+later_here mark time (e ∷ entries) d some late rising = sym (later_from mark time e entries late rising)
