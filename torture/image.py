@@ -29,8 +29,8 @@ def header(status):
 
 
 def log(status, slots):
-    """The open slots before the first closed gate: the members of each, or the numbers of an archive."""
-    found, newest, archived, end = [], 0, 0, 0
+    """The open slots before the first closed gate: the members of each, or the numbers of an archive or of a reclaim."""
+    found, newest, archived, reclaimed, end = [], 0, 0, 0, 0
     for number in range(slots):
         slot = status[512 + 512 * number: 1024 + 512 * number]
         if slot[0] != 0xC7:
@@ -62,12 +62,38 @@ def log(status, slots):
                 raise bad
             archived, end, body = upto, start + length, 40
             found.append(("archived", (upto, start, length, records)))
+        elif kind == 3:
+            upto, first, extents, records = u(slot, 8, 8), u(slot, 16, 4), u(slot, 20, 4), u(slot, 24, 4)
+            if count or not 1 <= upto < TOP:
+                raise bad
+            if (first or extents or records) and not (1 <= first <= 65536 and 1 <= extents <= 65536 and extents <= records):
+                raise bad
+            if upto != archived or upto <= reclaimed:
+                raise bad
+            reclaimed, body = upto, 28
+            found.append(("reclaimed", (upto, first, extents, records)))
         else:
-            # kinds 3 and 4 are of the format, and no version of the program builds them yet
+            # kind 4 is of the format, and no version of the program builds it yet
             raise bad
         if any(slot[body:]):
             raise bad
-    return found, archived
+    return found, archived, reclaimed
+
+
+def anchor(data, at, mark):
+    """One record of the anchors' chain: the key, its time and value, and where the next one begins."""
+    if at + 20 > len(data) or data[at] != 4:
+        return None
+    key, since, count, place = (u(data, at + 1, 2), u(data, at + 3, 8)), u(data, at + 11, 8), data[at + 19], at + 20
+    if not 1 <= since <= mark or not 1 <= count <= 16:
+        return None
+    value = []
+    for _ in range(count):
+        if place >= len(data) or place + 1 + data[place] > len(data):
+            return None
+        value.append(bytes(data[place + 1: place + 1 + data[place]]))
+        place += 1 + data[place]
+    return key, (since, tuple(value)), place
 
 
 def record(data, at, before):
@@ -117,8 +143,8 @@ def is_delta(old, new):
     return 13 + changed < 12 + sum(1 + len(it) for it in new)
 
 
-def chain(heap, first, extents, records, before, taken):
-    """The writes of a commit's chain, or None where a check fails."""
+def chain(heap, first, extents, records, read, taken):
+    """What is read of each key of a chain, or None where a check fails."""
     writes, number, previous, room = [], first, None, None
     for place in range(extents):
         start = (number - 1) * EXTENT
@@ -133,7 +159,7 @@ def chain(heap, first, extents, records, before, taken):
             return None
         data, at = extent[16: 16 + used], 0
         while at < used:
-            found = record(data, at, before)
+            found = read(data, at)
             if found is None:
                 return None
             key, value, end = found
@@ -152,14 +178,30 @@ def fields_of(value):
     return None if value is None else " ".join(it.hex() or "-" for it in value)
 
 
+def anchors_of(found):
+    """Those of the last reclaim: its mark, first extent, extents and records."""
+    return ([(0, 0, 0, 0)] + [body for kind, body in found if kind == "reclaimed"])[-1]
+
+
 def read(status, heap, archive):
-    """The history that the files stand for, and the archive mark; Refused where they don't open."""
+    """The history that the files stand for, its marks and its anchors; Refused where they don't open.
+
+    Of the commits up to the reclaim mark there are the times and labels alone (their writes are None);
+    of each key that has a value at the mark there is an anchor, its time and its fields."""
     slots = header(status)
-    found, archived = log(status, slots)
-    history, values, taken = [], {}, set()
+    found, archived, reclaimed = log(status, slots)
+    mark, first, extents, records = anchors_of(found)
+    history, taken = [], set()
+    olds = chain(heap, first, extents, records, lambda data, at: anchor(data, at, mark), taken)
+    if olds is None:
+        raise damaged("heap", first)
+    values = {key: value for key, (_, value) in olds}
     for kind, body in found:
         for label, time, first, extents, records in body if kind == "commit" else []:
-            writes = chain(heap, first, extents, records, values, taken)
+            if time <= reclaimed:
+                history.append(Commit(time, label, None))
+                continue
+            writes = chain(heap, first, extents, records, lambda data, at: record(data, at, values), taken)
             if writes is None:
                 raise damaged("heap", first)
             values.update(writes)
@@ -167,4 +209,4 @@ def read(status, heap, archive):
     for kind, body in found:
         if kind == "archived" and body[1] + body[2] > len(archive):
             raise damaged("archive", body[1])
-    return history, archived
+    return history, archived, reclaimed, {key: (since, fields_of(value)) for key, (since, value) in olds}

@@ -276,7 +276,7 @@ class Play:
         areas = stops.left(self.chance)
         found = histories[check_left(self.program, areas, histories, where)]
         self.images += 1
-        plain, archived = image.read(*(areas[area] for area in AREAS))
+        plain, archived, _, _ = image.read(*(areas[area] for area in AREAS))
         if plain != found:
             raise Failure(f"{where}: the plain reader reads another history")
         if self.depth < 2 and self.chance.random() < 0.02:
@@ -330,7 +330,7 @@ def kills_case(program, chance, folder):
     os.waitpid(pid, 0)
     done = sum(it.startswith("done ") for it in said)
     areas = read_areas(folder)
-    plain, _ = image.read(*(areas[area] for area in AREAS))
+    plain, _, _, _ = image.read(*(areas[area] for area in AREAS))
     if len(plain) < done or plain != order[: len(plain)]:
         raise Failure(f"killed after {done} commits were answered done: {len(plain)} are left")
     check_left(program, areas, [plain], "killed")
@@ -436,7 +436,7 @@ def forge(areas, chance):
 
 def check_forged(program, areas):
     try:
-        history, _ = image.read(*(areas[area] for area in AREAS))
+        history, _, reclaimed, _ = image.read(*(areas[area] for area in AREAS))
     except image.Refused as why:
         with tempfile.TemporaryDirectory(prefix="torture-") as folder:
             write_areas(folder, areas)
@@ -445,6 +445,14 @@ def check_forged(program, areas):
                 raise Failure(f"a forged image answers {said} with status {status}, and not refused: {why}") from None
             if read_areas(folder) != areas:
                 raise Failure("a refused opening has changed a file") from None
+        return
+    if reclaimed:
+        # what its commits wrote before the mark is given up: it opens, and names its last commit
+        with tempfile.TemporaryDirectory(prefix="torture-") as folder:
+            write_areas(folder, areas)
+            status, said = run(program, folder, ["reopen"])
+            if (status, said) != (0, [f"last {machine.last(history)} floor 0"]):
+                raise Failure(f"a forged image with a reclaim answers {said} with status {status}")
         return
     check_left(program, areas, [history], "a forged image")
 

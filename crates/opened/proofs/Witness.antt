@@ -1,5 +1,5 @@
 -- A store that opening answers.
-use Rattle.std.proofs.Common.{◌≡◌, ◌≢◌, ℕ, suc, ◌+◌, ◌≤◌, ◌<◌, ◌^◌, Bool, true, false, IsTrue, List, [], ◌∷◌, ◌++◌, length, map, replicate, Option, None, Some, Ok, refl, sym, ap, subst, ◌∙◌, arith}
+use Rattle.std.proofs.Common.{◌≡◌, ◌≢◌, ℕ, suc, ◌+◌, ◌≤◌, ◌<◌, ◌^◌, Bool, true, false, IsTrue, List, [], ◌∷◌, ◌++◌, length, map, replicate, cond, Option, None, Some, Ok, refl, sym, ap, subst, ◌∙◌, arith}
 use Rattle.std.specs.Prelude.{◌==◌, ◌&&◌, nat_lt, slice_get, option_map, option_to_list}
 use Rattle.std.specs.List.{AllByRecursion, cons_option}
 use Rattle.std.specs.List.Sorted.{IsStrictlySortedBy}
@@ -18,15 +18,16 @@ use Rattle.history.specs.Key.{key_cmp, write_in}
 use Rattle.history.specs.Histories as histories
 use Rattle.history.specs.Histories.{Commit, History, commits_after}
 use Rattle.history.specs.Queries.{values_after}
-use Rattle.history.proofs.Histories.{commits_after-all}
 use Rattle.history.proofs.Filters.{AllByRecursion-filter}
 use Rattle.image.specs.Values.{Value}
 use Rattle.image.specs.Reading as readings
 use Rattle.image.specs.Reading.{Head, OldRecord, Reading}
-use Rattle.image.specs.Log.{AreRisingAfter, heads_of, last_time, archive_mark, reclaim_mark, reclaim_mark_after, floor_of, floors_after}
+use Rattle.image.specs.Log.{AreRisingAfter, heads_of, last_time, archive_mark, reclaim_mark, floor_of, floors_after}
 use Rattle.image.specs.Facts.{old_writes, heap_commits, values_at_mark, commits_from, commit_read, write_of}
-use Rattle.image.specs.StandsFor.{head_of, IsAnchorUpto, IsChain as IsMember}
+use Rattle.image.specs.StandsFor.{head_of, IsChain as IsMember}
 use Rattle.image.proofs.Standing.{heads-rising, rises}
+use Rattle.deltas.specs.declared.«record».Record.{Record}
+use Rattle.deltas.specs.Records.{old_record, old_record_of}
 use Rattle.chains.specs.KeyWrites.{KeyWrites, writes_of, with_write, with_commit, IsOrdered}
 use Rattle.chains.specs.Writes.{written}
 use Rattle.chains.proofs.Order.{ordered-with_write}
@@ -53,9 +54,11 @@ use Rattle.recovery.specs.Names.{head_named}
 use Rattle.recovery.specs.Walk.{claimed}
 use Rattle.recovery.specs.Chains.{live_named}
 use Rattle.recovery.specs.HeapReads.{numbers_in, live_of}
+use Rattle.recovery.specs.Anchored.{anchor_writes}
 use Rattle.recovery.specs.ReadsImage.{KeepsOnly, IsReadAs, IsReadFrom}
 use Rattle.recovery.specs.Settling.{IsSync, Settles, last_moment}
 use Rattle.recovery.proofs.Claims.{free_all, kept_all, still_free}
+use Rattle.recovery.proofs.AnchorChains.{ordered_anchors, anchored_writes, keys_of}
 use Rattle.recovery.proofs.RightChains.{numbered_of}
 use Rattle.recovery.proofs.OpenedHeap.{entries_in_range}
 use Rattle.recovery.proofs.HistoryRead.{stands_opening}
@@ -63,7 +66,6 @@ use Rattle.recovery.proofs.Settling.{settles_three}
 use Rattle.store.specs.Values.{StoreValue}
 use Rattle.store.specs.Opens.{Opens, opened_on}
 use Rattle.standing.specs.OnDisk.{IsImageOf}
-use Rattle.standing.proofs.Unreclaimed.{no_reclaim, no_anchor}
 
 -- a list as a Vec
 vec_of : {X : Type 0} → Global → (xs : List X) → length xs < 2 ^ 63 → Vec X Global
@@ -110,6 +112,20 @@ commits_sorted : (before : Key → Option Value) (ms : List readings.Member) →
 commits_sorted before [] each = tt
 commits_sorted before (m ∷ ms) each =
     (subst (IsStrictlySortedBy key_cmp) (sym (keys_read before m.records)) (each.0).rising, commits_sorted (values_after before (commit_read before m)) ms each.1)
+
+-- a history has as many commits later than a time, or fewer
+fewer_after : (mark : ℕ) (h : History Value) → length (commits_after mark h) ≤ length h
+fewer_after mark [] = omega arith
+fewer_after mark (c ∷ cs) =
+    let rest = fewer_after mark cs in
+    elim (nat_lt mark c.time) as (λ (b : Bool). length (cond b (c ∷ commits_after mark cs) (commits_after mark cs)) ≤ suc (length cs)) [
+      | true ↦ omega arith
+      | false ↦ omega arith
+    ]
+
+olds_again : (olds : List OldRecord) → map old_record (map old_record_of olds) ≡ olds
+olds_again [] = refl
+olds_again (o ∷ olds) = ap (λ (l : List OldRecord). o ∷ l) (olds_again olds)
 
 -- ---- the log
 
@@ -189,11 +205,20 @@ none_of number (e ∷ es) none = ((λ same. none.0 (sym same)), none_of number e
 -- ---- what is read of an image that stands for a history
 
 module _ (alloc : Global) (header : Header) (image : Image) (h : History Value) (floors : ℕ → ℕ) (is : IsImageOf header image h floors) where
-  unmarked : reclaim_mark is.reading.log ≡ 0
-  unmarked = ap (λ (l : List readings.Slot). reclaim_mark_after 0 l) (sym is.laid.heap.log_is) ∙ no_reclaim header.profile 0 is.layout.slots is.built
+  -- the anchors, as the records that they are stored as
+  anchors : List Record
+  anchors = map old_record_of is.reading.anchors
 
-  no_anchors : is.reading.anchors ≡ []
-  no_anchors = no_anchor is.reading.anchors (subst (λ (n : ℕ). AllByRecursion (IsAnchorUpto n) is.reading.anchors) unmarked is.stands.opens.reads.anchor_times)
+  anchors_rise : IsStrictlySortedBy key_cmp (map (λ (r : Record). r.key) anchors)
+  unfolding anchors
+  anchors_rise = subst (IsStrictlySortedBy key_cmp) (sym (keys_of is.reading.anchors)) is.stands.opens.reads.anchors
+
+  anchors_ordered : IsOrdered (map anchor_writes anchors)
+  anchors_ordered = ordered_anchors anchors anchors_rise
+
+  anchors_writes : (key : Key) → writes_of (map anchor_writes anchors) key ≡ old_writes is.reading.anchors key
+  unfolding anchors
+  anchors_writes key = anchored_writes anchors key anchors_rise ∙ ap (λ (olds : List OldRecord). old_writes olds key) (olds_again is.reading.anchors)
 
   rising : AreRisingAfter 0 (heads_of is.reading.log)
   rising = subst (AreRisingAfter 0) (sym is.stands.opens.commits) (heads-rising 0 h (rises is.reading h floors is.stands))
@@ -216,9 +241,6 @@ module _ (alloc : Global) (header : Header) (image : Image) (h : History Value) 
   heads_many : length is.layout.members ≡ length is.reading.members
   heads_many = sym (length-map is.layout.members (λ (s : StoredMember). s.member)) ∙ ap (λ (l : List readings.Member). length l) is.laid.heap.members_are
 
-  commits_are : heap_commits is.reading ≡ h
-  commits_are = is.stands.opens.write_sets ∙ ap (λ (n : ℕ). commits_after n h) unmarked ∙ commits_after-all 0 0 h (omega arith) (rises is.reading h floors is.stands)
-
   commits_many : (before : Key → Option Value) (ms : List readings.Member) → length (commits_from before ms) ≡ length ms
   commits_many before [] = refl
   commits_many before (m ∷ ms) = ap suc (commits_many (values_after before (commit_read before m)) ms)
@@ -227,7 +249,8 @@ module _ (alloc : Global) (header : Header) (image : Image) (h : History Value) 
   members_few =
       let many = live_many alloc is.layout.members few in
       let made : length (heap_commits is.reading) ≡ length is.reading.members = commits_many (values_at_mark is.reading) is.reading.members in
-      let all : length (heap_commits is.reading) ≡ length h = ap (λ (l : History Value). length l) commits_are in
+      let all : length (heap_commits is.reading) ≡ length (commits_after (reclaim_mark is.reading.log) h) = ap (λ (l : History Value). length l) is.stands.opens.write_sets in
+      let fewer = fewer_after (reclaim_mark is.reading.log) h in
       let heads : length (heads_of is.reading.log) ≡ length h = ap (λ (l : List Head). length l) is.stands.opens.commits ∙ length-map h head_of in
       let low = few_heads 0 (heads_of is.reading.log) rising (omega arith) in
       omega (arith, heads_many)
@@ -243,7 +266,7 @@ module _ (alloc : Global) (header : Header) (image : Image) (h : History Value) 
     runs = vec_of alloc (runs_of is.layout.slots) runs_few;
     extents = claimed (replicate 65536 Free) (numbers_in (live is.layout));
     live = vec_of alloc (chains_live alloc is.layout.members few) members_few;
-    chains = chains_from [] (heap_commits is.reading);
+    chains = chains_from (map anchor_writes anchors) (heap_commits is.reading);
     last = last_time is.reading.log;
   }
 
@@ -267,8 +290,8 @@ module _ (alloc : Global) (header : Header) (image : Image) (h : History Value) 
     extents = extents_kept;
     live_are = live_again alloc is.layout.members few;
     writes = λ key.
-        chains_writes [] (heap_commits is.reading) key tt (commits_sorted (values_at_mark is.reading) is.reading.members is.stands.opens.reads.chains)
-        ∙ sym (ap (λ (olds : List OldRecord). old_writes olds key ++ histories.writes_of (heap_commits is.reading) key) no_anchors);
+        chains_writes (map anchor_writes anchors) (heap_commits is.reading) key anchors_ordered (commits_sorted (values_at_mark is.reading) is.reading.members is.stands.opens.reads.chains)
+        ∙ ap (λ (l : List (TimedWrite Value)). l ++ histories.writes_of (heap_commits is.reading) key) (anchors_writes key);
     last_is = refl;
   }
 
@@ -283,7 +306,7 @@ module _ (alloc : Global) (header : Header) (image : Image) (h : History Value) 
 
   read_ordered : IsOrdered recovered.chains
   unfolding recovered
-  read_ordered = chains_ordered [] (heap_commits is.reading) tt
+  read_ordered = chains_ordered (map anchor_writes anchors) (heap_commits is.reading) anchors_ordered
 
 -- ---- the disk
 

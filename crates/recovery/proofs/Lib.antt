@@ -7,6 +7,7 @@ pub mod Heads
 pub mod Stored
 pub mod Claims
 pub mod RightChains
+pub mod AnchorChains
 pub mod HeldMembers
 pub mod OpenedHeap
 pub mod OneAnswer

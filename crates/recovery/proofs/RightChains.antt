@@ -112,7 +112,7 @@ first-high [] each = omega arith
 first-high (e ∷ es) each = let high = (each.0).high in omega arith
 
 -- the heap's bytes at an extent's place are those of the extent
-abbrev StandsAt : List ℕ → Extent → Type 0
+abbrev pub StandsAt : List ℕ → Extent → Type 0
 StandsAt heap e = extent_at heap e.number ≡ extent_bytes e
 
 head_bytes : (x y : List ℕ) (xs ys : List (List ℕ)) → x ∷ xs ≡ y ∷ ys → x ≡ y
@@ -127,13 +127,13 @@ onward heap n e es stands linked each =
     ap next_of stands ∙ next_again e (omega (arith, linked.0)) ∙ linked.0
 
 -- the walk over a chain that stands there
-walk_is : (heap : List ℕ) (es : List Extent) → AreLinked es → AllByRecursion IsExtent es → AllByRecursion (StandsAt heap) es → numbers_at heap (first_of es) (length es) ≡ numbers_in es
+pub walk_is : (heap : List ℕ) (es : List Extent) → AreLinked es → AllByRecursion IsExtent es → AllByRecursion (StandsAt heap) es → numbers_at heap (first_of es) (length es) ≡ numbers_in es
 walk_is heap [] linked each stands = refl
 walk_is heap (e ∷ es) linked each stands =
     ap (λ (n : ℕ). e.number ∷ numbers_at heap n (length es)) (onward heap e.number e es stands.0 linked each.1) ∙ ap (λ l. e.number ∷ l) (walk_is heap es linked.1 each.1 stands.1)
 
 -- and what stands there is what was walked over
-walk_finds : (heap : List ℕ) (first n : ℕ) (es : List Extent) → first_of es ≡ first → length es ≡ n → AreLinked es → AllByRecursion IsExtent es → map (extent_at heap) (numbers_at heap first n) ≡ map extent_bytes es
+pub walk_finds : (heap : List ℕ) (first n : ℕ) (es : List Extent) → first_of es ≡ first → length es ≡ n → AreLinked es → AllByRecursion IsExtent es → map (extent_at heap) (numbers_at heap first n) ≡ map extent_bytes es
     → (numbers_at heap first n ≡ numbers_in es) × AllByRecursion (StandsAt heap) es
 walk_finds heap first zero [] from long linked each are = (refl, tt)
 walk_finds heap first (suc n) [] from long linked each are = absurd (omega arith)
@@ -150,7 +150,7 @@ walk_finds heap first (suc n) (e ∷ es) from long linked each are =
       (ap (extent_at heap) from ∙ here, rest.1),
     )
 
-stands_held : (heap : List ℕ) (e : Extent) → IsExtent e → HoldsExtent heap e → StandsAt heap e
+pub stands_held : (heap : List ℕ) (e : Extent) → IsExtent e → HoldsExtent heap e → StandsAt heap e
 unfolding extent_at
 stands_held heap e is held = ap (λ (n : ℕ). slice_range heap (extent_start e.number) (extent_start e.number + n)) (sym (extent-length e is)) ∙ held.is
 
@@ -162,16 +162,23 @@ held_stands heap e is there stands =
     let low = is.low in
     record { inside = omega arith; is = ap (λ (n : ℕ). slice_range heap (extent_start e.number) (extent_start e.number + n)) long ∙ stands }
 
-there_held : (heap : List ℕ) (e : Extent) → IsExtent e → HoldsExtent heap e → IsThere (length heap) e.number
+pub there_held : (heap : List ℕ) (e : Extent) → IsExtent e → HoldsExtent heap e → IsThere (length heap) e.number
 there_held heap e is held =
     let long = extent-length e is in
     let inside = held.inside in
     let low = is.low in
     record { low = omega arith; high = is.high; inside = omega arith }
 
-held_all : (heap : List ℕ) (usages : List Usage) (es : List Extent) → AllByRecursion IsExtent es → AreClaimable (length heap) usages (numbers_in es) → AllByRecursion (StandsAt heap) es → AllByRecursion (HoldsExtent heap) es
+pub held_all : (heap : List ℕ) (usages : List Usage) (es : List Extent) → AllByRecursion IsExtent es → AreClaimable (length heap) usages (numbers_in es) → AllByRecursion (StandsAt heap) es → AllByRecursion (HoldsExtent heap) es
 held_all heap usages [] each can stands = tt
 held_all heap usages (e ∷ es) each can stands = (held_stands heap e each.0 can.0 stands.0, held_all heap (with_usage usages e.number Kept) es each.1 can.2 stands.1)
+
+pub images_all : (bytes : List ℕ) (es : List Extent) → AllByRecursion (StandsAt bytes) es → map (extent_at bytes) (numbers_in es) ≡ map extent_bytes es
+images_all bytes [] stands = refl
+images_all bytes (e ∷ es) stands =
+    let first = stands.0 in
+    let rest = images_all bytes es stands.1 in
+    λ i. first i ∷ rest i
 
 -- ---- from the chain to the member
 
@@ -221,7 +228,7 @@ module _ (heap : List ℕ) (taken : List Extent) (before : Key → Option Value)
       }
 
 -- where the records that were read are not stored so, there is no right chain
-pub no_writes : (heap : List ℕ) (len : ℕ) (usages : List Usage) (before : Key → Option Value) (entry : Member) (found : List Record) → HasRecords heap len usages entry found
+pub no_writes : (heap : List ℕ) (len : ℕ) (usages : List Usage) (before : Key → Option Value) (entry : Member) (found : List Record) → HasRecords heap len usages (chain_name entry) OfCommit found
     → ¬ AllByRecursion (IsStored before) (map heap_record found) → (records : List Record) → ¬ IsRightChain heap len usages before entry records
 no_writes heap len usages before entry found has none records right =
     let same : records ≡ found = one_packing (chain_name entry) (chain_name entry) OfCommit OfCommit (map (extent_at heap) (numbers_of heap entry)) records found right.has.held has.held in
@@ -264,10 +271,3 @@ module _ (heap : List ℕ) (taken : List Extent) (before : Key → Option Value)
           stored = subst (AllByRecursion (IsStored before)) (sym (heap_records_again rs)) live.spellings;
         },
       )
-    where
-      images_all : (bytes : List ℕ) (es : List Extent) → AllByRecursion (StandsAt bytes) es → map (extent_at bytes) (numbers_in es) ≡ map extent_bytes es
-      images_all bytes [] stands = refl
-      images_all bytes (e ∷ es) stands =
-          let first = stands.0 in
-          let rest = images_all bytes es stands.1 in
-          λ i. first i ∷ rest i

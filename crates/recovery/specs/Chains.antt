@@ -1,4 +1,4 @@
--- What one commit's chain adds to what was read of a heap.
+-- What is read of a chain, and what one commit's chain adds to what was read of a heap.
 use Rattle.std.specs.Prelude.{◌≡◌, ℕ, List, [], ◌∷◌, ◌++◌, map, Option}
 use Rattle.std.specs.List.{AllByRecursion}
 use Rattle.wire.specs.declared.slot.Member.{Member}
@@ -9,6 +9,7 @@ use Rattle.chains.specs.KeyWrites.{writes_of}
 use Rattle.chains.specs.Writes.{written}
 use Rattle.deltas.specs.declared.«record».Record.{Record}
 use Rattle.deltas.specs.declared.chain.ChainName.{ChainName}
+use Rattle.deltas.specs.declared.chain.Kinds.{Kinds}
 use Rattle.deltas.specs.declared.chain.Kinds.TheVariants.{OfCommit}
 use Rattle.deltas.specs.Records.{heap_record}
 use Rattle.deltas.specs.Chains.{HoldsRecords}
@@ -26,24 +27,28 @@ numbers_of heap entry = numbers_at heap entry.first entry.extents
 abbrev pub chain_name : Member → ChainName
 chain_name entry = record { first = entry.first; extents = entry.extents; records = entry.records }
 
--- The chain of a commit has these records: its extents lie in the heap and are free, and they are just these records, packed.
-pub record HasRecords (heap : List ℕ) (heap_len : ℕ) (usages : List Usage) (entry : Member) (records : List Record) : Type 0 where
-  pub claimable : AreClaimable heap_len usages (numbers_of heap entry)
-  pub held : HoldsRecords (chain_name entry) OfCommit (map (extent_at heap) (numbers_of heap entry)) records
+-- those of a chain of this name
+abbrev pub numbers_named : List ℕ → ChainName → List ℕ
+numbers_named heap name = numbers_at heap name.first name.extents
+
+-- The chain of this name has these records: its extents lie in the heap and are free, and they are just these records, packed.
+pub record HasRecords (heap : List ℕ) (heap_len : ℕ) (usages : List Usage) (name : ChainName) (kinds : Kinds) (records : List Record) : Type 0 where
+  pub claimable : AreClaimable heap_len usages (numbers_named heap name)
+  pub held : HoldsRecords name kinds (map (extent_at heap) (numbers_named heap name)) records
 
 -- it has none
-abbrev pub HasNoRecords : List ℕ → ℕ → List Usage → Member → Type 0
-HasNoRecords heap heap_len usages entry = (records : List Record) → ¬ HasRecords heap heap_len usages entry records
+abbrev pub HasNoRecords : List ℕ → ℕ → List Usage → ChainName → Kinds → Type 0
+HasNoRecords heap heap_len usages name kinds = (records : List Record) → ¬ HasRecords heap heap_len usages name kinds records
 
 -- its records are read, and its extents are kept
-pub record AreReadRecords (heap : List ℕ) (heap_len : ℕ) (old : List Usage) (entry : Member) (new : List Usage) (read : ReadRecords) : Type 0 where
-  pub numbers : read.numbers.items ≡ numbers_of heap entry
-  pub has : HasRecords heap heap_len old entry read.records.items
-  pub kept : new ≡ claimed old (numbers_of heap entry)
+pub record AreReadRecords (heap : List ℕ) (heap_len : ℕ) (old : List Usage) (name : ChainName) (kinds : Kinds) (new : List Usage) (read : ReadRecords) : Type 0 where
+  pub numbers : read.numbers.items ≡ numbers_named heap name
+  pub has : HasRecords heap heap_len old name kinds read.records.items
+  pub kept : new ≡ claimed old (numbers_named heap name)
 
 -- each record is the one that its write is stored as, over the values before it
 pub record IsRightChain (heap : List ℕ) (heap_len : ℕ) (usages : List Usage) (before : Key → Option Value) (entry : Member) (records : List Record) : Type 0 where
-  pub has : HasRecords heap heap_len usages entry records
+  pub has : HasRecords heap heap_len usages (chain_name entry) OfCommit records
   pub stored : AllByRecursion (IsStored before) (map heap_record records)
 
 -- the time and the extents of a live chain

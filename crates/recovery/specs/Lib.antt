@@ -9,4 +9,5 @@ pub mod Faults
 pub mod ReadsImage
 pub mod Chains
 pub mod HeapReads
+pub mod Anchored
 pub mod Laws

@@ -1,9 +1,11 @@
 //! Making the image of a new store, and reading the image of one.
 #![tactic(auto)]
 
+mod anchors;
 mod chain;
 mod fault;
 mod formatting;
+mod heap;
 pub mod laws;
 mod members;
 mod opening;

@@ -1,8 +1,7 @@
-//! The chains of the log's commits.
+//! The chains of the log's commits, behind that of the anchors.
 
-ghost use Rattle.std.specs.Prelude.{◌≡◌, ◌<◌, ◌≤◌, ◌^◌, ◌++◌, ◌∷◌, [], ℕ, IsTrue, IfOk, IfErr, IfSome, OnOk, MatchOption, map, length, replicate};
+ghost use Rattle.std.specs.Prelude.{◌≡◌, ◌<◌, ◌≤◌, ◌^◌, ◌++◌, ◌∷◌, [], ℕ, IsTrue, IfOk, IfErr, IfSome, MatchOption, map, length};
 ghost use Rattle.std.specs.List.{AllByRecursion};
-ghost use Rattle.extents.specs.declared.usage.Usage.TheVariants.{Free};
 ghost use Rattle.history.specs.declared.key.Key.{Key};
 ghost use Rattle.image.specs.Log.{AreRisingAfter, last_time_after};
 ghost use Rattle.image.specs.Facts.{IsStored, write_of};
@@ -19,16 +18,16 @@ ghost use Rattle.recovery.specs.Resolving.{before_of};
 ghost use Rattle.recovery.specs.Chains.{live_named, AddsChain, HasNoChain};
 ghost use Rattle.recovery.specs.HeapReads.{HoldsEntries, IsMembersFault};
 
+use crate::anchors::read_anchors;
 use crate::fault::OpenFault;
 use crate::records::read_records;
 use crate::recovered::{HeapRead, LiveChain};
 use crate::resolving::resolve;
 use chains::Frozen;
-use deltas::Record;
+use deltas::{ChainName, Kinds, Record};
 use disk::{Area, Disk};
-use extents::Extents;
 use std::alloc::{AllocError, Global};
-use wire::Member;
+use wire::{Anchors, Member};
 
 // The writes of every key with those of these records more. None where a record is not the one that its write is stored as.
 fn with_records(
@@ -84,7 +83,13 @@ fn read_member<D: Disk>(
         chains,
         last: _,
     } = heap;
-    let Some(read) = read_records(alloc, disk, heap_len, &mut extents, entry)? else {
+    let name = ChainName {
+        first: entry.first,
+        extents: entry.extents,
+        records: entry.records,
+    };
+    let Some(read) = read_records(alloc, disk, heap_len, &mut extents, name, Kinds::OfCommit)?
+    else {
         return Ok(None);
     };
     let Some(chains) = with_records(alloc, chains, entry.time, read.records)? else {
@@ -99,20 +104,6 @@ fn read_member<D: Disk>(
     }))
 }
 
-fn nothing_read(alloc: Global) -> Result<HeapRead, AllocError>
-    ensures last { IfOk result (λ heap. heap.last ≡ 0) }
-    ensures chains { IfOk result (λ heap. heap.chains ≡ []) }
-    ensures live { IfOk result (λ heap. heap.live.items ≡ []) }
-    ensures free { IfOk result (λ heap. heap.extents ≡ replicate 65536 Free) }
-{
-    Ok(HeapRead {
-        extents: Extents::new(alloc)?,
-        live: Vec::new(alloc),
-        chains: Frozen::new(),
-        last: 0,
-    })
-}
-
 // A fault of reading is one of reading the heap.
 fn as_heap_fault(fault: OpenFault) -> OpenFault
     requires { IsReadFault fault }
@@ -122,23 +113,29 @@ fn as_heap_fault(fault: OpenFault) -> OpenFault
     fault
 }
 
-/// The chains of these commits, one after another.
+/// The chain of the anchors, and those of the commits later than their mark, one after another.
 pub fn read_members<D: Disk>(
     alloc: Global,
     disk: &mut D,
     heap_len: u64,
+    anchors: &Anchors,
     entries: &[Member],
 ) -> Result<HeapRead, OpenFault>
     requires len { IsTrue D.tells → heap_len ≡ length (D.state disk.old).areas.heap.bytes }
-    requires rising { AreRisingAfter 0 (map head_of entries.now) }
+    requires mark { anchors.now.upto < 2 ^ 63 }
+    requires rising { AreRisingAfter anchors.now.upto (map head_of entries.now) }
     requires in_range { AllByRecursion IsMember entries.now }
-    ensures last { IfOk result (λ heap. heap.last ≡ last_time_after 0 (map head_of entries.now)) }
-    ensures read { IsTrue D.tells → IfOk result (HoldsEntries (D.state disk.old).areas.heap.bytes entries.now) }
-    ensures first { IsTrue D.tells → IfErr result (IsMembersFault (D.state disk.old).areas.heap.bytes entries.now) }
+    ensures last { IfOk result (λ heap. heap.last ≡ last_time_after anchors.now.upto (map head_of entries.now)) }
+    ensures read { IsTrue D.tells → IfOk result (HoldsEntries (D.state disk.old).areas.heap.bytes anchors.now.upto anchors.now entries.now) }
+    ensures first { IsTrue D.tells → IfErr result (IsMembersFault (D.state disk.old).areas.heap.bytes anchors.now.upto anchors.now entries.now) }
     ensures fault { IfErr result IsHeapFault }
     ensures reads { D.state disk.new ≡ after_reads result (D.state disk.old) }
 {
-    let mut heap = nothing_read(alloc)?;
+    let mut heap = match read_anchors(alloc, disk, heap_len, anchors) {
+        Ok(Some(heap)) => heap,
+        Ok(None) => return Err(OpenFault::Damaged(Area::Heap, anchors.first as u64)),
+        Err(fault) => return Err(as_heap_fault(fault)),
+    };
     let mut rest = entries;
     while let Some((entry, after)) = rest.split_first() {
         match read_member(alloc, disk, heap_len, heap, entry) {

@@ -21,7 +21,7 @@ ghost use Rattle.recovery.specs.Names.{head_named, name_of, refusals_at_opening}
 ghost use Rattle.recovery.specs.Settling.{Settles, CountsMore, CountsAtMost};
 
 use crate::fault::OpenFault;
-use crate::members::read_members;
+use crate::heap::{last_anchors, read_heap};
 use crate::recovered::{CommitName, Recovered};
 use disk::{Area, DeviceFault, Disk};
 use status::{Header, read_header, read_log};
@@ -170,8 +170,7 @@ fn read_settled<D: Disk>(alloc: Global, disk: &mut D) -> Result<Recovered, OpenF
     let header = find_header(disk)?;
     let slots = read_log(alloc, disk, &header)?;
     let entries = entries(alloc, &slots)?;
-    let heap_len = disk.len(Area::Heap)?;
-    let heap = match read_members(alloc, disk, heap_len, &entries) {
+    let heap = match read_heap(alloc, disk, &slots, &entries) {
         Ok(heap) => heap,
         Err(fault) => return Err(fault),
     };
@@ -184,7 +183,7 @@ fn read_settled<D: Disk>(alloc: Global, disk: &mut D) -> Result<Recovered, OpenF
         commits,
         floor: 0,
         archived: archive_mark(&slots),
-        reclaimed: 0,
+        reclaimed: last_anchors(&slots).upto,
         runs,
         extents: heap.extents,
         live: heap.live,

@@ -15,20 +15,21 @@ pub struct CommitName {
     pub label: u64,
 }
 
-/// The extents of a chain that the log names, in their order, and the time of its commit.
+/// The extents of a commit's chain that the log names, in their order, and the time of the commit.
 #[derive(Drop)]
 pub struct LiveChain {
     pub time: u64,
     pub extents: Vec<u32>,
 }
 
-/// What was read of the heap: which extents are in a chain, the chains in rising time, and the writes of their records.
+/// What was read of the heap: which extents are in a chain, the commits' chains in rising time, and the writes of
+/// all chains' records.
 #[derive(Drop)]
 pub struct HeapRead {
     pub extents: Extents,
     pub live: Vec<LiveChain>,
     pub chains: Frozen,
-    /// The time of the last commit, 0 for none.
+    /// The time of the last commit that was read, or the reclaim mark before the first.
     pub last: u64,
     ghost upto_last: { latest chains ≤ last },
     ghost in_range: { last < 2 ^ 63 },
@@ -50,8 +51,9 @@ pub struct Recovered {
     pub runs: Vec<Run>,
     /// The extents of the live chains are kept, and the others are free.
     pub extents: Extents,
+    /// The live chains of commits; that of the anchors is none of them.
     pub live: Vec<LiveChain>,
-    /// The writes later than the reclaim mark, of each key.
+    /// The writes later than the reclaim mark, of each key, and before them that of its anchor.
     pub chains: Frozen,
     /// The time of the last commit, in microseconds since 1970; 0 for none.
     pub last: u64,

@@ -21,6 +21,8 @@ mod list_cursor;
 #[cfg(test)]
 mod list_walk;
 #[cfg(test)]
+mod reclaimed_images;
+#[cfg(test)]
 mod spellings;
 #[cfg(test)]
 mod status_slots;

@@ -94,12 +94,12 @@ fn one_slot_is_in_the_writing(rt: HostRuntime) {
     assert_eq!(rt; (log.is_writing(), full.is_writing()), (true, false));
 }
 
-/// How many slots are read where a commit at 100 comes first, then these runs and then this, or why
-/// none are.
+/// How many slots are read where a commit at 100 comes first, then these runs and then these
+/// reclaims, or why none are.
 fn read_behind(
     alloc: Global,
     runs: &[Run],
-    last: Option<Body>,
+    reclaims: &[Anchors],
 ) -> Result<Result<usize, LogFault>, Fail> {
     let mut disk = new_disk(alloc, 8704)?;
     let mut log = StatusLog::new(&SIXTEEN, 0);
@@ -107,8 +107,8 @@ fn read_behind(
     for run in runs {
         write_slot(&mut log, Body::Archived(*run), &mut disk)?;
     }
-    if let Some(body) = last {
-        write_slot(&mut log, body, &mut disk)?;
+    for anchors in reclaims {
+        write_slot(&mut log, Body::Reclaimed(*anchors), &mut disk)?;
     }
     match read_log(alloc, &mut disk, &SIXTEEN) {
         Ok(slots) => Ok(Ok(slots.len())),
@@ -190,29 +190,84 @@ const RUNS: [Runs; 5] = [
 #[test]
 fn archived_slots_keep_their_rules(rt: HostRuntime) -> Result<(), Fail> {
     for row in RUNS {
-        let read = read_behind(rt.alloc(), row.runs, None)?;
+        let read = read_behind(rt.alloc(), row.runs, &[])?;
+        assert_eq!(rt; read, row.want, "{}", row.what);
+    }
+    Ok(())
+}
+
+/// A reclaim up to a time that needs no anchors.
+const fn reclaimed(upto: u64) -> Anchors {
+    Anchors {
+        upto,
+        first: 0,
+        extents: 0,
+        records: 0,
+    }
+}
+
+/// Reclaims behind these runs, and what is read.
+#[derive(Clone, Copy)]
+struct Reclaims {
+    what: &'static str,
+    runs: &'static [Run],
+    reclaims: &'static [Anchors],
+    want: Result<usize, LogFault>,
+}
+
+const RECLAIMS: [Reclaims; 6] = [
+    Reclaims {
+        what: "up to the archive mark",
+        runs: &[FIRST_RUN],
+        reclaims: &[reclaimed(60)],
+        want: Ok(3),
+    },
+    Reclaims {
+        what: "up to the mark of the last of two runs",
+        runs: &[FIRST_RUN, SECOND_RUN],
+        reclaims: &[reclaimed(100)],
+        want: Ok(4),
+    },
+    Reclaims {
+        what: "short of the archive mark",
+        runs: &[FIRST_RUN],
+        reclaims: &[reclaimed(59)],
+        want: Err(LogFault::Damaged(2)),
+    },
+    Reclaims {
+        what: "past the archive mark",
+        runs: &[FIRST_RUN],
+        reclaims: &[reclaimed(61)],
+        want: Err(LogFault::Damaged(2)),
+    },
+    Reclaims {
+        what: "nothing is archived",
+        runs: &[],
+        reclaims: &[reclaimed(100)],
+        want: Err(LogFault::Damaged(1)),
+    },
+    Reclaims {
+        what: "twice without an archive between",
+        runs: &[FIRST_RUN],
+        reclaims: &[reclaimed(60), reclaimed(60)],
+        want: Err(LogFault::Damaged(3)),
+    },
+];
+
+#[test]
+fn reclaimed_slots_keep_their_rules(rt: HostRuntime) -> Result<(), Fail> {
+    for row in RECLAIMS {
+        let read = read_behind(rt.alloc(), row.runs, row.reclaims)?;
         assert_eq!(rt; read, row.want, "{}", row.what);
     }
     Ok(())
 }
 
 #[test]
-fn a_reclaimed_slot_is_not_read(rt: HostRuntime) -> Result<(), Fail> {
-    let reclaimed = Body::Reclaimed(Anchors {
-        upto: 60,
-        first: 0,
-        extents: 0,
-        records: 0,
-    });
-    let read = read_behind(rt.alloc(), &[FIRST_RUN], Some(reclaimed))?;
-    assert_eq!(rt; read, Err(LogFault::Damaged(2)));
-    Ok(())
-}
-
-#[test]
-fn commits_and_runs_of_profile_1_are_built(rt: HostRuntime) {
+fn all_slots_but_floors_are_built_in_profile_1(rt: HostRuntime) {
     assert!(rt; is_built(1, 1));
     assert!(rt; is_built(1, 2));
-    assert!(rt; !is_built(1, 3));
+    assert!(rt; is_built(1, 3));
+    assert!(rt; !is_built(1, 4));
     assert!(rt; !is_built(2, 1));
 }

@@ -60,6 +60,7 @@ pub const DUMP: &str = "The store is not opened, and nothing is written. The lin
   slot N commit, then for each of its 1 to 16 commits
   member LABEL TIME EXTENT EXTENTS RECORDS INSTANT
   slot N archived UPTO START LENGTH RECORDS
+  slot N reclaimed UPTO EXTENT EXTENTS RECORDS
   used N of SLOTS: when all are used, commits are refused by `status full`";
 
 /// Of `stress`.

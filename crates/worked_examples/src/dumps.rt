@@ -56,6 +56,39 @@ used 5 of 16
     Ok(())
 }
 
+/// The bytes that are not zero of slot 5, a reclaim up to 120 that needs no anchors.
+const RECLAIMED_SLOT: [(u32, u8); 4] = [(3072, 0xC7), (3073, 3), (3076, 5), (3080, 120)];
+
+#[test]
+fn a_reclaim_behind_an_archive(rt: HostRuntime) -> Result<(), Fail> {
+    let alloc = rt.alloc();
+    let disk = stored(&rt, alloc, FOUR_COMMITS)?;
+    let mut disk = converses(&rt, alloc, disk, "archive 120 | started\nfinish | idle\n")?;
+    for (place, byte) in RECLAIMED_SLOT {
+        change(&mut disk, Area::Status, place, byte)?;
+    }
+    let _disk = dumps(
+        &rt,
+        alloc,
+        disk,
+        "header 16
+slot 0 commit
+member 1 100 1 1 1 1970-01-01T00:00:00Z
+slot 1 commit
+member 2 110 2 1 1 1970-01-01T00:00:00Z
+slot 2 commit
+member 3 120 3 1 1 1970-01-01T00:00:00Z
+slot 3 commit
+member 4 130 4 1 1 1970-01-01T00:00:00Z
+slot 4 archived 120 0 74 2
+slot 5 reclaimed 120 0 0 0
+used 6 of 16
+",
+        0,
+    )?;
+    Ok(())
+}
+
 /// A group of two, one of which has two records in two extents, and commits at the last time that has
 /// an instant of its own, one after it, and the last time of all.
 const LATE_COMMITS: &str = "begin a | snapshot 0

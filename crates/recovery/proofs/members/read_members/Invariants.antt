@@ -10,9 +10,9 @@ abbrev pub invariant-loop-entry : goal.invariant-loop-entry
 invariant-loop-entry g l =
     (g.D.Disk.state l.disk ≡ g.D.Disk.state l.initial.disk)
     × AreRisingAfter l.heap.last (map head_of l.rest)
-    × (last_time_after l.heap.last (map head_of l.rest) ≡ last_time_after 0 (map head_of l.fn.entries))
+    × (last_time_after l.heap.last (map head_of l.rest) ≡ last_time_after l.fn.anchors.upto (map head_of l.fn.entries))
     × AllByRecursion IsMember l.rest
-    × (IsTrue g.D.Disk.tells → IsUnderWay (g.D.Disk.state l.initial.disk).areas.heap.bytes l.fn.entries l.rest l.heap)
+    × (IsTrue g.D.Disk.tells → IsUnderWay (g.D.Disk.state l.initial.disk).areas.heap.bytes l.fn.anchors.upto l.fn.anchors l.fn.entries l.rest l.heap)
 
 abbrev pub decreases-loop-entry : goal.decreases-loop-entry
 decreases-loop-entry g l = length l.rest

@@ -1,111 +1,114 @@
 use Rattle.disk.specs.Calls.{DiskState}
 use Rattle.disk.specs.Areas.{image_of}
-use Rattle.status.specs.Reading.{HoldsLog}
+use Rattle.status.specs.Reading.{AreSlots, HoldsLog}
 use Rattle.std.proofs.Common.{◌≡◌, List, arith, length, map, ap, refl, sym, subst, ◌∙◌}
 use Rattle.std.proofs.lemmas.Result.{err_from_is_err_and}
 use Rattle.std.specs.List.{AllByRecursion}
-use Rattle.wire.specs.Spelling.{IsMember, IsRun}
+use Rattle.wire.specs.Spelling.{IsRun}
+use Rattle.wire.specs.declared.slot.Anchors.{Anchors}
 use Rattle.wire.specs.declared.slot.Run.{Run}
 use Rattle.wire.specs.declared.slot.Member.{Member}
 use Rattle.wire.specs.declared.slot.Slot.{Slot}
+use Rattle.image.specs.Reading.{Head}
 use Rattle.image.specs.Log.{AreRisingAfter, last_time_after, archive_mark}
 use Rattle.status.specs.Rules.{head_of, log_of, runs_of}
-use Rattle.reading.specs.Layouts.{entries_of}
+use Rattle.reading.specs.Layouts.{entries_of, anchors_after, no_anchors}
 use Rattle.reading.specs.Opening.{EndsWithin}
 use Rattle.recovery.specs.declared.fault.OpenFault.{OpenFault}
 use Rattle.recovery.specs.Faults.{IsRunsFault}
-use Rattle.recovery.specs.HeapReads.{HoldsEntries, IsMembersFault}
 use Rattle.reading.proofs.Rules.{rules_say}
-use Rattle.recovery.proofs.Heads.{entries_rise, archived_upto_last}
-use Rattle.recovery.proofs.OpenedHeap.{entries_in_range, runs_in_range, image_read, members_fail, runs_fail}
+use Rattle.recovery.proofs.Heads.{entries_rise, archived_upto_last, mark_is}
+use Rattle.recovery.proofs.OpenedHeap.{HoldsSlots, IsSlotsFault, runs_in_range, image_read, members_fail, runs_fail}
 use Rattle.recovery.proofs.opening.read_settled.Goals as goal
 
-pub read_members-requires-clause-rising : goal.read_members-requires-clause-rising
-read_members-requires-clause-rising g c =
-    let entries : c.deref-2.result.now ≡ entries_of c.in_ok-slots.slots.items = c.deref-2.ensures.value ∙ c.in_ok-entries.ensures ∙ ap entries_of c.deref.ensures.value in
-    subst (λ (l : List Member). AreRisingAfter 0 (map head_of l)) (sym entries) (entries_rise _ _ c.in_ok-slots.ensures.slots.rules)
-
-pub read_members-requires-clause-in_range : goal.read_members-requires-clause-in_range
-read_members-requires-clause-in_range g c =
-    let entries : c.deref-2.result.now ≡ entries_of c.in_ok-slots.slots.items = c.deref-2.ensures.value ∙ c.in_ok-entries.ensures ∙ ap entries_of c.deref.ensures.value in
-    subst (AllByRecursion IsMember) (sym entries) (entries_in_range _ _ c.in_ok-slots.ensures.slots.in_range)
+pub read_heap-requires : goal.read_heap-requires
+read_heap-requires g c =
+    let slots : c.deref-2.result.now ≡ c.in_ok-slots.slots.items = c.deref-2.ensures.value in
+    let entries : c.deref-3.result.now ≡ entries_of c.in_ok-slots.slots.items = c.deref-3.ensures.value ∙ c.in_ok-entries.ensures ∙ ap entries_of c.deref.ensures.value in
+    record {
+      slots = (c.in_ok-header.header.profile, subst (λ (l : List Slot). AreSlots c.in_ok-header.header.profile l) (sym slots) c.in_ok-slots.ensures.slots);
+      entries = entries ∙ ap entries_of (sym slots);
+    }
 
 pub returns-clause-rising : goal.returns-clause-rising
 returns-clause-rising g c =
-    let entries : c.deref-3.result.now ≡ entries_of c.in_ok-slots.slots.items = c.deref-3.ensures.value ∙ c.in_ok-entries.ensures ∙ ap entries_of c.deref.ensures.value in
+    let entries : c.deref-4.result.now ≡ entries_of c.in_ok-slots.slots.items = c.deref-4.ensures.value ∙ c.in_ok-entries.ensures ∙ ap entries_of c.deref.ensures.value in
     rw c.in_ok-commits.ensures (subst (λ (l : List Member). AreRisingAfter 0 (map head_of l)) (sym entries) (entries_rise _ _ c.in_ok-slots.ensures.slots.rules))
+
+pub returns-clause-last : goal.returns-clause-last
+returns-clause-last g c =
+    let entries : c.deref-4.result.now ≡ entries_of c.in_ok-slots.slots.items = c.deref-4.ensures.value ∙ c.in_ok-entries.ensures ∙ ap entries_of c.deref.ensures.value in
+    c.in-Ok.ensures.last
+    ∙ ap (λ (l : List Slot). last_time_after 0 (map head_of (entries_of l))) c.deref-2.ensures.value
+    ∙ ap (λ (heads : List Head). last_time_after 0 heads) (sym (c.in_ok-commits.ensures ∙ ap (λ (l : List Member). map head_of l) entries))
 
 pub returns-clause-archived : goal.returns-clause-archived
 returns-clause-archived g c =
     let slots : List Slot = c.in_ok-slots.slots.items in
-    let again : c.deref-2.result.now ≡ entries_of slots = c.deref-2.ensures.value ∙ c.in_ok-entries.ensures ∙ ap entries_of c.deref.ensures.value in
-    let mark = c.archive_mark.ensures ∙ ap (λ (l : List Slot). archive_mark (log_of l)) c.deref-6.ensures.value in
-    let last = c.in-Ok.ensures.last ∙ ap (λ (l : List Member). last_time_after 0 (map head_of l)) again in
+    let mark = c.archive_mark.ensures ∙ ap (λ (l : List Slot). archive_mark (log_of l)) c.deref-7.ensures.value in
+    let last = c.in-Ok.ensures.last ∙ ap (λ (l : List Slot). last_time_after 0 (map head_of (entries_of l))) c.deref-2.ensures.value in
     omega (arith, mark, last, archived_upto_last _ slots c.in_ok-slots.ensures.slots.rules)
 
 pub returns-clause-runs : goal.returns-clause-runs
 returns-clause-runs g c =
-    let runs = c.in_ok-runs.ensures ∙ ap runs_of c.deref-4.ensures.value in
+    let runs = c.in_ok-runs.ensures ∙ ap runs_of c.deref-5.ensures.value in
     rw runs (runs_in_range _ _ c.in_ok-slots.ensures.slots.in_range, (rules_say _ _ c.in_ok-slots.ensures.slots.rules).1)
 
 pub returns-clause-found : goal.returns-clause-found
 returns-clause-found g c = λ told.
     let slots : List Slot = c.in_ok-slots.slots.items in
     let log = subst (λ (s : DiskState). HoldsLog c.in_ok-header.header s.areas.status.bytes slots) c.in_ok-header.ensures.reads (c.in_ok-slots.ensures.log told) in
-    let again : c.deref-2.result.now ≡ entries_of slots = c.deref-2.ensures.value ∙ c.in_ok-entries.ensures ∙ ap entries_of c.deref.ensures.value in
-    let entries : c.deref-3.result.now ≡ entries_of slots = c.deref-3.ensures.value ∙ c.in_ok-entries.ensures ∙ ap entries_of c.deref.ensures.value in
-    let state = c.in_ok-heap_len.ensures.same ∙ c.in_ok-slots.ensures.same ∙ c.in_ok-header.ensures.reads in
-    let heap : HoldsEntries (g.D.Disk.state c.args.disk.now).areas.heap.bytes (entries_of slots) c.in-Ok.heap =
-    subst (λ (l : List Member). HoldsEntries (g.D.Disk.state c.args.disk.now).areas.heap.bytes l c.in-Ok.heap) again
-    (subst (λ (s : DiskState). HoldsEntries s.areas.heap.bytes c.deref-2.result.now c.in-Ok.heap) state (c.in-Ok.ensures.read told)) in
-    let runs : c.deref-5.result.now ≡ runs_of slots = c.deref-5.ensures.value ∙ c.in_ok-runs.ensures ∙ ap runs_of c.deref-4.ensures.value in
+    let entries : c.deref-4.result.now ≡ entries_of slots = c.deref-4.ensures.value ∙ c.in_ok-entries.ensures ∙ ap entries_of c.deref.ensures.value in
+    let state = c.in_ok-slots.ensures.same ∙ c.in_ok-header.ensures.reads in
+    let heap : HoldsSlots (g.D.Disk.state c.args.disk.now).areas.heap.bytes slots c.in-Ok.heap =
+    subst (λ (l : List Slot). HoldsSlots (g.D.Disk.state c.args.disk.now).areas.heap.bytes l c.in-Ok.heap) c.deref-2.ensures.value
+    (subst (λ (s : DiskState). HoldsSlots s.areas.heap.bytes c.deref-2.result.now c.in-Ok.heap) state (c.in-Ok.ensures.read told)) in
+    let runs : c.deref-6.result.now ≡ runs_of slots = c.deref-6.ensures.value ∙ c.in_ok-runs.ensures ∙ ap runs_of c.deref-5.ensures.value in
     let within : AllByRecursion (EndsWithin (length (g.D.Disk.state c.args.disk.now).areas.archive.bytes)) (runs_of slots) =
     subst (AllByRecursion (EndsWithin (length (g.D.Disk.state c.args.disk.now).areas.archive.bytes))) runs
-    (subst (λ (s : DiskState). AllByRecursion (EndsWithin (length s.areas.archive.bytes)) c.deref-5.result.now) (c.in-Ok.ensures.reads ∙ state) (c.in_ok-check_runs.ensures.within told)) in
+    (subst (λ (s : DiskState). AllByRecursion (EndsWithin (length s.areas.archive.bytes)) c.deref-6.result.now) (c.in-Ok.ensures.reads ∙ state) (c.in_ok-check_runs.ensures.within told)) in
     image_read (image_of (g.D.Disk.state c.args.disk.now).areas) c.in_ok-header.header slots (record { header_reads = c.in_ok-header.ensures.found told; log = log }) c.in-Ok.heap _ refl heap within
     (record {
-      used = omega (arith, c.len-2.ensures, c.in_ok-slots.slots.ok.0);
+      used = omega (arith, c.len.ensures, c.in_ok-slots.slots.ok.0);
       commits = c.in_ok-commits.ensures ∙ ap (λ (l : List Member). map head_of l) entries;
       floor = refl;
-      archived = c.archive_mark.ensures ∙ ap (λ (l : List Slot). archive_mark (log_of l)) c.deref-6.ensures.value;
-      reclaimed = refl;
-      runs = c.in_ok-runs.ensures ∙ ap runs_of c.deref-4.ensures.value;
+      archived = c.archive_mark.ensures ∙ ap (λ (l : List Slot). archive_mark (log_of l)) c.deref-7.ensures.value;
+      reclaimed = ap (λ (a : Anchors). a.upto) (c.last_anchors.ensures ∙ ap (λ (l : List Slot). anchors_after no_anchors l) c.deref-8.ensures.value) ∙ sym (mark_is slots);
+      runs = c.in_ok-runs.ensures ∙ ap runs_of c.deref-5.ensures.value;
       extents = refl;
       live = refl;
       chains = refl;
-      last_is = c.in-Ok.ensures.last ∙ ap (λ (l : List Member). last_time_after 0 (map head_of l)) again;
+      last_is = c.in-Ok.ensures.last ∙ ap (λ (l : List Slot). last_time_after 0 (map head_of (entries_of l))) c.deref-2.ensures.value;
     })
 
 pub returns-in-Err-clause-fault : goal.returns-in-Err-clause-fault
 returns-in-Err-clause-fault g c = λ told.
     let slots : List Slot = c.in_ok-slots.slots.items in
     let log = subst (λ (s : DiskState). HoldsLog c.in_ok-header.header s.areas.status.bytes slots) c.in_ok-header.ensures.reads (c.in_ok-slots.ensures.log told) in
-    let again : c.deref-2.result.now ≡ entries_of slots = c.deref-2.ensures.value ∙ c.in_ok-entries.ensures ∙ ap entries_of c.deref.ensures.value in
-    let state = c.in_ok-heap_len.ensures.same ∙ c.in_ok-slots.ensures.same ∙ c.in_ok-header.ensures.reads in
-    let fails : IsMembersFault (g.D.Disk.state c.args.disk.now).areas.heap.bytes (entries_of slots) c.in-Err.fault =
-    subst (λ (l : List Member). IsMembersFault (g.D.Disk.state c.args.disk.now).areas.heap.bytes l c.in-Err.fault) again
-    (subst (λ (s : DiskState). IsMembersFault s.areas.heap.bytes c.deref-2.result.now c.in-Err.fault) state (c.in-Err.ensures.first told)) in
+    let state = c.in_ok-slots.ensures.same ∙ c.in_ok-header.ensures.reads in
+    let fails : IsSlotsFault (g.D.Disk.state c.args.disk.now).areas.heap.bytes slots c.in-Err.fault =
+    subst (λ (l : List Slot). IsSlotsFault (g.D.Disk.state c.args.disk.now).areas.heap.bytes l c.in-Err.fault) c.deref-2.ensures.value
+    (subst (λ (s : DiskState). IsSlotsFault s.areas.heap.bytes c.deref-2.result.now c.in-Err.fault) state (c.in-Err.ensures.first told)) in
     members_fail (image_of (g.D.Disk.state c.args.disk.now).areas) c.in_ok-header.header slots (record { header_reads = c.in_ok-header.ensures.found told; log = log }) c.in-Err.fault fails
 
 pub check_runs-requires : goal.check_runs-requires
 check_runs-requires g c =
-    let runs : c.deref-5.result.now ≡ runs_of c.in_ok-slots.slots.items = c.deref-5.ensures.value ∙ c.in_ok-runs.ensures ∙ ap runs_of c.deref-4.ensures.value in
+    let runs : c.deref-6.result.now ≡ runs_of c.in_ok-slots.slots.items = c.deref-6.ensures.value ∙ c.in_ok-runs.ensures ∙ ap runs_of c.deref-5.ensures.value in
     record { in_range = subst (AllByRecursion IsRun) (sym runs) (runs_in_range _ _ c.in_ok-slots.ensures.slots.in_range) }
 
 pub returns-in_err-check_runs-clause-fault : goal.returns-in_err-check_runs-clause-fault
 returns-in_err-check_runs-clause-fault g c = λ told.
     let slots : List Slot = c.in_ok-slots.slots.items in
     let log = subst (λ (s : DiskState). HoldsLog c.in_ok-header.header s.areas.status.bytes slots) c.in_ok-header.ensures.reads (c.in_ok-slots.ensures.log told) in
-    let again : c.deref-2.result.now ≡ entries_of slots = c.deref-2.ensures.value ∙ c.in_ok-entries.ensures ∙ ap entries_of c.deref.ensures.value in
-    let runs : c.deref-5.result.now ≡ runs_of slots = c.deref-5.ensures.value ∙ c.in_ok-runs.ensures ∙ ap runs_of c.deref-4.ensures.value in
-    let state = c.in_ok-heap_len.ensures.same ∙ c.in_ok-slots.ensures.same ∙ c.in_ok-header.ensures.reads in
-    let heap : HoldsEntries (g.D.Disk.state c.args.disk.now).areas.heap.bytes (entries_of slots) c.in-Ok.heap =
-    subst (λ (l : List Member). HoldsEntries (g.D.Disk.state c.args.disk.now).areas.heap.bytes l c.in-Ok.heap) again
-    (subst (λ (s : DiskState). HoldsEntries s.areas.heap.bytes c.deref-2.result.now c.in-Ok.heap) state (c.in-Ok.ensures.read told)) in
+    let runs : c.deref-6.result.now ≡ runs_of slots = c.deref-6.ensures.value ∙ c.in_ok-runs.ensures ∙ ap runs_of c.deref-5.ensures.value in
+    let state = c.in_ok-slots.ensures.same ∙ c.in_ok-header.ensures.reads in
+    let heap : HoldsSlots (g.D.Disk.state c.args.disk.now).areas.heap.bytes slots c.in-Ok.heap =
+    subst (λ (l : List Slot). HoldsSlots (g.D.Disk.state c.args.disk.now).areas.heap.bytes l c.in-Ok.heap) c.deref-2.ensures.value
+    (subst (λ (s : DiskState). HoldsSlots s.areas.heap.bytes c.deref-2.result.now c.in-Ok.heap) state (c.in-Ok.ensures.read told)) in
     let fault : OpenFault = c.in_err-check_runs.field-0.0 in
     let fails : IsRunsFault (length (g.D.Disk.state c.args.disk.now).areas.archive.bytes) (runs_of slots) fault =
     subst (λ (l : List Run). IsRunsFault (length (g.D.Disk.state c.args.disk.now).areas.archive.bytes) l fault) runs
-    (subst (λ (s : DiskState). IsRunsFault (length s.areas.archive.bytes) c.deref-5.result.now fault) (c.in-Ok.ensures.reads ∙ state) (c.in_err-check_runs.ensures.fault told)) in
+    (subst (λ (s : DiskState). IsRunsFault (length s.areas.archive.bytes) c.deref-6.result.now fault) (c.in-Ok.ensures.reads ∙ state) (c.in_err-check_runs.ensures.fault told)) in
     let p = err_from_is_err_and c.from_residual-in_err-check_runs.result c.from_residual-in_err-check_runs.ensures.1 in
     rw (p.1, p.2)
     (runs_fail (image_of (g.D.Disk.state c.args.disk.now).areas) c.in_ok-header.header slots (record { header_reads = c.in_ok-header.ensures.found told; log = log }) c.in-Ok.heap fault heap fails)
