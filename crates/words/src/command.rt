@@ -1,6 +1,6 @@
 //! The subcommands and their arguments, as `clap` reads them.
 ghost use Rattle.std.specs.Prelude.{◌≡◌, IfOk, codes, false, map};
-ghost use Rattle.clap.specs.Words.{FailsBy, fault_of, subcommand_of, subcommand_rows_of, app_of, rule_of, new_app, with_rule, with_subcommand};
+ghost use Rattle.clap.specs.Words.{App, Rule, FailsBy, fault_of, subcommand_of, subcommand_rows_of, app_of, rule_of, new_app, with_rule, with_subcommand};
 ghost use Rattle.clap.specs.declared.builder.command.Command.TheViews.{out-Command as fields_of};
 ghost use Rattle.words.specs.Commands as told;
 
@@ -109,26 +109,27 @@ fn rounds<'a>(alloc: Global) -> Arg<'a>
 
 /// A command with no argument yet. Its help begins with the first text, and ends with the other.
 fn command<'a>(alloc: Global, name: &'a str, about: &'a str, more: &'a str) -> Command<'a>
-    ensures app { app_of result ≡ new_app name.entry.now }
-    ensures local { (fields_of result).has_globals ≡ false }
+    ensures { told.IsCommand result (new_app name.entry.now) }
 {
     Command::new(alloc, name).about(about).after_help(more)
 }
 
-/// The command with one more argument.
-fn with_arg<'a>(command: Command<'a>, arg: Arg<'a>) -> Result<Command<'a>, AllocError>
+/// The command with one more argument. Where there is no command, none is made.
+fn with_arg<'a>(
+    command: Result<Command<'a>, AllocError>,
+    arg: Arg<'a>,
+) -> Result<Command<'a>, AllocError>
     requires { arg.global ≡ false }
-    ensures rules { IfOk result (λ c. app_of c ≡ with_rule (app_of command.entry) (rule_of arg.entry)) }
-    ensures local { (fields_of command.entry).has_globals ≡ false → IfOk result (λ c. (fields_of c).has_globals ≡ false) }
+    ensures { (app : App) (rule : Rule) → IfOk command.entry (λ c. told.IsCommand c app) → told.IsArg arg.entry rule → IfOk result (λ c. told.IsCommand c (with_rule app rule)) }
 {
-    command.arg(arg)
+    command?.arg(arg)
 }
 
 fn format<'a>(alloc: Global) -> Result<Command<'a>, AllocError>
     ensures { IfOk result (λ c. told.IsCommand c told.format) }
 {
     let command = command(alloc, "format", "Make an empty store", help::FORMAT);
-    let command = with_arg(command, dir(alloc))?;
+    let command = with_arg(Ok(command), dir(alloc));
     with_arg(command, slots(alloc))
 }
 
@@ -137,7 +138,7 @@ fn run<'a>(alloc: Global) -> Result<Command<'a>, AllocError>
 {
     let about = "Run the script of standard input on a store";
     let command = command(alloc, "run", about, help::RUN);
-    with_arg(command, dir(alloc))
+    with_arg(Ok(command), dir(alloc))
 }
 
 /// A command about one record of a store.
@@ -145,15 +146,15 @@ fn of_record<'a>(alloc: Global, name: &'a str, about: &'a str) -> Result<Command
     ensures { IfOk result (λ c. told.IsCommand c (told.of_record name.entry.now)) }
 {
     let command = command(alloc, name, about, help::TIMES);
-    let command = with_arg(command, dir(alloc))?;
-    let command = with_arg(command, relation(alloc))?;
+    let command = with_arg(Ok(command), dir(alloc));
+    let command = with_arg(command, relation(alloc));
     with_arg(command, record_number(alloc))
 }
 
 fn at<'a>(alloc: Global) -> Result<Command<'a>, AllocError>
     ensures { IfOk result (λ c. told.IsCommand c told.at) }
 {
-    let command = of_record(alloc, "at", "Show the value of a record at a time")?;
+    let command = of_record(alloc, "at", "Show the value of a record at a time");
     with_arg(command, time(alloc))
 }
 
@@ -161,8 +162,8 @@ fn between<'a>(alloc: Global) -> Result<Command<'a>, AllocError>
     ensures { IfOk result (λ c. told.IsCommand c told.between) }
 {
     let about = "Show what stood in a record from one time up to another";
-    let command = of_record(alloc, "between", about)?;
-    let command = with_arg(command, from(alloc))?;
+    let command = of_record(alloc, "between", about);
+    let command = with_arg(command, from(alloc));
     with_arg(command, to(alloc))
 }
 
@@ -171,7 +172,7 @@ fn dump<'a>(alloc: Global) -> Result<Command<'a>, AllocError>
 {
     let about = "Show what the log of a store says";
     let command = command(alloc, "dump", about, help::DUMP);
-    with_arg(command, dir(alloc))
+    with_arg(Ok(command), dir(alloc))
 }
 
 fn stress<'a>(alloc: Global) -> Result<Command<'a>, AllocError>
@@ -179,18 +180,20 @@ fn stress<'a>(alloc: Global) -> Result<Command<'a>, AllocError>
 {
     let about = "Let threads write and read a new store in memory";
     let command = command(alloc, "stress", about, help::STRESS);
-    let command = with_arg(command, writers(alloc))?;
-    let command = with_arg(command, readers(alloc))?;
+    let command = with_arg(Ok(command), writers(alloc));
+    let command = with_arg(command, readers(alloc));
     with_arg(command, rounds(alloc))
 }
 
-/// The command with one more subcommand.
-fn with_command<'a>(command: Command<'a>, sub: Command<'a>) -> Result<Command<'a>, AllocError>
-    requires { (fields_of sub).has_globals ≡ false }
-    ensures rules { IfOk result (λ c. app_of c ≡ with_subcommand (app_of command.entry) (app_of sub.entry).top) }
-    ensures local { (fields_of command.entry).has_globals ≡ false → IfOk result (λ c. (fields_of c).has_globals ≡ false) }
+/// The command with one more subcommand. Where either is lacking, none is made.
+fn with_command<'a>(
+    command: Result<Command<'a>, AllocError>,
+    sub: Result<Command<'a>, AllocError>,
+) -> Result<Command<'a>, AllocError>
+    requires { IfOk sub (λ c. (fields_of c).has_globals ≡ false) }
+    ensures { (app below : App) → IfOk command.entry (λ c. told.IsCommand c app) → IfOk sub.entry (λ c. told.IsCommand c below) → IfOk result (λ c. told.IsCommand c (with_subcommand app below.top)) }
 {
-    command.subcommand(sub)
+    command?.subcommand(sub?)
 }
 
 /// The command with no subcommand yet, which help calls `timestore` whatever its file is called.
@@ -211,24 +214,24 @@ fn top<'a>(alloc: Global) -> Result<Command<'a>, AllocError>
 fn making<'a>(alloc: Global) -> Result<Command<'a>, AllocError>
     ensures { IfOk result (λ c. told.IsCommand c told.making) }
 {
-    let command = with_command(top(alloc)?, format(alloc)?)?;
-    with_command(command, run(alloc)?)
+    let command = with_command(top(alloc), format(alloc));
+    with_command(command, run(alloc))
 }
 
 /// These, and the commands that ask about a record.
 fn asking<'a>(alloc: Global) -> Result<Command<'a>, AllocError>
     ensures { IfOk result (λ c. told.IsCommand c told.asking) }
 {
-    let command = with_command(making(alloc)?, at(alloc)?)?;
-    with_command(command, between(alloc)?)
+    let command = with_command(making(alloc), at(alloc));
+    with_command(command, between(alloc))
 }
 
 /// The whole command line.
 fn timestore<'a>(alloc: Global) -> Result<Command<'a>, AllocError>
     ensures { IfOk result (λ c. told.IsCommand c told.timestore) }
 {
-    let command = with_command(asking(alloc)?, dump(alloc)?)?;
-    with_command(command, stress(alloc)?)
+    let command = with_command(asking(alloc), dump(alloc));
+    with_command(command, stress(alloc))
 }
 
 /// What the words say, as `clap` reads them.
