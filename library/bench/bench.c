@@ -16,7 +16,7 @@ static void row(const char *what, double number, const char *unit) {
     fflush(stdout);
 }
 
-/* The device calls of three commits' worth, without a store: an extent, a slot's body and its gate. */
+/* What a commit writes and syncs, without a store: an extent, a slot's body and its gate. */
 static void raw_syncs(const char *folder, uint64_t count) {
     static const char *const names[] = {"raw-heap", "raw-status"};
     static uint8_t bytes[8192];
@@ -37,6 +37,15 @@ static void raw_syncs(const char *folder, uint64_t count) {
     row("three raw writes and syncs, as many times", (double)count / (seconds() - start), "/s");
     close(fd[0]);
     close(fd[1]);
+}
+
+/* What the process holds, in KiB. */
+static double resident(void) {
+    long pages = 0;
+    FILE *state = fopen("/proc/self/statm", "r");
+    HOLDS(state && fscanf(state, "%*d %ld", &pages) == 1);
+    fclose(state);
+    return (double)pages * (double)sysconf(_SC_PAGESIZE) / 1024;
 }
 
 static void commits(ts_file *file, uint64_t count) {
@@ -121,9 +130,10 @@ int main(int argc, char **argv) {
     commits(file, commit_count);
     groups(file, group_count);
     ts_file_close(file);
-    double start = seconds();
+    double before = resident(), start = seconds();
     CHECK(TS_OK, ts_file_open(argv[1], &file, &info));
     row("opening that store", 1e6 * (seconds() - start), "us");
+    row("what the open store holds of memory more", resident() - before, "KiB");
     queries(ts_file_store(file), query_count, commit_count < 200 ? commit_count : 200);
     unmade(ts_file_store(file), commit_count);
     ts_file_close(file);
