@@ -26,6 +26,7 @@ impl<D: Disk> Store<D> {
             job,
             archived,
             runs_end,
+            archive,
             disk: before,
         } = self;
         let store = Store {
@@ -36,6 +37,7 @@ impl<D: Disk> Store<D> {
             job,
             archived,
             runs_end,
+            archive,
             disk,
         };
         (store, before)
