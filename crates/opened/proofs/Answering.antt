@@ -20,47 +20,33 @@ use Rattle.timequery.specs.declared.fault.QueryFault.TheVariants as query
 use Rattle.transactions.specs.Calls.{order_of}
 use Rattle.store.specs.Values.{StoreValue}
 use Rattle.store.specs.Calls.{IsViewOf, AnswersAtView}
-use Rattle.standing.specs.Laws.{SaysAt, ViewStands}
+use Rattle.standing.specs.Homes.{GoesOn, IsSure}
+use Rattle.standing.specs.Laws.{SaysAt}
 use Rattle.standing.specs.Stands.{Stands}
-use Rattle.standing.proofs.Answering.{view-stands, at-answered, times-of_label}
-use Rattle.standing.proofs.Queries.{scan_at-answered, between-answered, scan_between-answered}
+use Rattle.standing.proofs.Answering.{times-of_label}
+use Rattle.standing.proofs.Views.{view-of-history, view-goes-on, at-answered, scan_at-answered, between-answered, scan_between-answered}
 use Rattle.opened.specs.Laws.{OpensAgain, AnswersBy}
 use Rattle.opened.proofs.Fronts.{front-says, group-front}
 use Rattle.opened.proofs.Reopened.{reopen-stands}
 
 -- ---- a store's own views
 
-own-mark : (b : Bool) (said : Type 0) (other : Type 0) → b ≡ true → MatchBool b said other → said
-own-mark true said other own is = is
-own-mark false said other own is = absurd cc
-
-mark-same : (a b : ℕ) → a ≡ b → (a == b) ≡ true
-mark-same a b same = grind (arith, nat_tests)
-
-pub stands-answers : (tells : Bool) (v : StoreValue) (m : Machine Value) → Stands tells v m → AnswersBy v m.published m.floors
+pub stands-answers : (tells : Bool) (v : StoreValue) (m : Machine Value) → Stands tells v m → AnswersBy tells v m.published m.floors
 stands-answers tells v m stands = record {
-  at = λ view asked key time answer is mark says.
-      mine view asked is mark _ _ (at-answered asked view m.published m.floors key time answer (of_view view is) says);
-  scan_at = λ view asked relation time answer is mark says.
-      mine view asked is mark _ _ (scan_at-answered asked view m.published m.floors relation time answer (of_view view is) says);
-  between = λ view asked key a b answer is mark says.
-      mine view asked is mark _ _ (between-answered asked view m.published m.floors key a b answer (of_view view is) says);
-  scan_between = λ view asked relation a b answer is mark says.
-      mine view asked is mark _ _ (scan_between-answered asked view m.published m.floors relation a b answer (of_view view is) says);
+  at = λ view asked new later key time answer is now goes says.
+      let of = view-of-history tells v view m stands is in at-answered tells asked new later view m.published m.floors key time answer now of.0 (view-goes-on tells v asked view m.published m.floors of.1 goes) says;
+  scan_at = λ view asked new later relation time answer is now goes says.
+      let of = view-of-history tells v view m stands is in scan_at-answered tells asked new later view m.published m.floors relation time answer now of.0 (view-goes-on tells v asked view m.published m.floors of.1 goes) says;
+  between = λ view asked new later key a b answer is now goes says.
+      let of = view-of-history tells v view m stands is in between-answered tells asked new later view m.published m.floors key a b answer now of.0 (view-goes-on tells v asked view m.published m.floors of.1 goes) says;
+  scan_between = λ view asked new later relation a b answer is now goes says.
+      let of = view-of-history tells v view m stands is in scan_between-answered tells asked new later view m.published m.floors relation a b answer now of.0 (view-goes-on tells v asked view m.published m.floors of.1 goes) says;
 }
-  where
-    of_view : (view : ViewValue) → IsViewOf v view → ViewStands view m.published m.floors
-    of_view view is = view-stands v view m stands.memory is
-
-    mine : (view : ViewValue) (asked : StoreValue) → IsViewOf v view → asked.transactions.mark ≡ v.transactions.mark → (said other : Type 0) → MatchBool (view.mark == asked.transactions.mark) said other → said
-    mine view asked is mark said other says =
-        let marked : view.mark ≡ v.transactions.mark = ap (λ (w : ViewValue). w.mark) is in
-        own-mark (view.mark == asked.transactions.mark) said other (mark-same view.mark asked.transactions.mark (marked ∙ sym mark)) says
 
 pub kept-answers : (tells : Bool) (v : StoreValue) (m : Machine Value) (disk : DiskState) (mark : ℕ) (again : StoreValue)
-    → Stands tells v m → IsTrue tells → OpensAgain tells v disk mark again → OnFront (AnswersBy again) m
+    → Stands tells v m → IsTrue tells → OpensAgain tells v disk mark again → OnFront (AnswersBy tells again) m
 kept-answers tells v m disk mark again stands told opens =
-    front-says (λ h floors. Stands tells again (opened h floors)) (AnswersBy again) m (λ h floors now. stands-answers tells again (opened h floors) now) (reopen-stands tells v m disk mark again stands told opens)
+    front-says (λ h floors. Stands tells again (opened h floors)) (AnswersBy tells again) m (λ h floors now. stands-answers tells again (opened h floors) now) (reopen-stands tells v m disk mark again stands told opens)
 
 -- ---- answers that stay
 
@@ -81,18 +67,18 @@ answer-append h more floors key time up early =
     let after : nat_lt (last (h ++ more)) time ≡ false = let upto : time ≤ last (h ++ more) = omega (arith, later, early) in grind (arith, nat_tests) in
     rw (before, after, state-append h more time key (times-earlier time (last h) more early up)) refl
 
-pub answers-stay : (tells : Bool) (v : StoreValue) (m : Machine Value) (disk : DiskState) (mark : ℕ) (again asked : StoreValue) (view : ViewValue) (key : Key) (time : ℕ) (answer : Result (Option Value) QueryFault)
-    → Stands tells v m → IsTrue tells → OpensAgain tells v disk mark again → IsViewOf again view → asked.transactions.mark ≡ again.transactions.mark → AnswersAtView asked view key time answer
-    → time ≤ last m.published → SaysAt (at_answer m.published m.floors key time) answer
-answers-stay tells v m disk mark again asked view key time answer stands told opens is own answers early = by-front (kept-answers tells v m disk mark again stands told opens)
+pub answers-stay : (tells : Bool) (v : StoreValue) (m : Machine Value) (disk : DiskState) (mark : ℕ) (again asked new : StoreValue) (later : Machine Value) (view : ViewValue) (key : Key) (time : ℕ) (answer : Result (Option Value) QueryFault)
+    → Stands tells v m → IsTrue tells → OpensAgain tells v disk mark again → IsViewOf again view → Stands tells asked later → GoesOn tells again asked → AnswersAtView tells asked view key time answer new
+    → time ≤ last m.published → SaysAt (IsSure tells view.reclaimed time) (at_answer m.published m.floors key time) answer
+answers-stay tells v m disk mark again asked new later view key time answer stands told opens is now goes answers early = by-front (kept-answers tells v m disk mark again stands told opens)
   where
-    by-front : OnFront (AnswersBy again) m → SaysAt (at_answer m.published m.floors key time) answer
-    by-front (inl by) = by.at view asked key time answer is own answers
+    by-front : OnFront (AnswersBy tells again) m → SaysAt (IsSure tells view.reclaimed time) (at_answer m.published m.floors key time) answer
+    by-front (inl by) = by.at view asked new later key time answer is now goes answers
     by-front (inr opened) =
-        let by : AnswersBy again (m.published ++ take m.group m.queue) m.floors = (group-front (AnswersBy again) m m.gate stands.memory.raising opened).1 in
+        let by : AnswersBy tells again (m.published ++ take m.group m.queue) m.floors = (group-front (AnswersBy tells again) m m.gate stands.memory.raising opened).1 in
         let up : HasRisingTimes (last m.published) (take m.group m.queue) =
         rising-take (last m.published) m.group m.queue (rising-from_following IsValue m.published m.queue (may_follow-behind IsValue [] m.published m.queue stands.machine.history)) in
-        subst (λ said. SaysAt said answer) (answer-append m.published (take m.group m.queue) m.floors key time up early) (by.at view asked key time answer is own answers)
+        subst (λ said. SaysAt (IsSure tells view.reclaimed time) said answer) (answer-append m.published (take m.group m.queue) m.floors key time up early) (by.at view asked new later key time answer is now goes answers)
 
 -- ---- labels
 

@@ -5,4 +5,5 @@ pub mod Opened
 pub mod Formatted
 pub mod Reopened
 pub mod Answering
+mod Runs
 mod Witness

@@ -1,5 +1,6 @@
 -- A store that is opened on an image that stands for a history.
 use Rattle.std.proofs.Common.{◌≡◌, ℕ, ◌≤◌, Bool, IsTrue, List, [], ◌∷◌, ◌++◌, length, map, refl, arith, ap, sym, subst, ◌∙◌, inl}
+use Rattle.std.specs.Prelude.{Contains}
 use Rattle.std.specs.List.{AllByRecursion}
 use Rattle.std.proofs.lemmas.List.{append-nil, length-map}
 use Rattle.std.proofs.lemmas.List.Sorted.{IsPermutation-refl}
@@ -16,10 +17,11 @@ use Rattle.history.specs.Time.{IsRisingAfter, writes_after}
 use Rattle.history.proofs.Machines.{opened-machine}
 use Rattle.history.proofs.Members.{Contains-nil}
 use Rattle.image.specs.Values.{Value, IsValue}
-use Rattle.image.specs.Reading.{Head, Reading}
-use Rattle.image.specs.Log.{AreRisingAfter, last_time_after}
+use Rattle.image.specs.Reading.{Head, Reading, ArchiveRecord}
+use Rattle.image.specs.Reading as readings
+use Rattle.image.specs.Log.{archive_mark, AreRisingAfter, last_time_after}
 use Rattle.image.specs.Facts.{old_writes, heap_facts}
-use Rattle.image.specs.StandsFor.{head_of, reclaimed_upto}
+use Rattle.image.specs.StandsFor.{head_of, archived_upto, reclaimed_upto, AreRunsOf}
 use Rattle.image.proofs.Standing.{last_time-heads, heads-rising, rises, facts-rise, archived-range, floor-range}
 use Rattle.chains.specs.KeyWrites.{IsOrdered, writes_of}
 use Rattle.chains.specs.Writes.{last_time, kept_after}
@@ -28,9 +30,13 @@ use Rattle.extents.specs.Usages.{IsKept}
 use Rattle.group.specs.CommitOrder as orders
 use Rattle.status.specs.declared.header.Header.{Header}
 use Rattle.status.specs.Header.{total}
-use Rattle.status.specs.Rules.{row_end}
+use Rattle.status.specs.Rules.{row_end, runs_of, log_of}
 use Rattle.reading.specs.Extents.{Extent}
 use Rattle.reading.specs.Layouts.{Layout, live}
+use Rattle.reading.specs.Runs.{StoredRun}
+use Rattle.archive.specs.Runs.{HoldRuns, RunsEndBy}
+use Rattle.archive.specs.Searches.{archive_of}
+use Rattle.wire.specs.declared.slot.Run.{Run}
 use Rattle.reading.specs.Keeping.{RestsAs}
 use Rattle.reading.specs.Opening.{unread, unread_layout}
 use Rattle.reading.proofs.OpensAsOne.{opens_once}
@@ -44,14 +50,16 @@ use Rattle.recovery.specs.Laws.{IsHistoryRead}
 use Rattle.recovery.proofs.HistoryRead.{stands_opening, history_read, anchors_upto, facts_are}
 use Rattle.transactions.specs.Order.{IsInOrder}
 use Rattle.store.specs.Heads.{head_as}
-use Rattle.store.specs.Values.{StoreValue, IsInStep}
-use Rattle.store.specs.Opens.{Opens, opened_on}
+use Rattle.store.specs.Values.{ArchiveValue, StoreValue, IsInStep}
+use Rattle.store.specs.Opens.{Opens, opened_on, AreEntriesOf, IsUnread}
 use Rattle.store.proofs.Opened.{rising-opened, last-opened}
 use Rattle.standing.specs.Standing.{Name, name_of, name_at, HasWrites, HasForgotten, StandsInMemory}
 use Rattle.standing.specs.OnDisk.{IsImageOf, Works, StandsOnDisk}
+use Rattle.standing.specs.Homes.{AreArchived, RunsStand}
 use Rattle.standing.specs.Stands.{Stands}
 use Rattle.standing.proofs.HeapForgets.{heap-forgot}
 use Rattle.standing.proofs.Held.{last-held}
+use Rattle.opened.proofs.Runs.{runs-hold, runs-end, marks-are}
 use Rattle.opened.proofs.Times.{opened-times, opened-long}
 use Rattle.opened.proofs.Versions.{latest-upto}
 
@@ -93,8 +101,8 @@ rising-first-of (x ∷ xs) ys t up = (up.0, up.1, rising-first-of xs ys x.time u
 
 -- ---- what was read
 
-module _ (old : DiskState) (mark : ℕ) (disk : DiskState) (r : Recovered) (header : Header) (h : History Value) (floors : ℕ → ℕ)
-    (read : IsReadFrom (image_of old.areas) r) (image : IsImageOf header (image_of old.areas) h floors)
+module _ (old : DiskState) (mark : ℕ) (disk : DiskState) (r : Recovered) (archive : ArchiveValue) (header : Header) (h : History Value) (floors : ℕ → ℕ)
+    (read : IsReadFrom (image_of old.areas) r) (fresh : IsUnread r.runs.items archive) (image : IsImageOf header (image_of old.areas) h floors)
     (settled : disk.areas ≡ settled_on (image_of old.areas)) (ordered : IsOrdered r.chains) (sound : AreSound old.areas) where
   opening : IsOpening header (image_of old.areas) (unread_layout image.layout) (unread image.reading)
   opening = stands_opening header (image_of old.areas) image.layout image.reading h floors image.laid image.held image.stands image.profile_built image.built
@@ -154,7 +162,7 @@ module _ (old : DiskState) (mark : ℕ) (disk : DiskState) (r : Recovered) (head
   heads_last : orders.last_time (map head_as r.commits.items) ≡ last h
   heads_last = last-opened 0 r.commits.items ∙ ap (λ (l : List Head). last_time_after 0 l) so.commits ∙ last_time-heads 0 h
 
-  memory : StandsInMemory (opened_on mark r disk).transactions (opened h floors)
+  memory : StandsInMemory (opened_on mark r archive disk).transactions (opened h floors)
   memory = record {
     names = named r.commits.items h so.commits ∙ ap (λ (l : History Value). map name_of l) (sym (append-nil h));
     rising = heads_rise;
@@ -180,7 +188,7 @@ module _ (old : DiskState) (mark : ℕ) (disk : DiskState) (r : Recovered) (head
   few_slots : total r.header ≤ 65536
   few_slots = let few = image.held.log.opens.has_room.few in let all = ap total same.0 in omega (arith, few, all)
 
-  order : IsInOrder (opened_on mark r disk).transactions
+  order : IsInOrder (opened_on mark r archive disk).transactions
   order = record {
     split = omega (arith, length-map r.commits.items head_as);
     pending = tt;
@@ -194,7 +202,7 @@ module _ (old : DiskState) (mark : ℕ) (disk : DiskState) (r : Recovered) (head
     slots_few = few_slots;
   }
 
-  in_step : IsInStep (opened_on mark r disk)
+  in_step : IsInStep (opened_on mark r archive disk)
   in_step = record { slots = omega arith; used = refl; turns = λ works. record { turning = refl; writing = refl; turn = tt; job = tt } }
 
   -- ---- the disk
@@ -202,7 +210,7 @@ module _ (old : DiskState) (mark : ℕ) (disk : DiskState) (r : Recovered) (head
   rests : RestsAs header image.layout disk.areas
   rests = subst (λ (areas : Areas). RestsAs header image.layout areas) (sym settled) (synced_rests header image.layout (image_of old.areas) image.held)
 
-  works : Works header (opened_on mark r disk) (opened h floors)
+  works : Works header (opened_on mark r archive disk) (opened h floors)
   works = record {
     layout = image.layout;
     reading = image.reading;
@@ -230,7 +238,7 @@ module _ (old : DiskState) (mark : ℕ) (disk : DiskState) (r : Recovered) (head
       let just : left ≡ image_of old.areas = settled-left (image_of old.areas) left (subst (λ (areas : Areas). LeavesImage areas left) settled may) in
       inl (subst (λ (i : Image). IsImageOf header i h floors) (sym just) image)
 
-  on_disk : StandsOnDisk (opened_on mark r disk) (opened h floors)
+  on_disk : StandsOnDisk (opened_on mark r archive disk) (opened h floors)
   on_disk = record {
     header = header;
     profile = ap (λ (x : Header). x.profile) same.0;
@@ -240,7 +248,32 @@ module _ (old : DiskState) (mark : ℕ) (disk : DiskState) (r : Recovered) (head
     works = λ works_on. works;
   }
 
-  pub opened-stands : (tells : Bool) → Stands tells (opened_on mark r disk) (opened h floors)
+  -- ---- the runs
+
+  runs_stand : RunsStand (opened_on mark r archive disk) (opened h floors)
+  runs_stand =
+      let laid = image.laid in
+      let entries = subst (λ (runs : List Run). AreEntriesOf 0 runs archive.runs) is.runs fresh.entries in
+      let area : archive_of disk ≡ old.areas.archive.bytes = ap (λ (areas : Areas). areas.archive.bytes) settled in
+      let lists : map (λ (s : StoredRun). s.records) image.layout.runs ≡ image.reading.runs = laid.runs.runs_are in
+      let ruled : AreRunsOf [] (log_of image.layout.slots) (map (λ (s : StoredRun). s.records) image.layout.runs) =
+      (let a = sym laid.heap.log_is in let b = sym lists in subst (λ (p : List readings.Slot × List (List ArchiveRecord)). AreRunsOf [] p.0 p.1) (λ i. (a i, b i)) image.stands.opens.reads.runs) in
+      let archived_is : r.archived ≡ archived_upto image.reading = is.archived in
+      record {
+        lists = image.reading.runs;
+        held = subst (λ (bytes : List ℕ). HoldRuns bytes archive.runs image.reading.runs) (sym area)
+            (subst (λ (l : List (List ArchiveRecord)). HoldRuns old.areas.archive.bytes archive.runs l) lists
+            (runs-hold old.areas.archive.bytes image.layout.slots image.layout.runs archive.runs ruled laid.runs.entries_are laid.runs.each_run image.held.runs entries));
+        ends = subst (λ (runs : List Run). RunsEndBy (row_end 0 runs) archive.runs) (sym is.runs) (runs-end 0 0 (runs_of image.layout.slots) archive.runs laid.heap.in_row entries);
+        mark = marks-are image.layout.slots 0 archive.runs entries ∙ ap (λ (l : List readings.Slot). archive_mark l) laid.heap.log_is ∙ sym is.archived;
+        marks = (let marks = image.stands.homes.marks in let reclaimed = is.reclaimed in omega arith);
+        by_last = (let range = archived-range image.reading h floors image.stands in omega arith);
+        archived = subst (λ (a : ℕ). AreArchived h floors a image.reading.runs) (sym archived_is) image.stands.homes.in_archive;
+        right = record { each = λ from bytes there. absurd (Contains-nil (from, bytes) (subst (λ (parts : List (ℕ × List ℕ)). Contains parts (from, bytes)) fresh.kept there)) };
+        near = record { each = λ from bytes there. absurd (Contains-nil (from, bytes) (subst (λ (parts : List (ℕ × List ℕ)). Contains parts (from, bytes)) fresh.kept there)) };
+      }
+
+  pub opened-stands : (tells : Bool) → Stands tells (opened_on mark r archive disk) (opened h floors)
   opened-stands tells = record {
     memory = memory;
     machine = opened-machine IsValue h floors image.stands.opens.history (floor-range image.reading h floors image.stands);
@@ -250,6 +283,8 @@ module _ (old : DiskState) (mark : ℕ) (disk : DiskState) (r : Recovered) (head
     marks = (let order = image.stands.homes.marks in omega (arith, marked, is.archived, order), (let upto = archived-range image.reading h floors image.stands in omega (arith, is.archived, upto)));
     job = tt;
     disk = λ tells_so. on_disk;
+    place = tt;
+    runs = λ tells_so. runs_stand;
   }
 
 pub open-stands : (tells : Bool) (old : DiskState) (mark : ℕ) (v : StoreValue) (header : Header) (h : History Value) (floors : ℕ → ℕ)
@@ -257,4 +292,4 @@ pub open-stands : (tells : Bool) (old : DiskState) (mark : ℕ) (v : StoreValue)
 open-stands tells old mark v header h floors opens told sound image =
     let ordered : IsOrdered opens.recovered.chains = subst (λ (w : StoreValue). IsOrdered w.transactions.versions) opens.new_is opens.ordered in
     subst (λ (w : StoreValue). Stands tells w (opened h floors)) (sym opens.new_is)
-    (opened-stands old mark v.disk opens.recovered header h floors (opens.read told) image (opens.settled told) ordered sound tells)
+    (opened-stands old mark v.disk opens.recovered v.archive header h floors (opens.read told) opens.unread image (opens.settled told) ordered sound tells)

@@ -60,11 +60,13 @@ use Rattle.recovery.specs.Settling.{IsSync, Settles, last_moment}
 use Rattle.recovery.proofs.Claims.{free_all, kept_all, still_free}
 use Rattle.recovery.proofs.AnchorChains.{ordered_anchors, anchored_writes, keys_of}
 use Rattle.recovery.proofs.RightChains.{numbered_of}
-use Rattle.recovery.proofs.OpenedHeap.{entries_in_range}
+use Rattle.recovery.proofs.OpenedHeap.{entries_in_range, runs_in_range}
 use Rattle.recovery.proofs.HistoryRead.{stands_opening}
 use Rattle.recovery.proofs.Settling.{settles_three}
 use Rattle.store.specs.Values.{StoreValue}
-use Rattle.store.specs.Opens.{Opens, opened_on}
+use Rattle.archive.specs.declared.run.RunEntry.{RunEntry}
+use Rattle.opened.proofs.Runs.{entries-made}
+use Rattle.store.specs.Opens.{AreEntriesOf, IsUnread, Opens, opened_on}
 use Rattle.standing.specs.OnDisk.{IsImageOf}
 
 -- a list as a Vec
@@ -229,6 +231,9 @@ module _ (alloc : Global) (header : Header) (image : Image) (h : History Value) 
   runs_few : length (runs_of is.layout.slots) < 2 ^ 63
   runs_few = let few = few_runs is.layout.slots in let fits = is.held.log.opens.fits in let most = is.held.log.opens.has_room.few in omega arith
 
+  pub runs_ranged : AllByRecursion wire.IsRun (runs_of is.layout.slots)
+  runs_ranged = runs_in_range header.profile is.layout.slots (λ n slot at. (is.held.log.opens.each_spelled n slot at).in_range)
+
   ranges : AllByRecursion (λ (s : StoredMember). wire.IsMember s.entry) is.layout.members
   ranges = each_entry is.layout.members
       (subst (AllByRecursion wire.IsMember) (sym is.laid.heap.entries_are)
@@ -304,6 +309,11 @@ module _ (alloc : Global) (header : Header) (image : Image) (h : History Value) 
     is = read_as;
   }
 
+  -- nothing of its archive is read
+  unread-of : (entries : List RunEntry) → AreEntriesOf 0 (runs_of is.layout.slots) entries → IsUnread recovered.runs.items (record { runs = entries; next = []; kept = [] })
+  unfolding recovered vec_of
+  unread-of entries are = record { entries = are; next = refl; kept = refl }
+
   read_ordered : IsOrdered recovered.chains
   unfolding recovered
   read_ordered = chains_ordered (map anchor_writes anchors) (heap_commits is.reading) anchors_ordered
@@ -362,12 +372,14 @@ pub open-answers : (alloc : Global) (tells : Bool) (old : DiskState) (mark : ℕ
 unfolding all_synced
 open-answers alloc tells old mark header h floors sound low is =
     let r : Recovered = recovered alloc header (image_of old.areas) h floors is in
-    let settles = opens_all tells old sound low in (
-      opened_on mark r (all_synced old),
+    let settles = opens_all tells old sound low in
+    let made = entries-made 0 (runs_of is.layout.slots) (runs_ranged alloc header (image_of old.areas) h floors is) in (
+      opened_on mark r (record { runs = made.0; next = []; kept = [] }) (all_synced old),
       record {
         recovered = r;
         read = λ told. read_from alloc header (image_of old.areas) h floors is;
         new_is = refl;
+        unread = unread-of alloc header (image_of old.areas) h floors is made.0 made.1;
         ordered = read_ordered alloc header (image_of old.areas) h floors is;
         settled = λ told. refl;
         left = settles_left tells old (all_synced old) settles;

@@ -27,6 +27,7 @@ use Rattle.store.specs.Values.{StoreValue}
 use Rattle.store.specs.Calls.{IsViewOf, AnswersAtView, AnswersScanAt, AnswersRows, AnswersScanRows}
 use Rattle.store.specs.Opens.{Opens, OpenRefuses}
 use Rattle.standing.specs.Laws.{SaysAt, SaysScanAt, SaysBetween, SaysScanBetween}
+use Rattle.standing.specs.Homes.{GoesOn, IsSure}
 use Rattle.standing.specs.OnDisk.{IsImageOf}
 use Rattle.standing.specs.Stands.{Stands}
 
@@ -111,30 +112,30 @@ ClosedIsLeft = (v : StoreValue) (disk : DiskState) → disk ≡ v.disk → AreSo
 
 -- ---- queries
 
--- Every view that is taken of the store now is answered by this history, also when it is asked later: a store knows its own views by its mark.
-pub record AnswersBy (v : StoreValue) (h : History Value) (floors : ℕ → ℕ) : Type 0 where
-  pub at : (view : ViewValue) (asked : StoreValue) (key : Key) (time : ℕ) (answer : Result (Option Value) QueryFault)
-      → IsViewOf v view → asked.transactions.mark ≡ v.transactions.mark → AnswersAtView asked view key time answer → SaysAt (at_answer h floors key time) answer
-  pub scan_at : (view : ViewValue) (asked : StoreValue) (relation time : ℕ) (answer : Result (Vec (ℕ × Value) Global) QueryFault)
-      → IsViewOf v view → asked.transactions.mark ≡ v.transactions.mark → AnswersScanAt asked view relation time answer → SaysScanAt h floors relation time answer
-  pub between : (view : ViewValue) (asked : StoreValue) (key : Key) (a b : ℕ) (answer : Result (Vec (Version Value) Global) QueryFault)
-      → IsViewOf v view → asked.transactions.mark ≡ v.transactions.mark → AnswersRows asked view key a b answer → SaysBetween h floors key a b answer
-  pub scan_between : (view : ViewValue) (asked : StoreValue) (relation a b : ℕ) (answer : Result (Vec (ℕ × Version Value) Global) QueryFault)
-      → IsViewOf v view → asked.transactions.mark ≡ v.transactions.mark → AnswersScanRows asked view relation a b answer → SaysScanBetween h floors relation a b answer
+-- Every view that is taken of the store now is answered by this history, also when it is asked later, as long as the store goes on.
+pub record AnswersBy (tells : Bool) (v : StoreValue) (h : History Value) (floors : ℕ → ℕ) : Type 0 where
+  pub at : (view : ViewValue) (asked new : StoreValue) (later : Machine Value) (key : Key) (time : ℕ) (answer : Result (Option Value) QueryFault)
+      → IsViewOf v view → Stands tells asked later → GoesOn tells v asked → AnswersAtView tells asked view key time answer new → SaysAt (IsSure tells view.reclaimed time) (at_answer h floors key time) answer
+  pub scan_at : (view : ViewValue) (asked new : StoreValue) (later : Machine Value) (relation time : ℕ) (answer : Result (Vec (ℕ × Value) Global) QueryFault)
+      → IsViewOf v view → Stands tells asked later → GoesOn tells v asked → AnswersScanAt tells asked view relation time answer new → SaysScanAt (IsSure tells view.reclaimed time) h floors relation time answer
+  pub between : (view : ViewValue) (asked new : StoreValue) (later : Machine Value) (key : Key) (a b : ℕ) (answer : Result (Vec (Version Value) Global) QueryFault)
+      → IsViewOf v view → Stands tells asked later → GoesOn tells v asked → AnswersRows tells asked view key a b answer new → SaysBetween (IsSure tells view.reclaimed a) h floors key a b answer
+  pub scan_between : (view : ViewValue) (asked new : StoreValue) (later : Machine Value) (relation a b : ℕ) (answer : Result (Vec (ℕ × Version Value) Global) QueryFault)
+      → IsViewOf v view → Stands tells asked later → GoesOn tells v asked → AnswersScanRows tells asked view relation a b answer new → SaysScanBetween (IsSure tells view.reclaimed a) h floors relation a b answer
 
 abbrev pub StandsAnswers : Type 0
-StandsAnswers = (tells : Bool) (v : StoreValue) (m : Machine Value) → Stands tells v m → AnswersBy v m.published m.floors
+StandsAnswers = (tells : Bool) (v : StoreValue) (m : Machine Value) → Stands tells v m → AnswersBy tells v m.published m.floors
 
 -- once it is opened again, all its views are answered by one front of the commit order
 abbrev pub KeptAnswers : Type 0
 KeptAnswers = (tells : Bool) (v : StoreValue) (m : Machine Value) (disk : DiskState) (mark : ℕ) (again : StoreValue)
-    → Stands tells v m → IsTrue tells → OpensAgain tells v disk mark again → OnFront (AnswersBy again) m
+    → Stands tells v m → IsTrue tells → OpensAgain tells v disk mark again → OnFront (AnswersBy tells again) m
 
 -- and up to the last time that was published they are answered as before
 abbrev pub AnswersStay : Type 0
-AnswersStay = (tells : Bool) (v : StoreValue) (m : Machine Value) (disk : DiskState) (mark : ℕ) (again asked : StoreValue) (view : ViewValue) (key : Key) (time : ℕ) (answer : Result (Option Value) QueryFault)
-    → Stands tells v m → IsTrue tells → OpensAgain tells v disk mark again → IsViewOf again view → asked.transactions.mark ≡ again.transactions.mark → AnswersAtView asked view key time answer
-    → time ≤ last m.published → SaysAt (at_answer m.published m.floors key time) answer
+AnswersStay = (tells : Bool) (v : StoreValue) (m : Machine Value) (disk : DiskState) (mark : ℕ) (again asked new : StoreValue) (later : Machine Value) (view : ViewValue) (key : Key) (time : ℕ) (answer : Result (Option Value) QueryFault)
+    → Stands tells v m → IsTrue tells → OpensAgain tells v disk mark again → IsViewOf again view → Stands tells asked later → GoesOn tells again asked → AnswersAtView tells asked view key time answer new
+    → time ≤ last m.published → SaysAt (IsSure tells view.reclaimed time) (at_answer m.published m.floors key time) answer
 
 -- ---- labels
 
