@@ -36,13 +36,13 @@ loop-run-preserved-then-run-a g c =
 pub returns-in_err-add_scan_rows-clause-kept : goal.returns-in_err-add_scan_rows-clause-kept
 returns-in_err-add_scan_rows-clause-kept g c = λ limit by.
     let at = slice_get_read c.args.runs.now (length c.args.runs.now) c.loop-run.run-index c.run-item.result refl c.loop-run-test.true c.run-item.is in
-    keeps_on_state c.loop-run.invariant.disk (c.loop-run.invariant.kept limit by) (keeps_later (by c.loop-run.run-index c.run-item.result at) c.in_err-add_scan_rows.ensures.kept)
+    keeps_on_state c.loop-run.invariant.disk (c.loop-run.invariant.kept limit by) (keeps_later (by c.loop-run.run-index c.run-item.result at) c.in_err-add_scan_rows.ensures.looks.kept)
 
 pub returns-in_err-add_scan_rows-clause-damaged : goal.returns-in_err-add_scan_rows-clause-damaged
 returns-in_err-add_scan_rows-clause-damaged g c =
     let at = slice_get_read c.args.runs.now (length c.args.runs.now) c.loop-run.run-index c.run-item.result refl c.loop-run-test.true c.run-item.is in
     let p = err_from_is_err_and c.from_residual.result c.from_residual.ensures.1 in
-    rw (p.1, p.2) (fault_in c.args.a c.args.runs.now c.loop-run.run-index c.run-item.result _ at c.if-run-a.false c.in_err-add_scan_rows.ensures.damaged)
+    rw (p.1, p.2) (fault_in c.args.a c.args.runs.now c.loop-run.run-index c.run-item.result _ at c.if-run-a.false c.in_err-add_scan_rows.ensures.looks.damaged)
 
 pub returns-in_err-add_scan_rows-clause-only : goal.returns-in_err-add_scan_rows-clause-only
 returns-in_err-add_scan_rows-clause-only g c = λ lists told right hold.
@@ -58,8 +58,8 @@ loop-run-preserved g c =
     let at = slice_get_read c.args.runs.now (length c.args.runs.now) c.loop-run.run-index c.run-item.result refl c.loop-run-test.true c.run-item.is in
     record {
       rises = omega (arith, c.loop-run.invariant.rises, c.in_ok-add_scan_rows.ensures.rises);
-      disk = c.in_ok-add_scan_rows.ensures.disk ∙ c.loop-run.invariant.disk;
-      kept = λ limit by. keeps_on_state c.loop-run.invariant.disk (c.loop-run.invariant.kept limit by) (keeps_later (by c.loop-run.run-index c.run-item.result at) c.in_ok-add_scan_rows.ensures.kept);
+      disk = c.in_ok-add_scan_rows.ensures.looks.disk ∙ c.loop-run.invariant.disk;
+      kept = λ limit by. keeps_on_state c.loop-run.invariant.disk (c.loop-run.invariant.kept limit by) (keeps_later (by c.loop-run.run-index c.run-item.result at) c.in_ok-add_scan_rows.ensures.looks.kept);
       shown = λ lists told right hold.
           let here = list_at _ c.args.runs.now lists c.loop-run.run-index c.run-item.result hold at in
           let reads = reads_again (first_reads told right here.1) c.loop-run.invariant.disk (c.loop-run.invariant.kept _ (held_ends _ c.args.runs.now lists hold)) in
@@ -85,7 +85,7 @@ returns-in_err-add_scan_rows-clause-exact g c = λ told right.
     let at = slice_get_read c.args.runs.now (length c.args.runs.now) c.loop-run.run-index c.run-item.result refl c.loop-run-test.true c.run-item.is in
     let now = right_among c.args.runs.now told right c.loop-run.invariant.disk c.loop-run.invariant.kept in
     let p = err_from_is_err_and c.from_residual.result c.from_residual.ensures.1 in
-    rw (p.1, p.2) (through_broken (AreScanRowsOf area c.args.relation c.args.a c.args.b) c.args.a c.args.runs.now c.loop-run.run-index c.loop-run.rows.items (c.loop-run.invariant.through told right) c.run-item.result at (AreScanRowsBroken area c.args.relation c.args.a c.args.b) _ c.if-run-a.false c.in_err-add_scan_rows.ensures.damaged
+    rw (p.1, p.2) (through_broken (AreScanRowsOf area c.args.relation c.args.a c.args.b) c.args.a c.args.runs.now c.loop-run.run-index c.loop-run.rows.items (c.loop-run.invariant.through told right) c.run-item.result at (AreScanRowsBroken area c.args.relation c.args.a c.args.b) _ c.if-run-a.false c.in_err-add_scan_rows.ensures.looks.damaged
     (map_damaged _ (λ start is. subst (λ (xs : List ℕ). AreScanRowsBroken xs c.args.relation c.args.a c.args.b c.run-item.result) (ap archive_of c.loop-run.invariant.disk) is) (c.in_err-add_scan_rows.ensures.exact told now)))
 
 pub returns-clause-exact : goal.returns-clause-exact
