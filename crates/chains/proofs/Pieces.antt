@@ -1,5 +1,5 @@
 -- One key's writes in pieces: those of a node, with what stands before them.
-use Rattle.std.proofs.Common.{◌≡◌, ℕ, ◌<◌, ◌≤◌, nat_le, true, Bool, cond, List, [], ◌∷◌, ◌++◌, length, Option, None, Result, Ok, Err, IfOk, refl, ap, sym, subst, ◌∙◌, arith, append_assoc, append-nil, length-append}
+use Rattle.std.proofs.Common.{◌≡◌, ℕ, ◌<◌, ◌≤◌, nat_le, true, Bool, cond, List, [], ◌∷◌, ◌++◌, length, Option, None, Result, Ok, Err, IfOk, refl, ap, sym, subst, ◌∙◌, arith, append_assoc, length-append}
 use Rattle.history.specs.Time.{IsRisingAfter, value_after, value_at}
 use Rattle.history.specs.Versions.{first_time}
 use Rattle.history.proofs.Values.{value_after-append, value_after-later}
@@ -14,10 +14,6 @@ use Rattle.chains.proofs.Parts.{rising-front, rising-back, kept-front, kept-back
 pub all_writes-append : {W : Type 0} (ps qs : List (List W)) → all_writes (ps ++ qs) ≡ all_writes ps ++ all_writes qs
 all_writes-append [] qs = refl
 all_writes-append {W} (p ∷ ps) qs = ap (λ (ws : List W). p ++ ws) (all_writes-append ps qs) ∙ sym (append_assoc p (all_writes ps) (all_writes qs))
-
--- one piece more
-pub moved : {W : Type 0} (all ps : List (List W)) (p : List W) → all ≡ ps ++ p ∷ [] → all_writes all ≡ all_writes ps ++ p
-moved {W} all ps p is = ap (λ (qs : List (List W)). all_writes qs) is ∙ all_writes-append ps (p ∷ []) ∙ ap (λ (ws : List W). all_writes ps ++ ws) (append-nil p)
 
 -- ---- writes before a piece, its own, and those behind it
 
@@ -70,6 +66,27 @@ module _ {m : List (List Write)} (node : Node (List Write)) (is : m ≡ pieces_o
 
   pub here_right : (before : List Write) → IsRisingAfter 0 (before ++ all_writes m) → IsRisingAfter 0 (node.piece ++ all_writes node.right.pieces)
   here_right before rising = rising-back 0 (before ++ all_writes node.left.pieces) (node.piece ++ all_writes node.right.pieces) (rw (parted before) at rising)
+
+  -- with writes behind them all
+  pub more_behind : (p : List Write) → all_writes node.left.pieces ++ (node.piece ++ (all_writes node.right.pieces ++ p)) ≡ all_writes m ++ p
+  more_behind p = sym (
+      ap (λ (ws : List Write). ws ++ p) whole
+      ∙ append_assoc (all_writes node.left.pieces) (node.piece ++ all_writes node.right.pieces) p
+      ∙ ap (λ (ws : List Write). all_writes node.left.pieces ++ ws) (append_assoc node.piece (all_writes node.right.pieces) p))
+
+  pub none_behind : (p : List Write) → node.right ≡ record { pieces = []; height = 0 } → all_writes node.left.pieces ++ (node.piece ++ p) ≡ all_writes m ++ p
+  none_behind p none =
+      let empty : all_writes node.right.pieces ≡ [] = ap (λ (s : Shape (List Write)). all_writes s.pieces) none in
+      ap (λ (ws : List Write). all_writes node.left.pieces ++ (node.piece ++ (ws ++ p))) (sym empty) ∙ more_behind p
+
+  pub right_behind : (p : List Write) → IsRisingAfter 0 (all_writes m ++ p) → IsRisingAfter 0 (all_writes node.right.pieces ++ p)
+  right_behind p rising =
+      rising-back 0 node.piece (all_writes node.right.pieces ++ p)
+      (rising-back 0 (all_writes node.left.pieces) (node.piece ++ (all_writes node.right.pieces ++ p)) (subst (IsRisingAfter 0) (sym (more_behind p)) rising))
+
+  pub last_behind : (p : List Write) → node.right ≡ record { pieces = []; height = 0 } → IsRisingAfter 0 (all_writes m ++ p) → IsRisingAfter 0 (node.piece ++ p)
+  last_behind p none rising =
+      rising-back 0 (all_writes node.left.pieces) (node.piece ++ p) (subst (IsRisingAfter 0) (sym (none_behind p none)) rising)
 
 module _ {m : List (List Write)} (node : Node (List Write)) {first : ℕ} (is : m ≡ pieces_of node) (some : 0 < length node.piece) (place : first ≡ first_time node.piece) where
   pub value_left : (before : Option Value) (t : ℕ) → IsRisingAfter 0 (all_writes m) → t < first → value_after before (all_writes m) t ≡ value_after before (all_writes node.left.pieces) t

@@ -9,7 +9,7 @@ ghost use Rattle.chains.specs.Writes.{last_time};
 
 use crate::chain::Chain;
 use crate::shared_value::SharedValue;
-use crate::tree::{Share, Tree};
+use crate::tree::{Node, Share, Tree};
 use crate::write::share_write;
 use history::{Key, KeyWrite, TimedWrite};
 use std::alloc::{AllocError, Global};
@@ -71,6 +71,23 @@ fn with_own(
     }
 }
 
+/// The same chain with what the commit writes of its key, if it does.
+fn into_own(
+    alloc: Global,
+    time: u64,
+    chain: Chain,
+    own: Option<&KeyWrite<SharedValue>>,
+) -> Result<Chain, AllocError>
+    requires later { last_time chain.writes < time }
+    requires in_range { time < 2 ^ 63 }
+    ensures { IfOk result (λ c. c ≡ specs.with_own time chain (option_copied own.entry)) }
+{
+    match own {
+        None => Ok(chain),
+        Some(write) => chain.into_write(alloc, stamped(time, write)?),
+    }
+}
+
 impl Tree<Chain> {
     /// The tree with the writes of a commit, made in one walk in the order of the keys: what no write
     /// is of is shared.
@@ -98,6 +115,42 @@ impl Tree<Chain> {
         let left = node.left.with_writes(alloc, time, before)?;
         let chain = with_own(alloc, time, &node.piece, own)?;
         let right = node.right.with_writes(alloc, time, after)?;
+        Tree::join(alloc, left, chain, right)
+    }
+
+    /// The tree with the writes of a commit, made in one walk in the order of the keys: what no other tree
+    /// holds is changed in place.
+    pub(crate) fn into_writes(
+        self,
+        alloc: Global,
+        time: u64,
+        writes: &[KeyWrite<SharedValue>],
+    ) -> Result<Self, AllocError>
+        requires ordered { IsOrdered self.pieces }
+        requires rising { IsStrictlySortedBy key_cmp (map (λ w. w.key) writes.now) }
+        requires later { latest self.pieces < time }
+        requires in_range { time < 2 ^ 63 }
+        ensures { IfOk result (λ t. t.pieces ≡ with_commit self.pieces time writes.now) }
+    {
+        if writes.is_empty() {
+            return Ok(self);
+        }
+        let top = self.into_top()?;
+        let Some(node) = top else {
+            return Self::of_writes(alloc, time, writes);
+        };
+        let Node {
+            height: _,
+            left,
+            piece,
+            right,
+        } = node;
+        let key = piece.key();
+        let (before, rest) = parted(writes, key);
+        let (own, after) = own_write(rest, key);
+        let left = left.into_writes(alloc, time, before)?;
+        let chain = into_own(alloc, time, piece, own)?;
+        let right = right.into_writes(alloc, time, after)?;
         Tree::join(alloc, left, chain, right)
     }
 

@@ -11,12 +11,15 @@ use crate::ending::ending_in;
 use crate::rows::{Rows, add_rows_of};
 use crate::shared_value::SharedValue;
 use crate::tree::Share;
-use crate::write::{ended_by, first_time_or, next_in, share_timed, value_in};
+use crate::write::{ended_by, first_time_or, next_in, share_timed, value_count, value_in};
 use history::{ENDLESS, TimedWrite, Version};
 use smallvec::SmallVec;
 use std::alloc::{AllocError, Global};
 use std::marker::Model;
 use std::sync::Arc;
+
+/// How many writes a piece has at most that is made of two.
+const MOST: usize = 32;
 
 /// How many writes of a piece need no memory of their own.
 const INLINE: usize = 1;
@@ -93,6 +96,49 @@ impl Piece {
         Self::of(alloc, longer)
     }
 
+    /// The piece with a later write, which is put behind the others in place where no other piece holds
+    /// them.
+    pub(crate) fn into_write(
+        self,
+        alloc: Global,
+        write: TimedWrite<SharedValue>,
+    ) -> Result<Self, AllocError>
+        requires later { last_time self < write.time }
+        requires in_range { write.time < 2 ^ 63 }
+        ensures { IfOk result (λ p. p ≡ self ++ write ∷ []) }
+    {
+        let mut longer = self.into_writes(alloc)?;
+        longer.push(write)?;
+        Self::of(alloc, longer)
+    }
+
+    /// Its writes: moved where no other piece holds them, and else shared, with room for one more.
+    fn into_writes(self, alloc: Global) -> Result<Writes, AllocError>
+        ensures is { IfOk result (λ ws. ws.items ≡ self) }
+        ensures rising { IsRisingAfter 0 self }
+    {
+        match Arc::try_unwrap(self.writes) {
+            Ok(own) => Ok(own),
+            Err(others) => shared(alloc, others.as_slice(), 1),
+        }
+    }
+
+    /// Whether its writes and those of another are no more than one piece has at most.
+    pub(crate) fn has_room_for(&self, other: &Piece) -> bool {
+        self.as_slice().len().saturating_add(other.as_slice().len()) <= MOST
+    }
+
+    /// One piece of its writes and of later ones.
+    pub(crate) fn with_piece(&self, alloc: Global, later: &Piece) -> Result<Self, AllocError>
+        requires { IsRisingAfter 0 (self.now ++ later.now) }
+        ensures { IfOk result (λ p. p ≡ self.now ++ later.now) }
+    {
+        let later = later.as_slice();
+        let mut both = shared(alloc, self.as_slice(), later.len())?;
+        add_shared(&mut both, later)?;
+        Self::of(alloc, both)
+    }
+
     /// When the first of its writes was made.
     pub(crate) fn first_time(&self) -> u64
         ensures is { result ≡ first_time self.now }
@@ -100,6 +146,17 @@ impl Piece {
         ensures rising { IsRisingAfter 0 self.now }
     {
         self.first
+    }
+
+    /// When the last of its writes was made.
+    pub(crate) fn last_time(&self) -> u64
+        ensures is { result ≡ last_time self.now }
+        ensures some { 0 < length self.now }
+    {
+        match self.as_slice().last() {
+            None => 0,
+            Some(w) => w.time,
+        }
     }
 
     /// Its writes.
@@ -142,7 +199,11 @@ impl Piece {
     ) -> Result<(), AllocError>
         ensures { OnOk result (found.new.items ≡ found.old.items ++ rows (versions_upto end self.now) a b) }
     {
-        add_rows_of(found, self.as_slice(), end, a, b)
+        let writes = self.as_slice();
+        if a <= self.first && self.last_time() < b {
+            found.reserve(value_count(writes))?;
+        }
+        add_rows_of(found, writes, end, a, b)
     }
 
     /// Whether each of its writes says something of times from the mark on.
@@ -178,9 +239,18 @@ fn shared(
 ) -> Result<Writes, AllocError>
     ensures { IfOk result (λ ws. ws.items ≡ writes.now) }
 {
-    let mut shared = SmallVec::with_capacity(alloc, writes.len().saturating_add(more))?;
+    let room = writes.len().max(value_count(writes));
+    let mut shared = SmallVec::with_capacity(alloc, room.saturating_add(more))?;
+    add_shared(&mut shared, writes)?;
+    Ok(shared)
+}
+
+/// Puts the same writes behind others, with their values shared.
+fn add_shared(shared: &mut Writes, writes: &[TimedWrite<SharedValue>]) -> Result<(), AllocError>
+    ensures { OnOk result (shared.new.items ≡ shared.old.items ++ writes.now) }
+{
     for w in writes {
         shared.push(share_timed(w)?)?;
     }
-    Ok(shared)
+    Ok(())
 }

@@ -10,7 +10,7 @@ ghost use Rattle.chains.specs.Writes.{kept_after, is_after};
 use crate::piece::Piece;
 use crate::rows::Rows;
 use crate::shared_value::SharedValue;
-use crate::tree::{Share, Tree};
+use crate::tree::{Node, Share, Tree};
 use history::{TimedWrite, Version};
 use std::alloc::{AllocError, Global};
 
@@ -159,6 +159,45 @@ impl Tree<Piece> {
             return Tree::join(alloc, left, node.piece.share()?, node.right.share()?);
         }
         node.right.kept(alloc, Some(&node.piece), mark)
+    }
+
+    /// The tree with a piece behind the others: the two last are made one piece where they are small.
+    pub(crate) fn with_piece(&self, alloc: Global, piece: &Piece) -> Result<Self, AllocError>
+        requires { IsRisingAfter 0 (all_writes self.now.pieces ++ piece.now) }
+        ensures { IfOk result (λ t. all_writes t.pieces ≡ all_writes self.now.pieces ++ piece.now) }
+    {
+        let Some(node) = self.top() else {
+            return Self::of_piece(alloc, piece);
+        };
+        let Some(_) = node.right.top() else {
+            return Self::behind_last(alloc, node, piece);
+        };
+        let left = node.left.share()?;
+        let here = node.piece.share()?;
+        let right = node.right.with_piece(alloc, piece)?;
+        Tree::join(alloc, left, here, right)
+    }
+
+    /// The tree of a node's left side and its piece, with another piece behind.
+    fn behind_last(alloc: Global, node: &Node<Piece>, piece: &Piece) -> Result<Self, AllocError>
+        requires { IsRisingAfter 0 (node.now.piece ++ piece.now) }
+        ensures { IfOk result (λ t. all_writes t.pieces ≡ all_writes node.now.left.pieces ++ (node.now.piece ++ piece.now)) }
+    {
+        let left = node.left.share()?;
+        if node.piece.has_room_for(piece) {
+            let both = node.piece.with_piece(alloc, piece)?;
+            return Tree::join(alloc, left, both, Tree::new());
+        }
+        let last = node.piece.share()?;
+        let right = Self::of_piece(alloc, piece)?;
+        Tree::join(alloc, left, last, right)
+    }
+
+    /// A tree of one piece.
+    fn of_piece(alloc: Global, piece: &Piece) -> Result<Self, AllocError>
+        ensures { IfOk result (λ t. all_writes t.pieces ≡ piece.now) }
+    {
+        Tree::node(alloc, Tree::new(), piece.share()?, Tree::new())
     }
 
     /// Those writes of a piece that say something of times from the mark on.

@@ -38,6 +38,22 @@ fn is_gone_by(write: &TimedWrite<SharedValue>, mark: u64) -> bool
     write.time <= mark && write.write.is_none()
 }
 
+/// How many of these writes have a value. It looks at each value in turn, with nothing to be done
+/// between, so that a processor fetches many at once; who then shares them all has them near.
+pub(crate) fn value_count(writes: &[TimedWrite<SharedValue>]) -> usize
+    ensures { result ≤ length writes.now }
+{
+    let mut count = 0;
+    for w in writes {
+        if let Some(shared) = &w.write
+            && shared.value().len() > 0
+        {
+            count += 1;
+        }
+    }
+    count
+}
+
 /// When the first of these writes was made, or `end` where there is none.
 pub(crate) fn first_time_or(writes: &[TimedWrite<SharedValue>], end: u64) -> u64
     ensures { result ≡ specs.first_time_or end writes.now }
@@ -48,15 +64,21 @@ pub(crate) fn first_time_or(writes: &[TimedWrite<SharedValue>], end: u64) -> u64
     }
 }
 
-/// How many of the writes were made by a time.
+/// How many of the writes were made by a time. They are few and lie together, so they are passed one
+/// after another: where they come from far, halving would wait for each step's.
 fn begun_by(writes: &[TimedWrite<SharedValue>], time: u64) -> usize
     requires { IsRisingAfter 0 writes.now }
     ensures { IsBegun time writes.now result }
 {
-    writes.partition_point(|w| w.time <= time)
+    for (place, w) in writes.iter().enumerate() {
+        if time < w.time {
+            return place;
+        }
+    }
+    writes.len()
 }
 
-/// The value at a time, found by halving.
+/// The value at a time.
 pub(crate) fn value_in(writes: &[TimedWrite<SharedValue>], time: u64) -> Option<&SharedValue>
     requires { IsRisingAfter 0 writes.now }
     ensures { option_copied result ≡ value_at writes.now time }
@@ -68,7 +90,7 @@ pub(crate) fn value_in(writes: &[TimedWrite<SharedValue>], time: u64) -> Option<
     writes[begun - 1].write.as_ref()
 }
 
-/// The first write made after a time, a deletion too, found by halving.
+/// The first write made after a time, a deletion too.
 pub(crate) fn next_in(
     writes: &[TimedWrite<SharedValue>],
     time: u64,

@@ -33,20 +33,20 @@ use wire::Member;
 // The writes of every key with those of these records more. None where a record is not the one that its write is stored as.
 fn with_records(
     alloc: Global,
-    chains: &Frozen,
+    chains: Frozen,
     time: u64,
-    records: &[Record],
+    records: Vec<Record>,
 ) -> Result<Option<Frozen>, AllocError>
-    requires records { AreRecordsOf OfCommit records.now }
-    requires later { latest chains.now < time }
+    requires records { AreRecordsOf OfCommit records.items }
+    requires later { latest chains < time }
     requires in_range { time < 2 ^ 63 }
-    ensures found { IfOk result (λ o. MatchOption o (¬ AllByRecursion (IsStored (before_of chains.now)) (map heap_record records.now)) (λ next. AllByRecursion (IsStored (before_of chains.now)) (map heap_record records.now) × ((key : Key) → writes_of next key ≡ writes_of chains.now key ++ written time (map (write_of (before_of chains.now)) (map heap_record records.now)) key))) }
+    ensures found { IfOk result (λ o. MatchOption o (¬ AllByRecursion (IsStored (before_of chains)) (map heap_record records.items)) (λ next. AllByRecursion (IsStored (before_of chains)) (map heap_record records.items) × ((key : Key) → writes_of next key ≡ writes_of chains key ++ written time (map (write_of (before_of chains)) (map heap_record records.items)) key))) }
     ensures latest { IfOk result (λ o. IfSome o (λ next. latest next ≤ time)) }
 {
-    let Some(writes) = resolve(alloc, chains, records)? else {
+    let Some(writes) = resolve(alloc, &chains, records)? else {
         return Ok(None);
     };
-    let next = chains.with_commit(alloc, time, &writes)?;
+    let next = chains.into_commit(alloc, time, &writes)?;
     Ok(Some(next))
 }
 
@@ -87,7 +87,7 @@ fn read_member<D: Disk>(
     let Some(read) = read_records(alloc, disk, heap_len, &mut extents, entry)? else {
         return Ok(None);
     };
-    let Some(chains) = with_records(alloc, &chains, entry.time, &read.records)? else {
+    let Some(chains) = with_records(alloc, chains, entry.time, read.records)? else {
         return Ok(None);
     };
     let live = with_chain(live, entry.time, read.numbers)?;

@@ -10,7 +10,7 @@ ghost use Rattle.image.specs.Facts.{IsStored, write_of};
 ghost use Rattle.recovery.specs.Resolving.{before_of};
 
 use chains::{Frozen, SharedValue};
-use deltas::{Record, apply};
+use deltas::{Record, apply_owned};
 use history::{Key, KeyWrite};
 use std::alloc::{AllocError, Global};
 use wire::Value;
@@ -42,16 +42,17 @@ fn share(alloc: Global, write: Option<Value>) -> Result<Option<SharedValue>, All
 fn resolve_one(
     alloc: Global,
     chains: &Frozen,
-    entry: &Record,
+    entry: Record,
 ) -> Result<Option<KeyWrite<SharedValue>>, AllocError>
-    requires { IsPermitted OfCommit entry.now.content }
-    ensures { IfOk result (λ o. MatchOption o (¬ IsStored (before_of chains.now) (heap_record entry.now)) (λ w. IsStored (before_of chains.now) (heap_record entry.now) × (w ≡ write_of (before_of chains.now) (heap_record entry.now)))) }
+    requires { IsPermitted OfCommit entry.content }
+    ensures { IfOk result (λ o. MatchOption o (¬ IsStored (before_of chains.now) (heap_record entry)) (λ w. IsStored (before_of chains.now) (heap_record entry) × (w ≡ write_of (before_of chains.now) (heap_record entry)))) }
 {
-    let Some(write) = apply(alloc, value_before(chains, entry.key), &entry.content)? else {
+    let Record { key, content } = entry;
+    let Some(write) = apply_owned(alloc, value_before(chains, key), content)? else {
         return Ok(None);
     };
     Ok(Some(KeyWrite {
-        key: entry.key,
+        key,
         write: share(alloc, write)?,
     }))
 }
@@ -60,19 +61,17 @@ fn resolve_one(
 pub fn resolve(
     alloc: Global,
     chains: &Frozen,
-    records: &[Record],
+    records: Vec<Record>,
 ) -> Result<Option<Vec<KeyWrite<SharedValue>>>, AllocError>
-    requires { AllByRecursion (λ r. IsPermitted OfCommit r.content) records.now }
-    ensures { IfOk result (λ o. MatchOption o (¬ AllByRecursion (IsStored (before_of chains.now)) (map heap_record records.now)) (λ writes. AllByRecursion (IsStored (before_of chains.now)) (map heap_record records.now) × (writes.items ≡ map (write_of (before_of chains.now)) (map heap_record records.now)))) }
+    requires { AllByRecursion (λ r. IsPermitted OfCommit r.content) records.items }
+    ensures { IfOk result (λ o. MatchOption o (¬ AllByRecursion (IsStored (before_of chains.now)) (map heap_record records.items)) (λ writes. AllByRecursion (IsStored (before_of chains.now)) (map heap_record records.items) × (writes.items ≡ map (write_of (before_of chains.now)) (map heap_record records.items)))) }
 {
-    let mut writes = Vec::new(alloc);
-    let mut rest = records;
-    while let [entry, after @ ..] = rest {
+    let mut writes = Vec::with_capacity(alloc, records.len())?;
+    for entry in records {
         let Some(write) = resolve_one(alloc, chains, entry)? else {
             return Ok(None);
         };
         writes.push(write)?;
-        rest = after;
     }
     Ok(Some(writes))
 }

@@ -1,18 +1,20 @@
-use Rattle.std.proofs.Common.{leb, leb-true, ℕ, arith, rules}
-use Rattle.std.proofs.lemmas.Bool.Decides.{nat_tests}
-use Rattle.std.proofs.lemmas.List.Sorted.{IsPartitionPoint-from_clause, IsPartitionedBy-leb}
-use Rattle.chains.specs.Writes.{Write}
+use Rattle.std.proofs.Common.{◌≡◌, ◌∙◌, ◌<◌, length, get_or, sym, arith}
+use Rattle.std.proofs.lemmas.List.{get_or_default}
 use Rattle.chains.proofs.Begun.{rising-order}
 use Rattle.chains.proofs.write.begun_by.Goals as goal
 
-pub returns : goal.returns
-returns c =
-    let time_of : Write → ℕ = λ w. w.time in
+pub returns-then-time-w : goal.returns-then-time-w
+returns-then-time-w c =
     let ws = c.args.writes.now in
-    let parted = IsPartitionedBy-leb time_of ws c.args.time (rising-order 0 ws c.requires) in
-    let point = IsPartitionPoint-from_clause (λ (w : Write). leb w.time c.args.time) ws c.partition_point.result c.partition_point.ensures.partitioned parted (λ a r q k. search rules) in
+    let n = c.loop-place.place in
+    let w = c.index-writes-place.result in
+    let inside : n < length ws = omega arith in
+    let late : c.args.time < w.time = c.if-time-w.true in
     record {
-      within = c.partition_point.ensures.bound;
-      before = λ k d h. leb-true _ _ (point.0 k d (omega arith) h);
-      after = λ k d l h. let test = point.1 k d l h in grind (arith, nat_tests);
+      within = omega arith;
+      before = c.loop-place.invariant;
+      after = λ k d l h.
+          let here : get_or ws n d ≡ w = get_or_default ws n d w inside ∙ sym c.index-writes-place.is in
+          let later : c.args.time < (get_or ws n d).time = rw here late in
+          omega (arith, later, rising-order 0 ws c.requires n k d l h);
     }

@@ -1,8 +1,3 @@
-use Rattle.std.proofs.Common.{List, map, sym, subst}
-use Rattle.std.specs.List.{AllByRecursion}
-use Rattle.image.specs.Facts.{IsStored}
-use Rattle.deltas.specs.declared.«record».Record.{Record}
-use Rattle.deltas.specs.Records.{heap_record}
 use Rattle.recovery.specs.Resolving.{before_of}
 use Rattle.recovery.proofs.RightChains.{no_writes}
 use Rattle.recovery.proofs.members.read_member.Goals as goal
@@ -17,5 +12,5 @@ returns-in_default-2-clause-found g c = λ told records right.
     let read = rw c.in-Some.is at (c.in_ok-read.ensures.found told) in
     let none = rw c.in_default-2.is at c.in_ok-chains.ensures.found in
     no_writes _ _ _ (before_of c.args.heap.chains) _ c.in-Some.read.records.items read.has
-    (λ all. none (subst (λ (l : List Record). AllByRecursion (IsStored (before_of c.args.heap.chains)) (map heap_record l)) (sym c.deref.ensures.value) all))
+    none
     records right

@@ -1,4 +1,4 @@
-use Rattle.std.proofs.Common.{◌≡◌, ◌++◌, map, length}
+use Rattle.std.proofs.Common.{◌≡◌, ◌++◌, map}
 use Rattle.std.specs.Prelude.{◌↔◌}
 use Rattle.std.specs.List.{AllByRecursion}
 use Rattle.deltas.specs.Records.{heap_record}
@@ -8,11 +8,8 @@ use Rattle.image.specs.Facts.{IsStored, write_of}
 use Rattle.recovery.specs.Resolving.{before_of}
 use Rattle.recovery.proofs.resolving.resolve.Given as goal
 
-abbrev pub invariant-loop-rest : goal.invariant-loop-rest
-invariant-loop-rest l =
-    AllByRecursion (λ r. IsPermitted OfCommit r.content) l.rest
-    × (AllByRecursion (IsStored (before_of l.chains)) (map heap_record l.rest) ↔ AllByRecursion (IsStored (before_of l.chains)) (map heap_record l.fn.records))
-    × (l.writes.items ++ map (write_of (before_of l.chains)) (map heap_record l.rest) ≡ map (write_of (before_of l.chains)) (map heap_record l.fn.records))
-
-abbrev pub decreases-loop-rest : goal.decreases-loop-rest
-decreases-loop-rest l = length l.rest
+abbrev pub invariant-loop-entry : goal.invariant-loop-entry
+invariant-loop-entry l =
+    AllByRecursion (λ r. IsPermitted OfCommit r.content) l.entry-iterator.rest.items
+    × (AllByRecursion (IsStored (before_of l.chains)) (map heap_record l.entry-iterator.rest.items) ↔ AllByRecursion (IsStored (before_of l.chains)) (map heap_record l.fn.records.items))
+    × (l.writes.items ++ map (write_of (before_of l.chains)) (map heap_record l.entry-iterator.rest.items) ≡ map (write_of (before_of l.chains)) (map heap_record l.fn.records.items))
