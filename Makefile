@@ -46,17 +46,20 @@ trials: build
 torture: build
 	torture/torture.py $(PROGRAM) --minutes $(or $(MINUTES),10) --seed $(or $(SEED),1)
 
+# Lines a second; and, where valgrind is there, instructions a line, which do not depend on what else the machine does.
 rates: build
-	bench/rates.py $(PROGRAM)
+	bench/rates.py $(PROGRAM) $(if $(FOLDER),--folder $(FOLDER))
+	if command -v valgrind >/dev/null; then bench/rates.py $(PROGRAM) --instructions; fi
 
 # Every example of the documents, its answers compared.
 examples: build
 	bench/using_test.py $(PROGRAM) README.md docs/USING.md
 
-# FOLDER=DIR measures the disk of DIR.
+# All that is measured, in one command, for a machine at rest. FOLDER=DIR measures the disk of DIR.
 bench: build
 	cd crates/leaves_bench && rt run > /dev/null
 	cd crates/store_bench && rt run > /dev/null
 	bench/store_bench.py $(STORE) --program $(PROGRAM) $(if $(FOLDER),--folder $(FOLDER))
 	bench/bench.py $(PROGRAM) $(FOLDER)
+	bench/rates.py $(PROGRAM) $(if $(FOLDER),--folder $(FOLDER))
 	$(LEAVES) times

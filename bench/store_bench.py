@@ -32,6 +32,11 @@ VERBS = {
     "w7": ("opening after so many commits, ms", 3_000),
     "w8": ("bytes on disk a version", 1),
 }
+# What is aimed at: of a verb the least value, or a share of what the raw writes and syncs allow.
+MOST_TIMES_RAW = 1.15
+LEAST_IN_GATES = 40_000
+LEAST_OF_RAW = 0.8
+LEAST = {"w3": 500_000, "w4": 2_000_000, "w5": 20_000_000, "w6": 5_000}
 PEERS = {"SQLite": ("sqlite.c", "-lsqlite3"), "LMDB": ("lmdb.c", "-llmdb")}
 
 
@@ -95,6 +100,21 @@ def beside(verb, answers):
     if verb == "w7":
         return f"reading {median(answers, 'reading_ms'):.1f} ms for {median(answers, 'bytes') / 1e6:.1f} MB"
     return f"heap {median(answers, 'heap'):.1f}"
+
+
+def aimed(verb, answers):
+    """What is aimed at, and whether it was met."""
+    if verb == "w1":
+        text, met = f"at most {MOST_TIMES_RAW} times raw", median(answers, "times_raw") <= MOST_TIMES_RAW
+    elif verb == "w2g":
+        raw = median(answers, "raw")
+        least = max(LEAST_OF_RAW * raw, LEAST_IN_GATES if raw >= LEAST_IN_GATES else 0)
+        text, met = f"{LEAST_OF_RAW:.0%} of raw, {LEAST_IN_GATES:,} where raw allows it", median(answers, "value") >= least
+    elif verb in LEAST:
+        text, met = shown(LEAST[verb]), median(answers, "value") >= LEAST[verb]
+    else:
+        return ""
+    return f"{text}: {'yes' if met else 'no'}"
 
 
 def held_memory(program, folder):
@@ -168,13 +188,14 @@ def main():
         found = all_rounds(contenders, verbs, asked.share, asked.rounds, base)
         print(f"load {load()} at the end\n")
         peers = [name for name in contenders if name != "timestore"]
-        print("| Verb | Value | Count | Store | Beside it |" + "".join(f" {name} |" for name in peers))
-        print("|---" * (5 + len(peers)) + "|")
+        print("| Verb | Value | Count | Store | Beside it | Aimed at |" + "".join(f" {name} |" for name in peers))
+        print("|---" * (6 + len(peers)) + "|")
         for verb in verbs:
             answers = found["timestore", verb]
             others = "".join(f" {value(found[name, verb])} |" for name in peers)
             count = max(1, int(VERBS[verb][1] * asked.share))
-            print(f"| {verb} | {VERBS[verb][0]} | {count:,} | {value(answers)} | {beside(verb, answers)} |{others}")
+            store = f"{value(answers)} | {beside(verb, answers)} | {aimed(verb, answers)}"
+            print(f"| {verb} | {VERBS[verb][0]} | {count:,} | {store} |{others}")
         if asked.program:
             print_memory(os.path.abspath(asked.bench), os.path.abspath(asked.program), base)
 

@@ -1,3 +1,4 @@
+mod HexLemmas
 mod JobLemmas
 mod LineLemmas
 mod RunLemmas

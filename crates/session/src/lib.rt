@@ -1,6 +1,7 @@
 //! A script's run on a store.
 #![tactic(auto)]
 
+mod digits;
 mod ending;
 mod engine;
 mod fault;

@@ -1,14 +1,14 @@
 //! The texts of answers.
-ghost use Rattle.std.specs.Prelude.{◌≡◌, ◌≤◌, ◌++◌, codes, length, Some, OnOk};
+ghost use Rattle.std.specs.Prelude.{◌≡◌, ◌++◌, codes, Some, OnOk};
 ghost use Rattle.std.specs.Io.KnownBytes.{Appends};
 ghost use Rattle.std.specs.Fmt.{decimal};
 ghost use Rattle.session.specs.Texts as told;
 
+use crate::digits::spell_hex;
 use crate::fault::Fault;
 use chains::SharedValue;
 use disk::Area;
 use group::{BeginFault, Did, PumpFault, SubmitFault};
-use hex::encode_to_slice;
 use history::Version;
 use itoa::Buffer;
 use recovery::{FormatFault, OpenFault};
@@ -19,44 +19,25 @@ use std::io::Write;
 use store::{JobDid, StartFault};
 use timequery::QueryFault;
 
-/// A field has at most so many bytes.
-const MAX_FIELD: usize = 255;
-
-/// The digits of a field.
-type Digits = [u8; 2 * MAX_FIELD];
-
-/// Spells the bytes of a field in hexadecimal, two digits a byte.
-fn spell_hex(text: &mut Vec<u8>, bytes: &[u8], digits: &mut Digits) -> Result<(), AllocError>
-    requires { length bytes.now ≤ 255 }
-    ensures { OnOk result (Appends (Some text.old.items) (Some text.new.items) (told.hex_text bytes.now)) }
-{
-    let spelled = &mut digits[..2 * bytes.len()];
-    match encode_to_slice(bytes, spelled) {
-        Ok(()) => text.extend_from_slice(spelled),
-        Err(_) => unreachable!(),
-    }
-}
-
 /// Spells a field: its bytes in hexadecimal, the empty field as `-`.
-fn spell_field(text: &mut Vec<u8>, field: &[u8], digits: &mut Digits) -> Result<(), AllocError>
-    requires { length field.now ≤ 255 }
+fn spell_field(text: &mut Vec<u8>, field: &[u8]) -> Result<(), AllocError>
     ensures { OnOk result (Appends (Some text.old.items) (Some text.new.items) (told.field_text field.now)) }
 {
     if field.is_empty() {
-        return text.extend_from_slice(b"-");
+        text.push(b'-')?;
+        return Ok(());
     }
-    spell_hex(text, field, digits)
+    spell_hex(text, field)
 }
 
 /// Spells a value's fields, each after a space.
 fn spell_fields(text: &mut Vec<u8>, value: &SharedValue) -> Result<(), AllocError>
     ensures { OnOk result (Appends (Some text.old.items) (Some text.new.items) (told.fields_text value.now)) }
 {
-    let mut digits = [0; 2 * MAX_FIELD];
     let mut left = value.value().iter();
     while let Some(field) = left.take_field() {
-        text.extend_from_slice(b" ")?;
-        spell_field(text, field, &mut digits)?;
+        text.push(b' ')?;
+        spell_field(text, field)?;
     }
     Ok(())
 }
@@ -67,7 +48,8 @@ pub fn spell_value(text: &mut Vec<u8>, value: &SharedValue) -> Result<(), AllocE
 {
     text.extend_from_slice(b"value")?;
     spell_fields(text, value)?;
-    text.extend_from_slice(b"\n")
+    text.push(b'\n')?;
+    Ok(())
 }
 
 /// Spells a number in decimal.
@@ -82,7 +64,7 @@ fn spell_numbers(text: &mut Vec<u8>, numbers: &[u64]) -> Result<(), AllocError>
     ensures { OnOk result (Appends (Some text.old.items) (Some text.new.items) (told.numbers_text numbers.now)) }
 {
     for number in numbers {
-        text.extend_from_slice(b" ")?;
+        text.push(b' ')?;
         spell_number(text, *number)?;
     }
     Ok(())
@@ -94,7 +76,8 @@ pub fn spell_times(text: &mut Vec<u8>, times: &[u64]) -> Result<(), AllocError>
 {
     text.extend_from_slice(b"times")?;
     spell_numbers(text, times)?;
-    text.extend_from_slice(b"\n")
+    text.push(b'\n')?;
+    Ok(())
 }
 
 /// Spells a row's line: from when on and up to when the value stood, and its fields.
@@ -102,10 +85,11 @@ pub fn spell_row(text: &mut Vec<u8>, row: &Version<SharedValue>) -> Result<(), A
     ensures { OnOk result (Appends (Some text.old.items) (Some text.new.items) (told.row_text row.now)) }
 {
     spell_number(text, row.from)?;
-    text.extend_from_slice(b" ")?;
+    text.push(b' ')?;
     spell_number(text, row.to)?;
     spell_fields(text, &row.value)?;
-    text.extend_from_slice(b"\n")
+    text.push(b'\n')?;
+    Ok(())
 }
 
 /// Spells the line of a record and its value.
@@ -114,7 +98,8 @@ pub fn spell_record(text: &mut Vec<u8>, found: &(u64, SharedValue)) -> Result<()
 {
     spell_number(text, found.0)?;
     spell_fields(text, &found.1)?;
-    text.extend_from_slice(b"\n")
+    text.push(b'\n')?;
+    Ok(())
 }
 
 /// Spells how many lines came before.
@@ -123,7 +108,8 @@ pub fn spell_count(text: &mut Vec<u8>, count: usize) -> Result<(), AllocError>
 {
     text.extend_from_slice(b"rows ")?;
     spell_number(text, count as u64)?;
-    text.extend_from_slice(b"\n")
+    text.push(b'\n')?;
+    Ok(())
 }
 
 /// Spells a line that ends with a number.
@@ -132,7 +118,8 @@ pub fn spell_numbered(text: &mut Vec<u8>, words: &str, number: u64) -> Result<()
 {
     text.extend_from_slice(words.as_bytes())?;
     spell_number(text, number)?;
-    text.extend_from_slice(b"\n")
+    text.push(b'\n')?;
+    Ok(())
 }
 
 /// Spells the line that says that a line of a script has no form.
