@@ -74,4 +74,4 @@ library-test:
 
 # FOLDER=DIR measures the file system of DIR.
 library-bench:
-	$(MAKE) -C library bench $(if $(FOLDER),FOLDER=$(FOLDER))
+	$(MAKE) -C library bench $(if $(FOLDER),FOLDER="$(FOLDER)")
