@@ -34,7 +34,7 @@ static int32_t open_all(const char *folder, int flags, int *fd) {
     if (dir < 0) return TS_SYSTEM;
     for (int area = 0; area < AREAS && code == TS_OK; area++) {
         fd[area] = openat(dir, NAMES[area], O_RDWR | O_CLOEXEC | flags, 0666);
-        if (fd[area] < 0) code = TS_SYSTEM;
+        if (fd[area] < 0) code = errno == ENOENT ? TS_NOT_A_STORE : TS_SYSTEM;
         else if (area == TS_STATUS && flock(fd[area], LOCK_EX | LOCK_NB))
             code = errno == EWOULDBLOCK ? TS_LOCKED : TS_SYSTEM;
     }
