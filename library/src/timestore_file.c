@@ -197,7 +197,6 @@ int32_t ts_file_commit(ts_file *file, uint64_t txn, uint64_t label, uint64_t now
     int32_t code = ts_submit(&file->store, txn, label, now, info);
     if (code != TS_OK) return code;
     uint64_t ticket = info->a;
-    int32_t flushed = ts_file_flush(file);
-    code = ts_redeem(&file->store, ticket, info);
-    return code == TS_WAITING && flushed < 0 ? flushed : code;
+    ts_file_flush(file); /* where it is refused, the ticket says what became of the commit */
+    return ts_redeem(&file->store, ticket, info);
 }
