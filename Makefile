@@ -6,7 +6,7 @@ STORE = crates/store_bench/out/store_bench
 # The most processor minutes that the gate may take. It is to stay under 330 on a machine at rest; four checks side by side on four cores take a third more, and a slower machine more than that.
 BUDGET = 560
 
-.PHONY: demo test more-edits build try examples bench trials torture rates
+.PHONY: demo test more-edits build try examples bench trials torture rates lib install library-test library-bench
 
 test:
 	@command -v rt >/dev/null || { echo "the Rattle kit's command rt is not on PATH" >&2; exit 1; }
@@ -63,3 +63,18 @@ bench: build
 	bench/bench.py $(PROGRAM) $(FOLDER)
 	bench/rates.py $(PROGRAM) $(if $(FOLDER),--folder $(FOLDER))
 	$(LEAVES) times
+
+# The store in the process of its user, docs/LIBRARY.md: `make lib` proves and builds it, the others take it as it was built.
+lib:
+	$(MAKE) -C library core
+	$(MAKE) -C library
+
+install:
+	$(MAKE) -C library install $(if $(PREFIX),PREFIX=$(PREFIX))
+
+library-test:
+	$(MAKE) -C library test
+
+# FOLDER="DIR DIR" measures the file systems of these.
+library-bench:
+	$(MAKE) -C library bench $(if $(FOLDER),FOLDER="$(FOLDER)")

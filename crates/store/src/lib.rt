@@ -4,6 +4,7 @@
 mod job;
 mod job_pump;
 mod opening;
+mod over;
 mod pump;
 mod queries;
 mod starting;

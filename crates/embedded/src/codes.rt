@@ -1,0 +1,123 @@
+//! The codes of a store's answers.
+use crate::code::{Code, Info};
+use group::{BeginFault, Did, PumpFault, SubmitFault};
+use snapshot::TxnFault;
+use store::{JobDid, StartFault};
+use timequery::QueryFault;
+
+pub(crate) fn begin_code(fault: BeginFault) -> Code {
+    match fault {
+        BeginFault::NoMemory => Code::NoMemory,
+        BeginFault::Failed => Code::Failed,
+    }
+}
+
+pub(crate) fn txn_code(outcome: Result<(), TxnFault>) -> Code {
+    match outcome {
+        Ok(()) => Code::Ok,
+        Err(TxnFault::Missing) => Code::Missing,
+        Err(TxnFault::TooManyKeys) => Code::TooManyKeys,
+        Err(TxnFault::BadValue) => Code::BadValue,
+        Err(TxnFault::NoMemory) => Code::NoMemory,
+    }
+}
+
+// The key of a conflict is told.
+pub(crate) fn submit_code(fault: SubmitFault, info: &mut Info) -> Code {
+    match fault {
+        SubmitFault::Conflict(key) => {
+            info.a = key.relation as u64;
+            info.b = key.record;
+            Code::Conflict
+        }
+        SubmitFault::HeapFull => Code::HeapFull,
+        SubmitFault::StatusFull => Code::StatusFull,
+        SubmitFault::ClockEnd => Code::ClockEnd,
+        SubmitFault::NoMemory => Code::NoMemory,
+        SubmitFault::Failed => Code::Failed,
+        SubmitFault::Stranger => Code::Stranger,
+    }
+}
+
+pub(crate) fn pump_code(fault: PumpFault) -> Code {
+    match fault {
+        PumpFault::Busy => Code::Busy,
+        PumpFault::NoMemory => Code::NoMemory,
+        PumpFault::Failed => Code::Failed,
+    }
+}
+
+// The time of the last commit, or the least open snapshot, is told.
+pub(crate) fn start_code(fault: StartFault, info: &mut Info) -> Code {
+    match fault {
+        StartFault::Failed => Code::Failed,
+        StartFault::JobBusy => Code::JobBusy,
+        StartFault::NothingToDo => Code::NothingToDo,
+        StartFault::NotYet(last) => {
+            info.a = last;
+            Code::NotYet
+        }
+        StartFault::InUse(oldest) => {
+            info.a = oldest;
+            Code::InUse
+        }
+        StartFault::StatusFull => Code::StatusFull,
+        StartFault::ArchiveFull => Code::ArchiveFull,
+        StartFault::HeapFull => Code::HeapFull,
+        StartFault::NoMemory => Code::NoMemory,
+    }
+}
+
+// The bound that a time breaks is told.
+pub(crate) fn query_code(fault: QueryFault, info: &mut Info) -> Code {
+    match fault {
+        QueryFault::BeforeKept(time) => {
+            info.a = time;
+            Code::BeforeKept
+        }
+        QueryFault::NotYet(time) => {
+            info.a = time;
+            Code::NotYet
+        }
+        QueryFault::Damaged(place) => {
+            info.a = place;
+            Code::Damaged
+        }
+        QueryFault::EmptyInterval => Code::EmptyInterval,
+        QueryFault::Device | QueryFault::NeedsDisk => Code::Failed,
+        QueryFault::NoMemory => Code::NoMemory,
+        QueryFault::Stranger => Code::Stranger,
+    }
+}
+
+// What a step of a group did, and how many commits are published.
+pub(crate) fn did_number(did: Did, info: &mut Info) {
+    info.b = 0;
+    info.a = match did {
+        Did::Idle => 0,
+        Did::WroteExtent => 1,
+        Did::HeapSynced => 2,
+        Did::BodyWritten => 3,
+        Did::BodySynced => 4,
+        Did::GateWritten => 5,
+        Did::Published(count) => {
+            info.b = count as u64;
+            6
+        }
+    };
+}
+
+// What a step of a job did.
+pub(crate) fn job_number(did: JobDid) -> u64 {
+    match did {
+        JobDid::Idle => 0,
+        JobDid::WroteRun => 1,
+        JobDid::RunSynced => 2,
+        JobDid::BodyWritten => 3,
+        JobDid::BodySynced => 4,
+        JobDid::GateWritten => 5,
+        JobDid::JobDone => 6,
+        JobDid::WroteExtent => 7,
+        JobDid::HeapSynced => 8,
+    }
+}

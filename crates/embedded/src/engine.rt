@@ -1,0 +1,223 @@
+//! A store, what it gave out, and the device call that the host is to make.
+ghost use Rattle.std.specs.Prelude.{◌≡◌, is_some, IfSome};
+
+use crate::asking::{self, Kept};
+use crate::code::{Call, Code, Info};
+use crate::places::Places;
+use disk::{Area, Disk};
+use relay::DeviceCall;
+use std::alloc::Global;
+use std::mem;
+use timequery::View;
+
+/// Whether the engine's store is asked now.
+#[derive(Clone, Copy, Debug, PartialEq, Eq)]
+pub enum Standing {
+    Settled,
+    /// The host has not made the last device call.
+    Asks,
+    /// The host was refused a device call.
+    Failed,
+}
+
+/// What was published before a device call.
+pub struct Published {
+    pub view: View,
+    pub last: u64,
+    pub floor: u64,
+}
+
+impl Published {
+    pub fn spend(self) {
+        let Published {
+            view,
+            last: _,
+            floor: _,
+        } = self;
+        view.spend();
+    }
+}
+
+/// A store for a host that makes its device calls, which it pulls. While one stands out nothing else is
+/// answered but by views and open transactions; after one that was refused what was published before it.
+pub struct Engine {
+    pub(crate) alloc: Global,
+    pub(crate) store: Kept,
+    pub(crate) places: Places,
+    pub(crate) standing: Standing,
+    // What was published before the call that stands out or was refused.
+    pub(crate) before: Option<Published>,
+}
+
+impl Drop for Engine {
+    fn drop(self) {
+        let Engine {
+            alloc: _,
+            store,
+            places,
+            standing: _,
+            before,
+        } = self;
+        if let Some(published) = before {
+            published.spend();
+        }
+        places.give_up();
+        let _disk = store.close();
+    }
+}
+
+fn area_number(area: Area) -> u32 {
+    match area {
+        Area::Status => 0,
+        Area::Heap => 1,
+        Area::Archive => 2,
+    }
+}
+
+fn put_published(place: &mut Option<Published>, published: Option<Published>)
+    ensures { place.new ≡ published }
+{
+    if let Some(before) = mem::replace(place, published) {
+        before.spend();
+    }
+}
+
+impl Engine {
+    ghost use Rattle.embedded.specs.Engines.{is_stopped, TellsTimes, HasCalled, StandsOut, WasPublished};
+
+    pub(crate) fn new(alloc: Global, store: Kept) -> Engine
+        ensures store { result.store ≡ store }
+        ensures settled { result.standing ≡ Standing.Settled }
+    {
+        Engine {
+            alloc,
+            store,
+            places: Places::new(alloc),
+            standing: Standing::Settled,
+            before: None,
+        }
+    }
+
+    /// Why nothing may be asked of the store now.
+    pub(crate) fn stopped(&self) -> Option<Code>
+        ensures { is_some result ≡ is_stopped self.now.standing }
+    {
+        match self.standing {
+            Standing::Settled => None,
+            Standing::Asks => Some(Code::Pending),
+            Standing::Failed => Some(Code::Failed),
+        }
+    }
+
+    /// The time of the last commit, and the floor.
+    pub fn last(&self, info: &mut Info) -> Code
+        ensures { TellsTimes self.now.standing self.now result info.new }
+    {
+        match self.standing {
+            Standing::Settled => {
+                info.a = self.store.last();
+                info.b = self.store.floor();
+                Code::Ok
+            }
+            Standing::Asks => Code::Pending,
+            Standing::Failed => match &self.before {
+                None => Code::Failed,
+                Some(published) => {
+                    info.a = published.last;
+                    info.b = published.floor;
+                    Code::Ok
+                }
+            },
+        }
+    }
+
+    /// The device call that the host is to make, and the bytes that it writes.
+    pub fn call(&self, call: &mut Call, out: &mut [u8]) -> Code {
+        *call = Call {
+            kind: 0,
+            area: 0,
+            at: 0,
+            len: 0,
+        };
+        if self.standing != Standing::Asks {
+            return Code::None;
+        }
+        let disk = self.store.disk();
+        match disk.last() {
+            None => Code::None,
+            Some(DeviceCall::Sync { area }) => {
+                call.kind = 2;
+                call.area = area_number(area);
+                Code::Ok
+            }
+            Some(DeviceCall::Write { area, at }) => {
+                call.kind = 1;
+                call.area = area_number(area);
+                call.at = at;
+                let bytes = disk.bytes();
+                call.len = bytes.len() as u64;
+                copy_bytes(bytes, out)
+            }
+        }
+    }
+
+    /// The host has made the device call, or it was refused.
+    pub fn called(&mut self, made: bool) -> Code
+        ensures { HasCalled made self.old self.new }
+    {
+        match self.standing {
+            Standing::Settled | Standing::Failed => Code::None,
+            Standing::Asks => {
+                if !made {
+                    self.standing = Standing::Failed;
+                    return Code::Failed;
+                }
+                self.standing = Standing::Settled;
+                put_published(&mut self.before, None);
+                Code::Ok
+            }
+        }
+    }
+
+    /// What is published now.
+    pub(crate) fn published(&self) -> Option<Published>
+        ensures { IfSome result (WasPublished self.now.store) }
+    {
+        let Ok(view) = asking::view(&self.store) else {
+            return None;
+        };
+        Some(Published {
+            view,
+            last: self.store.last(),
+            floor: self.store.floor(),
+        })
+    }
+
+    /// Notes whether a call of the store made a device call, of so many before, and what was published
+    /// before it.
+    pub(crate) fn note_call(&mut self, made: u64, published: Published)
+        ensures { StandsOut made published self.old self.new }
+    {
+        if self.calls() == made {
+            published.spend();
+            return;
+        }
+        self.standing = Standing::Asks;
+        put_published(&mut self.before, Some(published));
+    }
+
+    pub(crate) fn calls(&self) -> u64
+        ensures { result ≡ self.now.store.disk.made }
+    {
+        self.store.disk().made()
+    }
+}
+
+// Copies bytes out where there is room.
+fn copy_bytes(bytes: &[u8], out: &mut [u8]) -> Code {
+    if out.len() < bytes.len() {
+        return Code::Small;
+    }
+    out[..bytes.len()].copy_from_slice(bytes);
+    Code::Ok
+}

@@ -1,0 +1,43 @@
+//! Archives.
+use crate::code::{Code, Info};
+use crate::codes::{job_number, pump_code, start_code};
+use crate::engine::Engine;
+
+impl Engine {
+    ghost use Rattle.embedded.specs.Engines.{ArchivesEngine, PumpsJobOf};
+
+    /// Begins an archive of what ended by a time.
+    pub fn archive(&mut self, upto: u64, info: &mut Info) -> Code
+        ensures { ArchivesEngine upto self.old self.new }
+    {
+        if let Some(code) = self.stopped() {
+            return code;
+        }
+        match self.store.archive_start(upto) {
+            Ok(()) => Code::Ok,
+            Err(fault) => start_code(fault, info),
+        }
+    }
+
+    /// One step of the job that runs: its number is told.
+    pub fn job_pump(&mut self, info: &mut Info) -> Code
+        ensures { PumpsJobOf self.old self.new }
+    {
+        if let Some(code) = self.stopped() {
+            return code;
+        }
+        let Some(published) = self.published() else {
+            return Code::NoMemory;
+        };
+        let made = self.calls();
+        let outcome = self.store.job_pump();
+        self.note_call(made, published);
+        match outcome {
+            Ok(did) => {
+                info.a = job_number(did);
+                Code::Ok
+            }
+            Err(fault) => pump_code(fault),
+        }
+    }
+}

@@ -1,0 +1,2 @@
+mod Sounds
+mod Walks

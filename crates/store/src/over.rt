@@ -1,0 +1,43 @@
+//! A store over another disk.
+ghost use Rattle.std.specs.Prelude.{◌≡◌};
+
+use crate::store::Store;
+use disk::Disk;
+
+impl<D: Disk> Store<D> {
+    /// The disk, to be looked at.
+    pub fn disk(&self) -> &D
+        ensures { D.state result.now ≡ self.now.disk }
+    {
+        &self.disk
+    }
+
+    /// The store over another disk, and the disk that it had. Nothing else changes: what the other disk
+    /// holds is the caller's to see to.
+    pub fn over<E: Disk>(self, disk: E) -> (Store<E>, D)
+        ensures store { result.0 ≡ record self { disk = E.state disk } }
+        ensures before { D.state result.1 ≡ self.disk }
+    {
+        let Store {
+            alloc,
+            transactions,
+            log,
+            turn,
+            job,
+            archived,
+            runs_end,
+            disk: before,
+        } = self;
+        let store = Store {
+            alloc,
+            transactions,
+            log,
+            turn,
+            job,
+            archived,
+            runs_end,
+            disk,
+        };
+        (store, before)
+    }
+}

@@ -1,0 +1,45 @@
+/* The tour: tour FOLDER, a folder that is there. */
+#include <inttypes.h>
+#include <stdio.h>
+#include <stdlib.h>
+#include <timestore_file.h>
+
+static int32_t ask(int32_t code, const char *what) {
+    if (code < 0) {
+        fprintf(stderr, "%s: %s\n", what, ts_text(code));
+        exit(1);
+    }
+    return code;
+}
+
+int main(int argc, char **argv) {
+    ts_file *file;
+    ts_info info, view;
+    uint8_t value[TS_VALUE_MOST];
+    ts_row rows[8];
+    if (argc != 2) return 2;
+    ask(ts_file_format(argv[1], 1024), "format");
+    ask(ts_file_open(argv[1], &file, &info), "open");
+    ts *store = ts_file_store(file);
+
+    ask(ts_begin(store, &info), "begin");
+    printf("snapshot %" PRIu64 "\n", info.b);
+    uint64_t txn = info.a;
+    const uint8_t a[] = {1, 1, 'a'}; /* one field of one byte */
+    ask(ts_put(store, txn, 1, 7, a, sizeof a), "put");
+    ask(ts_file_commit(file, txn, 9, 100, &info), "commit");
+    printf("done %" PRIu64 "\n", info.a);
+
+    ask(ts_view(store, &view), "view");
+    ask(ts_at(store, view.a, 1, 7, 100, value, sizeof value, &info), "at");
+    printf("at 100: %.*s\n", value[1], (const char *)value + 2);
+    int32_t code = ts_at(store, view.a, 1, 7, 101, value, sizeof value, &info);
+    printf("refused: %s %" PRIu64 "\n", ts_text(code), info.a);
+    ask(ts_between(store, view.a, 1, 7, 0, 101, rows, 8, value, sizeof value, &info), "between");
+    for (uint64_t i = 0; i < info.a; i++)
+        printf("%" PRIu64 " %" PRIu64 " %.*s\n", rows[i].from, rows[i].upto, value[rows[i].at + 1],
+               (const char *)value + rows[i].at + 2);
+    ask(ts_end(store, view.a), "end");
+    ts_file_close(file);
+    return 0;
+}

@@ -1,0 +1,36 @@
+"""The tour: tour.py FOLDER, a folder that is there."""
+
+import sys
+from datetime import datetime, timezone
+
+import timestore
+
+
+def main(folder: str) -> None:
+    timestore.make(folder)
+    with timestore.Store(folder) as store:
+        with store.begin(label=9, now=100) as txn:
+            print("snapshot", txn.snapshot)
+            txn.put(1, 7, b"a")
+        print("done", txn.time)
+        print("at 100:", store.at(1, 7, 100))
+        try:
+            store.at(1, 7, 101)
+        except timestore.NotYet as why:
+            print(f"refused: {why} {why.first}")
+        for row in store.between(1, 7, 0, 101):
+            print(row.start, row.end, row.fields)
+        # Two transactions that wrote the same record: the first one wins.
+        first, second = store.begin(), store.begin()
+        first.put(1, 7, b"b")
+        second.put(1, 7, b"c")
+        first.commit(9, datetime(2026, 1, 1, tzinfo=timezone.utc))
+        try:
+            second.commit(9)
+        except timestore.Conflict as why:
+            print(f"refused: {why} {why.first} {why.second}")
+        print("last:", timestore.moment(store.last).isoformat())
+
+
+if __name__ == "__main__":
+    main(sys.argv[1])

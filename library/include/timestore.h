@@ -1,0 +1,192 @@
+/* timestore: a store of records that keeps every version, in the process of its user.
+ *
+ * The library opens no file, starts no thread and holds no lock. Where the store is to write or sync, its
+ * user, the host, makes that device call: after ts_pump and ts_job_pump it asks ts_call, makes what is told,
+ * and says so by ts_called. Until then every call answers TS_PENDING but ts_call, ts_called, ts_close, the
+ * reads and writes of open transactions and the queries of views. If the device refused it, the host says
+ * ts_called(h, false): from then on the store answers what was published before that call, tickets of
+ * commits that were not are in doubt, nothing is written any more, and the store is to be opened again.
+ * timestore_file.h has a host for files, which does all this.
+ *
+ * What the host must uphold, which nothing checks:
+ *   1. Three areas of bytes that nobody else writes: status, heap and archive. Each is synced before ts_open
+ *      is given its bytes, which stay as they are until ts_open returns, and are not used after it.
+ *   2. A write goes to that area and place whole, and a gap before it reads as zeros. A sync returns once
+ *      what was written to that area outlasts a stop (fdatasync). They are made in the order told, each
+ *      before ts_called(h, true). Of a write that was refused any part may have been made.
+ *   3. A handle begins as TS_EMPTY, is not copied, and stays on the thread that opened it, which makes one
+ *      call at a time. Several threads have one of them own it and serve the others by a queue.
+ *   4. No pointer is null, also where the length beside it is 0; memory that is written to lies apart from
+ *      all else that the call is given, and lengths are those of the memory.
+ *   5. malloc, realloc and free are one allocator, of blocks aligned to 16 bytes. No call is made from a
+ *      signal handler, nor in the child of a fork.
+ *
+ * Times are microseconds since 1970. A call gives a code: 0 and more for an answer, less for a refusal,
+ * which changes nothing but where it says so. Of a transaction, a ticket or a view it gives a number, which
+ * names nothing once that was taken back: 65,536 may be out at a time.
+ */
+#ifndef TIMESTORE_H
+#define TIMESTORE_H
+#include <stdbool.h>
+#include <stddef.h>
+#include <stdint.h>
+#ifdef __cplusplus
+extern "C" {
+#endif
+
+/* A handle: an open store, or none. */
+typedef struct ts {
+    void *at;
+    bool full;
+} ts;
+#define TS_EMPTY {NULL, false}
+
+/* What a call tells beside its code. */
+typedef struct ts_info {
+    uint64_t a, b;
+} ts_info;
+
+/* A device call that stands out: of a write the place and the length of its bytes. */
+typedef struct ts_device {
+    uint32_t kind, area;
+    uint64_t at, len;
+} ts_device;
+enum { TS_NO_CALL = 0, TS_WRITE = 1, TS_SYNC = 2 };
+enum { TS_STATUS = 0, TS_HEAP = 1, TS_ARCHIVE = 2 };
+#define TS_WRITE_MOST 8192 /* no write is longer */
+
+/* A row: record, from when on and up to when it had the value, whose len bytes lie at `at`. */
+typedef struct ts_row {
+    uint64_t record, from, upto, at, len;
+} ts_row;
+
+/* A value as bytes: how many fields it has, 1 to 16, in a byte; then of each its length in a byte, and so
+   many bytes. */
+#define TS_VALUE_MOST 4097
+
+/* Codes. What info has beside one stands behind it. */
+enum {
+    TS_OK = 0,
+    TS_NONE = 1,            /* there is no value; no device call stands out */
+    TS_WAITING = 2,         /* the commit waits; a: the ticket's new number */
+    TS_READ_ONLY = 3,       /* nothing was written, the transaction is over; a: the time of its snapshot */
+    TS_IN_DOUBT = 4,        /* the device failed before the commit was published: opened again, the store
+                               has it or not */
+    TS_PENDING = -1,        /* the last device call was not made yet */
+    TS_CLOSED = -2,         /* the handle has no store */
+    TS_UNKNOWN = -3,        /* no such transaction, ticket or view */
+    TS_SMALL = -4,          /* too little room for the answer; info has what is needed */
+    TS_NO_MEMORY = -5,
+    TS_FAILED = -6,         /* a device call was refused */
+    TS_STRANGER = -7,
+    TS_CONFLICT = -8,       /* a: relation, b: record of the least key that a later commit wrote too */
+    TS_HEAP_FULL = -9,      /* the records need more extents than are free */
+    TS_STATUS_FULL = -10,   /* too few slots of the status log are left */
+    TS_CLOCK_END = -11,     /* no commit time is left */
+    TS_MISSING = -12,       /* a delete of what is not there */
+    TS_TOO_MANY_KEYS = -13, /* a transaction writes at most 1,024 records */
+    TS_BAD_VALUE = -14,     /* not the bytes of a value */
+    TS_BEFORE_KEPT = -15,   /* a: the floor; history before it may be gone */
+    TS_NOT_YET = -16,       /* a: the time of the last commit; a later one may still change the answer */
+    TS_EMPTY_INTERVAL = -17,
+    TS_DAMAGED = -18,       /* a: the place of what breaks a rule, in bytes */
+    TS_NOT_A_STORE = -19,
+    TS_BUSY = -20,          /* one slot is in the writing at a time: pump the other one; ts_open: the handle is full */
+    TS_JOB_BUSY = -21,      /* an archive is being made */
+    TS_NOTHING_TO_DO = -22, /* all versions that ended by then are archived */
+    TS_ARCHIVE_FULL = -23,
+    TS_BAD_SLOTS = -24,     /* a store has 16 to 65,536 slots */
+    TS_IN_USE = -25         /* a: the least open snapshot */
+};
+
+/* What a step did: ts_pump and ts_job_pump tell it in a; of TS_PUBLISHED, b has the commits of the group. */
+enum {
+    TS_IDLE = 0,
+    TS_WROTE = 1,
+    TS_SYNCED = 2,
+    TS_BODY_WRITTEN = 3,
+    TS_BODY_SYNCED = 4,
+    TS_GATE_WRITTEN = 5,
+    TS_PUBLISHED = 6 /* of a job: it is done */
+};
+
+/* The status area of a new store; a: its length, 512 + 512 slots. The host writes it from byte 512 on,
+   syncs it, writes the first 512 bytes, and syncs it. The other two areas begin empty. */
+int32_t ts_format(uint32_t slots, uint8_t *out, size_t len, ts_info *info);
+
+/* Opens the store of these bytes; a: the time of the last commit, b: the floor. The mark is a number of the
+   host's own, which numbers of this store carry in the library. */
+int32_t ts_open(ts *h, const uint8_t *status, size_t status_len, const uint8_t *heap, size_t heap_len,
+                const uint8_t *archive, size_t archive_len, uint64_t mark, ts_info *info);
+
+/* Ends the store: what waits is not published, all numbers name nothing. */
+int32_t ts_close(ts *h);
+
+/* a: the time of the last commit, b: the floor. */
+int32_t ts_last(ts *h, ts_info *info);
+
+/* The device call that stands out, with the bytes of a write; TS_NONE where none does. */
+int32_t ts_call(ts *h, ts_device *call, uint8_t *out, size_t len);
+
+/* The device call was made, or was refused, which gives TS_FAILED. TS_NONE where none stands out. */
+int32_t ts_called(ts *h, bool made);
+
+/* A transaction on what is published; a: its number, b: the time of its snapshot. */
+int32_t ts_begin(ts *h, ts_info *info);
+int32_t ts_put(ts *h, uint64_t txn, uint16_t relation, uint64_t record, const uint8_t *value, size_t len);
+int32_t ts_delete(ts *h, uint64_t txn, uint16_t relation, uint64_t record);
+
+/* What the transaction sees, its own writes over its snapshot; a: the value's length. */
+int32_t ts_get(ts *h, uint64_t txn, uint16_t relation, uint64_t record, uint8_t *out, size_t len,
+               ts_info *info);
+
+/* The records that it sees in a relation, in rising order; a: how many, b: the bytes of their values. */
+int32_t ts_scan(ts *h, uint64_t txn, uint16_t relation, ts_row *rows, size_t row_count, uint8_t *out,
+                size_t len, ts_info *info);
+
+/* Queues its writes as a commit, with a label, at the time now or just after the last commit; a: the number
+   of its ticket. The transaction is over, also where it is refused, but for TS_PENDING, TS_FAILED and
+   TS_UNKNOWN. */
+int32_t ts_submit(ts *h, uint64_t txn, uint64_t label, uint64_t now, ts_info *info);
+int32_t ts_abort(ts *h, uint64_t txn);
+
+/* The next step of the group of commits that is being written; a: what it did. */
+int32_t ts_pump(ts *h, ts_info *info);
+
+/* Whether the ticket's commit is published, TS_OK; a: its time. The ticket is spent. */
+int32_t ts_redeem(ts *h, uint64_t ticket, ts_info *info);
+
+/* Spends a ticket; its commit goes its way. */
+int32_t ts_give_up(ts *h, uint64_t ticket);
+
+/* What is published now, which later commits do not change; a: the number of the view. */
+int32_t ts_view(ts *h, ts_info *info);
+int32_t ts_end(ts *h, uint64_t view);
+
+/* The value of a record at a time; a: its length. */
+int32_t ts_at(ts *h, uint64_t view, uint16_t relation, uint64_t record, uint64_t time, uint8_t *out,
+              size_t len, ts_info *info);
+
+/* The records of a relation that have a value at a time; as ts_scan. */
+int32_t ts_scan_at(ts *h, uint64_t view, uint16_t relation, uint64_t time, ts_row *rows, size_t row_count,
+                   uint8_t *out, size_t len, ts_info *info);
+
+/* What stood in a record from one time up to another, by rising time; as ts_scan. */
+int32_t ts_between(ts *h, uint64_t view, uint16_t relation, uint64_t record, uint64_t from, uint64_t upto,
+                   ts_row *rows, size_t row_count, uint8_t *out, size_t len, ts_info *info);
+
+/* The same of a relation's records, by record and then by time. */
+int32_t ts_scan_between(ts *h, uint64_t view, uint16_t relation, uint64_t from, uint64_t upto, ts_row *rows,
+                        size_t row_count, uint8_t *out, size_t len, ts_info *info);
+
+/* The times of the commits with a label, rising; a: how many. */
+int32_t ts_times_of(ts *h, uint64_t label, uint64_t *times, size_t count, ts_info *info);
+
+/* Begins a copy of the versions that ended by a time into the archive, and makes its next step. */
+int32_t ts_archive(ts *h, uint64_t upto, ts_info *info);
+int32_t ts_job_pump(ts *h, ts_info *info);
+
+#ifdef __cplusplus
+}
+#endif
+#endif

@@ -1,0 +1,346 @@
+//! A store of records that keeps every version, in files of a folder and in this process.
+//!
+//! A record is named by its relation and its number; a value is a list of 1 to 16 fields of at most 255
+//! bytes; a time is microseconds since 1970. A store stays on the thread that opened it.
+
+mod error;
+mod raw;
+
+pub use error::Error;
+
+use raw::{Info, Row as RawRow};
+use std::cell::Cell;
+use std::ffi::CString;
+use std::os::unix::ffi::OsStrExt;
+use std::path::Path;
+
+/// What a call gives.
+pub type Result<T> = std::result::Result<T, Error>;
+
+/// The fields of a value.
+pub type Fields = Vec<Vec<u8>>;
+
+const VALUE_MOST: usize = 4097;
+const OK: i32 = 0;
+const NONE: i32 = 1;
+const WAITING: i32 = 2;
+const READ_ONLY: i32 = 3;
+const IN_DOUBT: i32 = 4;
+const SMALL: i32 = -4;
+
+fn asked(code: i32, info: Info) -> Result<i32> {
+    if code < 0 || code == IN_DOUBT { Err(Error::of(code, info)) } else { Ok(code) }
+}
+
+fn path_of(folder: &Path) -> Result<CString> {
+    CString::new(folder.as_os_str().as_bytes()).map_err(|cause| Error::System(cause.into()))
+}
+
+fn spelled(fields: &[&[u8]]) -> Result<Vec<u8>> {
+    if fields.is_empty() || fields.len() > 16 || fields.iter().any(|field| field.len() > 255) {
+        return Err(Error::BadValue);
+    }
+    let mut value = vec![fields.len() as u8];
+    for field in fields {
+        value.push(field.len() as u8);
+        value.extend_from_slice(field);
+    }
+    Ok(value)
+}
+
+fn fields_of(value: &[u8]) -> Fields {
+    let mut rest = &value[1..];
+    (0..value[0])
+        .map(|_| {
+            let (field, behind) = rest[1..].split_at(rest[0] as usize);
+            rest = behind;
+            field.to_vec()
+        })
+        .collect()
+}
+
+/// What stood in a record from one time on, up to another.
+#[derive(Clone, Debug, PartialEq, Eq)]
+pub struct Row {
+    /// The record's number.
+    pub record: u64,
+    /// From when on.
+    pub from: u64,
+    /// Up to when.
+    pub upto: u64,
+    /// Its value.
+    pub fields: Fields,
+}
+
+/// An open store. What it gives out borrows it, so it is over before the store is closed.
+pub struct Store {
+    file: *mut raw::File,
+    handle: *mut raw::Handle,
+}
+
+/// Makes a store with 16 to 65,536 slots in a folder that is there.
+pub fn format(folder: impl AsRef<Path>, slots: u32) -> Result<()> {
+    let path = path_of(folder.as_ref())?;
+    // SAFETY: the path is a string that ends in zero.
+    asked(unsafe { raw::ts_file_format(path.as_ptr(), slots) }, Info::default())?;
+    Ok(())
+}
+
+impl Store {
+    /// Opens the store of a folder.
+    pub fn open(folder: impl AsRef<Path>) -> Result<Store> {
+        let path = path_of(folder.as_ref())?;
+        let (mut file, mut info) = (std::ptr::null_mut(), Info::default());
+        // SAFETY: the path is a string that ends in zero; the file is written where the call is answered.
+        let code = unsafe { raw::ts_file_open(path.as_ptr(), &mut file, &mut info) };
+        asked(code, info)?;
+        // SAFETY: the file is open until the store is dropped.
+        let handle = unsafe { raw::ts_file_store(file) };
+        Ok(Store { file, handle })
+    }
+
+    // A call of the library. The store is neither `Send` nor `Sync`, so no two are made at once.
+    fn ask(&self, call: impl FnOnce(*mut raw::Handle, &mut Info) -> i32) -> Result<(i32, Info)> {
+        let mut info = Info::default();
+        let code = asked(call(self.handle, &mut info), info)?;
+        Ok((code, info))
+    }
+
+    /// The time of the last commit, 0 for none.
+    pub fn last(&self) -> Result<u64> {
+        // SAFETY: the handle is open, here and below.
+        Ok(self.ask(|h, info| unsafe { raw::ts_last(h, info) })?.1.a)
+    }
+
+    /// A transaction on what is published now.
+    pub fn begin(&self) -> Result<Txn<'_>> {
+        let (_, info) = self.ask(|h, info| unsafe { raw::ts_begin(h, info) })?;
+        Ok(Txn { store: self, number: info.a, snapshot: info.b })
+    }
+
+    /// What is published now, which later commits do not change.
+    pub fn view(&self) -> Result<View<'_>> {
+        let (_, info) = self.ask(|h, info| unsafe { raw::ts_view(h, info) })?;
+        Ok(View { store: self, number: info.a })
+    }
+
+    /// Publishes what waits.
+    pub fn flush(&self) -> Result<()> {
+        // SAFETY: the file is open.
+        asked(unsafe { raw::ts_file_flush(self.file) }, Info::default())?;
+        Ok(())
+    }
+
+    /// One step of the group that is being written: what it did, and how many commits are published.
+    pub fn pump(&self) -> Result<(u64, u64)> {
+        let file = self.file;
+        // SAFETY: the file is open.
+        let (_, info) = self.ask(|_, info| unsafe { raw::ts_file_pump(file, info) })?;
+        Ok((info.a, info.b))
+    }
+
+    /// Copies what ended by a time into the archive.
+    pub fn archive(&self, upto: u64) -> Result<()> {
+        self.ask(|h, info| unsafe { raw::ts_archive(h, upto, info) })?;
+        // SAFETY: the file is open.
+        asked(unsafe { raw::ts_file_job(self.file) }, Info::default())?;
+        Ok(())
+    }
+
+    /// The times of the commits with a label, rising.
+    pub fn times_of(&self, label: u64) -> Result<Vec<u64>> {
+        let mut times = vec![0; 16];
+        loop {
+            let mut info = Info::default();
+            // SAFETY: as many times as there is room for are written.
+            let code = unsafe { raw::ts_times_of(self.handle, label, times.as_mut_ptr(), times.len(), &mut info) };
+            times.resize(info.a as usize, 0);
+            if code != SMALL {
+                asked(code, info)?;
+                return Ok(times);
+            }
+        }
+    }
+
+    /// For tests: the device call of this number from now on, from 1, is refused.
+    pub fn refuse(&self, call: u64) {
+        // SAFETY: the file is open.
+        unsafe { raw::ts_file_refuse(self.file, call) }
+    }
+
+    fn read(&self, call: impl FnOnce(*mut raw::Handle, *mut u8, usize, &mut Info) -> i32) -> Result<Option<Fields>> {
+        let mut value = [0; VALUE_MOST];
+        let (code, info) = self.ask(|h, info| call(h, value.as_mut_ptr(), VALUE_MOST, info))?;
+        Ok(if code == NONE { None } else { Some(fields_of(&value[..info.a as usize])) })
+    }
+
+    fn rows(&self, mut call: impl FnMut(*mut raw::Handle, &mut [RawRow], &mut [u8], &mut Info) -> i32) -> Result<Vec<Row>> {
+        let (mut rows, mut out) = (vec![RawRow::default(); 64], vec![0; 4096]);
+        loop {
+            let mut info = Info::default();
+            let code = call(self.handle, &mut rows, &mut out, &mut info);
+            if code != SMALL {
+                asked(code, info)?;
+                return Ok(rows[..info.a as usize].iter().map(|row| full_row(row, &out)).collect());
+            }
+            rows.resize(info.a as usize, RawRow::default());
+            out.resize(info.b as usize, 0);
+        }
+    }
+}
+
+fn full_row(row: &RawRow, out: &[u8]) -> Row {
+    let value = &out[row.at as usize..(row.at + row.len) as usize];
+    Row { record: row.record, from: row.from, upto: row.upto, fields: fields_of(value) }
+}
+
+impl Drop for Store {
+    fn drop(&mut self) {
+        // SAFETY: the file is open, and nothing that borrows the store is left.
+        unsafe { raw::ts_file_close(self.file) }
+    }
+}
+
+/// An open transaction: what it reads is its snapshot with its own writes over it. Dropped, it is given up.
+pub struct Txn<'a> {
+    store: &'a Store,
+    number: u64,
+    snapshot: u64,
+}
+
+impl<'a> Txn<'a> {
+    /// The time of its snapshot.
+    pub fn snapshot(&self) -> u64 {
+        self.snapshot
+    }
+
+    /// Writes a value.
+    pub fn put(&mut self, relation: u16, record: u64, fields: &[&[u8]]) -> Result<()> {
+        let value = spelled(fields)?;
+        let number = self.number;
+        // SAFETY: the value's bytes are read, and no more.
+        self.store.ask(|h, _| unsafe { raw::ts_put(h, number, relation, record, value.as_ptr(), value.len()) })?;
+        Ok(())
+    }
+
+    /// Deletes a record that has a value.
+    pub fn delete(&mut self, relation: u16, record: u64) -> Result<()> {
+        let number = self.number;
+        self.store.ask(|h, _| unsafe { raw::ts_delete(h, number, relation, record) })?;
+        Ok(())
+    }
+
+    /// The value that it sees.
+    pub fn get(&self, relation: u16, record: u64) -> Result<Option<Fields>> {
+        // SAFETY: at most `len` bytes are written at `out`, here and below.
+        self.store.read(|h, out, len, info| unsafe { raw::ts_get(h, self.number, relation, record, out, len, info) })
+    }
+
+    /// The records of a relation that it sees, in rising order.
+    pub fn scan(&self, relation: u16) -> Result<Vec<(u64, Fields)>> {
+        let rows = self.store.rows(|h, rows, out, info| unsafe {
+            raw::ts_scan(h, self.number, relation, rows.as_mut_ptr(), rows.len(), out.as_mut_ptr(), out.len(), info)
+        })?;
+        Ok(rows.into_iter().map(|row| (row.record, row.fields)).collect())
+    }
+
+    /// Queues the writes as a commit with a label, at this time or just after the last commit; none where
+    /// there are no writes.
+    pub fn submit(self, label: u64, now: u64) -> Result<Option<Ticket<'a>>> {
+        let (store, number) = (self.store, self.number);
+        let (code, info) = store.ask(|h, info| unsafe { raw::ts_submit(h, number, label, now, info) })?;
+        // What was submitted is over; `drop` then meets a number that names nothing.
+        Ok(if code == READ_ONLY { None } else { Some(Ticket { store, number: Cell::new(Some(info.a)) }) })
+    }
+
+    /// Submits, publishes, and gives the commit's time; none where nothing was written.
+    pub fn commit(self, label: u64, now: u64) -> Result<Option<u64>> {
+        let store = self.store;
+        let Some(ticket) = self.submit(label, now)? else {
+            return Ok(None);
+        };
+        let flushed = store.flush();
+        match ticket.redeem()? {
+            Some(time) => Ok(Some(time)),
+            None => flushed.and(Err(Error::Busy)),
+        }
+    }
+}
+
+impl Drop for Txn<'_> {
+    fn drop(&mut self) {
+        // SAFETY: the store is open.
+        unsafe { raw::ts_abort(self.store.handle, self.number) };
+    }
+}
+
+/// A commit that waits, or is published.
+pub struct Ticket<'a> {
+    store: &'a Store,
+    number: Cell<Option<u64>>,
+}
+
+impl Ticket<'_> {
+    /// The time of the commit once it is published, else none. After a time, or a refusal, it is spent.
+    pub fn redeem(&self) -> Result<Option<u64>> {
+        let number = self.number.take().ok_or(Error::Unknown)?;
+        let (code, info) = self.store.ask(|h, info| unsafe { raw::ts_redeem(h, number, info) })?;
+        if code == WAITING {
+            self.number.set(Some(info.a));
+            return Ok(None);
+        }
+        debug_assert_eq!(code, OK);
+        Ok(Some(info.a))
+    }
+}
+
+impl Drop for Ticket<'_> {
+    fn drop(&mut self) {
+        if let Some(number) = self.number.take() {
+            // SAFETY: the store is open.
+            unsafe { raw::ts_give_up(self.store.handle, number) };
+        }
+    }
+}
+
+/// What was published at one moment.
+pub struct View<'a> {
+    store: &'a Store,
+    number: u64,
+}
+
+impl View<'_> {
+    /// The value of a record at a time.
+    pub fn at(&self, relation: u16, record: u64, time: u64) -> Result<Option<Fields>> {
+        self.store.read(|h, out, len, info| unsafe { raw::ts_at(h, self.number, relation, record, time, out, len, info) })
+    }
+
+    /// The records of a relation that have a value at a time, in rising order.
+    pub fn scan_at(&self, relation: u16, time: u64) -> Result<Vec<(u64, Fields)>> {
+        let rows = self.store.rows(|h, rows, out, info| unsafe {
+            raw::ts_scan_at(h, self.number, relation, time, rows.as_mut_ptr(), rows.len(), out.as_mut_ptr(), out.len(), info)
+        })?;
+        Ok(rows.into_iter().map(|row| (row.record, row.fields)).collect())
+    }
+
+    /// What stood in a record from one time up to another, by rising time.
+    pub fn between(&self, relation: u16, record: u64, from: u64, upto: u64) -> Result<Vec<Row>> {
+        self.store.rows(|h, rows, out, info| unsafe {
+            raw::ts_between(h, self.number, relation, record, from, upto, rows.as_mut_ptr(), rows.len(), out.as_mut_ptr(), out.len(), info)
+        })
+    }
+
+    /// The same of a relation's records, by record and then by time.
+    pub fn scan_between(&self, relation: u16, from: u64, upto: u64) -> Result<Vec<Row>> {
+        self.store.rows(|h, rows, out, info| unsafe {
+            raw::ts_scan_between(h, self.number, relation, from, upto, rows.as_mut_ptr(), rows.len(), out.as_mut_ptr(), out.len(), info)
+        })
+    }
+}
+
+impl Drop for View<'_> {
+    fn drop(&mut self) {
+        // SAFETY: the store is open.
+        unsafe { raw::ts_end(self.store.handle, self.number) };
+    }
+}

@@ -1,0 +1,100 @@
+"""The Python module's calls: calls.py FOLDER."""
+
+import sys
+from datetime import datetime, timezone
+from pathlib import Path
+
+import timestore
+
+
+def refuses(fault: type[timestore.Refused], call, *args) -> timestore.Refused:
+    try:
+        call(*args)
+    except fault as why:
+        return why
+    raise AssertionError(f"not refused: {call} {args}")
+
+
+def test_values(store: timestore.Store) -> None:
+    with store.begin(label=1, now=datetime(2020, 1, 1, tzinfo=timezone.utc)) as txn:
+        for record in range(200):
+            txn.put(2, record, b"x" * 255, b"", bytes([record]))
+        assert txn.get(2, 5) == (b"x" * 255, b"", b"\5")
+        assert [record for record, _ in txn.scan(2)] == list(range(200))
+    time = txn.time
+    assert timestore.moment(time) == datetime(2020, 1, 1, tzinfo=timezone.utc)
+    with store.view() as view:
+        assert len(list(view.scan_at(2, time))) == 200
+        assert view.at(2, 199, time)[2] == b"\xc7"
+        rows = list(view.scan_between(2, 0, time + 1))
+        assert len(rows) == 200 and rows[3] == (3, time, time + 1, (b"x" * 255, b"", b"\3"))
+        assert list(view.between(2, 3, 0, time + 1)) == [rows[3]]
+    refuses(timestore.Unknown, view.at, 2, 1, time)
+    for fields in ((), (b"x" * 256,), (b"",) * 17):
+        refuses(timestore.BadValue, store.begin().put, 2, 1, *fields)
+
+
+def test_transactions(store: timestore.Store) -> None:
+    try:
+        with store.begin() as txn:
+            txn.put(2, 5, b"gone")
+            raise KeyError
+    except KeyError:
+        pass
+    assert store.at(2, 5, store.last)[2] == b"\5"
+    assert store.begin().commit() is None
+    first, second = store.begin(), store.begin()
+    first.put(2, 5, b"first")
+    second.put(2, 5, b"second")
+    ticket = first.submit(2)
+    assert ticket.redeem() is None
+    why = refuses(timestore.Conflict, second.submit)
+    assert (why.first, why.second, why.code) == (2, 5, -8)
+    store.flush()
+    assert ticket.redeem() == store.last
+    refuses(timestore.Unknown, ticket.redeem)
+    assert store.times_of(2) == [store.last]
+    for number in range(20):
+        with store.begin(label=3) as txn:
+            txn.put(3, number, b"n")
+    assert len(store.times_of(3)) == 20
+    refuses(timestore.NotYet, store.at, 2, 5, store.last + 1)
+    refuses(timestore.Missing, store.begin().delete, 2, 1000)
+
+
+def test_refused_call(folder: Path) -> None:
+    with timestore.Store(folder) as store:
+        before = store.last
+        refuses(timestore.Locked, timestore.Store, folder)
+        store.archive(before)
+        refuses(timestore.NothingToDo, store.archive, before)
+        store.refuse(3)
+        txn = store.begin()
+        txn.put(2, 5, b"lost")
+        refuses(timestore.InDoubt, txn.commit)
+        assert store.last == before
+        assert store.at(2, 5, before) == (b"first",)
+        refuses(timestore.Failed, store.begin)
+    refuses(timestore.Closed, store.flush)
+    refuses(timestore.Closed, store.begin)
+    with timestore.Store(folder) as store:
+        assert store.at(2, 5, before) == (b"first",)
+
+
+def main() -> None:
+    folder = Path(sys.argv[1]) / "calls"
+    refuses(timestore.System, timestore.make, folder)
+    folder.mkdir()
+    refuses(timestore.BadSlots, timestore.make, folder, 15)
+    refuses(timestore.NotAStore, timestore.Store, folder)
+    refuses(timestore.System, timestore.Store, folder / "none")
+    timestore.make(folder)
+    refuses(timestore.Occupied, timestore.make, folder)
+    with timestore.Store(folder) as store:
+        test_values(store)
+        test_transactions(store)
+    test_refused_call(folder)
+
+
+if __name__ == "__main__":
+    main()

@@ -1,0 +1,62 @@
+"""Images of the library opened by the program, and back: exchanged.py PROGRAM FOLDER."""
+
+import subprocess
+import sys
+from pathlib import Path
+
+import timestore
+
+
+def ask(program: str, *words: object, script: str = "") -> str:
+    answer = subprocess.run([program, *map(str, words)], input=script, capture_output=True, text=True)
+    assert answer.returncode == 0, answer
+    return answer.stdout
+
+
+def same_bytes(program: str, folder: Path) -> None:
+    """The same commits by each, from the same empty files, leave the same files."""
+    ours, theirs = folder / "ours", folder / "theirs"
+    for place in (ours, theirs):
+        place.mkdir()
+    timestore.make(ours, 64)
+    ask(program, "format", theirs, "--slots", 64)
+    with timestore.Store(ours) as store:
+        for number in (1, 2, 3):
+            txn = store.begin()
+            txn.put(1, 7, bytes([number]))
+            txn.put(1, number + 10, b"", b"two")
+            txn.commit(9, 100 * number)
+        store.archive(200)
+    script = "".join(
+        f"begin t\nput t 1 7 {number:02x}\nput t 1 {number + 10} - {b'two'.hex()}\nsubmit t 9 {100 * number}\nflush\nredeem t\n"
+        for number in (1, 2, 3)
+    )
+    said = ask(program, "run", theirs, script=script + "archive 200\nfinish\n")
+    assert "refused" not in said, said
+    for name in ("status", "heap", "archive"):
+        assert (ours / name).read_bytes() == (theirs / name).read_bytes(), name
+
+
+def to_and_fro(program: str, folder: Path) -> None:
+    place = folder / "ours"
+    assert ask(program, "between", place, 1, 7, 0, 301) == "100 200 01\n200 300 02\n300 301 03\nrows 3\n"
+    said = ask(program, "run", place, script="begin t\nput t 1 7 ff\nsubmit t 9 400\nflush\nredeem t\n")
+    assert said.endswith("done 400\n"), said
+    with timestore.Store(place) as store:
+        assert store.at(1, 7, 400) == (b"\xff",)
+        assert store.at(1, 7, 250) == (b"\2",)
+        assert store.times_of(9) == [100, 200, 300, 400]
+        # While the library has the store, the program is refused.
+        busy = subprocess.run([program, "at", place, "1", "7", "400"], capture_output=True, text=True)
+        assert busy.returncode != 0 or busy.stdout.startswith("refused: "), busy
+
+
+def main() -> None:
+    program, folder = sys.argv[1], Path(sys.argv[2])
+    folder.mkdir()
+    same_bytes(program, folder)
+    to_and_fro(program, folder)
+
+
+if __name__ == "__main__":
+    main()

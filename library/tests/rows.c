@@ -1,0 +1,211 @@
+/* What the calls answer, on a store in files: rows FOLDER, an empty one. */
+#include "check.h"
+
+static uint64_t begun(ts *h) {
+    ts_info info;
+    CHECK(TS_OK, ts_begin(h, &info));
+    return info.a;
+}
+
+static uint64_t commit_text(ts_file *file, uint64_t record, const char *text, uint64_t label, uint64_t now) {
+    ts *h = ts_file_store(file);
+    ts_info info;
+    uint64_t txn = begun(h);
+    put_text(h, txn, record, text);
+    CHECK(TS_OK, ts_file_commit(file, txn, label, now, &info));
+    return info.a;
+}
+
+/* A handle with no store answers that alone. */
+static void test_closed(void) {
+    ts h = TS_EMPTY;
+    ts_info info;
+    ts_device call;
+    uint8_t none[1] = {0};
+    CHECK(TS_CLOSED, ts_begin(&h, &info));
+    CHECK(TS_CLOSED, ts_call(&h, &call, none, 0));
+    CHECK(TS_CLOSED, ts_called(&h, true));
+    CHECK(TS_CLOSED, ts_close(&h));
+    CHECK(TS_NOT_A_STORE, ts_open(&h, none, 0, none, 0, none, 0, 1, &info));
+    CHECK(TS_CLOSED, ts_last(&h, &info));
+    CHECK(TS_BAD_SLOTS, ts_format(15, none, 0, &info));
+    CHECK(TS_BAD_SLOTS, ts_format(65537, none, 0, &info));
+    CHECK(TS_SMALL, ts_format(16, none, 0, &info));
+    HOLDS(info.a == 512 + 512 * 16);
+}
+
+/* The tour: a commit, its time, and what stood when. */
+static void test_tour(ts_file *file) {
+    ts *h = ts_file_store(file);
+    ts_info info, view;
+    uint64_t ticket = submit_text(h, 7, "a", 9, 100);
+    CHECK(TS_WAITING, ts_redeem(h, ticket, &info));
+    CHECK(TS_UNKNOWN, ts_redeem(h, ticket, &view));
+    ticket = info.a;
+    CHECK(TS_OK, ts_file_flush(file));
+    CHECK(TS_OK, ts_redeem(h, ticket, &info));
+    HOLDS(info.a == 100);
+    HOLDS(now_has(h, 7, 99, NULL) && now_has(h, 7, 100, "a"));
+    CHECK(TS_OK, ts_view(h, &view));
+    uint8_t out[16];
+    CHECK(TS_NOT_YET, ts_at(h, view.a, 1, 7, 101, out, sizeof out, &info));
+    HOLDS(info.a == 100);
+    CHECK(TS_SMALL, ts_at(h, view.a, 1, 7, 100, out, 2, &info));
+    HOLDS(info.a == 3);
+    CHECK(TS_EMPTY_INTERVAL, ts_between(h, view.a, 1, 7, 50, 50, &(ts_row){0}, 1, out, sizeof out, &info));
+    CHECK(TS_OK, ts_end(h, view.a));
+    CHECK(TS_UNKNOWN, ts_end(h, view.a));
+    CHECK(TS_OK, ts_last(h, &info));
+    HOLDS(info.a == 100 && info.b == 0);
+}
+
+/* While a device call stands out nothing else is answered but by views and open transactions. */
+static void test_pending(ts_file *file) {
+    ts *h = ts_file_store(file);
+    ts_info info, view;
+    ts_device call;
+    uint8_t bytes[TS_WRITE_MOST];
+    CHECK(TS_OK, ts_view(h, &view));
+    uint64_t open = begun(h);
+    put_text(h, open, 7, "later");
+    uint64_t ticket = submit_text(h, 8, "b", 10, 200);
+    CHECK(TS_NONE, ts_call(h, &call, bytes, sizeof bytes));
+    CHECK(TS_NONE, ts_called(h, true));
+    CHECK(TS_OK, ts_pump(h, &info));
+    HOLDS(info.a == TS_WROTE);
+    CHECK(TS_PENDING, ts_pump(h, &info));
+    CHECK(TS_PENDING, ts_begin(h, &info));
+    CHECK(TS_PENDING, ts_redeem(h, ticket, &info));
+    CHECK(TS_PENDING, ts_view(h, &info));
+    CHECK(TS_PENDING, ts_last(h, &info));
+    CHECK(TS_PENDING, ts_submit(h, open, 9, 0, &info));
+    CHECK(TS_PENDING, ts_archive(h, 50, &info));
+    HOLDS(has_text(h, view.a, 7, 100, "a"));
+    uint8_t value[16];
+    CHECK(TS_OK, ts_get(h, open, 1, 7, value, sizeof value, &info));
+    HOLDS(value[1] == 5);
+    CHECK(TS_SMALL, ts_call(h, &call, bytes, 8));
+    HOLDS(call.kind == TS_WRITE && call.area == TS_HEAP && call.at == 8192 && call.len == 8192);
+    CHECK(TS_OK, ts_end(h, view.a));
+    CHECK(TS_OK, ts_abort(h, open));
+    CHECK(TS_UNKNOWN, ts_abort(h, open));
+    CHECK(TS_OK, ts_call(h, &call, bytes, sizeof bytes));
+    /* The host's pump makes the call that stands out, and only then goes on. */
+    CHECK(TS_PENDING, ts_file_pump(file, &info));
+    CHECK(TS_OK, ts_file_flush(file));
+    CHECK(TS_OK, ts_redeem(h, ticket, &info));
+    HOLDS(info.a == 200);
+}
+
+/* Two transactions that wrote one record: the first one wins. */
+static void test_conflict(ts_file *file) {
+    ts *h = ts_file_store(file);
+    ts_info info;
+    uint64_t first = begun(h), second = begun(h);
+    put_text(h, first, 9, "x");
+    put_text(h, second, 9, "y");
+    CHECK(TS_OK, ts_file_commit(file, first, 11, 300, &info));
+    CHECK(TS_CONFLICT, ts_submit(h, second, 12, 300, &info));
+    HOLDS(info.a == 1 && info.b == 9);
+    CHECK(TS_UNKNOWN, ts_submit(h, second, 12, 300, &info));
+    HOLDS(now_has(h, 9, 300, "x"));
+}
+
+/* What a transaction may not write. */
+static void test_refusals(ts_file *file) {
+    ts *h = ts_file_store(file);
+    ts_info info;
+    uint64_t txn = begun(h);
+    const uint8_t none[] = {0}, cut[] = {1, 2, 'a'}, more[] = {1, 1, 'a', 'b'}, many[1 + 17] = {17};
+    CHECK(TS_BAD_VALUE, ts_put(h, txn, 1, 1, none, 0));
+    CHECK(TS_BAD_VALUE, ts_put(h, txn, 1, 1, none, 1));
+    CHECK(TS_BAD_VALUE, ts_put(h, txn, 1, 1, cut, sizeof cut));
+    CHECK(TS_BAD_VALUE, ts_put(h, txn, 1, 1, more, sizeof more));
+    CHECK(TS_BAD_VALUE, ts_put(h, txn, 1, 1, many, sizeof many));
+    CHECK(TS_MISSING, ts_delete(h, txn, 1, 1));
+    CHECK(TS_UNKNOWN, ts_delete(h, txn + 1, 1, 1));
+    for (uint64_t record = 0; record < 1024; record++) put_text(h, txn, 1000 + record, "n");
+    uint8_t value[16];
+    CHECK(TS_TOO_MANY_KEYS, ts_put(h, txn, 1, 1, value, value_of("m", value)));
+    CHECK(TS_OK, ts_abort(h, txn));
+    txn = begun(h);
+    CHECK(TS_READ_ONLY, ts_submit(h, txn, 1, 1, &info));
+    HOLDS(info.a == 300);
+    CHECK(TS_NONE, ts_get(h, txn = begun(h), 1, 1000, value, sizeof value, &info));
+    CHECK(TS_OK, ts_abort(h, txn));
+}
+
+/* A delete, the rows of a record, the records of a relation, in a transaction and at a time. */
+static void test_rows(ts_file *file) {
+    ts *h = ts_file_store(file);
+    ts_info info, view;
+    ts_row rows[8];
+    uint8_t out[64];
+    uint64_t txn = begun(h);
+    CHECK(TS_OK, ts_delete(h, txn, 1, 8));
+    put_text(h, txn, 7, "c");
+    CHECK(TS_OK, ts_scan(h, txn, 1, rows, 8, out, sizeof out, &info));
+    HOLDS(info.a == 2 && rows[0].record == 7 && rows[1].record == 9 && out[rows[0].at + 2] == 'c');
+    CHECK(TS_OK, ts_file_commit(file, txn, 9, 400, &info));
+    CHECK(TS_OK, ts_view(h, &view));
+    CHECK(TS_OK, ts_between(h, view.a, 1, 7, 0, 401, rows, 8, out, sizeof out, &info));
+    HOLDS(info.a == 2 && info.b == 6);
+    HOLDS(rows[0].from == 100 && rows[0].upto == 400 && out[rows[0].at + 2] == 'a');
+    HOLDS(rows[1].from == 400 && rows[1].upto == 401 && out[rows[1].at + 2] == 'c');
+    CHECK(TS_SMALL, ts_between(h, view.a, 1, 7, 0, 401, rows, 1, out, sizeof out, &info));
+    HOLDS(info.a == 2 && info.b == 6);
+    CHECK(TS_SMALL, ts_between(h, view.a, 1, 7, 0, 401, rows, 8, out, 5, &info));
+    CHECK(TS_OK, ts_scan_at(h, view.a, 1, 300, rows, 8, out, sizeof out, &info));
+    HOLDS(info.a == 3 && rows[1].record == 8 && out[rows[1].at + 2] == 'b');
+    CHECK(TS_OK, ts_scan_at(h, view.a, 1, 400, rows, 8, out, sizeof out, &info));
+    HOLDS(info.a == 2 && rows[1].record == 9);
+    CHECK(TS_OK, ts_scan_between(h, view.a, 1, 150, 401, rows, 8, out, sizeof out, &info));
+    HOLDS(info.a == 4 && rows[2].record == 8 && rows[2].from == 200 && rows[2].upto == 400);
+    uint64_t times[4];
+    CHECK(TS_OK, ts_times_of(h, 9, times, 4, &info));
+    HOLDS(info.a == 2 && times[0] == 100 && times[1] == 400);
+    CHECK(TS_SMALL, ts_times_of(h, 9, times, 1, &info));
+    HOLDS(info.a == 2);
+    uint64_t later = commit_text(file, 7, "d", 9, 0);
+    HOLDS(later == 401);
+    HOLDS(has_text(h, view.a, 7, 400, "c"));
+    CHECK(TS_NOT_YET, ts_at(h, view.a, 1, 7, 401, out, sizeof out, &info));
+    CHECK(TS_OK, ts_end(h, view.a));
+}
+
+/* An archive, refused and made. */
+static void test_archive(ts_file *file) {
+    ts *h = ts_file_store(file);
+    ts_info info;
+    CHECK(TS_NOT_YET, ts_archive(h, 500, &info));
+    HOLDS(info.a == 401);
+    CHECK(TS_OK, ts_archive(h, 400, &info));
+    CHECK(TS_JOB_BUSY, ts_archive(h, 401, &info));
+    CHECK(TS_OK, ts_file_job(file));
+    CHECK(TS_NOTHING_TO_DO, ts_archive(h, 400, &info));
+    HOLDS(now_has(h, 7, 150, "a"));
+}
+
+int main(int argc, char **argv) {
+    ts_file *file, *second;
+    ts_info info;
+    if (argc != 2) return 2;
+    test_closed();
+    CHECK(TS_BAD_SLOTS, ts_file_format(argv[1], 15));
+    CHECK(TS_OK, ts_file_format(argv[1], 1024));
+    CHECK(TS_OCCUPIED, ts_file_format(argv[1], 1024));
+    CHECK(TS_OK, ts_file_open(argv[1], &file, &info));
+    CHECK(TS_LOCKED, ts_file_open(argv[1], &second, &info));
+    test_tour(file);
+    test_pending(file);
+    test_conflict(file);
+    test_refusals(file);
+    test_rows(file);
+    test_archive(file);
+    ts_file_close(file);
+    CHECK(TS_OK, ts_file_open(argv[1], &file, &info));
+    HOLDS(info.a == 401);
+    HOLDS(now_has(ts_file_store(file), 7, 150, "a") && now_has(ts_file_store(file), 7, 401, "d"));
+    ts_file_close(file);
+    return 0;
+}
