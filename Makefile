@@ -75,6 +75,6 @@ install:
 library-test:
 	$(MAKE) -C library test
 
-# FOLDER=DIR measures the file system of DIR.
+# FOLDER="DIR DIR" measures the file systems of these.
 library-bench:
-	$(MAKE) -C library bench $(if $(FOLDER),FOLDER=$(FOLDER))
+	$(MAKE) -C library bench $(if $(FOLDER),FOLDER="$(FOLDER)")

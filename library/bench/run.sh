@@ -1,13 +1,13 @@
 #!/usr/bin/env bash
 # Times the library that stands in a folder: run.sh OUT [FOLDER..]; each FOLDER's file system in turn, /dev/shm
-# and the one of TMPDIR where none is named. Where the program is built, or named by PROGRAM, its script is timed too.
+# and the one of TMPDIR where none is named. Where the program is built, or named by TIMESTORE_PROGRAM, its script is timed too.
 set -eu
 here=$(cd "$(dirname "$0")" && pwd)
 top=$(dirname "$here")
 out=$(cd "$1" && pwd)
 shift
 [ $# -gt 0 ] || set -- /dev/shm "${TMPDIR:-/tmp}"
-program=${PROGRAM:-$top/../crates/timestore/out/timestore}
+program=${TIMESTORE_PROGRAM:-$top/../crates/timestore/out/timestore}
 work=$(mktemp -d)
 trap 'rm -rf "$work" "${place:-$work}"' EXIT
 gcc -std=c11 -O2 -Wall -Wextra -I"$top/include" "$here/bench.c" -o "$work/bench" "$out/libtimestore.a"

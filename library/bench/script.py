@@ -34,7 +34,9 @@ def main(program: str, folder: Path, commits: int, queries: int) -> None:
     groups = commits // 4
     took = run(program, folder, (group(number) for number in range(groups)))
     print(f"{'script: commits a second, 16 under one gate':58} {16 * groups / took:12.0f} /s", flush=True)
-    took = run(program, folder, (f"at 1 {number % 200} 1\n" for number in range(queries)))
+    # each commit came a microsecond after the one before
+    last = commits + 16 * groups
+    took = run(program, folder, (f"at 1 {number % 200} {last}\n" for number in range(queries)))
     print(f"{'script: point queries a second':58} {queries / took:12.0f} /s", flush=True)
 
 

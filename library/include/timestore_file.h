@@ -36,7 +36,8 @@ int32_t ts_file_job_pump(ts_file *file, ts_info *info);
 int32_t ts_file_flush(ts_file *file);
 int32_t ts_file_job(ts_file *file);
 
-/* A commit with its tickets redeemed: submits, flushes and redeems; a: its time. */
+/* Submits, flushes and redeems: TS_OK, a: the time of the commit; TS_IN_DOUBT where the device failed on the
+   way; TS_WAITING where memory was refused there, a: the ticket. */
 int32_t ts_file_commit(ts_file *file, uint64_t txn, uint64_t label, uint64_t now, ts_info *info);
 
 /* For tests: of the device calls from now on the one of this number, from 1, is refused; 0 for none. */

@@ -34,7 +34,7 @@ static int32_t open_all(const char *folder, int flags, int *fd) {
     if (dir < 0) return TS_SYSTEM;
     for (int area = 0; area < AREAS && code == TS_OK; area++) {
         fd[area] = openat(dir, NAMES[area], O_RDWR | O_CLOEXEC | flags, 0666);
-        if (fd[area] < 0) code = TS_SYSTEM;
+        if (fd[area] < 0) code = errno == ENOENT ? TS_NOT_A_STORE : TS_SYSTEM;
         else if (area == TS_STATUS && flock(fd[area], LOCK_EX | LOCK_NB))
             code = errno == EWOULDBLOCK ? TS_LOCKED : TS_SYSTEM;
     }
@@ -197,7 +197,6 @@ int32_t ts_file_commit(ts_file *file, uint64_t txn, uint64_t label, uint64_t now
     int32_t code = ts_submit(&file->store, txn, label, now, info);
     if (code != TS_OK) return code;
     uint64_t ticket = info->a;
-    int32_t flushed = ts_file_flush(file);
-    code = ts_redeem(&file->store, ticket, info);
-    return code == TS_WAITING && flushed < 0 ? flushed : code;
+    ts_file_flush(file); /* where it is refused, the ticket says what became of the commit */
+    return ts_redeem(&file->store, ticket, info);
 }

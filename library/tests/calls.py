@@ -86,7 +86,8 @@ def main() -> None:
     refuses(timestore.System, timestore.make, folder)
     folder.mkdir()
     refuses(timestore.BadSlots, timestore.make, folder, 15)
-    refuses(timestore.System, timestore.Store, folder)
+    refuses(timestore.NotAStore, timestore.Store, folder)
+    refuses(timestore.System, timestore.Store, folder / "none")
     timestore.make(folder)
     refuses(timestore.Occupied, timestore.make, folder)
     with timestore.Store(folder) as store:

@@ -1,6 +1,7 @@
 -- What the calls of an engine do to its store.
-use Rattle.std.specs.Prelude.{◌≡◌, ◌≤◌, ◌⊎◌, ◌==◌, ℕ, Bool, true, false, List, length, take, Result, Ok, Option, Some, None, MatchBool, MatchOption, IfSome}
+use Rattle.std.specs.Prelude.{◌≡◌, ◌≤◌, ◌⊎◌, ◌==◌, ℕ, Bool, true, false, List, length, take, Result, Ok, Err, Option, Some, None, MatchBool, MatchOption, IfSome}
 use Rattle.disk.specs.Calls.{fresh_on}
+use Rattle.chains.specs.Writes.{Value}
 use Rattle.group.specs.Tickets.{TicketValue}
 use Rattle.group.specs.declared.answers.BeginFault.{BeginFault}
 use Rattle.group.specs.declared.answers.Did.{Did}
@@ -8,15 +9,18 @@ use Rattle.group.specs.declared.answers.PumpFault.{PumpFault}
 use Rattle.group.specs.declared.answers.Redeemed.{Redeemed}
 use Rattle.group.specs.declared.answers.Submitted.{Submitted}
 use Rattle.group.specs.declared.answers.SubmitFault.{SubmitFault}
+use Rattle.history.specs.declared.key.Key.{Key}
 use Rattle.snapshot.specs.Txn.{TxnValue}
 use Rattle.store.specs.Archives.{StartsArchive}
-use Rattle.store.specs.Calls.{Begins, Aborts, Submits, Redeems, IsTimesOf, IsViewOf, last, floor}
+use Rattle.store.specs.Calls.{Begins, Aborts, Submits, Redeems, IsTimesOf, IsViewOf, AnswersAtView, last, floor}
 use Rattle.store.specs.Jobs.{PumpsJob}
 use Rattle.store.specs.Opens.{Opens}
 use Rattle.store.specs.Pumps.{Pumps}
 use Rattle.store.specs.Values.{StoreValue}
 use Rattle.store.specs.declared.job.JobDid.{JobDid}
 use Rattle.store.specs.declared.job.StartFault.{StartFault}
+use Rattle.timequery.specs.View.{ViewValue}
+use Rattle.timequery.specs.declared.fault.QueryFault.{QueryFault}
 use Rattle.embedded.specs.declared.code.Code.{Code}
 use Rattle.embedded.specs.declared.code.Code.TheVariants as code
 use Rattle.embedded.specs.declared.code.Info.{Info}
@@ -107,6 +111,20 @@ ArchivesEngine upto old new = WhileSettled old new ((answer : Result (Unit {0}) 
 -- the times of the commits with a label, where they were asked for and there was room for them
 abbrev pub TellsLabels : ℕ → Engine → Code → ℕ → List ℕ → Type 0
 TellsLabels label e result count times = result ≡ code.Ok → IsTimesOf e.store label (take count times) × (count ≤ length times)
+
+-- the code of a value that was asked for
+abbrev pub IsValueCode : Result (Option Value) QueryFault → Code → Type 0
+IsValueCode (Ok None) said = said ≡ code.None
+IsValueCode (Ok (Some value)) said = (said ≡ code.Ok) ⊎ (said ≡ code.Small)
+IsValueCode (Err why) said = Unit {0}
+
+-- what one of its views is answered at a time, or it has no such view
+abbrev pub AsksAt : Key → ℕ → Engine → Code → Type 0
+AsksAt key time e said = (said ≡ code.Unknown) ⊎ ((view : ViewValue) × (answer : Result (Option Value) QueryFault) × AnswersAtView e.store view key time answer × IsValueCode answer said)
+
+-- after a refused call a commit is done only if it was published before
+abbrev pub IsDoneBefore : Engine → Code → ℕ → Type 0
+IsDoneBefore e said time = said ≡ code.Ok → IfSome e.before (λ p. time ≤ p.last)
 
 -- what a call of a handle does to its engine; a handle with none stays so
 abbrev pub OnHandle : (Engine → Engine → Type 0) → Option Engine → Option Engine → Type 0

@@ -154,8 +154,9 @@ impl Engine {
                 call.kind = 1;
                 call.area = area_number(area);
                 call.at = at;
-                call.len = disk.bytes().len() as u64;
-                copy_bytes(disk.bytes(), out)
+                let bytes = disk.bytes();
+                call.len = bytes.len() as u64;
+                copy_bytes(bytes, out)
             }
         }
     }

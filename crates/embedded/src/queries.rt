@@ -24,7 +24,7 @@ fn view_of<'a>(places: &'a Places, before: &'a Option<Published>, number: u64) -
 
 impl Engine {
     ghost use Rattle.std.specs.Prelude.{◌≡◌};
-    ghost use Rattle.embedded.specs.Engines.{KeepsStore, TellsLabels};
+    ghost use Rattle.embedded.specs.Engines.{KeepsStore, TellsLabels, AsksAt};
 
     /// A view of what is published now, or was before a call was refused; its number is told.
     pub fn view(&mut self, info: &mut Info) -> Code
@@ -61,7 +61,8 @@ impl Engine {
 
     /// The value of a key at a time, and its length.
     pub fn at(&mut self, view: u64, key: Key, time: u64, out: &mut [u8], info: &mut Info) -> Code
-        ensures { self.new ≡ self.old }
+        ensures same { self.new ≡ self.old }
+        ensures is { AsksAt key time self.old result }
     {
         let Some(view) = view_of(&self.places, &self.before, view) else {
             return Code::Unknown;

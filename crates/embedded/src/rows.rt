@@ -1,4 +1,7 @@
 //! Values and rows, copied out.
+ghost use Rattle.std.specs.Prelude.{◌≡◌, ◌⊎◌};
+ghost use Rattle.embedded.specs.declared.code.Code.{Code};
+
 use crate::code::{Code, Info, Row};
 use crate::values::{copy_out, length_of};
 use chains::SharedValue;
@@ -6,7 +9,9 @@ use history::Version;
 use wire::Value;
 
 /// Copies a value out; its length is told.
-pub fn copied(value: &Value, out: &mut [u8], info: &mut Info) -> Code {
+pub fn copied(value: &Value, out: &mut [u8], info: &mut Info) -> Code
+    ensures { (result ≡ Code.Ok) ⊎ (result ≡ Code.Small) }
+{
     info.a = length_of(value) as u64;
     match copy_out(value, out) {
         None => Code::Small,

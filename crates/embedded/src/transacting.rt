@@ -10,7 +10,8 @@ use history::Key;
 use snapshot::Txn;
 
 impl Engine {
-    ghost use Rattle.embedded.specs.Engines.{BeginsEngine, SubmitsEngine, RedeemsEngine, ShowsTicket, PumpsEngine, MayAbort, KeepsStore};
+    ghost use Rattle.std.specs.Prelude.{◌≤◌, IsTrue, IfSome};
+    ghost use Rattle.embedded.specs.Engines.{BeginsEngine, SubmitsEngine, AbortsEngine, RedeemsEngine, ShowsTicket, IsDoneBefore, PumpsEngine, MayAbort, KeepsStore};
 
     /// A transaction on what is published now; its number and the time of its snapshot are told.
     pub fn begin(&mut self, info: &mut Info) -> Code
@@ -38,8 +39,7 @@ impl Engine {
                 Code::Ok
             }
             Err(Held::Transaction(txn)) => {
-                let _writes = txn.writes().len();
-                self.store.abort(txn);
+                self.end_transaction(txn);
                 Code::NoMemory
             }
             Err(held) => {
@@ -47,6 +47,14 @@ impl Engine {
                 Code::NoMemory
             }
         }
+    }
+
+    // Gives a transaction up.
+    fn end_transaction(&mut self, txn: Txn)
+        ensures { AbortsEngine self.old self.new }
+    {
+        let _writes = txn.writes().len();
+        self.store.abort(txn);
     }
 
     /// Writes a value in a transaction.
@@ -145,8 +153,7 @@ impl Engine {
         match self.places.take_transaction(transaction) {
             None => Code::Unknown,
             Some(txn) => {
-                let _writes = txn.writes().len();
-                self.store.abort(txn);
+                self.end_transaction(txn);
                 Code::Ok
             }
         }
@@ -176,7 +183,8 @@ impl Engine {
 
     /// What became of a ticket; the time of its commit is told.
     pub fn redeem(&mut self, ticket: u64, info: &mut Info) -> Code
-        ensures { RedeemsEngine self.old self.new }
+        ensures is { RedeemsEngine self.old self.new }
+        ensures done { IsDoneBefore self.old result info.new.a }
     {
         if self.standing == Standing::Asks {
             return Code::Pending;
@@ -189,7 +197,8 @@ impl Engine {
 
     // The new number of a ticket that waits is told.
     fn redeemed(&mut self, ticket: Ticket, info: &mut Info) -> Code
-        ensures { ShowsTicket self.old self.new }
+        ensures is { ShowsTicket self.old self.new }
+        ensures done { IsDoneBefore self.old result info.new.a }
     {
         match self.store.redeem(ticket) {
             Redeemed::Done(time) => {
@@ -215,7 +224,9 @@ impl Engine {
     }
 
     // Whether a commit of this time was published before a device call was refused.
-    pub(crate) fn was_published(&self, time: u64) -> bool {
+    pub(crate) fn was_published(&self, time: u64) -> bool
+        ensures { IsTrue result → IfSome self.now.before (λ p. time ≤ p.last) }
+    {
         match &self.before {
             None => true,
             Some(published) => time <= published.last,

@@ -8,9 +8,9 @@ loop-i-preserved c =
     let among : c.loop-i.i < length c.args.block.now = omega arith in (
       length-set c.loop-i.pairs c.loop-i.i c.digit_pair.result ∙ c.loop-i.invariant.0,
       take_more_set c.loop-i.pairs c.loop-i.i c.digit_pair.result (omega (arith, c.loop-i.invariant.0))
-      ∙ ap (λ (t : List (List ℕ)). t ++ c.digit_pair.result ∷ []) c.loop-i.invariant.1
-      ∙ ap (λ (t : List ℕ). map pair_text (take c.loop-i.i c.args.block.now) ++ t ∷ []) c.digit_pair.ensures
-      ∙ sym (map_more pair_text c.args.block.now c.loop-i.i 0 among),
+          ∙ ap (λ (t : List (List ℕ)). t ++ c.digit_pair.result ∷ []) c.loop-i.invariant.1
+          ∙ ap (λ (t : List ℕ). map pair_text (take c.loop-i.i c.args.block.now) ++ t ∷ []) c.digit_pair.ensures
+          ∙ sym (map_more pair_text c.args.block.now c.loop-i.i 0 among),
     )
 
 pub returns : goal.returns

@@ -1,8 +1,7 @@
-use Rattle.std.proofs.Common.{ap, sym, ◌≡◌, ◌∙◌, ◌++◌, take, drop, length, List, ℕ, map, rules, arith}
+use Rattle.std.proofs.Common.{ap, sym, ◌≡◌, ◌∙◌, take, length, List, ℕ, rules, arith}
 use Rattle.std.specs.List.{flat_map}
 use Rattle.std.proofs.lemmas.Bool.Decides.{nat_tests}
 use Rattle.hex.specs.Hex.{encode_lower}
-use Rattle.session.specs.Digits.{pair_text}
 use Rattle.session.proofs.HexLemmas.{encode-none, front-encode}
 use Rattle.session.proofs.digits.spell_rest.Goals as goal
 
@@ -13,7 +12,7 @@ pub returns : goal.returns
 returns c =
     let bytes : List ℕ = c.args.bytes.now in
     let spelled : c.as_flattened.result.now ≡ encode_lower bytes =
-        c.as_flattened.ensures.value
-        ∙ ap (λ (l : List (List ℕ)). flat_map (λ (pair : List ℕ). pair) (take (length bytes) l)) c.digit_pairs-pairs.ensures
-        ∙ front-encode bytes c.copy_from_slice.new.self _ c.copy_from_slice.ensures.after in
+    c.as_flattened.ensures.value
+    ∙ ap (λ (l : List (List ℕ)). flat_map (λ (pair : List ℕ). pair) (take (length bytes) l)) c.digit_pairs-pairs.ensures
+    ∙ front-encode bytes c.copy_from_slice.new.self _ c.copy_from_slice.ensures.after in
     rw (sym spelled) (search rules)
