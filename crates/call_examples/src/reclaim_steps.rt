@@ -1,11 +1,13 @@
 //! Reclaims of a store, call by call.
-use crate::published::SEVEN;
+use crate::published::{SEVEN, is_value};
+use chains::SharedValue;
 use disk::{Area, Disk, MemDisk};
+use history::Version;
 use recovery::format;
 use std::alloc::Global;
 use std::process::Abort;
 use std::test::Fail;
-use store::{Did, JobDid, StartFault, Store, Submitted};
+use store::{Did, JobDid, QueryFault, StartFault, Store, Submitted, View};
 
 /// The first bytes of slot 5 once it names a reclaim up to 120 that left no anchors.
 const NO_ANCHORS: [u8; 28] = [
@@ -189,6 +191,108 @@ fn a_transaction_below_the_mark_bars_a_reclaim(rt: HostRuntime) -> Result<(), Fa
     assert_eq!(rt; store.reclaim_start(), Err(StartFault::InUse(110)));
     store.abort(reads);
     assert_eq!(rt; store.reclaim_start(), Ok(()));
+    let _disk = store.close();
+    Ok(())
+}
+
+fn view_of(rt: &impl Abort, store: &Store<MemDisk>) -> View {
+    match store.view() {
+        Ok(view) => view,
+        Err(fault) => panic!(rt; "{fault:?}"),
+    }
+}
+
+/// Whether the value at a time is this field alone, or none.
+fn reads(store: &mut Store<MemDisk>, view: &View, time: u64, field: Option<&[u8]>) -> bool {
+    match store.at(view, SEVEN, time) {
+        Ok(Some(value)) => match field {
+            Some(field) => is_value(Some(&value), field),
+            None => false,
+        },
+        Ok(None) => field.is_none(),
+        Err(_) => false,
+    }
+}
+
+fn is_row(row: &Version<SharedValue>, from: u64, to: u64, field: &[u8]) -> bool {
+    row.from == from && row.to == to && is_value(Some(&row.value), field)
+}
+
+/// The archive up to 120 is made, and the heap and memory give up what it has.
+fn archive_and_reclaim(rt: &impl Abort, store: &mut Store<MemDisk>) {
+    archive(rt, store, 120, 1);
+    assert_eq!(rt; store.reclaim_start(), Ok(()));
+    take_steps(rt, store, &[JobDid::HeapSynced]);
+    take_steps(rt, store, &SLOT_STEPS);
+}
+
+#[test]
+fn views_answer_from_the_archive_below_the_reclaim_mark(rt: HostRuntime) -> Result<(), Fail> {
+    let alloc = rt.alloc();
+    let mut store = four_commits(&rt, alloc)?;
+    let before = view_of(&rt, &store);
+    archive_and_reclaim(&rt, &mut store);
+    let after = view_of(&rt, &store);
+    for view in [&before, &after] {
+        assert!(&rt; reads(&mut store, view, 99, None));
+        assert!(&rt; reads(&mut store, view, 100, Some(b"a")));
+        assert!(&rt; reads(&mut store, view, 119, Some(b"b")));
+        assert!(&rt; reads(&mut store, view, 120, None));
+        assert!(&rt; reads(&mut store, view, 130, Some(b"c")));
+        assert!(&rt; matches!(store.at(view, SEVEN, 131), Err(QueryFault::NotYet(130))));
+    }
+    // Memory alone has what stood from the mark on; the view from before has all.
+    assert!(&rt; matches!(after.recent(SEVEN, 119), Err(QueryFault::NeedsDisk)));
+    assert!(&rt; matches!(after.recent(SEVEN, 120), Ok(None)));
+    assert!(&rt; matches!(before.recent(SEVEN, 119), Ok(Some(_))));
+    store.end(before);
+    store.end(after);
+    let _disk = store.close();
+    Ok(())
+}
+
+#[test]
+fn a_version_in_both_homes_is_shown_once(rt: HostRuntime) -> Result<(), Fail> {
+    let alloc = rt.alloc();
+    let mut store = four_commits(&rt, alloc)?;
+    archive_and_reclaim(&rt, &mut store);
+    // d ends c, which a second run then has as well as memory.
+    queue(&rt, alloc, &mut store, Some(b"d"), 140);
+    pump_to(&rt, &mut store, Did::Idle);
+    archive(&rt, &mut store, 140, 1);
+    let view = view_of(&rt, &store);
+    let Ok(rows) = store.between(&view, SEVEN, 105, 141) else {
+        store.end(view);
+        let _disk = store.close();
+        return Err(Fail::from("refused"));
+    };
+    store.end(view);
+    assert_eq!(&rt; rows.len(), 4);
+    assert!(&rt; is_row(&rows[0], 105, 110, b"a"));
+    assert!(&rt; is_row(&rows[1], 110, 120, b"b"));
+    assert!(&rt; is_row(&rows[2], 130, 140, b"c"));
+    assert!(&rt; is_row(&rows[3], 140, 141, b"d"));
+    let _disk = store.close();
+    Ok(())
+}
+
+#[test]
+fn a_view_of_other_runs_is_a_strangers(rt: HostRuntime) -> Result<(), Fail> {
+    let alloc = rt.alloc();
+    let mut store = four_commits(&rt, alloc)?;
+    let mut other = match four_commits(&rt, alloc) {
+        Ok(other) => other,
+        Err(fail) => {
+            let _disk = store.close();
+            return Err(fail);
+        }
+    };
+    archive(&rt, &mut other, 120, 1);
+    let view = view_of(&rt, &other);
+    assert!(&rt; matches!(store.at(&view, SEVEN, 130), Err(QueryFault::Stranger)));
+    assert!(&rt; reads(&mut other, &view, 130, Some(b"c")));
+    other.end(view);
+    let _disk = other.close();
     let _disk = store.close();
     Ok(())
 }

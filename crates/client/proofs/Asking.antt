@@ -1,5 +1,5 @@
 -- What a view answered.
-use Rattle.std.proofs.Common.{◌≡◌, ◌≤◌, ℕ, Bool, true, false, cond, nat_lt, Option, Some, None, Result, Ok, Err, refl, arith}
+use Rattle.std.proofs.Common.{◌≡◌, ◌≤◌, ℕ, Bool, true, false, cond, nat_lt, Option, Some, None, Result, Ok, Err, refl, arith, inl}
 use Rattle.std.proofs.lemmas.Bool.Decides.{nat_tests}
 use Rattle.history.specs.declared.key.Key.{Key}
 use Rattle.history.specs.Answers as answers
@@ -7,16 +7,18 @@ use Rattle.history.specs.Answers.{QueryRefusal, at_answer}
 use Rattle.history.specs.Histories.{History, last, state}
 use Rattle.image.specs.Values.{Value}
 use Rattle.run.specs.Traces.{machine_at}
+use Rattle.standing.specs.Homes.{IsSure}
 use Rattle.client.specs.Public.{Public}
 use Rattle.client.specs.Views.{ViewAnswersAgain, AnsweredIsSettled}
 use Rattle.client.proofs.Reading.{says-value}
 use Rattle.client.proofs.Settling.{value-on}
 
 pub view-again : Public → ViewAnswersAgain
-view-again public tells t i k l key time value said first second =
+view-again public tells t i k l key time value said told first second =
     let was = public.views tells t i k key time (Ok value) first in
     let is = public.views tells t i l key time said second in
-    says-value value (at_answer (machine_at t i).published (machine_at t i).floors key time) said was.2 is.2
+    let by = is.2 in
+    says-value (IsSure tells by.0 time) (inl told) value (at_answer (machine_at t i).published (machine_at t i).floors key time) said (was.2.2 (inl told)) by.2
 
 -- a time that is answered is published, and its answer is the state
 answered-time : (h : History Value) (floors : ℕ → ℕ) (key : Key) (time : ℕ) (value : Option Value) → at_answer h floors key time ≡ Ok value → (time ≤ last h) × (state h time key ≡ value)
@@ -38,7 +40,7 @@ answered-time h floors key time value =
     ok-is found is = cc
 
 pub answered-settled : Public → AnsweredIsSettled
-answered-settled public tells t i k n key time value asked low kept =
+answered-settled public tells t i k n key time value told asked low kept =
     let was = public.views tells t i k key time (Ok value) asked in
-    let at = answered-time (machine_at t i).published (machine_at t i).floors key time value was.2 in
+    let at = answered-time (machine_at t i).published (machine_at t i).floors key time value (was.2.2 (inl told)) in
     value-on public t i n key time value (omega (arith, was.0, low)) at.0 at.1 kept

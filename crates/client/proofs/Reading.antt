@@ -17,6 +17,7 @@ use Rattle.history.proofs.Orders.{not_lt}
 use Rattle.image.specs.Values.{Value, IsValue}
 use Rattle.timequery.specs.declared.fault.QueryFault.{QueryFault}
 use Rattle.timequery.specs.declared.fault.QueryFault.TheVariants as query
+use Rattle.standing.specs.Homes.{IsSure}
 use Rattle.standing.specs.Laws.{SaysAt}
 use Rattle.run.specs.Moments.{Moment}
 use Rattle.run.specs.Promise.{IsKeptAs, IsKeptWith, Survives}
@@ -32,17 +33,17 @@ last-later t (x ∷ xs) up = omega (arith, up.0, last-later x.time xs up.2)
 pub last-on : (h more : History Value) → MayAllFollow IsValue h more → last h ≤ last (h ++ more)
 last-on h more follow = omega (arith, last_after-append 0 h more, last-later (last h) more (rising-from_following IsValue h more follow))
 
--- an answer that says a value is this value
-pub says-value : (value : Option Value) (said : Result (Option Value) QueryRefusal) (answer : Result (Option Value) QueryFault) → said ≡ Ok value → SaysAt said answer → IsAnswer value answer
-says-value value said (Ok found) is says = let same : Path (Result (Option Value) QueryRefusal) (Ok found) (Ok value) = sym says ∙ is in inl cc
-says-value value said (Err (query.BeforeKept floor)) is says = absurd (let no : Path (Result (Option Value) QueryRefusal) (Ok value) (Err (answers.BeforeKept floor)) = sym is ∙ says in cc)
-says-value value said (Err (query.NotYet time)) is says = absurd (let no : Path (Result (Option Value) QueryRefusal) (Ok value) (Err (answers.NotYet time)) = sym is ∙ says in cc)
-says-value value said (Err query.NoMemory) is says = inr refl
-says-value value said (Err query.EmptyInterval) is says = absurd says
-says-value value said (Err query.Device) is says = absurd says
-says-value value said (Err (query.Damaged start)) is says = absurd says
-says-value value said (Err query.NeedsDisk) is says = absurd says
-says-value value said (Err query.Stranger) is says = absurd says
+-- an answer that says a value for sure is this value
+pub says-value : (Sure : Type 0) → Sure → (value : Option Value) (said : Result (Option Value) QueryRefusal) (answer : Result (Option Value) QueryFault) → said ≡ Ok value → SaysAt Sure said answer → IsAnswer value answer
+says-value Sure sure value said (Ok found) is says = let same : Path (Result (Option Value) QueryRefusal) (Ok found) (Ok value) = sym (says sure) ∙ is in inl cc
+says-value Sure sure value said (Err (query.BeforeKept floor)) is says = absurd (let no : Path (Result (Option Value) QueryRefusal) (Ok value) (Err (answers.BeforeKept floor)) = sym is ∙ says in cc)
+says-value Sure sure value said (Err (query.NotYet time)) is says = absurd (let no : Path (Result (Option Value) QueryRefusal) (Ok value) (Err (answers.NotYet time)) = sym is ∙ says in cc)
+says-value Sure sure value said (Err query.NoMemory) is says = inr (inl refl)
+says-value Sure sure value said (Err query.Device) is says = inr (inr refl)
+says-value Sure sure value said (Err query.EmptyInterval) is says = absurd says
+says-value Sure sure value said (Err (query.Damaged start)) is says = absurd (says.0 sure)
+says-value Sure sure value said (Err query.NeedsDisk) is says = absurd says
+says-value Sure sure value said (Err query.Stranger) is says = absurd says
 
 -- a kept time up to the last is answered by the state
 answered : (h : History Value) (floors : ℕ → ℕ) (key : Key) (time : ℕ) (value : Option Value) → IsSettled (opened h floors) key time value → at_answer h floors key time ≡ Ok value
@@ -52,8 +53,8 @@ answered h floors key time value settled = rw (not_lt settled.kept.0) (rw (not_l
 pub kept-read : (tells : Bool) (image : Image) (h : History Value) (floors : ℕ → ℕ) (key : Key) (time : ℕ) (value : Option Value) → IsKeptAs tells image h floors → IsSettled (opened h floors) key time value → IsReadBack tells image key time value
 kept-read tells image h floors key time value kept settled = record {
   opens = λ disk new why same refuses. (kept.opens disk new why same refuses).0;
-  reads = λ disk mark again asked view answer same sound opens of_view marks says.
-      says-value value (at_answer h floors key time) answer (answered h floors key time value settled) ((kept.answers disk mark again same sound opens).1.at view asked key time answer of_view marks says);
+  reads = λ disk mark again asked new later view answer told same sound opens of_view stands goes says.
+      says-value (IsSure tells view.reclaimed time) (inl told) value (at_answer h floors key time) answer (answered h floors key time value settled) ((kept.answers disk mark again same sound opens).1.at view asked new later key time answer of_view stands goes says);
 }
 
 -- ---- fronts

@@ -17,6 +17,8 @@ use Rattle.timequery.specs.declared.fault.QueryFault.{QueryFault}
 use Rattle.timequery.specs.declared.fault.QueryFault.TheVariants as query
 use Rattle.store.specs.Values.{StoreValue}
 use Rattle.store.specs.Calls.{IsViewOf, AnswersAtView}
+use Rattle.standing.specs.Homes.{GoesOn}
+use Rattle.standing.specs.Stands.{Stands}
 use Rattle.store.specs.Opens.{Opens, OpenRefuses}
 use Rattle.run.specs.declared.calls.Call.{Call}
 use Rattle.run.specs.declared.calls.Call.TheVariants as call
@@ -29,15 +31,15 @@ use Rattle.run.specs.Traces.{Trace, moment_at, machine_at, StopLeaves, IsCall, p
 
 -- ---- reading
 
--- a query is answered by this value, or memory gave out
+-- a query is answered by this value, or memory or the device gave out
 abbrev pub IsAnswer : Option Value → Result (Option Value) QueryFault → Type 0
-IsAnswer value answer = (answer ≡ Ok value) ⊎ (answer ≡ Err query.NoMemory)
+IsAnswer value answer = (answer ≡ Ok value) ⊎ ((answer ≡ Err query.NoMemory) ⊎ (answer ≡ Err query.Device))
 
 -- Whoever opens a store on this image reads this value of the key at this time, unless the device or memory gives out.
 pub record IsReadBack (tells : Bool) (image : Image) (key : Key) (time : ℕ) (value : Option Value) : Type 0 where
   pub opens : (disk new : DiskState) (why : OpenFault) → image_of disk.areas ≡ image → OpenRefuses tells disk why new → IsReadFault why
-  pub reads : (disk : DiskState) (mark : ℕ) (again asked : StoreValue) (view : ViewValue) (answer : Result (Option Value) QueryFault)
-      → image_of disk.areas ≡ image → AreSound disk.areas → Opens tells disk mark again → IsViewOf again view → asked.transactions.mark ≡ again.transactions.mark → AnswersAtView asked view key time answer → IsAnswer value answer
+  pub reads : (disk : DiskState) (mark : ℕ) (again asked new : StoreValue) (later : Machine Value) (view : ViewValue) (answer : Result (Option Value) QueryFault) → IsTrue tells
+      → image_of disk.areas ≡ image → AreSound disk.areas → Opens tells disk mark again → IsViewOf again view → Stands tells asked later → GoesOn tells again asked → AnswersAtView tells asked view key time answer new → IsAnswer value answer
 
 -- ---- times
 

@@ -13,7 +13,7 @@ use Rattle.run.specs.Promise.{IsKeptAs}
 
 -- a store stands for a history, and answers by it
 abbrev pub IsOf : Bool → History Value → (ℕ → ℕ) → StoreValue → Type 0
-IsOf tells h floors v = Stands tells v (opened h floors) × AnswersBy v h floors
+IsOf tells h floors v = Stands tells v (opened h floors) × AnswersBy tells v h floors
 
 -- Reopening twice is reopening once: a store that is opened on an image which is kept as a history answers by it, and whatever a stop then leaves, before any other call, is kept as the same history.
 abbrev pub ReopeningIsOnce : Type 0

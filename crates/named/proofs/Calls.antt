@@ -95,10 +95,10 @@ submitted tells old new txn label now answer submits behind =
 begins_run : (tells : Bool) (old new : StoreValue) (upto : ℕ) (answer : Result (Unit {0}) StartFault) → BeginsRun old upto answer new → WritesBehind old → LeavesNamed tells old new × WritesBehind new
 begins_run tells old new upto (Ok done) is behind = (
   disk_stays tells old new
-      (named_by old new (kept_same old.transactions.usages new.transactions.usages (ap (λ (v : StoreValue). v.transactions.usages) is.2))
-      (omega (arith, ap (λ (v : StoreValue). v.log.used) is.2)) (omega (arith, ap (λ (v : StoreValue). v.runs_end) is.2)))
-      (ap (λ (v : StoreValue). v.disk) is.2),
-  behind_by new (with_archive old upto).job old.runs_end (ap (λ (v : StoreValue). v.job) is.2) (ap (λ (v : StoreValue). v.runs_end) is.2) (omega arith, omega arith),
+      (named_by old new (kept_same old.transactions.usages new.transactions.usages (ap (λ (v : StoreValue). v.transactions.usages) is.2.new_is))
+      (omega (arith, ap (λ (v : StoreValue). v.log.used) is.2.new_is)) (omega (arith, ap (λ (v : StoreValue). v.runs_end) is.2.new_is)))
+      (ap (λ (v : StoreValue). v.disk) is.2.new_is),
+  behind_by new (with_archive old upto is.2.entry).job old.runs_end (ap (λ (v : StoreValue). v.job) is.2.new_is) (ap (λ (v : StoreValue). v.runs_end) is.2.new_is) (omega arith, omega arith),
 )
 begins_run tells old new upto (Err why) is behind = (leaves_itself tells old new is.1, behind_by new old.job old.runs_end (ap (λ (v : StoreValue). v.job) is.1) (ap (λ (v : StoreValue). v.runs_end) is.1) behind)
 

@@ -39,7 +39,7 @@ record Ends (tells : Bool) (v new : StoreValue) : Type 0 where
   job : KeepsJob v new
 
 keeps_job : (v new : StoreValue) → new ≡ v → KeepsJob v new
-keeps_job v new same = record { job = ap (λ (s : StoreValue). s.job) same; archived = ap (λ (s : StoreValue). s.archived) same; runs_end = ap (λ (s : StoreValue). s.runs_end) same }
+keeps_job v new same = record { job = ap (λ (s : StoreValue). s.job) same; archived = ap (λ (s : StoreValue). s.archived) same; runs_end = ap (λ (s : StoreValue). s.runs_end) same; archive = ap (λ (s : StoreValue). s.archive) same }
 
 ends_same : (tells : Bool) (v new : StoreValue) → new ≡ v → Ends tells v new
 ends_same tells v new same = record { leaves = leaves_itself tells v new same; job = keeps_job v new same }
@@ -136,7 +136,7 @@ begins tells v new result false goes (inl short) = ends_same tells v new short.2
 begins tells v new result false goes (inr is) =
     let ends = turns tells (begun v) new _ result (subst (λ (ns : List ℕ). AllByRecursion (IsOut v.transactions.usages) ns) (sym (fresh_numbers v.transactions.reclaimed (v.transactions.group - 1) v.transactions.queue (slice_get v.transactions.queue (v.transactions.group - 1)) refl)) goes.out) goes.sound refl is.turns in record {
       leaves = carried tells v (begun v) new (named_by v (begun v) (λ n kept. kept) (omega arith) (omega arith)) refl ends.leaves;
-      job = record { job = (ends.job).job; archived = (ends.job).archived; runs_end = (ends.job).runs_end };
+      job = record { job = (ends.job).job; archived = (ends.job).archived; runs_end = (ends.job).runs_end; archive = (ends.job).archive };
     }
 
 advances : (tells : Bool) (v new : StoreValue) (result : Result Did PumpFault) (o : Option TurnState) → v.turn ≡ o → Goes tells v → MatchOption o ⊥ (λ t. TurnsSlot tells t v result new) → Ends tells v new
@@ -171,7 +171,7 @@ by_failed tells false v new result works typed is =
     let goes : Goes tells v = record { out = all_front (IsOut v.transactions.usages) (flat_map numbers_of v.transactions.queue) v.transactions.reserved ((typed.order).out).each; turn = turn_number v.turn v.log.used (((typed.in_step).turns works).turn); sound = typed.sound } in
     let ends = takes tells (next_step v.transactions) (started v) new result (goes_started tells v goes) is in record {
       leaves = carried tells v (started v) new (named_by v (started v) (kept_same v.transactions.usages (grouped v.transactions).usages (grouped_usages v.transactions)) (omega arith) (omega arith)) refl ends.leaves;
-      job = record { job = (ends.job).job; archived = (ends.job).archived; runs_end = (ends.job).runs_end };
+      job = record { job = (ends.job).job; archived = (ends.job).archived; runs_end = (ends.job).runs_end; archive = (ends.job).archive };
     }
 
 pub pumped : (tells : Bool) (old new : StoreValue) (answer : Result Did PumpFault) → Pumps tells old answer new → IsTyped tells old → WritesBehind old → LeavesNamed tells old new × WritesBehind new

@@ -36,33 +36,33 @@ done-time t time false false is = absurd cc
 place-done : (w : World) (i time : ℕ) (p : Place) (next : World) → Redeems w i p (told.Done time) next → answers.redeemed_by w.machine time ≡ answers.Done time
 place-done w i time Free next does = absurd does
 place-done w i time (Running snapshot writes) next does = absurd does
-place-done w i time (Views history floors) next does = absurd does
+place-done w i time (Views history floors reclaimed) next does = absurd does
 place-done w i time (Waits t) next does =
     let same : t ≡ time = done-time t time (answers.is_published w.machine t) w.machine.failed does.0 in
     subst (λ (x : ℕ). answers.redeemed_by w.machine x ≡ answers.Done time) same does.0
 
 -- Done is answered of what is published
-call-done : (w : World) (c : Call) (time : ℕ) (next : World) → Does w c (answer.Redeem (told.Done time)) next → answers.redeemed_by w.machine time ≡ answers.Done time
-call-done w (call.Redeem i) time next does = place-done w i time (place_at w.places i) next does
-call-done w call.Begin time next does = absurd does
-call-done w (call.Put i key fields) time next does = absurd does
-call-done w (call.Delete i key) time next does = absurd does
-call-done w (call.Get i key) time next does = absurd does
-call-done w (call.Scan i relation) time next does = absurd does
-call-done w (call.Submit i label now) time next does = absurd does
-call-done w (call.Abort i) time next does = absurd does
-call-done w call.Pump time next does = absurd does
-call-done w (call.GiveUp i) time next does = absurd does
-call-done w call.View time next does = absurd does
-call-done w (call.At i key t) time next does = absurd does
-call-done w (call.ScanAt i relation t) time next does = absurd does
-call-done w (call.Between i key a b) time next does = absurd does
-call-done w (call.ScanBetween i relation a b) time next does = absurd does
-call-done w (call.End i) time next does = absurd does
-call-done w (call.TimesOf label) time next does = absurd does
-call-done w (call.Archive upto) time next does = absurd does
-call-done w call.Reclaim time next does = absurd does
-call-done w call.JobPump time next does = absurd does
+call-done : (tells : Bool) (w : World) (c : Call) (time : ℕ) (next : World) → Does tells w c (answer.Redeem (told.Done time)) next → answers.redeemed_by w.machine time ≡ answers.Done time
+call-done tells w (call.Redeem i) time next does = place-done w i time (place_at w.places i) next does
+call-done tells w call.Begin time next does = absurd does
+call-done tells w (call.Put i key fields) time next does = absurd does
+call-done tells w (call.Delete i key) time next does = absurd does
+call-done tells w (call.Get i key) time next does = absurd does
+call-done tells w (call.Scan i relation) time next does = absurd does
+call-done tells w (call.Submit i label now) time next does = absurd does
+call-done tells w (call.Abort i) time next does = absurd does
+call-done tells w call.Pump time next does = absurd does
+call-done tells w (call.GiveUp i) time next does = absurd does
+call-done tells w call.View time next does = absurd does
+call-done tells w (call.At i key t) time next does = absurd does
+call-done tells w (call.ScanAt i relation t) time next does = absurd does
+call-done tells w (call.Between i key a b) time next does = absurd does
+call-done tells w (call.ScanBetween i relation a b) time next does = absurd does
+call-done tells w (call.End i) time next does = absurd does
+call-done tells w (call.TimesOf label) time next does = absurd does
+call-done tells w (call.Archive upto) time next does = absurd does
+call-done tells w call.Reclaim time next does = absurd does
+call-done tells w call.JobPump time next does = absurd does
 
 -- what is published stays so
 pub follows-have : (w next : World) (times : List ℕ) → Follows w.machine next.machine → AreIn w.machine.published times → AreIn next.machine.published times
@@ -70,34 +70,34 @@ follows-have w next times follows all =
     let more = run-shows IsValue w.machine next.machine follows.0 follows.1 in
     subst (λ (h : History Value). AreIn h times) (sym more.1) (more-have w.machine.published more.0 times all)
 
-with-redeemed : (w : World) (c : Call) (o : RedeemOutcome) (next : World) (times : List ℕ) → Does w c (answer.Redeem o) next → Follows w.machine next.machine → AreIn w.machine.published times → AreIn next.machine.published (with_done o times)
-with-redeemed w c (told.Done time) next times does follows all =
-    let found = (done-published w.machine time).0 (call-done w c time next does) in
+with-redeemed : (tells : Bool) (w : World) (c : Call) (o : RedeemOutcome) (next : World) (times : List ℕ) → Does tells w c (answer.Redeem o) next → Follows w.machine next.machine → AreIn w.machine.published times → AreIn next.machine.published (with_done o times)
+with-redeemed tells w c (told.Done time) next times does follows all =
+    let found = (done-published w.machine time).0 (call-done tells w c time next does) in
     follows-have w next (time ∷ times) follows (found, all)
-with-redeemed w c told.Waiting next times does follows all = follows-have w next times follows all
-with-redeemed w c told.InDoubt next times does follows all = follows-have w next times follows all
-with-redeemed w c told.Stranger next times does follows all = follows-have w next times follows all
+with-redeemed tells w c told.Waiting next times does follows all = follows-have w next times follows all
+with-redeemed tells w c told.InDoubt next times does follows all = follows-have w next times follows all
+with-redeemed tells w c told.Stranger next times does follows all = follows-have w next times follows all
 
 -- so is what a call acknowledges
-pub call-acknowledges : (w : World) (c : Call) (a : Answer) (next : World) (times : List ℕ) → Does w c a next → Follows w.machine next.machine → AreIn w.machine.published times → AreIn next.machine.published (with_answer a times)
-call-acknowledges w c (answer.Redeem o) next times does follows all = with-redeemed w c o next times does follows all
-call-acknowledges w c answer.Unknown next times does follows all = follows-have w next times follows all
-call-acknowledges w c (answer.Begin x) next times does follows all = follows-have w next times follows all
-call-acknowledges w c (answer.Put x) next times does follows all = follows-have w next times follows all
-call-acknowledges w c (answer.Delete x) next times does follows all = follows-have w next times follows all
-call-acknowledges w c (answer.Get x) next times does follows all = follows-have w next times follows all
-call-acknowledges w c (answer.Scan x) next times does follows all = follows-have w next times follows all
-call-acknowledges w c (answer.Submit x) next times does follows all = follows-have w next times follows all
-call-acknowledges w c answer.Abort next times does follows all = follows-have w next times follows all
-call-acknowledges w c (answer.Pump x) next times does follows all = follows-have w next times follows all
-call-acknowledges w c answer.GiveUp next times does follows all = follows-have w next times follows all
-call-acknowledges w c (answer.View x) next times does follows all = follows-have w next times follows all
-call-acknowledges w c (answer.At x) next times does follows all = follows-have w next times follows all
-call-acknowledges w c (answer.ScanAt x) next times does follows all = follows-have w next times follows all
-call-acknowledges w c (answer.Between x) next times does follows all = follows-have w next times follows all
-call-acknowledges w c (answer.ScanBetween x) next times does follows all = follows-have w next times follows all
-call-acknowledges w c answer.End next times does follows all = follows-have w next times follows all
-call-acknowledges w c (answer.TimesOf x) next times does follows all = follows-have w next times follows all
-call-acknowledges w c (answer.Archive x) next times does follows all = follows-have w next times follows all
-call-acknowledges w c (answer.Reclaim x) next times does follows all = follows-have w next times follows all
-call-acknowledges w c (answer.JobPump x) next times does follows all = follows-have w next times follows all
+pub call-acknowledges : (tells : Bool) (w : World) (c : Call) (a : Answer) (next : World) (times : List ℕ) → Does tells w c a next → Follows w.machine next.machine → AreIn w.machine.published times → AreIn next.machine.published (with_answer a times)
+call-acknowledges tells w c (answer.Redeem o) next times does follows all = with-redeemed tells w c o next times does follows all
+call-acknowledges tells w c answer.Unknown next times does follows all = follows-have w next times follows all
+call-acknowledges tells w c (answer.Begin x) next times does follows all = follows-have w next times follows all
+call-acknowledges tells w c (answer.Put x) next times does follows all = follows-have w next times follows all
+call-acknowledges tells w c (answer.Delete x) next times does follows all = follows-have w next times follows all
+call-acknowledges tells w c (answer.Get x) next times does follows all = follows-have w next times follows all
+call-acknowledges tells w c (answer.Scan x) next times does follows all = follows-have w next times follows all
+call-acknowledges tells w c (answer.Submit x) next times does follows all = follows-have w next times follows all
+call-acknowledges tells w c answer.Abort next times does follows all = follows-have w next times follows all
+call-acknowledges tells w c (answer.Pump x) next times does follows all = follows-have w next times follows all
+call-acknowledges tells w c answer.GiveUp next times does follows all = follows-have w next times follows all
+call-acknowledges tells w c (answer.View x) next times does follows all = follows-have w next times follows all
+call-acknowledges tells w c (answer.At x) next times does follows all = follows-have w next times follows all
+call-acknowledges tells w c (answer.ScanAt x) next times does follows all = follows-have w next times follows all
+call-acknowledges tells w c (answer.Between x) next times does follows all = follows-have w next times follows all
+call-acknowledges tells w c (answer.ScanBetween x) next times does follows all = follows-have w next times follows all
+call-acknowledges tells w c answer.End next times does follows all = follows-have w next times follows all
+call-acknowledges tells w c (answer.TimesOf x) next times does follows all = follows-have w next times follows all
+call-acknowledges tells w c (answer.Archive x) next times does follows all = follows-have w next times follows all
+call-acknowledges tells w c (answer.Reclaim x) next times does follows all = follows-have w next times follows all
+call-acknowledges tells w c (answer.JobPump x) next times does follows all = follows-have w next times follows all

@@ -36,8 +36,7 @@ use Rattle.store.specs.declared.job.StartFault.{StartFault}
 use Rattle.store.specs.declared.job.StartFault.TheVariants as start
 use Rattle.standing.specs.Laws.{job_ends_in}
 use Rattle.standing.specs.Stands.{Stands}
-use Rattle.standing.proofs.Archiving.{archive-start-stands}
-use Rattle.standing.proofs.JobPumping.{job-pump-stands}
+use Rattle.standing.proofs.Whole.{archive-start-stands, archive-start-goes, job-pump-stands, job-pump-goes}
 use Rattle.standing.proofs.Memory.{last-is}
 use Rattle.standing.proofs.Reclaiming.{reclaim-start-stands, least-open}
 use Rattle.standing.specs.Standing.{snapshots_of}
@@ -45,11 +44,11 @@ use Rattle.run.specs.declared.calls.Call.TheVariants as call
 use Rattle.run.specs.declared.calls.Answer.TheVariants as answer
 use Rattle.run.specs.declared.held.Held.{Held}
 use Rattle.run.specs.declared.held.Held.TheVariants as held
-use Rattle.run.specs.Places.{Free, ArePlaces}
+use Rattle.run.specs.Places.{Free, ArePlaces, AreRead}
 use Rattle.run.specs.Worlds.{World, IsWorld, moved, same}
 use Rattle.run.specs.Runs.{Does, Goes, Follows, IsStepFault, Archives, Reclaims}
 use Rattle.run.proofs.Runs.{no-step}
-use Rattle.run.proofs.Places.{push_nothing, move, GoesOn, goes_on-same, run-goes_on, stays}
+use Rattle.run.proofs.Places.{reads-move, reads-plain, push_nothing, move, GoesOn, goes_on-same, run-goes_on, stays}
 use Rattle.run.proofs.Pumping.{Leaves, leaves-so, counted-few, pump-keeps, any-fault}
 
 -- what is left alone is left alone by a store that is the same but for its transactions
@@ -65,7 +64,7 @@ start-leaves : (old new : StoreValue) (upto : ℕ) (r : Result (Unit {0}) StartF
 start-leaves old new upto r starts = by-refusal (refusal_now old upto) starts
   where
     begins : (r : Result (Unit {0}) StartFault) → BeginsRun old upto r new → Leaves old.transactions new.transactions
-    begins (Ok done) is = same-leaves old.transactions _ new (record { mark = refl; opened = refl; heads = refl }) is.2
+    begins (Ok done) is = same-leaves old.transactions _ new (record { mark = refl; opened = refl; heads = refl }) is.2.new_is
     begins (Err why) is = nothing-left old new is.1
 
     by-refusal : (o : Option StartFault) → MatchOption o (BeginsRun old upto r new) (λ why. (r ≡ Err why) × (new ≡ old)) → Leaves old.transactions new.transactions
@@ -79,7 +78,7 @@ start-few old new upto r starts = by-refusal (refusal_now old upto) starts
     at-rest few is = let made = ap (λ (v : StoreValue). v.disk.made) is in omega (arith, made, few)
 
     begins : (r : Result (Unit {0}) StartFault) → BeginsRun old upto r new → new.disk.made ≤ old.disk.made + 1
-    begins (Ok done) is = at-rest refl is.2
+    begins (Ok done) is = at-rest refl is.2.new_is
     begins (Err why) is = at-rest refl is.1
 
     by-refusal : (o : Option StartFault) → MatchOption o (BeginsRun old upto r new) (λ why. (r ≡ Err why) × (new ≡ old)) → new.disk.made ≤ old.disk.made + 1
@@ -129,6 +128,7 @@ start-goes tells v v' xs upto r starts w is = (
     places = push_nothing v'.transactions w.machine.published xs w.places
         (move v.transactions v'.transactions w.machine.published w.machine.published xs w.places is.places
         (λ i x p at shows. stays v.transactions v'.transactions w.machine.published w.machine.published x p (pump-keeps v.transactions v'.transactions x (start-leaves v v' upto r starts)) (goes_on-same w.machine.published) shows));
+    views = reads-plain tells v' xs w.places held.Nothing Free is.places.many tt (reads-move tells v v' xs w.places (archive-start-goes tells v v' upto r w.machine is.stands starts) is.views);
   },
 )
 
@@ -337,17 +337,20 @@ pumped-goes tells v v' xs r sound pumps w is =
     places h' goes = push_nothing v'.transactions h' xs w.places
         (move v.transactions v'.transactions w.machine.published h' xs w.places is.places (λ i x p at shows. stays v.transactions v'.transactions w.machine.published h' x p (pump-keeps v.transactions v'.transactions x (pumped-leaves tells v v' r pumps)) goes shows))
 
+    read : AreRead tells v' (xs ++ held.Nothing ∷ []) (w.places ++ Free ∷ [])
+    read = reads-plain tells v' xs w.places held.Nothing Free is.places.many tt (reads-move tells v v' xs w.places (job-pump-goes tells v v' r w.machine is.stands pumps) is.views)
+
     by-failure : (b : Bool) → w.machine.failed ≡ b → IfErr r IsStepFault → MatchBool b ((r ≡ Err pump.Failed) × Stands tells v' w.machine) ((after : Machine Value) × steps.Run IsValue w.machine (job_ends_in r) after × Stands tells v' after)
-        → (next : World) × Does w call.JobPump (answer.JobPump r) next × Follows w.machine next.machine × IsWorld tells v' (xs ++ held.Nothing ∷ []) next
+        → (next : World) × Does tells w call.JobPump (answer.JobPump r) next × Follows w.machine next.machine × IsWorld tells v' (xs ++ held.Nothing ∷ []) next
     by-failure true failed refused done = (
       same w,
       subst (λ (b : Bool). MatchBool b ((r ≡ Err pump.Failed) × (same w ≡ same w)) ((after : Machine Value) × IfErr r IsStepFault × steps.Run IsValue w.machine (job_ends_in r) after × (same w ≡ same (moved w after)))) (sym failed) (done.0, refl),
       no-step w.machine,
-      record { stands = done.1; places = places w.machine.published (goes_on-same w.machine.published) },
+      record { stands = done.1; places = places w.machine.published (goes_on-same w.machine.published); views = read },
     )
     by-failure false works refused done = (
       same (moved w done.0),
       subst (λ (b : Bool). MatchBool b ((r ≡ Err pump.Failed) × (same (moved w done.0) ≡ same w)) ((after : Machine Value) × IfErr r IsStepFault × steps.Run IsValue w.machine (job_ends_in r) after × (same (moved w done.0) ≡ same (moved w after)))) (sym works) (done.0, refused, done.1, refl),
       (job_ends_in r, done.1),
-      record { stands = done.2; places = places done.0.published (run-goes_on w.machine done.0 (job_ends_in r) done.2.machine done.1) },
+      record { stands = done.2; places = places done.0.published (run-goes_on w.machine done.0 (job_ends_in r) done.2.machine done.1); views = read },
     )

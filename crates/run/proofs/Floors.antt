@@ -136,26 +136,26 @@ put-floors : (w : World) (i : ℕ) (key : Key) (value : Value) (p : Place) (said
 put-floors w i key value (Running snapshot writes) said next does = all-same w.machine next.machine (ap (λ (x : World). x.machine) does.2)
 put-floors w i key value Free said next does = absurd does
 put-floors w i key value (Waits t) said next does = absurd does
-put-floors w i key value (Views h floors) said next does = absurd does
+put-floors w i key value (Views h floors reclaimed) said next does = absurd does
 
 delete-floors : (w : World) (i : ℕ) (key : Key) (p : Place) (said : Result (Unit {0}) TxnFault) (next : World) → Deletes w i key p said next → SameFloors w.machine next.machine
 delete-floors w i key (Running snapshot writes) said next does = all-same w.machine next.machine (ap (λ (x : World). x.machine) does.2)
 delete-floors w i key Free said next does = absurd does
 delete-floors w i key (Waits t) said next does = absurd does
-delete-floors w i key (Views h floors) said next does = absurd does
+delete-floors w i key (Views h floors reclaimed) said next does = absurd does
 
 submit-floors : (w : World) (i label now : ℕ) (p : Place) (said : Result SubmitOutcome SubmitFault) (next : World) → Submits w i label now p said next → SameFloors w.machine next.machine
 submit-floors w i label now (Running snapshot writes) said next does =
     by-state w.machine does.1 next.machine (step-floors w.machine does.0 does.1 (submitted-keeps w.machine (submission snapshot writes label now) said does.0 does.2 does.3) does.4) (ap (λ (x : World). x.machine) does.5)
 submit-floors w i label now Free said next does = absurd does
 submit-floors w i label now (Waits t) said next does = absurd does
-submit-floors w i label now (Views h floors) said next does = absurd does
+submit-floors w i label now (Views h floors reclaimed) said next does = absurd does
 
 abort-floors : (w : World) (i : ℕ) (p : Place) (next : World) → Aborts w i p next → SameFloors w.machine next.machine
 abort-floors w i (Running snapshot writes) next does = by-state w.machine does.0 next.machine (step-floors w.machine (Aborted snapshot) does.0 tt does.1) (ap (λ (x : World). x.machine) does.2)
 abort-floors w i Free next does = absurd does
 abort-floors w i (Waits t) next does = absurd does
-abort-floors w i (Views h floors) next does = absurd does
+abort-floors w i (Views h floors reclaimed) next does = absurd does
 
 moves-floors : (w next : World) (failed : Bool) (Says : Type 0) (Is : Type 0) (events : List (Event Value)) → AllByRecursion KeepsFloors events
     → MatchBool failed (Says × (next ≡ same w)) ((after : Machine Value) × Is × steps.Run IsValue w.machine events after × (next ≡ same (moved w after))) → SameFloors w.machine next.machine
@@ -169,33 +169,33 @@ redeem-floors w i (Waits time) told.InDoubt next does = spent-floors w i next do
 redeem-floors w i (Waits time) told.Stranger next does = absurd does
 redeem-floors w i Free said next does = absurd does
 redeem-floors w i (Running snapshot writes) said next does = absurd does
-redeem-floors w i (Views h floors) said next does = absurd does
+redeem-floors w i (Views h floors reclaimed) said next does = absurd does
 
 view-floors : (w : World) (said : Result (Unit {0}) AllocError) (next : World) → Shows w said next → SameFloors w.machine next.machine
-view-floors w (Ok u) next does = all-same w.machine next.machine (ap (λ (x : World). x.machine) does)
+view-floors w (Ok u) next does = all-same w.machine next.machine (ap (λ (x : World). x.machine) does.2)
 view-floors w (Err why) next does = same-floors w next does
 
-pub call-floors : (w : World) (c : Call) (a : Answer) (next : World) → Does w c a next → SameFloors w.machine next.machine
-call-floors w c answer.Unknown next does = same-floors w next does.1
-call-floors w call.Begin (answer.Begin said) next does = begin-floors w said next does
-call-floors w (call.Put i key fields) (answer.Put said) next does = put-floors w i key _ (place_at w.places i) said next does
-call-floors w (call.Delete i key) (answer.Delete said) next does = delete-floors w i key (place_at w.places i) said next does
-call-floors w (call.Get i key) (answer.Get said) next does = same-floors w next (get-same w key (place_at w.places i) said next does)
-call-floors w (call.Scan i relation) (answer.Scan said) next does = same-floors w next (scan-same w relation (place_at w.places i) said next does)
-call-floors w (call.Submit i label now) (answer.Submit said) next does = submit-floors w i label now (place_at w.places i) said next does
-call-floors w (call.Abort i) answer.Abort next does = abort-floors w i (place_at w.places i) next does
-call-floors w call.Pump (answer.Pump said) next does =
+pub call-floors : (tells : Bool) (w : World) (c : Call) (a : Answer) (next : World) → Does tells w c a next → SameFloors w.machine next.machine
+call-floors tells w c answer.Unknown next does = same-floors w next does.1
+call-floors tells w call.Begin (answer.Begin said) next does = begin-floors w said next does
+call-floors tells w (call.Put i key fields) (answer.Put said) next does = put-floors w i key _ (place_at w.places i) said next does
+call-floors tells w (call.Delete i key) (answer.Delete said) next does = delete-floors w i key (place_at w.places i) said next does
+call-floors tells w (call.Get i key) (answer.Get said) next does = same-floors w next (get-same w key (place_at w.places i) said next does)
+call-floors tells w (call.Scan i relation) (answer.Scan said) next does = same-floors w next (scan-same w relation (place_at w.places i) said next does)
+call-floors tells w (call.Submit i label now) (answer.Submit said) next does = submit-floors w i label now (place_at w.places i) said next does
+call-floors tells w (call.Abort i) answer.Abort next does = abort-floors w i (place_at w.places i) next does
+call-floors tells w call.Pump (answer.Pump said) next does =
     moves-floors w next w.machine.failed _ _ (begins_in w.machine ++ ends_in w.machine.gate said) (begins-keep w.machine (ends_in w.machine.gate said) (ends-keep w.machine.gate said)) does
-call-floors w (call.Redeem i) (answer.Redeem said) next does = redeem-floors w i (place_at w.places i) said next does
-call-floors w (call.GiveUp i) answer.GiveUp next does = spent-floors w i next (give_up-spent w i (place_at w.places i) next does)
-call-floors w call.View (answer.View said) next does = view-floors w said next does
-call-floors w (call.At i key time) (answer.At said) next does = same-floors w next (asks-same w key time (place_at w.places i) said next does)
-call-floors w (call.ScanAt i relation time) (answer.ScanAt said) next does = same-floors w next (asks_scan-same w relation time (place_at w.places i) said next does)
-call-floors w (call.Between i key a b) (answer.Between said) next does = same-floors w next (asks_between-same w key a b (place_at w.places i) said next does)
-call-floors w (call.ScanBetween i relation a b) (answer.ScanBetween said) next does = same-floors w next (asks_scan_between-same w relation a b (place_at w.places i) said next does)
-call-floors w (call.End i) answer.End next does = spent-floors w i next (closes-spent w i (place_at w.places i) next does)
-call-floors w (call.TimesOf label) (answer.TimesOf said) next does = same-floors w next does.1
-call-floors w (call.Archive upto) (answer.Archive said) next does = same-floors w next (archive-same w upto said next does)
-call-floors w call.Reclaim (answer.Reclaim said) next does = same-floors w next (reclaim-same w said next does)
-call-floors w call.JobPump (answer.JobPump said) next does = moves-floors w next w.machine.failed _ _ (job_ends_in said) (job_ends-keep said) does
-call-floors w c a next does = absurd does
+call-floors tells w (call.Redeem i) (answer.Redeem said) next does = redeem-floors w i (place_at w.places i) said next does
+call-floors tells w (call.GiveUp i) answer.GiveUp next does = spent-floors w i next (give_up-spent w i (place_at w.places i) next does)
+call-floors tells w call.View (answer.View said) next does = view-floors w said next does
+call-floors tells w (call.At i key time) (answer.At said) next does = same-floors w next (asks-same tells w key time (place_at w.places i) said next does)
+call-floors tells w (call.ScanAt i relation time) (answer.ScanAt said) next does = same-floors w next (asks_scan-same tells w relation time (place_at w.places i) said next does)
+call-floors tells w (call.Between i key a b) (answer.Between said) next does = same-floors w next (asks_between-same tells w key a b (place_at w.places i) said next does)
+call-floors tells w (call.ScanBetween i relation a b) (answer.ScanBetween said) next does = same-floors w next (asks_scan_between-same tells w relation a b (place_at w.places i) said next does)
+call-floors tells w (call.End i) answer.End next does = spent-floors w i next (closes-spent w i (place_at w.places i) next does)
+call-floors tells w (call.TimesOf label) (answer.TimesOf said) next does = same-floors w next does.1
+call-floors tells w (call.Archive upto) (answer.Archive said) next does = same-floors w next (archive-same w upto said next does)
+call-floors tells w call.Reclaim (answer.Reclaim said) next does = same-floors w next (reclaim-same w said next does)
+call-floors tells w call.JobPump (answer.JobPump said) next does = moves-floors w next w.machine.failed _ _ (job_ends_in said) (job_ends-keep said) does
+call-floors tells w c a next does = absurd does

@@ -25,11 +25,11 @@ between tells before after old new told image (inr left) = inr (new told image l
 
 -- the next moment of a store, of which a call is made
 pub links : (tells : Bool) (v v' : StoreValue) (xs ys : List Held) (c : Call) (a : Answer) (at : Moment) → IsAtMoment tells v xs at
-    → (next : World) → Does at.world c a next → Follows at.world.machine next.machine → IsWorld tells v' ys next → v'.disk.made ≤ v.disk.made + 1
+    → (next : World) → Does tells at.world c a next → Follows at.world.machine next.machine → IsWorld tells v' ys next → v'.disk.made ≤ v.disk.made + 1
     → (after : Moment) × Link tells c a at after × IsAtMoment tells v' ys after
 links tells v v' xs ys c a at is next does follows world few =
     let after : Moment = record { store = v'; world = next; done = with_answer a at.done } in
-    let is-after : IsAtMoment tells v' ys after = record { store = refl; world = world; published = call-acknowledges at.world c a next at.done does follows is.published } in
+    let is-after : IsAtMoment tells v' ys after = record { store = refl; world = world; published = call-acknowledges tells at.world c a next at.done does follows is.published } in
     let old = moment-leaves tells v xs at is in
     let new = moment-leaves tells v' ys after is-after in (
       after,

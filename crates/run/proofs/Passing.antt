@@ -1,5 +1,5 @@
 -- What a call keeps of the places of earlier calls, and what it gives its own.
-use Rattle.std.proofs.Common.{◌≡◌, ◌⊎◌, inl, inr, ◌<◌, ◌++◌, ℕ, zero, suc, Bool, true, false, cond, List, [], ◌∷◌, length, map, Option, Some, None, Result, Ok, Err, MatchBool, Bor, refl, ap, sym, subst, ◌∙◌, arith}
+use Rattle.std.proofs.Common.{◌≡◌, ◌⊎◌, inl, inr, ◌<◌, ◌≤◌, ◌++◌, ℕ, zero, suc, Bool, true, false, cond, List, [], ◌∷◌, length, map, Option, Some, None, Result, Ok, Err, MatchBool, Bor, refl, ap, sym, subst, ◌∙◌, arith}
 use Rattle.std.specs.Prelude.{slice_set, is_some}
 use Rattle.std.proofs.lemmas.Bool.Decides.{nat_tests}
 use Rattle.std.specs.declared.alloc.AllocError.{AllocError}
@@ -10,7 +10,7 @@ use Rattle.timequery.specs.declared.fault.QueryFault.{QueryFault}
 use Rattle.history.specs.declared.key.Key.{Key}
 use Rattle.history.specs.declared.key.KeyWrite.{KeyWrite}
 use Rattle.history.specs.Key.{write_in, same_key}
-use Rattle.history.specs.Histories.{state}
+use Rattle.history.specs.Histories.{last, state}
 use Rattle.history.specs.Machine.{Machine}
 use Rattle.history.specs.Queries.{seen}
 use Rattle.history.specs.Steps.{Event, Step, Decided}
@@ -61,14 +61,14 @@ abbrev pub Gives : World → Call → Answer → World → Place → Type 0
 Gives w c a next Free = Unit {0}
 Gives w c a next (Running snapshot writes) = Unit {0}
 Gives w c a next (Waits t) = QueuesAt w c a next t
-Gives w c a next (Views h floors) = (c ≡ call.View) × (a ≡ answer.View (Ok tt)) × (h ≡ w.machine.published) × (floors ≡ w.machine.floors)
+Gives w c a next (Views h floors reclaimed) = (c ≡ call.View) × (a ≡ answer.View (Ok tt)) × (h ≡ w.machine.published) × (floors ≡ w.machine.floors) × (reclaimed ≤ last w.machine.published)
 
 -- a ticket or a view, which no later call changes
 abbrev pub IsGiven : Place → Type 0
 IsGiven Free = ⊥
 IsGiven (Running snapshot writes) = ⊥
 IsGiven (Waits t) = Unit {0}
-IsGiven (Views h floors) = Unit {0}
+IsGiven (Views h floors reclaimed) = Unit {0}
 
 -- the transaction was running, with the same write of the key
 pub record WasRunning (w : World) (j s : ℕ) (ws : List (KeyWrite Value)) (key : Key) : Type 0 where
@@ -179,7 +179,7 @@ put-passes w i key fields (Running snapshot writes) said next here does =
     (beside-rewritten (call.Put i key fields) w i snapshot writes does.0 here (put-keeps i key fields (map (λ (field : Bor (List ℕ)). field.now) fields.now) writes said does.0 does.1)) does.2
 put-passes w i key fields Free said next here does = absurd does
 put-passes w i key fields (Waits t) said next here does = absurd does
-put-passes w i key fields (Views h floors) said next here does = absurd does
+put-passes w i key fields (Views h floors reclaimed) said next here does = absurd does
 
 -- what is taken out is not another key's
 without-other : (writes : List (KeyWrite Value)) (key other : Key) → same_key key other ≡ false → write_in (without writes key) other ≡ write_in writes other
@@ -209,13 +209,13 @@ delete-passes w i key (Running snapshot writes) said next here does =
     (delete-keeps i key (state w.machine.published snapshot key) (seen w.machine.published snapshot writes key) writes said does.0 does.1)) does.2
 delete-passes w i key Free said next here does = absurd does
 delete-passes w i key (Waits t) said next here does = absurd does
-delete-passes w i key (Views h floors) said next here does = absurd does
+delete-passes w i key (Views h floors reclaimed) said next here does = absurd does
 
 pub get-same : (w : World) (key : Key) (p : Place) (said : Result (Option Value) AllocError) (next : World) → Gets w key p said next → next ≡ same w
 get-same w key (Running snapshot writes) said next does = does.1
 get-same w key Free said next does = absurd does
 get-same w key (Waits t) said next does = absurd does
-get-same w key (Views h floors) said next does = absurd does
+get-same w key (Views h floors reclaimed) said next does = absurd does
 
 -- a submit that is queued gives the ticket of its commit, and any other gives nothing
 submitted-gives : (w : World) (i label now snapshot : ℕ) (writes : List (KeyWrite Value)) (said : Result SubmitOutcome SubmitFault) (event : Event Value) (place : Place) (next : World)
@@ -251,14 +251,14 @@ submit-passes w i label now (Running snapshot writes) said next at does =
     (submitted-gives w i label now snapshot writes said does.0 does.2 next does.3 at step)
 submit-passes w i label now Free said next at does = absurd does
 submit-passes w i label now (Waits t) said next at does = absurd does
-submit-passes w i label now (Views h floors) said next at does = absurd does
+submit-passes w i label now (Views h floors reclaimed) said next at does = absurd does
 
 abort-passes : (w : World) (i : ℕ) (p : Place) (next : World) → Aborts w i p next → Passes w (call.Abort i) answer.Abort next
 abort-passes w i (Running snapshot writes) next does =
     gives-nothing w (put (moved w does.0) i Free) (call.Abort i) answer.Abort next (beside-freed (call.Abort i) w (moved w does.0) i (beside-moved (call.Abort i) w does.0)) does.2
 abort-passes w i Free next does = absurd does
 abort-passes w i (Waits t) next does = absurd does
-abort-passes w i (Views h floors) next does = absurd does
+abort-passes w i (Views h floors reclaimed) next does = absurd does
 
 moves-passes : (w : World) (c : Call) (a : Answer) (next : World) (failed : Bool) (Says : Type 0) (Is : Type 0) (Runs : Machine Value → Type 0)
     → MatchBool failed (Says × (next ≡ same w)) ((after : Machine Value) × Is × Runs after × (next ≡ same (moved w after))) → Passes w c a next
@@ -272,7 +272,7 @@ redeem-passes w i (Waits time) told.InDoubt next does = gives-nothing w (put w i
 redeem-passes w i (Waits time) told.Stranger next does = absurd does
 redeem-passes w i Free said next does = absurd does
 redeem-passes w i (Running snapshot writes) said next does = absurd does
-redeem-passes w i (Views h floors) said next does = absurd does
+redeem-passes w i (Views h floors reclaimed) said next does = absurd does
 
 spent-passes : (w : World) (i : ℕ) (c : Call) (a : Answer) (next : World) → next ≡ spent w i → Passes w c a next
 spent-passes w i c a next is = gives-nothing w (put w i Free) c a next (beside-freed c w w i (beside-same c w)) is
@@ -281,10 +281,10 @@ pub give_up-spent : (w : World) (i : ℕ) (p : Place) (next : World) → GivesUp
 give_up-spent w i (Waits time) next does = does
 give_up-spent w i Free next does = absurd does
 give_up-spent w i (Running snapshot writes) next does = absurd does
-give_up-spent w i (Views h floors) next does = absurd does
+give_up-spent w i (Views h floors reclaimed) next does = absurd does
 
 pub closes-spent : (w : World) (i : ℕ) (p : Place) (next : World) → Closes w i p next → next ≡ spent w i
-closes-spent w i (Views h floors) next does = does
+closes-spent w i (Views h floors reclaimed) next does = does
 closes-spent w i Free next does = absurd does
 closes-spent w i (Running snapshot writes) next does = absurd does
 closes-spent w i (Waits t) next does = absurd does
@@ -314,7 +314,7 @@ reclaim-same w (Err (start.NotYet time)) next does = absurd does
 reclaim-same w (Err start.ArchiveFull) next does = absurd does
 
 view-passes : (w : World) (said : Result (Unit {0}) AllocError) (next : World) → Shows w said next → Passes w call.View (answer.View said) next
-view-passes w (Ok u) next does = leaves-passes w w (Views w.machine.published w.machine.floors) call.View (answer.View (Ok u)) next (beside-same call.View w) does (refl, refl, refl, refl)
+view-passes w (Ok u) next does = leaves-passes w w (Views w.machine.published w.machine.floors does.0) call.View (answer.View (Ok u)) next (beside-same call.View w) does.2 (refl, refl, refl, refl, does.1)
 view-passes w (Err why) next does = gives-nothing w w call.View (answer.View (Err why)) next (beside-same call.View w) does
 
 same-passes : (w : World) (c : Call) (a : Answer) (next : World) → next ≡ same w → Passes w c a next
@@ -324,53 +324,53 @@ pub scan-same : (w : World) (relation : ℕ) (p : Place) (said : Result (Vec (�
 scan-same w relation Free said next does = absurd does
 scan-same w relation (Running snapshot writes) said next does = does.1
 scan-same w relation (Waits t) said next does = absurd does
-scan-same w relation (Views h floors) said next does = absurd does
+scan-same w relation (Views h floors reclaimed) said next does = absurd does
 
-pub asks-same : (w : World) (key : Key) (time : ℕ) (p : Place) (said : Result (Option Value) QueryFault) (next : World) → Asks w key time p said next → next ≡ same w
-asks-same w key time Free said next does = absurd does
-asks-same w key time (Running snapshot writes) said next does = absurd does
-asks-same w key time (Waits t) said next does = absurd does
-asks-same w key time (Views h floors) said next does = does.1
+pub asks-same : (tells : Bool) (w : World) (key : Key) (time : ℕ) (p : Place) (said : Result (Option Value) QueryFault) (next : World) → Asks tells w key time p said next → next ≡ same w
+asks-same tells w key time Free said next does = absurd does
+asks-same tells w key time (Running snapshot writes) said next does = absurd does
+asks-same tells w key time (Waits t) said next does = absurd does
+asks-same tells w key time (Views h floors reclaimed) said next does = does.1
 
-pub asks_scan-same : (w : World) (relation time : ℕ) (p : Place) (said : Result (Vec (ℕ × Value) Global) QueryFault) (next : World) → AsksScan w relation time p said next → next ≡ same w
-asks_scan-same w relation time Free said next does = absurd does
-asks_scan-same w relation time (Running snapshot writes) said next does = absurd does
-asks_scan-same w relation time (Waits t) said next does = absurd does
-asks_scan-same w relation time (Views h floors) said next does = does.1
+pub asks_scan-same : (tells : Bool) (w : World) (relation time : ℕ) (p : Place) (said : Result (Vec (ℕ × Value) Global) QueryFault) (next : World) → AsksScan tells w relation time p said next → next ≡ same w
+asks_scan-same tells w relation time Free said next does = absurd does
+asks_scan-same tells w relation time (Running snapshot writes) said next does = absurd does
+asks_scan-same tells w relation time (Waits t) said next does = absurd does
+asks_scan-same tells w relation time (Views h floors reclaimed) said next does = does.1
 
-pub asks_between-same : (w : World) (key : Key) (a b : ℕ) (p : Place) (said : Result (Vec (Version Value) Global) QueryFault) (next : World) → AsksBetween w key a b p said next → next ≡ same w
-asks_between-same w key a b Free said next does = absurd does
-asks_between-same w key a b (Running snapshot writes) said next does = absurd does
-asks_between-same w key a b (Waits t) said next does = absurd does
-asks_between-same w key a b (Views h floors) said next does = does.1
+pub asks_between-same : (tells : Bool) (w : World) (key : Key) (a b : ℕ) (p : Place) (said : Result (Vec (Version Value) Global) QueryFault) (next : World) → AsksBetween tells w key a b p said next → next ≡ same w
+asks_between-same tells w key a b Free said next does = absurd does
+asks_between-same tells w key a b (Running snapshot writes) said next does = absurd does
+asks_between-same tells w key a b (Waits t) said next does = absurd does
+asks_between-same tells w key a b (Views h floors reclaimed) said next does = does.1
 
-pub asks_scan_between-same : (w : World) (relation a b : ℕ) (p : Place) (said : Result (Vec (ℕ × Version Value) Global) QueryFault) (next : World) → AsksScanBetween w relation a b p said next → next ≡ same w
-asks_scan_between-same w relation a b Free said next does = absurd does
-asks_scan_between-same w relation a b (Running snapshot writes) said next does = absurd does
-asks_scan_between-same w relation a b (Waits t) said next does = absurd does
-asks_scan_between-same w relation a b (Views h floors) said next does = does.1
+pub asks_scan_between-same : (tells : Bool) (w : World) (relation a b : ℕ) (p : Place) (said : Result (Vec (ℕ × Version Value) Global) QueryFault) (next : World) → AsksScanBetween tells w relation a b p said next → next ≡ same w
+asks_scan_between-same tells w relation a b Free said next does = absurd does
+asks_scan_between-same tells w relation a b (Running snapshot writes) said next does = absurd does
+asks_scan_between-same tells w relation a b (Waits t) said next does = absurd does
+asks_scan_between-same tells w relation a b (Views h floors reclaimed) said next does = does.1
 
 -- each call passes
-pub passes : (w : World) (c : Call) (a : Answer) (next : World) → Does w c a next → Passes w c a next
-passes w c answer.Unknown next does = same-passes w c answer.Unknown next does.1
-passes w call.Begin (answer.Begin said) next does = begin-passes w said next does
-passes w (call.Put i key fields) (answer.Put said) next does = put-passes w i key fields (place_at w.places i) said next refl does
-passes w (call.Delete i key) (answer.Delete said) next does = delete-passes w i key (place_at w.places i) said next refl does
-passes w (call.Get i key) (answer.Get said) next does = same-passes w (call.Get i key) (answer.Get said) next (get-same w key (place_at w.places i) said next does)
-passes w (call.Scan i relation) (answer.Scan said) next does = same-passes w (call.Scan i relation) (answer.Scan said) next (scan-same w relation (place_at w.places i) said next does)
-passes w (call.Submit i label now) (answer.Submit said) next does = submit-passes w i label now (place_at w.places i) said next refl does
-passes w (call.Abort i) answer.Abort next does = abort-passes w i (place_at w.places i) next does
-passes w call.Pump (answer.Pump said) next does = moves-passes w call.Pump (answer.Pump said) next w.machine.failed _ _ _ does
-passes w (call.Redeem i) (answer.Redeem said) next does = redeem-passes w i (place_at w.places i) said next does
-passes w (call.GiveUp i) answer.GiveUp next does = spent-passes w i (call.GiveUp i) answer.GiveUp next (give_up-spent w i (place_at w.places i) next does)
-passes w call.View (answer.View said) next does = view-passes w said next does
-passes w (call.At i key time) (answer.At said) next does = same-passes w (call.At i key time) (answer.At said) next (asks-same w key time (place_at w.places i) said next does)
-passes w (call.ScanAt i relation time) (answer.ScanAt said) next does = same-passes w (call.ScanAt i relation time) (answer.ScanAt said) next (asks_scan-same w relation time (place_at w.places i) said next does)
-passes w (call.Between i key a b) (answer.Between said) next does = same-passes w (call.Between i key a b) (answer.Between said) next (asks_between-same w key a b (place_at w.places i) said next does)
-passes w (call.ScanBetween i relation a b) (answer.ScanBetween said) next does = same-passes w (call.ScanBetween i relation a b) (answer.ScanBetween said) next (asks_scan_between-same w relation a b (place_at w.places i) said next does)
-passes w (call.End i) answer.End next does = spent-passes w i (call.End i) answer.End next (closes-spent w i (place_at w.places i) next does)
-passes w (call.TimesOf label) (answer.TimesOf said) next does = same-passes w (call.TimesOf label) (answer.TimesOf said) next does.1
-passes w (call.Archive upto) (answer.Archive said) next does = same-passes w (call.Archive upto) (answer.Archive said) next (archive-same w upto said next does)
-passes w call.Reclaim (answer.Reclaim said) next does = same-passes w call.Reclaim (answer.Reclaim said) next (reclaim-same w said next does)
-passes w call.JobPump (answer.JobPump said) next does = moves-passes w call.JobPump (answer.JobPump said) next w.machine.failed _ _ _ does
-passes w c a next does = absurd does
+pub passes : (tells : Bool) (w : World) (c : Call) (a : Answer) (next : World) → Does tells w c a next → Passes w c a next
+passes tells w c answer.Unknown next does = same-passes w c answer.Unknown next does.1
+passes tells w call.Begin (answer.Begin said) next does = begin-passes w said next does
+passes tells w (call.Put i key fields) (answer.Put said) next does = put-passes w i key fields (place_at w.places i) said next refl does
+passes tells w (call.Delete i key) (answer.Delete said) next does = delete-passes w i key (place_at w.places i) said next refl does
+passes tells w (call.Get i key) (answer.Get said) next does = same-passes w (call.Get i key) (answer.Get said) next (get-same w key (place_at w.places i) said next does)
+passes tells w (call.Scan i relation) (answer.Scan said) next does = same-passes w (call.Scan i relation) (answer.Scan said) next (scan-same w relation (place_at w.places i) said next does)
+passes tells w (call.Submit i label now) (answer.Submit said) next does = submit-passes w i label now (place_at w.places i) said next refl does
+passes tells w (call.Abort i) answer.Abort next does = abort-passes w i (place_at w.places i) next does
+passes tells w call.Pump (answer.Pump said) next does = moves-passes w call.Pump (answer.Pump said) next w.machine.failed _ _ _ does
+passes tells w (call.Redeem i) (answer.Redeem said) next does = redeem-passes w i (place_at w.places i) said next does
+passes tells w (call.GiveUp i) answer.GiveUp next does = spent-passes w i (call.GiveUp i) answer.GiveUp next (give_up-spent w i (place_at w.places i) next does)
+passes tells w call.View (answer.View said) next does = view-passes w said next does
+passes tells w (call.At i key time) (answer.At said) next does = same-passes w (call.At i key time) (answer.At said) next (asks-same tells w key time (place_at w.places i) said next does)
+passes tells w (call.ScanAt i relation time) (answer.ScanAt said) next does = same-passes w (call.ScanAt i relation time) (answer.ScanAt said) next (asks_scan-same tells w relation time (place_at w.places i) said next does)
+passes tells w (call.Between i key a b) (answer.Between said) next does = same-passes w (call.Between i key a b) (answer.Between said) next (asks_between-same tells w key a b (place_at w.places i) said next does)
+passes tells w (call.ScanBetween i relation a b) (answer.ScanBetween said) next does = same-passes w (call.ScanBetween i relation a b) (answer.ScanBetween said) next (asks_scan_between-same tells w relation a b (place_at w.places i) said next does)
+passes tells w (call.End i) answer.End next does = spent-passes w i (call.End i) answer.End next (closes-spent w i (place_at w.places i) next does)
+passes tells w (call.TimesOf label) (answer.TimesOf said) next does = same-passes w (call.TimesOf label) (answer.TimesOf said) next does.1
+passes tells w (call.Archive upto) (answer.Archive said) next does = same-passes w (call.Archive upto) (answer.Archive said) next (archive-same w upto said next does)
+passes tells w call.Reclaim (answer.Reclaim said) next does = same-passes w call.Reclaim (answer.Reclaim said) next (reclaim-same w said next does)
+passes tells w call.JobPump (answer.JobPump said) next does = moves-passes w call.JobPump (answer.JobPump said) next w.machine.failed _ _ _ does
+passes tells w c a next does = absurd does

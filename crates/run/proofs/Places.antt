@@ -17,10 +17,13 @@ use Rattle.group.specs.Tickets.{TicketValue}
 use Rattle.group.specs.declared.commit_order.CommitHead.{CommitHead}
 use Rattle.timequery.specs.View.{ViewValue}
 use Rattle.transactions.specs.Values.{TransactionsValue}
-use Rattle.standing.specs.Laws.{ViewStands}
+use Rattle.standing.specs.Homes.{ViewStands}
+use Rattle.standing.specs.Homes as homes
+use Rattle.standing.proofs.Views.{view-goes-on}
+use Rattle.store.specs.Values.{StoreValue}
 use Rattle.run.specs.declared.held.Held.{Held}
 use Rattle.run.specs.declared.held.Held.TheVariants as held
-use Rattle.run.specs.Places.{Place, Free, Running, Waits, Views, place_at, IsNoTransaction, IsNoTicket, IsNoView, HasNoTransaction, HasNoTicket, HasNoView, IsOwnTransaction, IsOwnTicket, ShowsAs, Clash, ArePlaces}
+use Rattle.run.specs.Places.{Place, Free, Running, Waits, Views, place_at, IsNoTransaction, IsNoTicket, IsNoView, HasNoTransaction, HasNoTicket, HasNoView, IsOwnTransaction, IsOwnTicket, ShowsAs, Clash, ArePlaces, IsRead, AreRead}
 use Rattle.run.proofs.Lists.{get-set, get-push, get-within, get-past, held-length-set, held-length-push, length-set, length-push, place-set_same, place-set_other, place-push_old, place-push_new, place-past}
 
 -- ---- clashes
@@ -116,12 +119,56 @@ freed_apart v h xs ps k old are here j b at clash = elim (get-set xs k j held.No
   | inr other ↦ other.0 (sym (are.apart k j old b here other.1 clash))
 ]
 
+-- ---- what held views read
+
+module _ (tells : Bool) where
+  pub read-plain : (v : StoreValue) (x : Held) → HasNoView (Some x) → (p : Place) → IsRead tells v x p
+  read-plain v held.Nothing none p = tt
+  read-plain v (held.Transaction t) none p = tt
+  read-plain v (held.Ticket t) none p = tt
+  read-plain v (held.View w) none p = absurd none
+
+  -- what is held is read still once the store has gone on
+  read-on : (v v' : StoreValue) (x : Held) (p : Place) → homes.GoesOn tells v v' → IsRead tells v x p → IsRead tells v' x p
+  read-on v v' held.Nothing p goes is = tt
+  read-on v v' (held.Transaction t) p goes is = tt
+  read-on v v' (held.Ticket t) p goes is = tt
+  read-on v v' (held.View w) Free goes is = tt
+  read-on v v' (held.View w) (Running s ws) goes is = tt
+  read-on v v' (held.View w) (Waits time) goes is = tt
+  read-on v v' (held.View w) (Views history floors reclaimed) goes is = view-goes-on tells v v' w history floors is goes
+
+  pub reads-move : (v v' : StoreValue) (xs : List Held) (ps : List Place) → homes.GoesOn tells v v' → AreRead tells v xs ps → AreRead tells v' xs ps
+  reads-move v v' xs ps goes are = record { each = λ i x at. read-on v v' x (place_at ps i) goes (are.each i x at) }
+
+  pub reads-push : (v : StoreValue) (xs : List Held) (ps : List Place) (x : Held) (p : Place) → length xs ≡ length ps → AreRead tells v xs ps → IsRead tells v x p → AreRead tells v (xs ++ x ∷ []) (ps ++ p ∷ [])
+  reads-push v xs ps x p many are is = record {
+    each = λ i y at. elim (get-push xs i x y at) [
+      | inl new ↦
+          let here : place_at (ps ++ p ∷ []) i ≡ p = ap (λ (k : ℕ). place_at (ps ++ p ∷ []) k) (new.0 ∙ many) ∙ place-push_new ps p in
+          subst (λ (q : Place). IsRead tells v y q) (sym here) (subst (λ (z : Held). IsRead tells v z p) (sym new.1) is)
+      | inr old ↦ subst (λ (q : Place). IsRead tells v y q) (sym (place-push_old ps i p (let low = get-within xs i y old in omega arith))) (are.each i y old)
+    ];
+  }
+
+  pub reads-plain : (v : StoreValue) (xs : List Held) (ps : List Place) (x : Held) (p : Place) → length xs ≡ length ps → HasNoView (Some x) → AreRead tells v xs ps → AreRead tells v (xs ++ x ∷ []) (ps ++ p ∷ [])
+  reads-plain v xs ps x p many none are = reads-push v xs ps x p many are (read-plain v x none p)
+
+  -- a place that holds no view any more
+  pub reads-set : (v : StoreValue) (xs : List Held) (ps : List Place) (k : ℕ) (x : Held) (p : Place) → HasNoView (Some x) → AreRead tells v xs ps → AreRead tells v (slice_set xs k x) (slice_set ps k p)
+  reads-set v xs ps k x p none are = record {
+    each = λ i y at. elim (get-set xs k i x y at) [
+      | inl new ↦ subst (λ (z : Held). IsRead tells v z (place_at (slice_set ps k p) i)) (sym new.1) (read-plain v x none (place_at (slice_set ps k p) i))
+      | inr other ↦ subst (λ (q : Place). IsRead tells v y q) (sym (place-set_other ps k i p other.0)) (are.each i y other.1)
+    ];
+  }
+
 -- ---- what a place is known to hold
 
 shown-no_transaction : (v : TransactionsValue) (h : History Value) (x : Held) (p : Place) → ShowsAs v h x p → HasNoTransaction (Some x) → IsNoTransaction p
 shown-no_transaction v h x Free shows none = tt
 shown-no_transaction v h x (Waits time) shows none = tt
-shown-no_transaction v h x (Views history floors) shows none = tt
+shown-no_transaction v h x (Views history floors reclaimed) shows none = tt
 shown-no_transaction v h held.Nothing (Running s ws) shows none = shows
 shown-no_transaction v h (held.Transaction t) (Running s ws) shows none = none
 shown-no_transaction v h (held.Ticket t) (Running s ws) shows none = shows
@@ -130,7 +177,7 @@ shown-no_transaction v h (held.View w) (Running s ws) shows none = shows
 shown-no_ticket : (v : TransactionsValue) (h : History Value) (x : Held) (p : Place) → ShowsAs v h x p → HasNoTicket (Some x) → IsNoTicket p
 shown-no_ticket v h x Free shows none = tt
 shown-no_ticket v h x (Running s ws) shows none = tt
-shown-no_ticket v h x (Views history floors) shows none = tt
+shown-no_ticket v h x (Views history floors reclaimed) shows none = tt
 shown-no_ticket v h held.Nothing (Waits time) shows none = shows
 shown-no_ticket v h (held.Transaction t) (Waits time) shows none = shows
 shown-no_ticket v h (held.Ticket t) (Waits time) shows none = none
@@ -140,10 +187,10 @@ shown-no_view : (v : TransactionsValue) (h : History Value) (x : Held) (p : Plac
 shown-no_view v h x Free shows none = tt
 shown-no_view v h x (Running s ws) shows none = tt
 shown-no_view v h x (Waits time) shows none = tt
-shown-no_view v h held.Nothing (Views history floors) shows none = shows
-shown-no_view v h (held.Transaction t) (Views history floors) shows none = shows
-shown-no_view v h (held.Ticket t) (Views history floors) shows none = shows
-shown-no_view v h (held.View w) (Views history floors) shows none = none
+shown-no_view v h held.Nothing (Views history floors reclaimed) shows none = shows
+shown-no_view v h (held.Transaction t) (Views history floors reclaimed) shows none = shows
+shown-no_view v h (held.Ticket t) (Views history floors reclaimed) shows none = shows
+shown-no_view v h (held.View w) (Views history floors reclaimed) shows none = none
 
 pub no_transaction : (v : TransactionsValue) (h : History Value) (xs : List Held) (ps : List Place) (i : ℕ) → ArePlaces v h xs ps → HasNoTransaction (slice_get xs i) → IsNoTransaction (place_at ps i)
 no_transaction v h xs ps i are none = by-option (slice_get xs i) refl none
@@ -170,32 +217,32 @@ pub own_transaction : (v : TransactionsValue) (h : History Value) (t : TxnValue)
 own_transaction v h t Free shows = absurd shows
 own_transaction v h t (Running s ws) shows = shows.0
 own_transaction v h t (Waits time) shows = absurd shows
-own_transaction v h t (Views history floors) shows = absurd shows
+own_transaction v h t (Views history floors reclaimed) shows = absurd shows
 
 pub own_ticket : (v : TransactionsValue) (h : History Value) (t : TicketValue) (p : Place) → ShowsAs v h (held.Ticket t) p → IsOwnTicket v t
 own_ticket v h t Free shows = absurd shows
 own_ticket v h t (Running s ws) shows = absurd shows
 own_ticket v h t (Waits time) shows = shows.0
-own_ticket v h t (Views history floors) shows = absurd shows
+own_ticket v h t (Views history floors reclaimed) shows = absurd shows
 
 -- what holds of the place of a transaction holds of the place that is known to hold it
 pub at_transaction : (P : Place → Type 0) (v : TransactionsValue) (h : History Value) (t : TxnValue) (p : Place) → ShowsAs v h (held.Transaction t) p → P (Running t.snapshot t.writes) → P p
 at_transaction P v h t Free shows there = absurd shows
 at_transaction P v h t (Running s ws) shows there = let at = shows.1 in let wrote = shows.2 in subst P (λ i. Running (at i) (wrote i)) there
 at_transaction P v h t (Waits time) shows there = absurd shows
-at_transaction P v h t (Views history floors) shows there = absurd shows
+at_transaction P v h t (Views history floors reclaimed) shows there = absurd shows
 
 pub at_ticket : (P : Place → Type 0) (v : TransactionsValue) (h : History Value) (t : TicketValue) (p : Place) → ShowsAs v h (held.Ticket t) p → P (Waits t.time) → P p
 at_ticket P v h t Free shows there = absurd shows
 at_ticket P v h t (Running s ws) shows there = absurd shows
 at_ticket P v h t (Waits time) shows there = subst P (ap (λ (n : ℕ). Waits n) shows.1) there
-at_ticket P v h t (Views history floors) shows there = absurd shows
+at_ticket P v h t (Views history floors reclaimed) shows there = absurd shows
 
-pub at_view : (P : Place → Type 0) (v : TransactionsValue) (h : History Value) (w : ViewValue) (p : Place) → ShowsAs v h (held.View w) p → ((history : History Value) (floors : ℕ → ℕ) → w.mark ≡ v.mark → ViewStands w history floors → P (Views history floors)) → P p
+pub at_view : (P : Place → Type 0) (v : TransactionsValue) (h : History Value) (w : ViewValue) (p : Place) → ShowsAs v h (held.View w) p → ((history : History Value) (floors : ℕ → ℕ) → w.mark ≡ v.mark → ViewStands w history floors → P (Views history floors w.reclaimed)) → P p
 at_view P v h w Free shows there = absurd shows
 at_view P v h w (Running s ws) shows there = absurd shows
 at_view P v h w (Waits time) shows there = absurd shows
-at_view P v h w (Views history floors) shows there = there history floors shows.0 shows.1
+at_view P v h w (Views history floors reclaimed) shows there = subst (λ (r : ℕ). P (Views history floors r)) shows.1 (there history floors shows.0 shows.2)
 
 -- ---- what stays
 
@@ -232,7 +279,7 @@ pub stays : (v v' : TransactionsValue) (h h' : History Value) (x : Held) (p : Pl
 stays v v' h h' held.Nothing Free keeps goes shows = tt
 stays v v' h h' held.Nothing (Running s ws) keeps goes shows = absurd shows
 stays v v' h h' held.Nothing (Waits time) keeps goes shows = absurd shows
-stays v v' h h' held.Nothing (Views history floors) keeps goes shows = absurd shows
+stays v v' h h' held.Nothing (Views history floors reclaimed) keeps goes shows = absurd shows
 stays v v' h h' (held.Transaction t) Free keeps goes shows = absurd shows
 stays v v' h h' (held.Transaction t) (Running s ws) keeps goes shows =
     let own = shows.0 in (
@@ -246,15 +293,15 @@ stays v v' h h' (held.Transaction t) (Running s ws) keeps goes shows =
       shows.2,
     )
 stays v v' h h' (held.Transaction t) (Waits time) keeps goes shows = absurd shows
-stays v v' h h' (held.Transaction t) (Views history floors) keeps goes shows = absurd shows
+stays v v' h h' (held.Transaction t) (Views history floors reclaimed) keeps goes shows = absurd shows
 stays v v' h h' (held.Ticket t) Free keeps goes shows = absurd shows
 stays v v' h h' (held.Ticket t) (Running s ws) keeps goes shows = absurd shows
 stays v v' h h' (held.Ticket t) (Waits time) keeps goes shows = (record { mark = shows.0.mark ∙ sym keeps.0; awaited = keeps.1 shows.0.awaited }, shows.1)
-stays v v' h h' (held.Ticket t) (Views history floors) keeps goes shows = absurd shows
+stays v v' h h' (held.Ticket t) (Views history floors reclaimed) keeps goes shows = absurd shows
 stays v v' h h' (held.View w) Free keeps goes shows = absurd shows
 stays v v' h h' (held.View w) (Running s ws) keeps goes shows = absurd shows
 stays v v' h h' (held.View w) (Waits time) keeps goes shows = absurd shows
-stays v v' h h' (held.View w) (Views history floors) keeps goes shows = (shows.0 ∙ sym keeps, shows.1)
+stays v v' h h' (held.View w) (Views history floors reclaimed) keeps goes shows = (shows.0 ∙ sym keeps, shows.1, shows.2)
 
 -- ---- the table of open transactions
 

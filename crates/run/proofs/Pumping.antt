@@ -27,16 +27,18 @@ use Rattle.store.specs.Values.{StoreValue, turn_of}
 use Rattle.store.specs.Pumps.{Pumps, TakesStep, WritesExtent, MayBeginSlot, TurnsSlot, IsTurned, Steps, started, begun}
 use Rattle.standing.specs.Laws.{begins_in, ends_in}
 use Rattle.standing.specs.Stands.{Stands}
-use Rattle.standing.proofs.Pumping.{grouped-mark, never-stale, pump-stands}
+use Rattle.standing.proofs.Pumping.{grouped-mark, never-stale}
+use Rattle.standing.proofs.Whole.{pump-stands}
+use Rattle.standing.proofs.Whole as whole
 use Rattle.run.specs.declared.calls.Call.TheVariants as call
 use Rattle.run.specs.declared.calls.Answer.TheVariants as answer
 use Rattle.run.specs.declared.held.Held.{Held}
 use Rattle.run.specs.declared.held.Held.TheVariants as held
-use Rattle.run.specs.Places.{Free, ArePlaces}
+use Rattle.run.specs.Places.{Free, ArePlaces, AreRead}
 use Rattle.run.specs.Worlds.{World, IsWorld, moved, same}
 use Rattle.run.specs.Runs.{Does, Goes, Follows, IsStepFault}
 use Rattle.run.proofs.Runs.{no-step}
-use Rattle.run.proofs.Places.{push_nothing, move, GoesOn, goes_on-same, run-goes_on, Keeps, stays}
+use Rattle.run.proofs.Places.{reads-move, reads-plain, push_nothing, move, GoesOn, goes_on-same, run-goes_on, Keeps, stays}
 
 -- what a step leaves alone
 pub record Leaves (old new : TransactionsValue) : Type 0 where
@@ -162,17 +164,20 @@ pump-goes tells v v' xs r sound pumps w is =
     places h' goes = push_nothing v'.transactions h' xs w.places
         (move v.transactions v'.transactions w.machine.published h' xs w.places is.places (λ i x p at shows. stays v.transactions v'.transactions w.machine.published h' x p (pump-keeps v.transactions v'.transactions x (pump-leaves tells v v' r pumps)) goes shows))
 
+    read : AreRead tells v' (xs ++ held.Nothing ∷ []) (w.places ++ Free ∷ [])
+    read = reads-plain tells v' xs w.places held.Nothing Free is.places.many tt (reads-move tells v v' xs w.places (whole.pump-goes tells v v' r w.machine is.stands pumps) is.views)
+
     by-failure : (b : Bool) → w.machine.failed ≡ b → IfErr r IsStepFault → MatchBool b ((r ≡ Err pump.Failed) × Stands tells v' w.machine) ((after : Machine Value) × steps.Run IsValue w.machine (begins_in w.machine ++ ends_in w.machine.gate r) after × Stands tells v' after)
-        → (next : World) × Does w call.Pump (answer.Pump r) next × Follows w.machine next.machine × IsWorld tells v' (xs ++ held.Nothing ∷ []) next
+        → (next : World) × Does tells w call.Pump (answer.Pump r) next × Follows w.machine next.machine × IsWorld tells v' (xs ++ held.Nothing ∷ []) next
     by-failure true failed refused did = (
       same w,
       subst (λ (b : Bool). MatchBool b ((r ≡ Err pump.Failed) × (same w ≡ same w)) ((after : Machine Value) × IfErr r IsStepFault × steps.Run IsValue w.machine (begins_in w.machine ++ ends_in w.machine.gate r) after × (same w ≡ same (moved w after)))) (sym failed) (did.0, refl),
       no-step w.machine,
-      record { stands = did.1; places = places w.machine.published (goes_on-same w.machine.published) },
+      record { stands = did.1; places = places w.machine.published (goes_on-same w.machine.published); views = read },
     )
     by-failure false works refused did = (
       same (moved w did.0),
       subst (λ (b : Bool). MatchBool b ((r ≡ Err pump.Failed) × (same (moved w did.0) ≡ same w)) ((after : Machine Value) × IfErr r IsStepFault × steps.Run IsValue w.machine (begins_in w.machine ++ ends_in w.machine.gate r) after × (same (moved w did.0) ≡ same (moved w after)))) (sym works) (did.0, refused, did.1, refl),
       (begins_in w.machine ++ ends_in w.machine.gate r, did.1),
-      record { stands = did.2; places = places did.0.published (run-goes_on w.machine did.0 (begins_in w.machine ++ ends_in w.machine.gate r) did.2.machine did.1) },
+      record { stands = did.2; places = places did.0.published (run-goes_on w.machine did.0 (begins_in w.machine ++ ends_in w.machine.gate r) did.2.machine did.1); views = read },
     )

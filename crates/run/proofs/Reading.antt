@@ -22,11 +22,11 @@ use Rattle.run.specs.declared.calls.Answer.{Answer}
 use Rattle.run.specs.declared.calls.Answer.TheVariants as answer
 use Rattle.run.specs.declared.held.Held.{Held}
 use Rattle.run.specs.declared.held.Held.TheVariants as held
-use Rattle.run.specs.Places.{Place, Running, place_at, transaction_in, HasNoTransaction, IsOwnTransaction, Clash, ArePlaces}
+use Rattle.run.specs.Places.{Place, Free, Running, place_at, transaction_in, HasNoTransaction, IsOwnTransaction, Clash, ArePlaces}
 use Rattle.run.specs.Worlds.{World, IsWorld, put, same}
 use Rattle.run.specs.Runs.{Does, Goes, Puts, Deletes, Gets, Scans, PutSays, DeleteSays}
 use Rattle.run.proofs.Runs.{no-step}
-use Rattle.run.proofs.Places.{set, push_nothing, own_transaction, at_transaction}
+use Rattle.run.proofs.Places.{reads-plain, reads-set, set, push_nothing, own_transaction, at_transaction}
 use Rattle.run.proofs.Steps.{same-world}
 
 -- what is looked for in a place
@@ -88,7 +88,7 @@ rewritten-places v h xs ps i t ws here are =
     alike (held.View u) clash = clash
 
 rewrite-goes : (tells : Bool) (v : StoreValue) (xs : List Held) (i : ℕ) (t t' : TxnValue) (ws : List (KeyWrite Value)) (c : Call) (a : Answer) → slice_get xs i ≡ Some (held.Transaction t) → t' ≡ record t { writes = ws }
-    → ((w : World) → IsWorld tells v xs w → Does w c a (same (put w i (Running t.snapshot ws)))) → Goes tells v xs c a v (slice_set xs i (held.Transaction t') ++ held.Nothing ∷ [])
+    → ((w : World) → IsWorld tells v xs w → Does tells w c a (same (put w i (Running t.snapshot ws)))) → Goes tells v xs c a v (slice_set xs i (held.Transaction t') ++ held.Nothing ∷ [])
 rewrite-goes tells v xs i t t' ws c a here is does w world = (
   same (put w i (Running t.snapshot ws)),
   does w world,
@@ -97,6 +97,8 @@ rewrite-goes tells v xs i t t' ws c a here is does w world = (
     stands = world.stands;
     places = push_nothing v.transactions w.machine.published (slice_set xs i (held.Transaction (record t { writes = ws }))) (slice_set w.places i (Running t.snapshot ws))
         (rewritten-places v.transactions w.machine.published xs w.places i t ws here world.places);
+    views = reads-plain tells v (slice_set xs i (held.Transaction (record t { writes = ws }))) (slice_set w.places i (Running t.snapshot ws)) held.Nothing Free
+        (rewritten-places v.transactions w.machine.published xs w.places i t ws here world.places).many tt (reads-set tells v xs w.places i (held.Transaction (record t { writes = ws })) (Running t.snapshot ws) tt world.views);
   }),
 )
 

@@ -18,4 +18,5 @@ pub started-world : (tells : Bool) (v : StoreValue) (m : Machine Value) → Stan
 started-world tells v m stands = record {
   stands = stands;
   places = record { many = refl; each = λ i x at. absurd (cc); apart = λ i j a b at_i at_j clash. absurd (cc) };
+  views = record { each = λ i x at. absurd (cc) };
 }

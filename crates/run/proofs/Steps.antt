@@ -31,12 +31,13 @@ use Rattle.run.specs.Places.{Place, Free, Running, place_at, HasNoTransaction, I
 use Rattle.run.specs.Worlds.{World, IsWorld, leaves, moved, same, spent}
 use Rattle.run.specs.Runs.{Goes, NamesNone, Aborts}
 use Rattle.run.proofs.Runs.{no-step}
-use Rattle.run.proofs.Places.{push, push_nothing, free, move, freed_apart, own_transaction, at_transaction, no_transaction, GoesOn, goes_on-same, run-goes_on, Keeps, stays, closed_other, opened_other, opened_here}
+use Rattle.standing.proofs.Whole.{rest-goes}
+use Rattle.run.proofs.Places.{reads-move, reads-plain, reads-set, push, push_nothing, free, move, freed_apart, own_transaction, at_transaction, no_transaction, GoesOn, goes_on-same, run-goes_on, Keeps, stays, closed_other, opened_other, opened_here}
 
 -- ---- calls that change nothing
 
 pub same-world : (tells : Bool) (v : StoreValue) (xs : List Held) (w : World) → IsWorld tells v xs w → IsWorld tells v (xs ++ held.Nothing ∷ []) (same w)
-same-world tells v xs w is = record { stands = is.stands; places = push_nothing v.transactions w.machine.published xs w.places is.places }
+same-world tells v xs w is = record { stands = is.stands; places = push_nothing v.transactions w.machine.published xs w.places is.places; views = reads-plain tells v xs w.places held.Nothing Free is.places.many tt is.views }
 
 -- a call that names nothing
 pub unknown-goes : (tells : Bool) (v : StoreValue) (xs new : List Held) (c : Call) → new ≡ xs → ((w : World) → IsWorld tells v xs w → NamesNone w c) → Goes tells v xs c answer.Unknown v (new ++ held.Nothing ∷ [])
@@ -87,14 +88,14 @@ begin-goes tells v v' xs (Ok txn) begins w is =
       leaves (moved w (begun m)) (Running (last h) []),
       ((did.0.0, refl, refl), refl),
       (Began (last h) ∷ [], (begun m, (did.0.0, refl, refl), refl)),
-      record { stands = did.1; places = subst (λ (t : TransactionsValue). ArePlaces t h (xs ++ held.Transaction txn ∷ []) (w.places ++ Running (last h) [] ∷ [])) (sym b.new_is) places },
+      record { stands = did.1; places = subst (λ (t : TransactionsValue). ArePlaces t h (xs ++ held.Transaction txn ∷ []) (w.places ++ Running (last h) [] ∷ [])) (sym b.new_is) places; views = reads-plain tells v' xs w.places (held.Transaction txn) (Running (last h) []) is.places.many tt (reads-move tells v v' xs w.places (rest-goes tells v v' begins.rest (ap (λ (t : TransactionsValue). t.mark) b.new_is)) is.views) },
     )
 begin-goes tells v v' xs (Err begin.NoMemory) begins w is =
     let did = begin-stands tells v v' (Err begin.NoMemory) w.machine is.stands begins in
-    (same w, (did.0, refl), no-step w.machine, record { stands = did.1; places = subst (λ (t : TransactionsValue). ArePlaces t w.machine.published (xs ++ held.Nothing ∷ []) (w.places ++ Free ∷ [])) (sym begins.transactions.1) (push_nothing v.transactions w.machine.published xs w.places is.places) })
+    (same w, (did.0, refl), no-step w.machine, record { stands = did.1; places = subst (λ (t : TransactionsValue). ArePlaces t w.machine.published (xs ++ held.Nothing ∷ []) (w.places ++ Free ∷ [])) (sym begins.transactions.1) (push_nothing v.transactions w.machine.published xs w.places is.places); views = reads-plain tells v' xs w.places held.Nothing Free is.places.many tt (reads-move tells v v' xs w.places (rest-goes tells v v' begins.rest (ap (λ (t : TransactionsValue). t.mark) begins.transactions.1)) is.views) })
 begin-goes tells v v' xs (Err begin.Failed) begins w is =
     let did = begin-stands tells v v' (Err begin.Failed) w.machine is.stands begins in
-    (same w, (did.0, refl), no-step w.machine, record { stands = did.1; places = subst (λ (t : TransactionsValue). ArePlaces t w.machine.published (xs ++ held.Nothing ∷ []) (w.places ++ Free ∷ [])) (sym begins.transactions.1) (push_nothing v.transactions w.machine.published xs w.places is.places) })
+    (same w, (did.0, refl), no-step w.machine, record { stands = did.1; places = subst (λ (t : TransactionsValue). ArePlaces t w.machine.published (xs ++ held.Nothing ∷ []) (w.places ++ Free ∷ [])) (sym begins.transactions.1) (push_nothing v.transactions w.machine.published xs w.places is.places); views = reads-plain tells v' xs w.places held.Nothing Free is.places.many tt (reads-move tells v v' xs w.places (rest-goes tells v v' begins.rest (ap (λ (t : TransactionsValue). t.mark) begins.transactions.1)) is.views) })
 
 -- ---- the store's own transaction
 
@@ -159,6 +160,7 @@ abort-goes tells v v' xs i t here are aborts w is =
       record {
         stands = did.2;
         places = push_nothing v'.transactions after.published (slice_set xs i held.Nothing) (slice_set w.places i Free) (subst (λ (u : TransactionsValue). ArePlaces u after.published (slice_set xs i held.Nothing) (slice_set w.places i Free)) (sym over_is) places);
+        views = reads-plain tells v' (slice_set xs i held.Nothing) (slice_set w.places i Free) held.Nothing Free places.many tt (reads-set tells v' xs w.places i held.Nothing Free tt (reads-move tells v v' xs w.places (rest-goes tells v v' aborts.rest (ap (λ (t : TransactionsValue). t.mark) over_is)) is.views));
       },
     )
   where

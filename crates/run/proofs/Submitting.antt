@@ -37,7 +37,8 @@ use Rattle.run.specs.Places.{Place, Free, Waits, place_at, IsOwnTicket, ShowsAs,
 use Rattle.run.specs.Worlds.{World, IsWorld, leaves, put, moved}
 use Rattle.run.specs.Runs.{Does, Goes, Submits, Follows}
 use Rattle.run.specs.Runs as told
-use Rattle.run.proofs.Places.{push, push_nothing, move, own_transaction, own_ticket, at_transaction, goes_on-same, run-goes_on, Keeps, stays, awaited-push, awaited-early, awaited-new}
+use Rattle.standing.proofs.Whole.{rest-goes}
+use Rattle.run.proofs.Places.{reads-move, reads-plain, reads-set, push, push_nothing, move, own_transaction, own_ticket, at_transaction, goes_on-same, run-goes_on, Keeps, stays, awaited-push, awaited-early, awaited-new}
 use Rattle.run.proofs.Steps.{own-is, over-places}
 
 -- the transactions after a submit of the store's own transaction, by the answer
@@ -128,12 +129,13 @@ submit-goes tells v v' xs i t label now r here are range submits w is =
       record {
         stands = stands;
         places = push_nothing v'.transactions after.published (slice_set xs i held.Nothing) (slice_set w.places i Free) (subst (λ (u : TransactionsValue). ArePlaces u after.published (slice_set xs i held.Nothing) (slice_set w.places i Free)) (sym same) places);
+        views = reads-plain tells v' (slice_set xs i held.Nothing) (slice_set w.places i Free) held.Nothing Free places.many tt (reads-set tells v' xs w.places i held.Nothing Free tt (reads-move tells v v' xs w.places (rest-goes tells v v' submits.rest (ap (λ (t : TransactionsValue). t.mark) same)) is.views));
       },
     )
 
     by-result : (o : Result Submitted SubmitFault) → Left (over v.transactions t.number) t label o v'.transactions → (after : Machine Value) → Step IsValue w.machine (event_of w.machine (submission_of t label now) o) after → Stands tells v' after
         → ShowsAs v.transactions w.machine.published (held.Transaction t) (place_at w.places i) → ArePlaces (over v.transactions t.number) after.published (slice_set xs i held.Nothing) (slice_set w.places i Free)
-        → (next : World) × Does w (call.Submit i label now) (submit_answer o).0 next × Follows w.machine next.machine × IsWorld tells v' (slice_set xs i held.Nothing ++ (submit_answer o).1 ∷ []) next
+        → (next : World) × Does tells w (call.Submit i label now) (submit_answer o).0 next × Follows w.machine next.machine × IsWorld tells v' (slice_set xs i held.Nothing ++ (submit_answer o).1 ∷ []) next
     by-result (Ok (submitted.ReadOnly snapshot)) left after step stands shows places =
         nothing (Ok (outcome.ReadOnly snapshot)) (Decided (submission_of t label now) submissions.Reads) after step stands shows places left.1 (left.0, refl, refl)
     by-result (Ok (submitted.Queued ticket)) left after step stands shows places =
@@ -157,6 +159,7 @@ submit-goes tells v v' xs i t label now r here are range submits w is =
           record {
             stands = stands;
             places = subst (λ (u : TransactionsValue). ArePlaces u after.published (slice_set xs i held.Nothing ++ held.Ticket ticket ∷ []) (slice_set w.places i Free ++ Waits (commit_made m s).time ∷ [])) (sym joins.new_is) pushed;
+            views = reads-plain tells v' (slice_set xs i held.Nothing) (slice_set w.places i Free) (held.Ticket ticket) (Waits (commit_made m s).time) places.many tt (reads-set tells v' xs w.places i held.Nothing Free tt (reads-move tells v v' xs w.places (rest-goes tells v v' submits.rest (ap (λ (t : TransactionsValue). t.mark) joins.new_is)) is.views));
           },
         )
     by-result (Err (refused.Conflict key)) left after step stands shows places = nothing (Err (refused.Conflict key)) (Decided (submission_of t label now) (submissions.Conflicts key)) after step stands shows places left (refl, refl)

@@ -21,12 +21,13 @@ use Rattle.run.specs.declared.calls.Answer.TheVariants as answer
 use Rattle.run.specs.declared.calls.RedeemOutcome.TheVariants as told
 use Rattle.run.specs.declared.held.Held.{Held}
 use Rattle.run.specs.declared.held.Held.TheVariants as held
-use Rattle.run.specs.Places.{Place, Free, place_at, HasNoTicket, IsNoTicket, IsOwnTicket, ShowsAs, Clash, ArePlaces, redeem_answer}
+use Rattle.run.specs.Places.{Place, Free, place_at, HasNoTicket, IsNoTicket, IsOwnTicket, ShowsAs, Clash, ArePlaces, redeem_answer, AreRead}
 use Rattle.run.specs.Worlds.{World, IsWorld, same, spent}
 use Rattle.run.specs.Runs.{Does, Goes, Redeems, GivesUp, Follows}
 use Rattle.run.proofs.Runs.{no-step}
 use Rattle.run.proofs.Lists.{set-get}
-use Rattle.run.proofs.Places.{push_nothing, free, move, freed_apart, own_ticket, at_ticket, no_ticket, goes_on-same, Keeps, stays, awaited-redeemed}
+use Rattle.standing.proofs.Whole.{rest-goes}
+use Rattle.run.proofs.Places.{reads-move, reads-plain, reads-set, push_nothing, free, move, freed_apart, own_ticket, at_ticket, no_ticket, goes_on-same, Keeps, stays, awaited-redeemed}
 
 pub lacks-ticket : (tells : Bool) (v : StoreValue) (xs : List Held) (i : ℕ) → HasNoTicket (slice_get xs i) → (w : World) → IsWorld tells v xs w → IsNoTicket (place_at w.places i)
 lacks-ticket tells v xs i none w is = no_ticket v.transactions w.machine.published xs w.places i is.places none
@@ -79,7 +80,7 @@ redeem-goes tells v v' xs i k r here redeems w is =
     by-result : (o : Redeemed) → Left v.transactions k o v'.transactions → RedeemsAs (answers.redeemed_by w.machine k.time) o → ShowsAs v.transactions w.machine.published (held.Ticket k) (place_at w.places i) → Stands tells v' w.machine
         → ArePlaces v.transactions w.machine.published (slice_set xs i held.Nothing) (slice_set w.places i Free)
         → ArePlaces (record v.transactions { heads = orders.redeemed k.time v.transactions.heads }) w.machine.published (slice_set xs i held.Nothing) (slice_set w.places i Free)
-        → (next : World) × Does w (call.Redeem i) (redeem_answer o).0 next × Follows w.machine next.machine × IsWorld tells v' (slice_set xs i (redeem_answer o).1 ++ held.Nothing ∷ []) next
+        → (next : World) × Does tells w (call.Redeem i) (redeem_answer o).0 next × Follows w.machine next.machine × IsWorld tells v' (slice_set xs i (redeem_answer o).1 ++ held.Nothing ∷ []) next
     by-result (redeemed.Done time) left says shows stands freed moved = (
       spent w i,
       at_ticket (λ (p : Place). Redeems w i p (told.Done time) (spent w i)) v.transactions w.machine.published k (place_at w.places i) shows (says, refl),
@@ -87,6 +88,7 @@ redeem-goes tells v v' xs i k r here redeems w is =
       record {
         stands = stands;
         places = push_nothing v'.transactions w.machine.published (slice_set xs i held.Nothing) (slice_set w.places i Free) (subst (λ (t : TransactionsValue). ArePlaces t w.machine.published (slice_set xs i held.Nothing) (slice_set w.places i Free)) (sym left) moved);
+        views = reads-plain tells v' (slice_set xs i held.Nothing) (slice_set w.places i Free) held.Nothing Free moved.many tt (reads-set tells v' xs w.places i held.Nothing Free tt (reads-move tells v v' xs w.places (rest-goes tells v v' redeems.rest (ap (λ (t : TransactionsValue). t.mark) left)) is.views));
       },
     )
     by-result (redeemed.Waiting back) left says shows stands freed moved =
@@ -98,6 +100,7 @@ redeem-goes tells v v' xs i k r here redeems w is =
             stands = stands;
             places = subst (λ (l : List Held). ArePlaces v'.transactions w.machine.published (l ++ held.Nothing ∷ []) (w.places ++ Free ∷ [])) (sym still)
                 (push_nothing v'.transactions w.machine.published xs w.places (subst (λ (t : TransactionsValue). ArePlaces t w.machine.published xs w.places) (sym left.1) is.places));
+            views = subst (λ (l : List Held). AreRead tells v' (l ++ held.Nothing ∷ []) (w.places ++ Free ∷ [])) (sym still) (reads-plain tells v' xs w.places held.Nothing Free is.places.many tt (reads-move tells v v' xs w.places (rest-goes tells v v' redeems.rest (ap (λ (t : TransactionsValue). t.mark) left.1)) is.views));
           },
         )
     by-result redeemed.InDoubt left says shows stands freed moved = (
@@ -107,6 +110,7 @@ redeem-goes tells v v' xs i k r here redeems w is =
       record {
         stands = stands;
         places = push_nothing v'.transactions w.machine.published (slice_set xs i held.Nothing) (slice_set w.places i Free) (subst (λ (t : TransactionsValue). ArePlaces t w.machine.published (slice_set xs i held.Nothing) (slice_set w.places i Free)) (sym left) freed);
+        views = reads-plain tells v' (slice_set xs i held.Nothing) (slice_set w.places i Free) held.Nothing Free freed.many tt (reads-set tells v' xs w.places i held.Nothing Free tt (reads-move tells v v' xs w.places (rest-goes tells v v' redeems.rest (ap (λ (t : TransactionsValue). t.mark) left)) is.views));
       },
     )
     by-result redeemed.Stranger left says shows stands freed moved = absurd left
@@ -116,5 +120,5 @@ give_up-goes tells v xs i k here w is = (
   spent w i,
   at_ticket (λ (p : Place). GivesUp w i p (spent w i)) v.transactions w.machine.published k (place_at w.places i) (is.places.each i (held.Ticket k) here) refl,
   no-step w.machine,
-  record { stands = is.stands; places = push_nothing v.transactions w.machine.published (slice_set xs i held.Nothing) (slice_set w.places i Free) (free v.transactions w.machine.published xs w.places i (held.Ticket k) is.places here) },
+  record { stands = is.stands; places = push_nothing v.transactions w.machine.published (slice_set xs i held.Nothing) (slice_set w.places i Free) (free v.transactions w.machine.published xs w.places i (held.Ticket k) is.places here); views = reads-plain tells v (slice_set xs i held.Nothing) (slice_set w.places i Free) held.Nothing Free (free v.transactions w.machine.published xs w.places i (held.Ticket k) is.places here).many tt (reads-set tells v xs w.places i held.Nothing Free tt is.views) },
 )

@@ -7,7 +7,7 @@ use Rattle.history.specs.declared.key.Key.{Key}
 use Rattle.history.specs.declared.key.KeyWrite.{KeyWrite}
 use Rattle.history.specs.Key.{write_in, same_key}
 use Rattle.history.specs.Answers as answers
-use Rattle.history.specs.Histories.{Commit, History, state}
+use Rattle.history.specs.Histories.{Commit, History, last, state}
 use Rattle.history.specs.Machine.{Machine, commit_order, IsMachine}
 use Rattle.history.specs.Steps.{Event, Step, Decided}
 use Rattle.history.specs.Steps as steps
@@ -21,6 +21,7 @@ use Rattle.image.specs.Values.{Value, IsValue}
 use Rattle.snapshot.specs.WriteSets.{with_write}
 use Rattle.snapshot.proofs.WriteSetLemmas.{write_in-with_write}
 use Rattle.timequery.specs.declared.fault.QueryFault.{QueryFault}
+use Rattle.standing.specs.Homes.{IsSure}
 use Rattle.standing.specs.Laws.{SaysAt}
 use Rattle.run.specs.declared.calls.Call.{Call}
 use Rattle.run.specs.declared.calls.Call.TheVariants as call
@@ -174,7 +175,7 @@ machine-runs tells t p q low = (machine-is t p, runs-on t p q low)
 
 pub floors-stand : FloorsStand
 floors-stand tells t p q low =
-    kept-upto t (λ (m n : Moment). SameFloors m.world.machine n.world.machine) (λ m. (refl, refl)) (λ a b c one two. same-then a.world.machine b.world.machine c.world.machine one two) (λ c a m n link. call-floors m.world c a n.world link.does) p q low
+    kept-upto t (λ (m n : Moment). SameFloors m.world.machine n.world.machine) (λ m. (refl, refl)) (λ a b c one two. same-then a.world.machine b.world.machine c.world.machine one two) (λ c a m n link. call-floors tells m.world c a n.world link.does) p q low
 
 leaves-at : {tells : Bool} (t : Trace tells) (p : ℕ) → Leaves tells (moment_at t p)
 leaves-at {tells} t p =
@@ -193,16 +194,16 @@ record Stay (m n : Moment) : Type 0 where
   back : (i : ℕ) (p : Place) → IsGiven p → i < length m.world.places → place_at n.world.places i ≡ p → place_at m.world.places i ≡ p
 
 stays : {tells : Bool} (t : Trace tells) (p q : ℕ) → p ≤ q → Stay (moment_at t p) (moment_at t q)
-stays t p q low =
+stays {tells = tells} t p q low =
     kept-upto t Stay (λ m. record { longer = omega arith; back = λ i x given within at. at })
     (λ a b c one two. record { longer = omega (arith, one.longer, two.longer); back = λ i x given within at. one.back i x given within (two.back i x given (omega (arith, within, one.longer)) at) })
-    (λ c a m n link. let passed = passes m.world c a n.world link.does in record { longer = omega (arith, passed.longer); back = passed.back }) p q low
+    (λ c a m n link. let passed = passes tells m.world c a n.world link.does in record { longer = omega (arith, passed.longer); back = passed.back }) p q low
 
 -- each call has one place
 places-at : {tells : Bool} (t : Trace tells) (n : ℕ) → n ≤ length t.calls → length (moment_at t n).world.places ≡ place_of t n
 places-at {tells} t zero low = ap (λ (m : Moment). length m.world.places) (to-its-end tells t).0 ∙ omega arith
 places-at {tells} t (suc n) low = elim (next-call t n) as (λ o. length (moment_at t (suc n)).world.places ≡ place_of t (suc n)) [
-  | inl next ↦ omega (arith, (passes (moment_at t n).world next.asked next.said (moment_at t (suc n)).world (calls-link tells t n next.asked next.said next.is).does).longer, places-at t n (omega (arith, low)))
+  | inl next ↦ omega (arith, (passes tells (moment_at t n).world next.asked next.said (moment_at t (suc n)).world (calls-link tells t n next.asked next.said next.is).does).longer, places-at t n (omega (arith, low)))
   | inr past ↦ absurd (omega (arith, past, low))
 ]
 
@@ -215,7 +216,7 @@ pub tickets-stay : TicketsStay
 tickets-stay tells t p q place time low within at = (stays t p q low).back place (Waits time) tt within at
 
 pub views-stay : ViewsStay
-views-stay tells t p q place h floors low within at = (stays t p q low).back place (Views h floors) tt within at
+views-stay tells t p q place h floors reclaimed low within at = (stays t p q low).back place (Views h floors reclaimed) tt within at
 
 -- the call that gave what a place holds at a later moment
 record GivenBy {tells : Bool} (t : Trace tells) (i k : ℕ) (p : Place) : Type 0 where
@@ -232,7 +233,7 @@ given-by {tells} t i k p given low at =
     let here = (stays t (suc i) k (omega (arith, earlier))).back (place_of t i) p given (omega (arith, places-at t (suc i) (omega (arith, earlier, low)))) at in
     elim (next-call t i) as (λ o. GivenBy t i k p) [
       | inl next ↦
-          let passed = passes (moment_at t i).world next.asked next.said (moment_at t (suc i)).world (calls-link tells t i next.asked next.said next.is).does in
+          let passed = passes tells (moment_at t i).world next.asked next.said (moment_at t (suc i)).world (calls-link tells t i next.asked next.said next.is).does in
           record {
             earlier = earlier;
             asked = next.asked;
@@ -254,7 +255,7 @@ done-is t time false false is = absurd cc
 redeem-waits : (w : World) (i t : ℕ) (p : Place) (next : World) → Redeems w i p (told.Done t) next → (p ≡ Waits t) × (answers.redeemed_by w.machine t ≡ answers.Done t)
 redeem-waits w i t Free next does = absurd does
 redeem-waits w i t (Running snapshot writes) next does = absurd does
-redeem-waits w i t (Views h floors) next does = absurd does
+redeem-waits w i t (Views h floors reclaimed) next does = absurd does
 redeem-waits w i t (Waits time) next does =
     let same = done-is time t (answers.is_published w.machine time) w.machine.failed does.0 in
     (ap Waits same, subst (λ (n : ℕ). answers.redeemed_by w.machine n ≡ answers.Done t) same does.0)
@@ -296,20 +297,21 @@ done-names-its-submit tells t i k time is =
 
 -- ---- views
 
-asks-view : (w : World) (key : Key) (time : ℕ) (p : Place) (said : Result (Option Value) QueryFault) (next : World) → Asks w key time p said next → (h : History Value) × (floors : ℕ → ℕ) × (p ≡ Views h floors) × SaysAt (answers.at_answer h floors key time) said
-asks-view w key time (Views h floors) said next does = (h, floors, refl, does.0)
-asks-view w key time Free said next does = absurd does
-asks-view w key time (Running snapshot writes) said next does = absurd does
-asks-view w key time (Waits t) said next does = absurd does
+asks-view : (tells : Bool) (w : World) (key : Key) (time : ℕ) (p : Place) (said : Result (Option Value) QueryFault) (next : World) → Asks tells w key time p said next
+    → (h : History Value) × (floors : ℕ → ℕ) × (reclaimed : ℕ) × (p ≡ Views h floors reclaimed) × SaysAt (IsSure tells reclaimed time) (answers.at_answer h floors key time) said
+asks-view tells w key time (Views h floors reclaimed) said next does = (h, floors, reclaimed, refl, does.0)
+asks-view tells w key time Free said next does = absurd does
+asks-view tells w key time (Running snapshot writes) said next does = absurd does
+asks-view tells w key time (Waits t) said next does = absurd does
 
 pub view-answers : ViewAnswersByItsMoment
 view-answers tells t i k key time said is =
-    let asked = asks-view (moment_at t k).world key time (place_at (moment_at t k).world.places (place_of t i)) said (moment_at t (suc k)).world (calls-link tells t k (call.At (place_of t i) key time) (answer.At said) is).does in
-    let by = given-by t i k (Views asked.0 asked.1) tt (omega (arith, get-low t.calls k (call.At (place_of t i) key time) is.0)) asked.2 in
-    let gives : (by.asked ≡ call.View) × (by.said ≡ answer.View (Ok tt)) × (asked.0 ≡ (machine_at t i).published) × (asked.1 ≡ (machine_at t i).floors) = by.gives in (
+    let asked = asks-view tells (moment_at t k).world key time (place_at (moment_at t k).world.places (place_of t i)) said (moment_at t (suc k)).world (calls-link tells t k (call.At (place_of t i) key time) (answer.At said) is).does in
+    let by = given-by t i k (Views asked.0 asked.1 asked.2) tt (omega (arith, get-low t.calls k (call.At (place_of t i) key time) is.0)) asked.3 in
+    let gives : (by.asked ≡ call.View) × (by.said ≡ answer.View (Ok tt)) × (asked.0 ≡ (machine_at t i).published) × (asked.1 ≡ (machine_at t i).floors) × (asked.2 ≤ last (machine_at t i).published) = by.gives in (
       by.earlier,
       (by.is.0 ∙ ap Some gives.0, by.is.1 ∙ ap Some gives.1),
-      subst (λ (f : ℕ → ℕ). SaysAt (answers.at_answer (machine_at t i).published f key time) said) gives.3 (subst (λ (h : History Value). SaysAt (answers.at_answer h asked.1 key time) said) gives.2 asked.3),
+      (asked.2, gives.4, subst (λ (f : ℕ → ℕ). SaysAt (IsSure tells asked.2 time) (answers.at_answer (machine_at t i).published f key time) said) gives.3 (subst (λ (h : History Value). SaysAt (IsSure tells asked.2 time) (answers.at_answer h asked.1 key time) said) gives.2 asked.4)),
     )
 
 -- ---- puts
@@ -342,13 +344,13 @@ has-put : (w : World) (j : ℕ) (key : Key) (value : Value) (p : Place) (next : 
 has-put w j key value (Running snapshot writes) next here does = (snapshot, writes, does.0, rewrites w j snapshot writes does.0 next here does.2, does.1.ok)
 has-put w j key value Free next here does = absurd does
 has-put w j key value (Waits t) next here does = absurd does
-has-put w j key value (Views h floors) next here does = absurd does
+has-put w j key value (Views h floors reclaimed) next here does = absurd does
 
 has-deleted : (w : World) (j : ℕ) (key : Key) (p : Place) (next : World) → place_at w.places j ≡ p → Deletes w j key p (Ok tt) next → (snapshot : ℕ) × (before : List (KeyWrite Value)) × (after : List (KeyWrite Value)) × Rewrites w j snapshot before after next × (after ≡ deleted (state w.machine.published snapshot key) before key)
 has-deleted w j key (Running snapshot writes) next here does = (snapshot, writes, does.0, rewrites w j snapshot writes does.0 next here does.2, does.1.ok)
 has-deleted w j key Free next here does = absurd does
 has-deleted w j key (Waits t) next here does = absurd does
-has-deleted w j key (Views h floors) next here does = absurd does
+has-deleted w j key (Views h floors reclaimed) next here does = absurd does
 
 -- a transaction that runs at a later moment had the same write of a key that no call between them touched
 running-back : {tells : Bool} (t : Trace tells) (p d j s : ℕ) (ws : List (KeyWrite Value)) (key : Key) → j < length (moment_at t p).world.places
@@ -359,7 +361,7 @@ running-back {tells} t p (suc d) j s ws key low apart at =
     let there = (stays t p (on p d) (omega (arith, far))).longer in
     let last : WasRunning (moment_at t (on p d)).world j s ws key =
     elim (next-call t (on p d)) as (λ o. WasRunning (moment_at t (on p d)).world j s ws key) [
-      | inl next ↦ (passes (moment_at t (on p d)).world next.asked next.said (moment_at t (suc (on p d))).world (calls-link tells t (on p d) next.asked next.said next.is).does).running j s ws key (omega (arith, low, there))
+      | inl next ↦ (passes tells (moment_at t (on p d)).world next.asked next.said (moment_at t (suc (on p d))).world (calls-link tells t (on p d) next.asked next.said next.is).does).running j s ws key (omega (arith, low, there))
           (apart (on p d) next.asked next.said (omega (arith, far)) (omega arith) next.is) at
       | inr past ↦ record { writes = ws; at = ap (λ (m : Moment). place_at m.world.places j) (sym (past-end tells t.calls t.answers t.start t.end t.promises.chain (on p d) past)) ∙ at; same_write = refl }
     ] in

@@ -1,5 +1,5 @@
 -- The calls of views, and those that ask of what is published.
-use Rattle.std.proofs.Common.{◌≡◌, ℕ, ◌==◌, Bool, true, false, List, [], ◌∷◌, ◌++◌, Some, None, Option, Result, Ok, Err, Vec, MatchBool, refl, sym, ◌∙◌, ap, subst, arith}
+use Rattle.std.proofs.Common.{◌≡◌, ℕ, ◌+◌, ◌≤◌, ◌==◌, Bool, true, false, List, [], ◌∷◌, ◌++◌, Some, None, Option, Result, Ok, Err, Vec, MatchBool, refl, sym, ◌∙◌, ap, subst, arith}
 use Rattle.std.specs.Prelude.{slice_get, slice_set, IfOk}
 use Rattle.std.specs.declared.alloc.Global.{Global}
 use Rattle.std.specs.declared.alloc.AllocError.{AllocError}
@@ -8,23 +8,30 @@ use Rattle.history.specs.declared.key.Key.{Key}
 use Rattle.history.specs.declared.time.Version.{Version}
 use Rattle.history.specs.Answers as answers
 use Rattle.image.specs.Values.{Value}
+use Rattle.disk.specs.Calls.{DiskState}
+use Rattle.timequery.specs.Faults.{after_query}
 use Rattle.timequery.specs.View.{ViewValue}
 use Rattle.timequery.specs.declared.fault.QueryFault.{QueryFault}
 use Rattle.timequery.specs.declared.fault.QueryFault.TheVariants as query
 use Rattle.store.specs.Values.{StoreValue}
 use Rattle.store.specs.Calls as stores
-use Rattle.standing.specs.Laws.{SaysAt}
-use Rattle.standing.proofs.Answering.{view-stands, at-answered, times-of_label}
-use Rattle.standing.proofs.Queries.{scan_at-answered, between-answered, scan_between-answered}
+use Rattle.store.specs.Calls.{Finds, OrStranger, is_own}
+use Rattle.transactions.specs.Values.{TransactionsValue}
+use Rattle.history.specs.Histories.{History}
+use Rattle.standing.specs.Homes.{ViewStands, ViewReads, GoesOn}
+use Rattle.standing.specs.Stands.{Stands}
+use Rattle.standing.proofs.Answering.{times-of_label}
+use Rattle.standing.proofs.Asking.{query-stands}
+use Rattle.standing.proofs.Views.{view-of-history, at-answered, scan_at-answered, between-answered, scan_between-answered}
 use Rattle.run.specs.declared.calls.Call.TheVariants as call
 use Rattle.run.specs.declared.calls.Answer.TheVariants as answer
 use Rattle.run.specs.declared.held.Held.{Held}
 use Rattle.run.specs.declared.held.Held.TheVariants as held
-use Rattle.run.specs.Places.{Place, Free, Views, place_at, view_in, HasNoView, IsNoView, ShowsAs, view_answer}
+use Rattle.run.specs.Places.{Place, Free, Running, Waits, Views, place_at, view_in, HasNoView, IsNoView, ShowsAs, ArePlaces, IsRead, view_answer}
 use Rattle.run.specs.Worlds.{World, IsWorld, leaves, same, spent}
 use Rattle.run.specs.Runs.{Goes, Asks, AsksScan, AsksBetween, AsksScanBetween, Closes}
 use Rattle.run.proofs.Runs.{no-step}
-use Rattle.run.proofs.Places.{push, push_nothing, free, view-no_clash, at_view, no_view}
+use Rattle.run.proofs.Places.{reads-move, reads-push, reads-plain, reads-set, push, push_nothing, free, view-no_clash, at_view, no_view}
 use Rattle.run.proofs.Steps.{same-world}
 
 pub held-view : (o : Option Held) (view : ViewValue) → Path (Option ViewValue) (Some view) (view_in o) → o ≡ Some (held.View view)
@@ -47,71 +54,117 @@ lacks-view tells v xs i none w is = no_view v.transactions w.machine.published x
 pub view-goes : (tells : Bool) (v : StoreValue) (xs : List Held) (r : Result ViewValue AllocError) → IfOk r (stores.IsViewOf v) → Goes tells v xs call.View (view_answer r).0 v (xs ++ (view_answer r).1 ∷ [])
 view-goes tells v xs (Ok view) of w is =
     let h = w.machine.published in
-    let shows : ShowsAs v.transactions h (held.View view) (Views h w.machine.floors) = (ap (λ (x : ViewValue). x.mark) of, view-stands v view w.machine is.stands.memory of) in (
-      leaves w (Views h w.machine.floors),
-      refl,
+    let stands = view-of-history tells v view w.machine is.stands of in
+    let marked = stands.0.memory.marked in
+    let shows : ShowsAs v.transactions h (held.View view) (Views h w.machine.floors view.reclaimed) = (ap (λ (x : ViewValue). x.mark) of, refl, stands.0) in (
+      leaves w (Views h w.machine.floors view.reclaimed),
+      (view.reclaimed, marked, refl),
       no-step w.machine,
-      record { stands = is.stands; places = push v.transactions h xs w.places (held.View view) (Views h w.machine.floors) is.places shows (λ j b at clash. view-no_clash view b clash) },
+      record {
+        stands = is.stands;
+        places = push v.transactions h xs w.places (held.View view) (Views h w.machine.floors view.reclaimed) is.places shows (λ j b at clash. view-no_clash view b clash);
+        views = reads-push tells v xs w.places (held.View view) (Views h w.machine.floors view.reclaimed) is.places.many is.views stands.1;
+      },
     )
 view-goes tells v xs (Err why) of w is = (same w, refl, no-step w.machine, same-world tells v xs w is)
 
--- the store's own view is answered
-own-answered : (P R : Type 0) (b : Bool) → b ≡ true → MatchBool b P R → P
-own-answered P R true mine says = says
-own-answered P R false mine says = absurd cc
+-- the world of a store that was asked
+asked-world : (tells : Bool) (v v' : StoreValue) (xs : List Held) (w : World) → IsWorld tells v xs w → v'.transactions ≡ v.transactions → Stands tells v' w.machine × GoesOn tells v v' → IsWorld tells v' (xs ++ held.Nothing ∷ []) (same w)
+asked-world tells v v' xs w is unchanged goes = record {
+  stands = goes.0;
+  places = subst (λ (t : TransactionsValue). ArePlaces t w.machine.published (xs ++ held.Nothing ∷ []) (w.places ++ Free ∷ [])) (sym unchanged) (push_nothing v.transactions w.machine.published xs w.places is.places);
+  views = reads-plain tells v' xs w.places held.Nothing Free is.places.many tt (reads-move tells v v' xs w.places goes.1 is.views);
+}
 
-pub at-goes : (tells : Bool) (v v' : StoreValue) (xs : List Held) (i : ℕ) (key : Key) (time : ℕ) (view : ViewValue) (r : Result (Option Value) QueryFault) → slice_get xs i ≡ Some (held.View view) → stores.AnswersAtView v view key time r → v' ≡ v
+-- what the view at a place reads is there
+view-read : (tells : Bool) (v : StoreValue) (view : ViewValue) (P : Place → Type 0) (h : History Value) (p : Place) → ShowsAs v.transactions h (held.View view) p → IsRead tells v (held.View view) p
+    → ((history : History Value) (floors : ℕ → ℕ) → ViewStands view history floors → ViewReads tells v view history floors → P (Views history floors view.reclaimed)) → P p
+view-read tells v view P h Free shows read there = absurd shows
+view-read tells v view P h (Running s ws) shows read there = absurd shows
+view-read tells v view P h (Waits time) shows read there = absurd shows
+view-read tells v view P h (Views history floors reclaimed) shows read there = subst (λ (r : ℕ). P (Views history floors r)) shows.1 (there history floors shows.2 read)
+
+-- the transactions of a store that was asked
+asked-same : {T : Type 0} (tells : Bool) (v v' : StoreValue) (view : ViewValue) (from : ℕ) (Refuses : QueryFault → Type 0) (Recent : T → Type 0) (OfHistory : History Value → T → Type 0) (Exact : Result T QueryFault → Type 0) (answer : Result T QueryFault)
+    → OrStranger v view (Finds tells v view from Refuses Recent OfHistory Exact) answer v' → v'.transactions ≡ v.transactions
+asked-same tells v v' view from Refuses Recent OfHistory Exact answer says = by-own (is_own v view) says
+  where
+    by-own : (b : Bool) → MatchBool b (Finds tells v view from Refuses Recent OfHistory Exact answer v') ((answer ≡ Err query.Stranger) × (v' ≡ v)) → v'.transactions ≡ v.transactions
+    by-own true finds = ap (λ (x : StoreValue). x.transactions) finds.asks.new_is
+    by-own false strange = ap (λ (x : StoreValue). x.transactions) strange.1
+
+after-made : {T : Type 0} (answer : Result T QueryFault) (disk : DiskState) → (after_query answer disk).made ≡ disk.made
+after-made (Ok found) disk = refl
+after-made (Err query.Device) disk = refl
+after-made (Err (query.BeforeKept floor)) disk = refl
+after-made (Err (query.NotYet late)) disk = refl
+after-made (Err query.EmptyInterval) disk = refl
+after-made (Err query.NoMemory) disk = refl
+after-made (Err (query.Damaged start)) disk = refl
+after-made (Err query.NeedsDisk) disk = refl
+after-made (Err query.Stranger) disk = refl
+
+-- a query writes and syncs nothing
+pub asked-few : {T : Type 0} (tells : Bool) (v v' : StoreValue) (view : ViewValue) (from : ℕ) (Refuses : QueryFault → Type 0) (Recent : T → Type 0) (OfHistory : History Value → T → Type 0) (Exact : Result T QueryFault → Type 0) (answer : Result T QueryFault)
+    → OrStranger v view (Finds tells v view from Refuses Recent OfHistory Exact) answer v' → v'.disk.made ≤ v.disk.made + 1
+asked-few tells v v' view from Refuses Recent OfHistory Exact answer says = by-own (is_own v view) says
+  where
+    by-own : (b : Bool) → MatchBool b (Finds tells v view from Refuses Recent OfHistory Exact answer v') ((answer ≡ Err query.Stranger) × (v' ≡ v)) → v'.disk.made ≤ v.disk.made + 1
+    by-own true finds = let is = ap (λ (x : StoreValue). x.disk.made) finds.asks.new_is ∙ after-made answer v.disk in omega arith
+    by-own false strange = let is = ap (λ (x : StoreValue). x.disk.made) strange.1 in omega arith
+
+pub at-goes : (tells : Bool) (v v' : StoreValue) (xs : List Held) (i : ℕ) (key : Key) (time : ℕ) (view : ViewValue) (r : Result (Option Value) QueryFault) → slice_get xs i ≡ Some (held.View view) → stores.AnswersAtView tells v view key time r v'
     → Goes tells v xs (call.At i key time) (answer.At r) v' (xs ++ held.Nothing ∷ [])
-at-goes tells v v' xs i key time view r here says unchanged w is = (
+at-goes tells v v' xs i key time view r here says w is = (
   same w,
-  at_view (λ (p : Place). Asks w key time p r (same w)) v.transactions w.machine.published view (place_at w.places i) (is.places.each i (held.View view) here) (λ history floors mark stands.
-      let mine : (view.mark == v.transactions.mark) ≡ true = grind (arith, nat_tests) in
-      (own-answered _ _ (view.mark == v.transactions.mark) mine (at-answered v view history floors key time r stands says), refl)),
+  view-read tells v view (λ (p : Place). Asks tells w key time p r (same w)) w.machine.published (place_at w.places i) (is.places.each i (held.View view) here) (is.views.each i (held.View view) here) (λ history floors stands reads.
+      (at-answered tells v v' w.machine view history floors key time r is.stands stands reads says, refl)),
   no-step w.machine,
-  subst (λ (x : StoreValue). IsWorld tells x (xs ++ held.Nothing ∷ []) (same w)) (sym unchanged) (same-world tells v xs w is),
+  asked-world tells v v' xs w is (asked-same tells v v' view time _ _ _ _ r says) (query-stands tells v v' w.machine view time _ _ _ _ r is.stands says),
 )
 
-pub scan_at-goes : (tells : Bool) (v v' : StoreValue) (xs : List Held) (i : ℕ) (relation time : ℕ) (view : ViewValue) (r : Result (Vec (ℕ × Value) Global) QueryFault) → slice_get xs i ≡ Some (held.View view) → stores.AnswersScanAt v view relation time r → v' ≡ v
+pub scan_at-goes : (tells : Bool) (v v' : StoreValue) (xs : List Held) (i : ℕ) (relation time : ℕ) (view : ViewValue) (r : Result (Vec (ℕ × Value) Global) QueryFault) → slice_get xs i ≡ Some (held.View view) → stores.AnswersScanAt tells v view relation time r v'
     → Goes tells v xs (call.ScanAt i relation time) (answer.ScanAt r) v' (xs ++ held.Nothing ∷ [])
-scan_at-goes tells v v' xs i relation time view r here says unchanged w is = (
+scan_at-goes tells v v' xs i relation time view r here says w is = (
   same w,
-  at_view (λ (p : Place). AsksScan w relation time p r (same w)) v.transactions w.machine.published view (place_at w.places i) (is.places.each i (held.View view) here) (λ history floors mark stands.
-      let mine : (view.mark == v.transactions.mark) ≡ true = grind (arith, nat_tests) in
-      (own-answered _ _ (view.mark == v.transactions.mark) mine (scan_at-answered v view history floors relation time r stands says), refl)),
+  view-read tells v view (λ (p : Place). AsksScan tells w relation time p r (same w)) w.machine.published (place_at w.places i) (is.places.each i (held.View view) here) (is.views.each i (held.View view) here) (λ history floors stands reads.
+      (scan_at-answered tells v v' w.machine view history floors relation time r is.stands stands reads says, refl)),
   no-step w.machine,
-  subst (λ (x : StoreValue). IsWorld tells x (xs ++ held.Nothing ∷ []) (same w)) (sym unchanged) (same-world tells v xs w is),
+  asked-world tells v v' xs w is (asked-same tells v v' view time _ _ _ _ r says) (query-stands tells v v' w.machine view time _ _ _ _ r is.stands says),
 )
 
-pub between-goes : (tells : Bool) (v v' : StoreValue) (xs : List Held) (i : ℕ) (key : Key) (a b : ℕ) (view : ViewValue) (r : Result (Vec (Version Value) Global) QueryFault) → slice_get xs i ≡ Some (held.View view) → stores.AnswersRows v view key a b r → v' ≡ v
+pub between-goes : (tells : Bool) (v v' : StoreValue) (xs : List Held) (i : ℕ) (key : Key) (a b : ℕ) (view : ViewValue) (r : Result (Vec (Version Value) Global) QueryFault) → slice_get xs i ≡ Some (held.View view) → stores.AnswersRows tells v view key a b r v'
     → Goes tells v xs (call.Between i key a b) (answer.Between r) v' (xs ++ held.Nothing ∷ [])
-between-goes tells v v' xs i key a b view r here says unchanged w is = (
+between-goes tells v v' xs i key a b view r here says w is = (
   same w,
-  at_view (λ (p : Place). AsksBetween w key a b p r (same w)) v.transactions w.machine.published view (place_at w.places i) (is.places.each i (held.View view) here) (λ history floors mark stands.
-      let mine : (view.mark == v.transactions.mark) ≡ true = grind (arith, nat_tests) in
-      (own-answered _ _ (view.mark == v.transactions.mark) mine (between-answered v view history floors key a b r stands says), refl)),
+  view-read tells v view (λ (p : Place). AsksBetween tells w key a b p r (same w)) w.machine.published (place_at w.places i) (is.places.each i (held.View view) here) (is.views.each i (held.View view) here) (λ history floors stands reads.
+      (between-answered tells v v' w.machine view history floors key a b r is.stands stands reads says, refl)),
   no-step w.machine,
-  subst (λ (x : StoreValue). IsWorld tells x (xs ++ held.Nothing ∷ []) (same w)) (sym unchanged) (same-world tells v xs w is),
+  asked-world tells v v' xs w is (asked-same tells v v' view a _ _ _ _ r says) (query-stands tells v v' w.machine view a _ _ _ _ r is.stands says),
 )
 
-pub scan_between-goes : (tells : Bool) (v v' : StoreValue) (xs : List Held) (i : ℕ) (relation a b : ℕ) (view : ViewValue) (r : Result (Vec (ℕ × Version Value) Global) QueryFault) → slice_get xs i ≡ Some (held.View view) → stores.AnswersScanRows v view relation a b r → v' ≡ v
+pub scan_between-goes : (tells : Bool) (v v' : StoreValue) (xs : List Held) (i : ℕ) (relation a b : ℕ) (view : ViewValue) (r : Result (Vec (ℕ × Version Value) Global) QueryFault) → slice_get xs i ≡ Some (held.View view) → stores.AnswersScanRows tells v view relation a b r v'
     → Goes tells v xs (call.ScanBetween i relation a b) (answer.ScanBetween r) v' (xs ++ held.Nothing ∷ [])
-scan_between-goes tells v v' xs i relation a b view r here says unchanged w is = (
+scan_between-goes tells v v' xs i relation a b view r here says w is = (
   same w,
-  at_view (λ (p : Place). AsksScanBetween w relation a b p r (same w)) v.transactions w.machine.published view (place_at w.places i) (is.places.each i (held.View view) here) (λ history floors mark stands.
-      let mine : (view.mark == v.transactions.mark) ≡ true = grind (arith, nat_tests) in
-      (own-answered _ _ (view.mark == v.transactions.mark) mine (scan_between-answered v view history floors relation a b r stands says), refl)),
+  view-read tells v view (λ (p : Place). AsksScanBetween tells w relation a b p r (same w)) w.machine.published (place_at w.places i) (is.places.each i (held.View view) here) (is.views.each i (held.View view) here) (λ history floors stands reads.
+      (scan_between-answered tells v v' w.machine view history floors relation a b r is.stands stands reads says, refl)),
   no-step w.machine,
-  subst (λ (x : StoreValue). IsWorld tells x (xs ++ held.Nothing ∷ []) (same w)) (sym unchanged) (same-world tells v xs w is),
+  asked-world tells v v' xs w is (asked-same tells v v' view a _ _ _ _ r says) (query-stands tells v v' w.machine view a _ _ _ _ r is.stands says),
 )
 
 pub end-goes : (tells : Bool) (v v' : StoreValue) (xs : List Held) (i : ℕ) (view : ViewValue) → slice_get xs i ≡ Some (held.View view) → v' ≡ v → Goes tells v xs (call.End i) answer.End v' (slice_set xs i held.Nothing ++ held.Nothing ∷ [])
-end-goes tells v v' xs i view here unchanged w is = (
-  spent w i,
-  at_view (λ (p : Place). Closes w i p (spent w i)) v.transactions w.machine.published view (place_at w.places i) (is.places.each i (held.View view) here) (λ history floors mark stands. refl),
-  no-step w.machine,
-  subst (λ (x : StoreValue). IsWorld tells x (slice_set xs i held.Nothing ++ held.Nothing ∷ []) (spent w i)) (sym unchanged)
-      (record { stands = is.stands; places = push_nothing v.transactions w.machine.published (slice_set xs i held.Nothing) (slice_set w.places i Free) (free v.transactions w.machine.published xs w.places i (held.View view) is.places here) }),
-)
+end-goes tells v v' xs i view here unchanged w is =
+    let freed = free v.transactions w.machine.published xs w.places i (held.View view) is.places here in (
+      spent w i,
+      at_view (λ (p : Place). Closes w i p (spent w i)) v.transactions w.machine.published view (place_at w.places i) (is.places.each i (held.View view) here) (λ history floors mark stands. refl),
+      no-step w.machine,
+      subst (λ (x : StoreValue). IsWorld tells x (slice_set xs i held.Nothing ++ held.Nothing ∷ []) (spent w i)) (sym unchanged) (record {
+        stands = is.stands;
+        places = push_nothing v.transactions w.machine.published (slice_set xs i held.Nothing) (slice_set w.places i Free) freed;
+        views = reads-plain tells v (slice_set xs i held.Nothing) (slice_set w.places i Free) held.Nothing Free freed.many tt (reads-set tells v xs w.places i held.Nothing Free tt is.views);
+      }),
+    )
 
 pub times-goes : (tells : Bool) (v : StoreValue) (xs : List Held) (label : ℕ) (r : Result (Vec ℕ Global) AllocError) → IfOk r (λ times. stores.IsTimesOf v label times.items) → Goes tells v xs (call.TimesOf label) (answer.TimesOf r) v (xs ++ held.Nothing ∷ [])
 times-goes tells v xs label (Ok times) of w is = (same w, (of ∙ times-of_label v.transactions w.machine label is.stands.memory, refl), no-step w.machine, same-world tells v xs w is)

@@ -6,13 +6,14 @@ use Rattle.history.specs.declared.key.Key.{Key}
 use Rattle.history.specs.declared.key.KeyWrite.{KeyWrite}
 use Rattle.history.specs.Key.{same_key, write_in}
 use Rattle.history.specs.Answers.{at_answer}
-use Rattle.history.specs.Histories.{Commit, History, state, IsHistory}
+use Rattle.history.specs.Histories.{Commit, History, last, state, IsHistory}
 use Rattle.history.specs.Machine.{Machine, IsMachine}
 use Rattle.image.specs.Values.{Value, IsValue}
 use Rattle.snapshot.specs.WriteSets.{with_write}
 use Rattle.status.specs.declared.header.Header.{Header}
 use Rattle.timequery.specs.declared.fault.QueryFault.{QueryFault}
 use Rattle.store.specs.Values.{StoreValue}
+use Rattle.standing.specs.Homes.{IsSure}
 use Rattle.standing.specs.Laws.{SaysAt}
 use Rattle.standing.specs.OnDisk.{IsImageOf}
 use Rattle.standing.specs.Stands.{Stands}
@@ -125,10 +126,10 @@ WrittenIsFound = (writes : List (KeyWrite Value)) (w : KeyWrite Value) (key : Ke
 
 -- a view that a place holds was there since the call that gave it
 abbrev pub ViewsStay : Type 0
-ViewsStay = (tells : Bool) (t : Trace tells) (p q place : ℕ) (h : History Value) (floors : ℕ → ℕ)
-    → p ≤ q → place < length (moment_at t p).world.places → place_at (moment_at t q).world.places place ≡ Views h floors → place_at (moment_at t p).world.places place ≡ Views h floors
+ViewsStay = (tells : Bool) (t : Trace tells) (p q place : ℕ) (h : History Value) (floors : ℕ → ℕ) (reclaimed : ℕ)
+    → p ≤ q → place < length (moment_at t p).world.places → place_at (moment_at t q).world.places place ≡ Views h floors reclaimed → place_at (moment_at t p).world.places place ≡ Views h floors reclaimed
 
--- A view answers by what was published when it was taken.
+-- A view answers by what was published when it was taken: for sure where the disk tells its bytes, and else from a time on up to which memory had forgotten versions.
 abbrev pub ViewAnswersByItsMoment : Type 0
 ViewAnswersByItsMoment = (tells : Bool) (t : Trace tells) (i k : ℕ) (key : Key) (time : ℕ) (said : Result (Option Value) QueryFault) → IsCall t k (call.At (place_of t i) key time) (answer.At said)
-    → (i < k) × IsCall t i call.View (answer.View (Ok tt)) × SaysAt (at_answer (machine_at t i).published (machine_at t i).floors key time) said
+    → (i < k) × IsCall t i call.View (answer.View (Ok tt)) × ((reclaimed : ℕ) × (reclaimed ≤ last (machine_at t i).published) × SaysAt (IsSure tells reclaimed time) (at_answer (machine_at t i).published (machine_at t i).floors key time) said)

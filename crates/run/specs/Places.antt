@@ -1,5 +1,5 @@
 -- What the places of a list of calls hold, and what of a store's history each stands for.
-use Rattle.std.specs.Prelude.{ℕ, ◌≡◌, ◌≤◌, true, zero, suc, List, [], ◌∷◌, length, slice_get, Option, None, Some, Result, Ok, Err}
+use Rattle.std.specs.Prelude.{ℕ, ◌≡◌, ◌≤◌, Bool, true, zero, suc, List, [], ◌∷◌, length, slice_get, Option, None, Some, Result, Ok, Err}
 use Rattle.std.specs.declared.alloc.AllocError.{AllocError}
 use Rattle.history.specs.declared.key.Key.{Key}
 use Rattle.history.specs.declared.key.KeyWrite.{KeyWrite}
@@ -17,7 +17,8 @@ use Rattle.group.specs.declared.answers.Submitted.TheVariants as submitted
 use Rattle.group.specs.declared.answers.SubmitFault.{SubmitFault}
 use Rattle.timequery.specs.View.{ViewValue}
 use Rattle.transactions.specs.Values.{TransactionsValue}
-use Rattle.standing.specs.Laws.{ViewStands}
+use Rattle.standing.specs.Homes.{ViewStands, ViewReads}
+use Rattle.store.specs.Values.{StoreValue}
 use Rattle.run.specs.declared.calls.Answer.{Answer}
 use Rattle.run.specs.declared.calls.Answer.TheVariants as answer
 use Rattle.run.specs.declared.calls.SubmitOutcome.TheVariants as outcome
@@ -32,8 +33,8 @@ pub data Place : Type 0 where
   Running : ℕ → List (KeyWrite Value) → Place
   -- the ticket of the commit of this time
   Waits : ℕ → Place
-  -- a view, by the published history and the floors of its moment
-  Views : History Value → (ℕ → ℕ) → Place
+  -- a view, by the published history, the floors and the reclaim mark of its moment
+  Views : History Value → (ℕ → ℕ) → ℕ → Place
 
 -- what a place holds: nothing past the end
 abbrev pub place_at : List Place → ℕ → Place
@@ -45,19 +46,19 @@ abbrev pub IsNoTransaction : Place → Type 0
 IsNoTransaction Free = Unit {0}
 IsNoTransaction (Running snapshot writes) = ⊥
 IsNoTransaction (Waits time) = Unit {0}
-IsNoTransaction (Views history floors) = Unit {0}
+IsNoTransaction (Views history floors reclaimed) = Unit {0}
 
 abbrev pub IsNoTicket : Place → Type 0
 IsNoTicket Free = Unit {0}
 IsNoTicket (Running snapshot writes) = Unit {0}
 IsNoTicket (Waits time) = ⊥
-IsNoTicket (Views history floors) = Unit {0}
+IsNoTicket (Views history floors reclaimed) = Unit {0}
 
 abbrev pub IsNoView : Place → Type 0
 IsNoView Free = Unit {0}
 IsNoView (Running snapshot writes) = Unit {0}
 IsNoView (Waits time) = Unit {0}
-IsNoView (Views history floors) = ⊥
+IsNoView (Views history floors reclaimed) = ⊥
 
 -- ---- what a place of the store's callers holds
 
@@ -115,8 +116,16 @@ abbrev pub ShowsAs : TransactionsValue → History Value → Held → Place → 
 ShowsAs v h held.Nothing Free = Unit {0}
 ShowsAs v h (held.Transaction txn) (Running snapshot writes) = IsOwnTransaction v h txn × (txn.snapshot ≡ snapshot) × (txn.writes ≡ writes)
 ShowsAs v h (held.Ticket ticket) (Waits time) = IsOwnTicket v ticket × (ticket.time ≡ time)
-ShowsAs v h (held.View view) (Views history floors) = (view.mark ≡ v.mark) × ViewStands view history floors
+ShowsAs v h (held.View view) (Views history floors reclaimed) = (view.mark ≡ v.mark) × (view.reclaimed ≡ reclaimed) × ViewStands view history floors
 ShowsAs v h x p = ⊥
+
+-- what a held view reads is there
+abbrev pub IsRead : Bool → StoreValue → Held → Place → Type 0
+IsRead tells v (held.View view) (Views history floors reclaimed) = ViewReads tells v view history floors
+IsRead tells v x p = Unit {0}
+
+pub record AreRead (tells : Bool) (v : StoreValue) (xs : List Held) (ps : List Place) : Type 0 where
+  pub each : (i : ℕ) (x : Held) → slice_get xs i ≡ Some x → IsRead tells v x (place_at ps i)
 
 -- the store could not tell the two apart
 abbrev pub Clash : Held → Held → Type 0

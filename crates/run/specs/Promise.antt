@@ -29,7 +29,7 @@ pub record IsKeptAs (tells : Bool) (image : Image) (h : History Value) (floors :
   pub header : Header
   pub stands : IsImageOf header image h floors
   pub opens : (disk new : DiskState) (why : OpenFault) → image_of disk.areas ≡ image → OpenRefuses tells disk why new → IsReadFault why × LeavesNoMore disk.areas new.areas
-  pub answers : (disk : DiskState) (mark : ℕ) (again : StoreValue) → image_of disk.areas ≡ image → AreSound disk.areas → Opens tells disk mark again → Stands tells again (opened h floors) × AnswersBy again h floors
+  pub answers : (disk : DiskState) (mark : ℕ) (again : StoreValue) → image_of disk.areas ≡ image → AreSound disk.areas → Opens tells disk mark again → Stands tells again (opened h floors) × AnswersBy tells again h floors
 
 -- An image is kept as this history, which has every commit that was acknowledged.
 pub record IsKeptWith (tells : Bool) (image : Image) (done : List ℕ) (h : History Value) (floors : ℕ → ℕ) : Type 0 where
@@ -52,7 +52,7 @@ LeavesBetween tells before after = IsTrue tells → (image : Image) → LeavesWi
 
 -- A call leads from one moment to the next by its answer, with at most one write or sync of the disk.
 pub record Link (tells : Bool) (call : Call) (answer : Answer) (before after : Moment) : Type 0 where
-  pub does : Does before.world call answer after.world
+  pub does : Does tells before.world call answer after.world
   pub follows : Follows before.world.machine after.world.machine
   pub acknowledges : after.done ≡ with_answer answer before.done
   pub makes_few : after.store.disk.made ≤ before.store.disk.made + 1

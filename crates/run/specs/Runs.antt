@@ -31,6 +31,7 @@ use Rattle.store.specs.Values.{StoreValue}
 use Rattle.store.specs.declared.job.JobDid.{JobDid}
 use Rattle.store.specs.declared.job.StartFault.{StartFault}
 use Rattle.store.specs.declared.job.StartFault.TheVariants as start
+use Rattle.standing.specs.Homes.{IsSure}
 use Rattle.standing.specs.Laws.{begins_in, ends_in, job_ends_in, SaysAt, SaysScanAt, SaysBetween, SaysScanBetween}
 use Rattle.run.specs.declared.calls.Call.{Call}
 use Rattle.run.specs.declared.calls.Call.TheVariants as call
@@ -143,29 +144,29 @@ GivesUp w i place next = ⊥
 
 -- a view is of what is published now
 abbrev pub Shows : World → Result (Unit {0}) AllocError → World → Type 0
-Shows w (Ok u) next = next ≡ leaves w (Views w.machine.published w.machine.floors)
+Shows w (Ok u) next = (reclaimed : ℕ) × (reclaimed ≤ last w.machine.published) × (next ≡ leaves w (Views w.machine.published w.machine.floors reclaimed))
 Shows w (Err why) next = next ≡ same w
 
--- it answers by the history of its moment
-abbrev pub Asks : World → Key → ℕ → Place → Result (Option Value) QueryFault → World → Type 0
-Asks w key time (Views history floors) said next = SaysAt (answers.at_answer history floors key time) said × (next ≡ same w)
-Asks w key time place said next = ⊥
+-- it answers by the history of its moment: for sure where the disk tells its bytes, and else from the reclaim mark of its moment on
+abbrev pub Asks : Bool → World → Key → ℕ → Place → Result (Option Value) QueryFault → World → Type 0
+Asks tells w key time (Views history floors reclaimed) said next = SaysAt (IsSure tells reclaimed time) (answers.at_answer history floors key time) said × (next ≡ same w)
+Asks tells w key time place said next = ⊥
 
 -- so does a scan, an interval of a key and one of a relation
-abbrev pub AsksScan : World → ℕ → ℕ → Place → Result (Vec (ℕ × Value) Global) QueryFault → World → Type 0
-AsksScan w relation time (Views history floors) said next = SaysScanAt history floors relation time said × (next ≡ same w)
-AsksScan w relation time place said next = ⊥
+abbrev pub AsksScan : Bool → World → ℕ → ℕ → Place → Result (Vec (ℕ × Value) Global) QueryFault → World → Type 0
+AsksScan tells w relation time (Views history floors reclaimed) said next = SaysScanAt (IsSure tells reclaimed time) history floors relation time said × (next ≡ same w)
+AsksScan tells w relation time place said next = ⊥
 
-abbrev pub AsksBetween : World → Key → ℕ → ℕ → Place → Result (Vec (Version Value) Global) QueryFault → World → Type 0
-AsksBetween w key a b (Views history floors) said next = SaysBetween history floors key a b said × (next ≡ same w)
-AsksBetween w key a b place said next = ⊥
+abbrev pub AsksBetween : Bool → World → Key → ℕ → ℕ → Place → Result (Vec (Version Value) Global) QueryFault → World → Type 0
+AsksBetween tells w key a b (Views history floors reclaimed) said next = SaysBetween (IsSure tells reclaimed a) history floors key a b said × (next ≡ same w)
+AsksBetween tells w key a b place said next = ⊥
 
-abbrev pub AsksScanBetween : World → ℕ → ℕ → ℕ → Place → Result (Vec (ℕ × Version Value) Global) QueryFault → World → Type 0
-AsksScanBetween w relation a b (Views history floors) said next = SaysScanBetween history floors relation a b said × (next ≡ same w)
-AsksScanBetween w relation a b place said next = ⊥
+abbrev pub AsksScanBetween : Bool → World → ℕ → ℕ → ℕ → Place → Result (Vec (ℕ × Version Value) Global) QueryFault → World → Type 0
+AsksScanBetween tells w relation a b (Views history floors reclaimed) said next = SaysScanBetween (IsSure tells reclaimed a) history floors relation a b said × (next ≡ same w)
+AsksScanBetween tells w relation a b place said next = ⊥
 
 abbrev pub Closes : World → ℕ → Place → World → Type 0
-Closes w i (Views history floors) next = next ≡ spent w i
+Closes w i (Views history floors reclaimed) next = next ≡ spent w i
 Closes w i place next = ⊥
 
 abbrev pub ListsTimes : World → ℕ → Result (Vec ℕ Global) AllocError → World → Type 0
@@ -230,29 +231,29 @@ NamesNone w call.Reclaim = ⊥
 NamesNone w call.JobPump = ⊥
 
 -- The call may have this answer, and then lead to this world. It is Unknown exactly where the place that it names holds no such value.
-abbrev pub Does : World → Call → Answer → World → Type 0
-Does w c answer.Unknown next = NamesNone w c × (next ≡ same w)
-Does w call.Begin (answer.Begin said) next = Begins w said next
-Does w (call.Put i key fields) (answer.Put said) next = Puts w i key (map (λ field. field.now) fields.now) (place_at w.places i) said next
-Does w (call.Delete i key) (answer.Delete said) next = Deletes w i key (place_at w.places i) said next
-Does w (call.Get i key) (answer.Get said) next = Gets w key (place_at w.places i) said next
-Does w (call.Scan i relation) (answer.Scan said) next = Scans w relation (place_at w.places i) said next
-Does w (call.Submit i label now) (answer.Submit said) next = Submits w i label now (place_at w.places i) said next
-Does w (call.Abort i) answer.Abort next = Aborts w i (place_at w.places i) next
-Does w call.Pump (answer.Pump said) next = Pumps w said next
-Does w (call.Redeem i) (answer.Redeem said) next = Redeems w i (place_at w.places i) said next
-Does w (call.GiveUp i) answer.GiveUp next = GivesUp w i (place_at w.places i) next
-Does w call.View (answer.View said) next = Shows w said next
-Does w (call.At i key time) (answer.At said) next = Asks w key time (place_at w.places i) said next
-Does w (call.ScanAt i relation time) (answer.ScanAt said) next = AsksScan w relation time (place_at w.places i) said next
-Does w (call.Between i key a b) (answer.Between said) next = AsksBetween w key a b (place_at w.places i) said next
-Does w (call.ScanBetween i relation a b) (answer.ScanBetween said) next = AsksScanBetween w relation a b (place_at w.places i) said next
-Does w (call.End i) answer.End next = Closes w i (place_at w.places i) next
-Does w (call.TimesOf label) (answer.TimesOf said) next = ListsTimes w label said next
-Does w (call.Archive upto) (answer.Archive said) next = Archives w upto said next
-Does w call.Reclaim (answer.Reclaim said) next = Reclaims w said next
-Does w call.JobPump (answer.JobPump said) next = JobPumps w said next
-Does w c a next = ⊥
+abbrev pub Does : Bool → World → Call → Answer → World → Type 0
+Does tells w c answer.Unknown next = NamesNone w c × (next ≡ same w)
+Does tells w call.Begin (answer.Begin said) next = Begins w said next
+Does tells w (call.Put i key fields) (answer.Put said) next = Puts w i key (map (λ field. field.now) fields.now) (place_at w.places i) said next
+Does tells w (call.Delete i key) (answer.Delete said) next = Deletes w i key (place_at w.places i) said next
+Does tells w (call.Get i key) (answer.Get said) next = Gets w key (place_at w.places i) said next
+Does tells w (call.Scan i relation) (answer.Scan said) next = Scans w relation (place_at w.places i) said next
+Does tells w (call.Submit i label now) (answer.Submit said) next = Submits w i label now (place_at w.places i) said next
+Does tells w (call.Abort i) answer.Abort next = Aborts w i (place_at w.places i) next
+Does tells w call.Pump (answer.Pump said) next = Pumps w said next
+Does tells w (call.Redeem i) (answer.Redeem said) next = Redeems w i (place_at w.places i) said next
+Does tells w (call.GiveUp i) answer.GiveUp next = GivesUp w i (place_at w.places i) next
+Does tells w call.View (answer.View said) next = Shows w said next
+Does tells w (call.At i key time) (answer.At said) next = Asks tells w key time (place_at w.places i) said next
+Does tells w (call.ScanAt i relation time) (answer.ScanAt said) next = AsksScan tells w relation time (place_at w.places i) said next
+Does tells w (call.Between i key a b) (answer.Between said) next = AsksBetween tells w key a b (place_at w.places i) said next
+Does tells w (call.ScanBetween i relation a b) (answer.ScanBetween said) next = AsksScanBetween tells w relation a b (place_at w.places i) said next
+Does tells w (call.End i) answer.End next = Closes w i (place_at w.places i) next
+Does tells w (call.TimesOf label) (answer.TimesOf said) next = ListsTimes w label said next
+Does tells w (call.Archive upto) (answer.Archive said) next = Archives w upto said next
+Does tells w call.Reclaim (answer.Reclaim said) next = Reclaims w said next
+Does tells w call.JobPump (answer.JobPump said) next = JobPumps w said next
+Does tells w c a next = ⊥
 
 -- a run of the machine leads from one state to the other
 abbrev pub Follows : Machine Value → Machine Value → Type 0
@@ -260,7 +261,7 @@ Follows m after = (events : List (Event Value)) × steps.Run IsValue m events af
 
 -- from each world of the store and the places the call leads by this answer to one of theirs after it
 abbrev pub Goes : Bool → StoreValue → List Held → Call → Answer → StoreValue → List Held → Type 0
-Goes tells old before c a new after = (w : World) → IsWorld tells old before w → (next : World) × Does w c a next × Follows w.machine next.machine × IsWorld tells new after next
+Goes tells old before c a new after = (w : World) → IsWorld tells old before w → (next : World) × Does tells w c a next × Follows w.machine next.machine × IsWorld tells new after next
 
 -- at most one device call is made
 abbrev pub MakesFew : StoreValue → StoreValue → Type 0

@@ -5,7 +5,7 @@ use Rattle.image.specs.Values.{Value}
 use Rattle.store.specs.Values.{StoreValue}
 use Rattle.standing.specs.Stands.{Stands}
 use Rattle.run.specs.declared.held.Held.{Held}
-use Rattle.run.specs.Places.{Place, Free, ArePlaces}
+use Rattle.run.specs.Places.{Place, Free, ArePlaces, AreRead}
 
 pub record World : Type 0 where
   pub machine : Machine Value
@@ -42,3 +42,4 @@ spent w i = leaves (put w i Free) Free
 pub record IsWorld (tells : Bool) (v : StoreValue) (xs : List Held) (w : World) : Type 0 where
   pub stands : Stands tells v w.machine
   pub places : ArePlaces v.transactions w.machine.published xs w.places
+  pub views : AreRead tells v xs w.places

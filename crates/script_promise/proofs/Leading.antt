@@ -9,6 +9,8 @@ use Rattle.run.specs.declared.calls.Call.{Call}
 use Rattle.run.specs.declared.calls.Answer.{Answer}
 use Rattle.run.specs.declared.held.Held.{Held}
 use Rattle.run.specs.Moments.{Moment, IsAtMoment, with_answer}
+use Rattle.run.specs.Places.{place_at}
+use Rattle.run.proofs.Places.{read-plain}
 use Rattle.run.specs.Worlds.{IsWorld}
 use Rattle.run.specs.Runs.{Goes}
 use Rattle.run.specs.Promise.{Chain, Link}
@@ -43,6 +45,7 @@ settled tells v xs end new at same among = record {
   world = subst (λ (s : StoreValue). IsWorld tells s (held_of new) (record { machine = end.world.machine; places = map place_of (held_of new) })) (sym same) (record {
     stands = at.world.stands;
     places = renumbered v.transactions end.world.machine.published xs end.world.places (held_of new) (held-no_view new.opened new.tickets) among at.world.places;
+    views = record { each = λ i x there. read-plain tells v x (held-no_view new.opened new.tickets i x there) (place_at (map place_of (held_of new)) i) };
   });
   published = at.published;
 }

@@ -1,5 +1,5 @@
 -- Lines that speak of no name.
-use Rattle.std.proofs.Common.{◌≡◌, ◌≢◌, ℕ, ◌+◌, Bool, List, [], ◌∷◌, ◌++◌, length, map, Option, Some, None, Result, Ok, Err, MatchOption, Vec, refl, sym, ◌∙◌, ap, subst, inl, inr, alloc_error}
+use Rattle.std.proofs.Common.{◌≡◌, ◌≢◌, ℕ, ◌+◌, ◌≤◌, Bool, List, [], ◌∷◌, ◌++◌, length, map, Option, Some, None, Result, Ok, Err, MatchOption, Vec, refl, sym, ◌∙◌, ap, subst, inl, inr, alloc_error}
 use Rattle.std.specs.Prelude.{slice_set}
 use Rattle.std.specs.List.{AllByRecursion}
 use Rattle.std.specs.declared.alloc.Global.{Global}
@@ -35,7 +35,7 @@ use Rattle.run.specs.Promise.{Chain}
 use Rattle.run.specs.Runs.{Goes}
 use Rattle.run.proofs.Archiving.{start-goes, reclaim-goes, start-few, reclaim-few, pumped-goes, pumped-few}
 use Rattle.run.proofs.Pumping.{pump-goes, pump-few}
-use Rattle.run.proofs.Views.{view-goes, at-goes, scan_at-goes, between-goes, end-goes, times-goes}
+use Rattle.run.proofs.Views.{asked-few, view-goes, at-goes, scan_at-goes, between-goes, end-goes, times-goes}
 use Rattle.script_promise.specs.ScriptMoments.{ScriptMoment, held_of, moment_of, with_reply}
 use Rattle.script_promise.specs.Says.{Exchange, Says, LacksView, by_view}
 use Rattle.script_promise.proofs.Among.{Among, all, wider, through, front-of, viewed, get-end, get-front}
@@ -168,9 +168,10 @@ lacks-view tells m is l r new says replied same names =
 -- a view is taken, asked and ended
 by-a-view : (tells : Bool) (m : ScriptMoment) → IsScriptMoment tells m → (l : Line) (r : Reply) (new : State) (view : ViewValue) (c : Call) (a : Answer) → Says m l (by_view (length (held_of m.state)) c a) r → m.done ≡ with_reply r m.done
     → with_answer a m.done ≡ m.done → stores.IsViewOf m.state.store view
-    → Goes tells m.state.store (held_of m.state ++ held.View view ∷ []) c a m.state.store ((held_of m.state ++ held.View view ∷ []) ++ held.Nothing ∷ []) → new.store ≡ m.state.store → KeepsNames m.state new → LeadsTo tells l r m new
-by-a-view tells m is l r new view c a says acknowledges quiet of goes same names =
+    → Goes tells m.state.store (held_of m.state ++ held.View view ∷ []) c a new.store ((held_of m.state ++ held.View view ∷ []) ++ held.Nothing ∷ []) → new.store.disk.made ≤ m.state.store.disk.made + 1 → KeepsNames m.state new → LeadsTo tells l r m new
+by-a-view tells m is l r new view c a says acknowledges quiet of goes asked names =
     let v = m.state.store in
+    let after = new.store in
     let xs = held_of m.state in
     let n : ℕ = length xs in
     let ys : List Held = xs ++ held.View view ∷ [] in
@@ -179,12 +180,12 @@ by-a-view tells m is l r new view c a says acknowledges quiet of goes same names
     let there = get-front ys n (held.View view) held.Nothing (get-end xs (held.View view)) in
     let few = same-few v v refl in
     let one = link-one tells v v xs ys call.View (answer.View (Ok tt)) (moment_of m) is (view-goes tells v xs (Ok view) of) few in
-    let two = link-one tells v v ys zs c a one.0 one.2 goes few in
-    let three = link-one tells v v zs ws (call.End n) answer.End two.0 two.2 (end-goes tells v v zs n view there refl) few in
+    let two = link-one tells v after ys zs c a one.0 one.2 goes asked in
+    let three = link-one tells after after zs ws (call.End n) answer.End two.0 two.2 (end-goes tells after after zs n view there refl) (same-few after after refl) in
     let done_one : one.0.done ≡ m.done = one.1.acknowledges in
     let done_two : two.0.done ≡ m.done = two.1.acknowledges ∙ ap (λ (times : List ℕ). with_answer a times) done_one ∙ quiet in
-    by-chain tells m is l r (by_view n c a) says three.0 (one.0, one.1, (two.0, two.1, (three.0, three.1, refl))) v ws three.2 (three.1.acknowledges ∙ done_two ∙ acknowledges)
-    new same (through (held_of new) xs ws (kept m new names) (viewed xs (held.View view) held.Nothing held.Nothing held.Nothing))
+    by-chain tells m is l r (by_view n c a) says three.0 (one.0, one.1, (two.0, two.1, (three.0, three.1, refl))) after ws three.2 (three.1.acknowledges ∙ done_two ∙ acknowledges)
+    new refl (through (held_of new) xs ws (kept m new names) (viewed xs (held.View view) held.Nothing held.Nothing held.Nothing))
 
 found-silent : (o : Result (Option (List Text)) QueryFault) (done : List ℕ) → with_reply (session.found o) done ≡ done
 found-silent (Ok value) done = refl
@@ -198,44 +199,44 @@ rows-silent : (o : Result (Vec (Version (List Text)) Global) QueryFault) (done :
 rows-silent (Ok value) done = refl
 rows-silent (Err why) done = refl
 
-pub at-line : (tells : Bool) (m : ScriptMoment) → IsScriptMoment tells m → (key : Key) (time : ℕ) (r : Reply) (new : State) → AtStep m.state.store key time r new.store → KeepsNames m.state new → LeadsTo tells (line.At key time) r m new
+pub at-line : (tells : Bool) (m : ScriptMoment) → IsScriptMoment tells m → (key : Key) (time : ℕ) (r : Reply) (new : State) → AtStep tells m.state.store key time r new.store → KeepsNames m.state new → LeadsTo tells (line.At key time) r m new
 at-line tells m is key time r new step names = by-taken step.1.0 step.1.1
   where
     xs : List Held
     xs = held_of m.state
 
-    by-taken : (o : Option ViewValue) → MatchOption o ((step.0 ≡ Err query.NoMemory) × (new.store ≡ m.state.store)) (λ view. stores.IsViewOf m.state.store view × stores.AnswersAtView m.state.store view key time step.0 × (new.store ≡ m.state.store))
+    by-taken : (o : Option ViewValue) → MatchOption o ((step.0 ≡ Err query.NoMemory) × (new.store ≡ m.state.store)) (λ view. stores.IsViewOf m.state.store view × stores.AnswersAtView tells m.state.store view key time step.0 new.store)
         → LeadsTo tells (line.At key time) r m new
     by-taken None lacks = lacks-view tells m is (line.At key time) r new (λ made lack. inl lack) (step.2 ∙ ap session.found lacks.0) lacks.1 names
     by-taken (Some view) asks =
         by-a-view tells m is (line.At key time) r new view (call.At (length xs) key time) (answer.At step.0) (inr (step.0, (refl, step.2))) (silent r _ m.done step.2 (found-silent step.0 m.done)) refl asks.0
-        (at-goes tells m.state.store m.state.store (xs ++ held.View view ∷ []) (length xs) key time view step.0 (get-end xs (held.View view)) asks.1 refl) asks.2 names
+        (at-goes tells m.state.store new.store (xs ++ held.View view ∷ []) (length xs) key time view step.0 (get-end xs (held.View view)) asks.1) (asked-few tells m.state.store new.store view time _ _ _ _ step.0 asks.1) names
 
-pub scan-line : (tells : Bool) (m : ScriptMoment) → IsScriptMoment tells m → (relation time : ℕ) (r : Reply) (new : State) → ScanStep m.state.store relation time r new.store → KeepsNames m.state new → LeadsTo tells (line.Scan relation time) r m new
+pub scan-line : (tells : Bool) (m : ScriptMoment) → IsScriptMoment tells m → (relation time : ℕ) (r : Reply) (new : State) → ScanStep tells m.state.store relation time r new.store → KeepsNames m.state new → LeadsTo tells (line.Scan relation time) r m new
 scan-line tells m is relation time r new step names = by-taken step.1.0 step.1.1
   where
     xs : List Held
     xs = held_of m.state
 
-    by-taken : (o : Option ViewValue) → MatchOption o ((step.0 ≡ Err query.NoMemory) × (new.store ≡ m.state.store)) (λ view. stores.IsViewOf m.state.store view × stores.AnswersScanAt m.state.store view relation time step.0 × (new.store ≡ m.state.store))
+    by-taken : (o : Option ViewValue) → MatchOption o ((step.0 ≡ Err query.NoMemory) × (new.store ≡ m.state.store)) (λ view. stores.IsViewOf m.state.store view × stores.AnswersScanAt tells m.state.store view relation time step.0 new.store)
         → LeadsTo tells (line.Scan relation time) r m new
     by-taken None lacks = lacks-view tells m is (line.Scan relation time) r new (λ made lack. inl lack) (step.2 ∙ ap session.records_found lacks.0) lacks.1 names
     by-taken (Some view) asks =
         by-a-view tells m is (line.Scan relation time) r new view (call.ScanAt (length xs) relation time) (answer.ScanAt step.0) (inr (step.0, (refl, step.2))) (silent r _ m.done step.2 (records-silent step.0 m.done)) refl asks.0
-        (scan_at-goes tells m.state.store m.state.store (xs ++ held.View view ∷ []) (length xs) relation time view step.0 (get-end xs (held.View view)) asks.1 refl) asks.2 names
+        (scan_at-goes tells m.state.store new.store (xs ++ held.View view ∷ []) (length xs) relation time view step.0 (get-end xs (held.View view)) asks.1) (asked-few tells m.state.store new.store view time _ _ _ _ step.0 asks.1) names
 
-pub between-line : (tells : Bool) (m : ScriptMoment) → IsScriptMoment tells m → (key : Key) (a b : ℕ) (r : Reply) (new : State) → BetweenStep m.state.store key a b r new.store → KeepsNames m.state new → LeadsTo tells (line.Between key a b) r m new
+pub between-line : (tells : Bool) (m : ScriptMoment) → IsScriptMoment tells m → (key : Key) (a b : ℕ) (r : Reply) (new : State) → BetweenStep tells m.state.store key a b r new.store → KeepsNames m.state new → LeadsTo tells (line.Between key a b) r m new
 between-line tells m is key a b r new step names = by-taken step.1.0 step.1.1
   where
     xs : List Held
     xs = held_of m.state
 
-    by-taken : (o : Option ViewValue) → MatchOption o ((step.0 ≡ Err query.NoMemory) × (new.store ≡ m.state.store)) (λ view. stores.IsViewOf m.state.store view × stores.AnswersRows m.state.store view key a b step.0 × (new.store ≡ m.state.store))
+    by-taken : (o : Option ViewValue) → MatchOption o ((step.0 ≡ Err query.NoMemory) × (new.store ≡ m.state.store)) (λ view. stores.IsViewOf m.state.store view × stores.AnswersRows tells m.state.store view key a b step.0 new.store)
         → LeadsTo tells (line.Between key a b) r m new
     by-taken None lacks = lacks-view tells m is (line.Between key a b) r new (λ made lack. inl lack) (step.2 ∙ ap session.rows_found lacks.0) lacks.1 names
     by-taken (Some view) asks =
         by-a-view tells m is (line.Between key a b) r new view (call.Between (length xs) key a b) (answer.Between step.0) (inr (step.0, (refl, step.2))) (silent r _ m.done step.2 (rows-silent step.0 m.done)) refl asks.0
-        (between-goes tells m.state.store m.state.store (xs ++ held.View view ∷ []) (length xs) key a b view step.0 (get-end xs (held.View view)) asks.1 refl) asks.2 names
+        (between-goes tells m.state.store new.store (xs ++ held.View view ∷ []) (length xs) key a b view step.0 (get-end xs (held.View view)) asks.1) (asked-few tells m.state.store new.store view a _ _ _ _ step.0 asks.1) names
 
 -- ---- labels
 

@@ -262,40 +262,40 @@ pub record Finishes (tells : Bool) (old : StoreValue) (r : Reply) (new : StoreVa
   pub reply : r ≡ worked answer
 
 -- a view is taken, asked and ended; without memory for the view nothing is asked
-abbrev pub Asks : StoreValue → Key → ℕ → Result (Option (List Text)) QueryFault → StoreValue → Type 0
-Asks old key time answer new = (taken : Option ViewValue) × MatchOption taken ((answer ≡ Err query.NoMemory) × (new ≡ old))
-    (λ view. store.IsViewOf old view × store.AnswersAtView old view key time answer × (new ≡ old))
+abbrev pub Asks : Bool → StoreValue → Key → ℕ → Result (Option (List Text)) QueryFault → StoreValue → Type 0
+Asks tells old key time answer new = (taken : Option ViewValue) × MatchOption taken ((answer ≡ Err query.NoMemory) × (new ≡ old))
+    (λ view. store.IsViewOf old view × store.AnswersAtView tells old view key time answer new)
 
 abbrev pub found : Result (Option (List Text)) QueryFault → Reply
 found (Ok value) = reply.Found value
 found (Err f) = reply.Refused (fault.Query f)
 
-abbrev pub AtStep : StoreValue → Key → ℕ → Reply → StoreValue → Type 0
-AtStep old key time r new = (answer : Result (Option (List Text)) QueryFault) × Asks old key time answer new × (r ≡ found answer)
+abbrev pub AtStep : Bool → StoreValue → Key → ℕ → Reply → StoreValue → Type 0
+AtStep tells old key time r new = (answer : Result (Option (List Text)) QueryFault) × Asks tells old key time answer new × (r ≡ found answer)
 
 -- so for a scan at a time
-abbrev pub AsksScan : StoreValue → ℕ → ℕ → Result (Vec (ℕ × List Text) Global) QueryFault → StoreValue → Type 0
-AsksScan old relation time answer new = (taken : Option ViewValue) × MatchOption taken ((answer ≡ Err query.NoMemory) × (new ≡ old))
-    (λ view. store.IsViewOf old view × store.AnswersScanAt old view relation time answer × (new ≡ old))
+abbrev pub AsksScan : Bool → StoreValue → ℕ → ℕ → Result (Vec (ℕ × List Text) Global) QueryFault → StoreValue → Type 0
+AsksScan tells old relation time answer new = (taken : Option ViewValue) × MatchOption taken ((answer ≡ Err query.NoMemory) × (new ≡ old))
+    (λ view. store.IsViewOf old view × store.AnswersScanAt tells old view relation time answer new)
 
 abbrev pub records_found : Result (Vec (ℕ × List Text) Global) QueryFault → Reply
 records_found (Ok found) = reply.Records found
 records_found (Err f) = reply.Refused (fault.Query f)
 
-abbrev pub ScanStep : StoreValue → ℕ → ℕ → Reply → StoreValue → Type 0
-ScanStep old relation time r new = (answer : Result (Vec (ℕ × List Text) Global) QueryFault) × AsksScan old relation time answer new × (r ≡ records_found answer)
+abbrev pub ScanStep : Bool → StoreValue → ℕ → ℕ → Reply → StoreValue → Type 0
+ScanStep tells old relation time r new = (answer : Result (Vec (ℕ × List Text) Global) QueryFault) × AsksScan tells old relation time answer new × (r ≡ records_found answer)
 
 -- and for the rows of an interval
-abbrev pub AsksRows : StoreValue → Key → ℕ → ℕ → Result (Vec (Version (List Text)) Global) QueryFault → StoreValue → Type 0
-AsksRows old key a b answer new = (taken : Option ViewValue) × MatchOption taken ((answer ≡ Err query.NoMemory) × (new ≡ old))
-    (λ view. store.IsViewOf old view × store.AnswersRows old view key a b answer × (new ≡ old))
+abbrev pub AsksRows : Bool → StoreValue → Key → ℕ → ℕ → Result (Vec (Version (List Text)) Global) QueryFault → StoreValue → Type 0
+AsksRows tells old key a b answer new = (taken : Option ViewValue) × MatchOption taken ((answer ≡ Err query.NoMemory) × (new ≡ old))
+    (λ view. store.IsViewOf old view × store.AnswersRows tells old view key a b answer new)
 
 abbrev pub rows_found : Result (Vec (Version (List Text)) Global) QueryFault → Reply
 rows_found (Ok rows) = reply.Rows rows
 rows_found (Err f) = reply.Refused (fault.Query f)
 
-abbrev pub BetweenStep : StoreValue → Key → ℕ → ℕ → Reply → StoreValue → Type 0
-BetweenStep old key a b r new = (answer : Result (Vec (Version (List Text)) Global) QueryFault) × AsksRows old key a b answer new × (r ≡ rows_found answer)
+abbrev pub BetweenStep : Bool → StoreValue → Key → ℕ → ℕ → Reply → StoreValue → Type 0
+BetweenStep tells old key a b r new = (answer : Result (Vec (Version (List Text)) Global) QueryFault) × AsksRows tells old key a b answer new × (r ≡ rows_found answer)
 
 -- the times of a label, or no memory for them
 abbrev pub TimesStep : StoreValue → ℕ → Reply → Type 0
@@ -349,9 +349,9 @@ Step tells old (line.Abort name) r new = MatchOption (txn_place name old) (Refus
 Step tells old (line.Redeem name) r new = MatchOption (ticket_place name old) (RefusesName old r new) (λ i. RedeemStep old i r new)
 Step tells old line.Pump r new = PumpStep tells old.store r new.store × KeepsNames old new
 Step tells old line.Flush r new = Flushes tells old.store r new.store × KeepsNames old new
-Step tells old (line.At key time) r new = AtStep old.store key time r new.store × KeepsNames old new
-Step tells old (line.Between key a b) r new = BetweenStep old.store key a b r new.store × KeepsNames old new
-Step tells old (line.Scan relation time) r new = ScanStep old.store relation time r new.store × KeepsNames old new
+Step tells old (line.At key time) r new = AtStep tells old.store key time r new.store × KeepsNames old new
+Step tells old (line.Between key a b) r new = BetweenStep tells old.store key a b r new.store × KeepsNames old new
+Step tells old (line.Scan relation time) r new = ScanStep tells old.store relation time r new.store × KeepsNames old new
 Step tells old (line.Times label) r new = TimesStep old.store label r × (new ≡ old)
 Step tells old (line.Archive upto) r new = ArchiveStep old.store upto r new.store × KeepsNames old new
 Step tells old line.Reclaim r new = ReclaimStep old.store r new.store × KeepsNames old new

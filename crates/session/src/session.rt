@@ -142,7 +142,7 @@ fn value_at<D: Disk>(
     key: Key,
     time: u64,
 ) -> Result<Option<SharedValue>, QueryFault>
-    ensures { told.Asks store.old key time result store.new }
+    ensures { told.Asks D.tells store.old key time result store.new }
 {
     let Ok(view) = store.view() else {
         return Err(QueryFault::NoMemory);
@@ -158,7 +158,7 @@ fn scan_at<D: Disk>(
     relation: u16,
     time: u64,
 ) -> Result<Vec<(u64, SharedValue)>, QueryFault>
-    ensures { told.AsksScan store.old relation time result store.new }
+    ensures { told.AsksScan D.tells store.old relation time result store.new }
 {
     let Ok(view) = store.view() else {
         return Err(QueryFault::NoMemory);
@@ -175,7 +175,7 @@ fn rows_between<D: Disk>(
     a: u64,
     b: u64,
 ) -> Result<Vec<Version<SharedValue>>, QueryFault>
-    ensures { told.AsksRows store.old key a b result store.new }
+    ensures { told.AsksRows D.tells store.old key a b result store.new }
 {
     let Ok(view) = store.view() else {
         return Err(QueryFault::NoMemory);
@@ -471,7 +471,7 @@ impl<D: Disk> Session<D> {
     }
 
     fn at(&mut self, key: Key, time: u64) -> Reply
-        ensures steps { told.AtStep self.old.store key time result self.new.store }
+        ensures steps { told.AtStep D.tells self.old.store key time result self.new.store }
         ensures names { told.KeepsNames self.old self.new }
     {
         match value_at(&mut self.store, key, time) {
@@ -481,7 +481,7 @@ impl<D: Disk> Session<D> {
     }
 
     fn scan(&mut self, relation: u16, time: u64) -> Reply
-        ensures steps { told.ScanStep self.old.store relation time result self.new.store }
+        ensures steps { told.ScanStep D.tells self.old.store relation time result self.new.store }
         ensures names { told.KeepsNames self.old self.new }
     {
         match scan_at(&mut self.store, relation, time) {
@@ -491,7 +491,7 @@ impl<D: Disk> Session<D> {
     }
 
     fn between(&mut self, key: Key, a: u64, b: u64) -> Reply
-        ensures steps { told.BetweenStep self.old.store key a b result self.new.store }
+        ensures steps { told.BetweenStep D.tells self.old.store key a b result self.new.store }
         ensures names { told.KeepsNames self.old self.new }
     {
         match rows_between(&mut self.store, key, a, b) {

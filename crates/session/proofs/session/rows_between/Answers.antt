@@ -1,5 +1,8 @@
-use Rattle.std.proofs.Common.{Some, ◌∙◌}
+use Rattle.std.proofs.Common.{Some, sym, subst}
+use Rattle.store.specs.Calls.{AnswersRows}
+use Rattle.store.specs.Values.{StoreValue}
 use Rattle.session.proofs.session.rows_between.Goals as goal
 
 pub returns : goal.returns
-returns g c = (Some c.in-Ok.view, (c.in-Ok.ensures, c.between-found.ensures.is, c.end.ensures ∙ c.between-found.ensures.same))
+returns g c =
+    (Some c.in-Ok.view, (c.in-Ok.ensures, subst (λ (v : StoreValue). AnswersRows g.D.Disk.tells c.args.store.now c.in-Ok.view c.args.key c.args.a c.args.b c.between-found.result v) (sym c.end.ensures) c.between-found.ensures))

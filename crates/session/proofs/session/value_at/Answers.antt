@@ -1,5 +1,8 @@
-use Rattle.std.proofs.Common.{Some, ◌∙◌}
+use Rattle.std.proofs.Common.{Some, sym, subst}
+use Rattle.store.specs.Calls.{AnswersAtView}
+use Rattle.store.specs.Values.{StoreValue}
 use Rattle.session.proofs.session.value_at.Goals as goal
 
 pub returns : goal.returns
-returns g c = (Some c.in-Ok.view, (c.in-Ok.ensures, c.at-found.ensures.is, c.end.ensures ∙ c.at-found.ensures.same))
+returns g c =
+    (Some c.in-Ok.view, (c.in-Ok.ensures, subst (λ (v : StoreValue). AnswersAtView g.D.Disk.tells c.args.store.now c.in-Ok.view c.args.key c.args.time c.at-found.result v) (sym c.end.ensures) c.at-found.ensures))
