@@ -209,9 +209,13 @@ fn say_archived<W: Write>(output: &mut Answers<W>, upto: u64, slots: &[Slot]) ->
 fn say_both<W: Write>(output: &mut Answers<W>, upto: u64, slots: &[Slot]) -> Result<(), Refused>
     ensures { Says (text_said W.contents output.old) (archived_line upto slots.now ++ reclaimed_line upto slots.now) result (text_said W.contents output.new) (is_output_refused output.new) }
 {
-    say_archived(output, upto, slots)?;
-    let records = records_in(Job::Reclaim, upto, slots);
-    write_numbered(output, "reclaimed ", records)
+    match say_archived(output, upto, slots) {
+        Ok(()) => {
+            let records = records_in(Job::Reclaim, upto, slots);
+            write_numbered(output, "reclaimed ", records)
+        }
+        Err(refused) => Err(refused),
+    }
 }
 
 /// Says the records that were archived, and what was refused then.
@@ -223,8 +227,10 @@ fn say_refused_after<W: Write>(
 ) -> Result<(), Refused>
     ensures { Says (text_said W.contents output.old) (archived_line upto slots.now ++ text_of refusal.now) result (text_said W.contents output.new) (is_output_refused output.new) }
 {
-    say_archived(output, upto, slots)?;
-    write_reply(output, refusal)
+    match say_archived(output, upto, slots) {
+        Ok(()) => write_reply(output, refusal),
+        Err(refused) => Err(refused),
+    }
 }
 
 /// As much of it as the output takes. The program's status is 1.
