@@ -96,8 +96,19 @@ fn between_has_a_key_and_two_times_as_text(rt: HostRuntime) -> Result<(), Fail> 
 }
 
 #[test]
+fn vacuum_has_a_folder_and_a_time_as_text(rt: HostRuntime) -> Result<(), Fail> {
+    let words = ["timestore", "vacuum", "d", "yesterday"];
+    let vacuum = Action::Vacuum {
+        dir: "d",
+        time: "yesterday",
+    };
+    assert_eq!(rt; asked(rt.alloc(), &words)?, vacuum);
+    Ok(())
+}
+
+#[test]
 fn what_is_no_command_is_a_usage_fault(rt: HostRuntime) -> Result<(), Fail> {
-    let lines: [&[&str]; 12] = [
+    let lines: [&[&str]; 14] = [
         &["timestore", "format"],
         &["timestore", "format", "d", "--slots", "4294967296"],
         &["timestore", "format", "d", "--slots", "many"],
@@ -108,6 +119,8 @@ fn what_is_no_command_is_a_usage_fault(rt: HostRuntime) -> Result<(), Fail> {
         &["timestore", "at", "d", "1", "18446744073709551616", "1"],
         &["timestore", "at", "d", "1", "-7", "1"],
         &["timestore", "between", "d", "1", "7", "0"],
+        &["timestore", "vacuum", "d"],
+        &["timestore", "vacuum", "d", "1", "2"],
         &["timestore", "forget", "d"],
         &["timestore", "--slots", "16"],
     ];
@@ -128,11 +141,12 @@ fn help<'a>(rt: &impl Abort, alloc: Global, words: &'a [&'a str]) -> Result<Stri
 }
 
 /// What help names: each command, and the limits of a store.
-const NAMED: [&str; 16] = [
+const NAMED: [&str; 17] = [
     "\n  format ",
     "\n  run ",
     "\n  at ",
     "\n  between ",
+    "\n  vacuum ",
     "\n  dump ",
     "16 to 65536",
     "1 to 16\n             commits",
@@ -164,7 +178,7 @@ fn help_names_the_commands_and_the_limits(rt: HostRuntime) -> Result<(), Fail> {
 }
 
 /// What the help of each command says of it: its arguments, and each line of a script.
-const HELP: [(&str, &[&str]); 5] = [
+const HELP: [(&str, &[&str]); 6] = [
     (
         "format",
         &["<DIR>", "--slots <N>", "[default: 1024]", "16 to 65536"],
@@ -213,6 +227,16 @@ const HELP: [(&str, &[&str]); 5] = [
             "<FROM>",
             "<TO>",
             "microseconds since 1970",
+        ],
+    ),
+    (
+        "vacuum",
+        &[
+            "<DIR>",
+            "<TIME>",
+            "archived N",
+            "reclaimed N",
+            "first refusal",
         ],
     ),
     (

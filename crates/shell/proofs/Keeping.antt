@@ -1,18 +1,36 @@
 -- A script's run keeps the promise.
-use Rattle.std.proofs.Common.{ℕ, ◌⊎◌, inl, inr, Bool, IsTrue, []}
+use Rattle.std.proofs.Common.{ℕ, ◌≡◌, ◌⊎◌, inl, inr, Bool, false, IsTrue, [], Option, Some, None, ap, refl, sym, subst, ◌∙◌}
+use Rattle.std.specs.Prelude.{MatchOption}
 use Rattle.disk.specs.Areas.{AreSound, image_of}
 use Rattle.disk.specs.Calls.{DiskState}
 use Rattle.history.specs.Histories.{History}
 use Rattle.image.specs.Values.{Value}
+use Rattle.history.specs.Machine as machine
 use Rattle.opened.proofs.Formatted.{formatted-stands}
 use Rattle.status.specs.declared.header.Header.{Header}
 use Rattle.status.specs.Header.{new_header}
 use Rattle.standing.specs.OnDisk.{IsImageOf}
+use Rattle.opened.proofs.Opened.{open-stands}
+use Rattle.script.specs.Lines.{time_in}
+use Rattle.script.specs.declared.line.Line.{Line}
+use Rattle.script.specs.declared.line.Line.TheVariants as line
+use Rattle.session.specs.Session.{State, Closes, Step}
+use Rattle.session.specs.declared.reply.Reply.{Reply}
+use Rattle.status.specs.declared.fault.LogFault.{LogFault}
+use Rattle.status.specs.declared.fault.LogFault.TheVariants as log
+use Rattle.status.specs.Reading.{refused_by}
+use Rattle.script_promise.specs.ScriptMoments.{ScriptMoment, first_script_moment}
+use Rattle.script_promise.proofs.Closing.{close-keeps, first-script}
+use Rattle.script_promise.proofs.Leading.{IsScriptMoment}
+use Rattle.script_promise.proofs.Lines.{archive-line, reclaim-line, finish-line}
 use Rattle.script_promise.proofs.Script.{promise}
 use Rattle.words.specs.declared.action.Action.{Action}
 use Rattle.words.specs.declared.action.Action.TheVariants as action
-use Rattle.shell.specs.Acts.{Acts, Input, Output, Runs, RunsNew, RunsOnNew, RunsScript}
-use Rattle.shell.specs.Keeps.{LinesKeep, RunKeeps, NewRunKeeps, KeepsPromise}
+use Rattle.shell.specs.Acts.{Acts, Input, Output, RefusesTime, Runs, RunsNew, RunsOnNew, RunsScript, SaysVacuum, Vacuums, VacuumsStore}
+use Rattle.shell.specs.Keeps.{LineLeads, LinesKeep, RunKeeps, NewRunKeeps, KeepsPromise, VacuumKeeps, VacuumOpenedKeeps, VacuumingKeeps}
+use Rattle.shell.specs.Vacuums.{DoesAll, DoesPart, DoesVacuum, is_refusal}
+use Rattle.shell.specs.declared.vacuuming.Vacuumed.{Vacuumed}
+use Rattle.shell.specs.declared.vacuuming.Vacuumed.TheVariants as vacuumed
 
 lines-keep : (tells : Bool) (old new : DiskState) (input : Input) (output : Output) (header : Header) (h : History Value) (floors : ℕ → ℕ) → IsTrue tells → AreSound old.areas → IsImageOf header (image_of old.areas) h floors
     → (runs : Runs tells old input output new) → LinesKeep tells h floors runs.opened input output new
@@ -42,6 +60,106 @@ example-keeps : (tells : Bool) (old new : DiskState) (input : Input) (output : O
 example-keeps tells old new input output told (inl refused) = inl (refused.0, refused.1)
 example-keeps tells old new input output told (inr runs) = inr (new-keeps tells old new input output told runs)
 
+-- ---- vacuum
+
+-- a moment of this session, to which a line leads
+record To (tells : Bool) (state : State) (Leads : ScriptMoment → Type 0) : Type 0 where
+  pub after : ScriptMoment
+  pub is_state : after.state ≡ state
+  pub leads : Leads after
+  pub is : IsScriptMoment tells after
+
+-- a line's step leads from the moment of a session to the next
+abbrev Led : Bool → Line → Type 0
+Led tells l = (m : ScriptMoment) → IsScriptMoment tells m → (r : Reply) (new : State) → Step tells m.state l r new → To tells new (λ after. LineLeads tells m l r after)
+
+archive-led : (tells : Bool) (upto : ℕ) → Led tells (line.Archive upto)
+archive-led tells upto m is r new step =
+    let to = archive-line tells m is upto r new step.0 step.1 in
+    record { after = to.after; is_state = to.is_state; leads = record { step = subst (λ (s : State). Step tells m.state (line.Archive upto) r s) (sym to.is_state) step; keeps = to.keeps }; is = to.is }
+
+reclaim-led : (tells : Bool) → Led tells line.Reclaim
+reclaim-led tells m is r new step =
+    let to = reclaim-line tells m is r new step.0 step.1 in
+    record { after = to.after; is_state = to.is_state; leads = record { step = subst (λ (s : State). Step tells m.state line.Reclaim r s) (sym to.is_state) step; keeps = to.keeps }; is = to.is }
+
+finish-led : (tells : Bool) → Led tells line.Finish
+finish-led tells m is r new step =
+    let to = finish-line tells m is r new step.0 step.1 in
+    record { after = to.after; is_state = to.is_state; leads = record { step = subst (λ (s : State). Step tells m.state line.Finish r s) (sym to.is_state) step; keeps = to.keeps }; is = to.is }
+
+-- so does a line after the moment of this session
+led-from : (tells : Bool) (l : Line) → Led tells l → (m : ScriptMoment) → IsScriptMoment tells m → (state new : State) → m.state ≡ state → (r : Reply) → Step tells state l r new → To tells new (λ after. LineLeads tells m l r after)
+led-from tells l led m is state new same r step = led m is r new (subst (λ (s : State). Step tells s l r new) (sym same) step)
+
+all-led : (tells : Bool) (l : Line) → Led tells l → (m : ScriptMoment) → IsScriptMoment tells m → (state new : State) → m.state ≡ state → DoesAll (Step tells) l state new → To tells new (λ after. DoesAll (LineLeads tells) l m after)
+all-led tells l led m is state new same does =
+    let first = led-from tells l led m is state does.1 same does.0 does.3 in
+    let second = led-from tells line.Finish (finish-led tells) first.after first.is does.1 new first.is_state does.2 does.5 in
+    record { after = second.after; is_state = second.is_state; leads = (does.0, first.after, does.2, first.leads, does.4, second.leads, does.6); is = second.is }
+
+part-led : (tells : Bool) (l : Line) → Led tells l → (m : ScriptMoment) → IsScriptMoment tells m → (state new : State) → m.state ≡ state → (refusal : Reply) → DoesPart (Step tells) l state refusal new → To tells new (λ after. DoesPart (LineLeads tells) l m refusal after)
+part-led tells l led m is state new same refusal does = by does.1
+  where
+    by : (Step tells state l refusal new ⊎ ((r : Reply) × (mid : State) × Step tells state l r mid × (is_refusal r ≡ false) × Step tells mid line.Finish refusal new)) → To tells new (λ after. DoesPart (LineLeads tells) l m refusal after)
+    by (inl step) =
+        let to = led-from tells l led m is state new same refusal step in
+        record { after = to.after; is_state = to.is_state; leads = (does.0, inl to.leads); is = to.is }
+    by (inr steps) =
+        let first = led-from tells l led m is state steps.1 same steps.0 steps.2 in
+        let second = led-from tells line.Finish (finish-led tells) first.after first.is steps.1 new first.is_state refusal steps.4 in
+        record { after = second.after; is_state = second.is_state; leads = (does.0, inr (steps.0, first.after, first.leads, steps.3, second.leads)); is = second.is }
+
+vacuum-led : (tells : Bool) (upto : ℕ) (m : ScriptMoment) → IsScriptMoment tells m → (done : Vacuumed) (new : State) → DoesVacuum (Step tells) upto m.state done new → To tells new (λ after. DoesVacuum (LineLeads tells) upto m done after)
+vacuum-led tells upto m is (vacuumed.Nothing refusal) new does = part-led tells (line.Archive upto) (archive-led tells upto) m is m.state new refl refusal does
+vacuum-led tells upto m is (vacuumed.Archived refusal) new does =
+    let first = all-led tells (line.Archive upto) (archive-led tells upto) m is m.state does.0 refl does.1 in
+    let second = part-led tells line.Reclaim (reclaim-led tells) first.after first.is does.0 new first.is_state refusal does.2 in
+    record { after = second.after; is_state = second.is_state; leads = (first.after, first.leads, second.leads); is = second.is }
+vacuum-led tells upto m is vacuumed.Both new does =
+    let first = all-led tells (line.Archive upto) (archive-led tells upto) m is m.state does.0 refl does.1 in
+    let second = all-led tells line.Reclaim (reclaim-led tells) first.after first.is does.0 new first.is_state does.2 in
+    record { after = second.after; is_state = second.is_state; leads = (first.after, first.leads, second.leads); is = second.is }
+
+-- reading the log changes no area
+read-holds : (why : LogFault) (old : DiskState) → (refused_by why old).areas ≡ old.areas
+read-holds log.NotAStore old = refl
+read-holds (log.Damaged n) old = refl
+read-holds log.Device old = refl
+read-holds log.NoMemory old = refl
+
+said-holds : (tells : Bool) (upto : ℕ) (given new : DiskState) (done : Vacuumed) (o : Output) → SaysVacuum tells upto given done o new → new.areas ≡ given.areas
+said-holds tells upto given new (vacuumed.Nothing refusal) o said = ap (λ (s : DiskState). s.areas) said.0
+said-holds tells upto given new (vacuumed.Archived refusal) o (inl said) = ap (λ (s : DiskState). s.areas) said.1.3
+said-holds tells upto given new (vacuumed.Archived refusal) o (inr lacks) = ap (λ (s : DiskState). s.areas) lacks.1.1 ∙ read-holds lacks.0 given
+said-holds tells upto given new vacuumed.Both o (inl said) = ap (λ (s : DiskState). s.areas) said.1.3
+said-holds tells upto given new vacuumed.Both o (inr lacks) = ap (λ (s : DiskState). s.areas) lacks.1.1 ∙ read-holds lacks.0 given
+
+store-vacuum-keeps : (tells : Bool) (old new : DiskState) (upto : ℕ) (output : Output) (header : Header) (h : History Value) (floors : ℕ → ℕ) → IsTrue tells → AreSound old.areas → IsImageOf header (image_of old.areas) h floors
+    → (did : VacuumsStore tells old upto output new) → VacuumKeeps tells h floors did.opened upto output new
+store-vacuum-keeps tells old new upto output header h floors told sound image did =
+    let first = first-script tells did.opened h floors (open-stands tells old 1 did.opened header h floors did.opens told sound image) in
+    let to = vacuum-led tells upto (first_script_moment did.opened (machine.opened h floors)) first did.done did.asked did.does in
+    record {
+      done = did.done;
+      after = to.after;
+      does = to.leads;
+      given = did.given;
+      closed = (close-keeps tells to.after to.is did.given (subst (λ (s : State). Closes s did.given) (sym to.is_state) did.closes)).closed;
+      says = did.says;
+      holds = said-holds tells upto did.given new did.done output did.says;
+    }
+
+vacuum-keeps : (tells : Bool) (old new : DiskState) (upto : ℕ) (output : Output) → IsTrue tells → AreSound old.areas → Vacuums tells old upto output new → VacuumingKeeps tells old upto output new
+vacuum-keeps tells old new upto output told sound (inl refused) = λ header h floors image. inl (refused.0, refused.1)
+vacuum-keeps tells old new upto output told sound (inr (inl lacks)) = λ header h floors image. inr (lacks.0, lacks.1, inl lacks.2)
+vacuum-keeps tells old new upto output told sound (inr (inr did)) = λ header h floors image. inr (did.opened, did.opens, inr (store-vacuum-keeps tells old new upto output header h floors told sound image did))
+
+upto-keeps : (tells : Bool) (old new : DiskState) (time : Option ℕ) (output : Output) → IsTrue tells → AreSound old.areas → MatchOption time (RefusesTime old output new) (λ t. Vacuums tells old t output new)
+    → MatchOption time (new ≡ old) (λ t. VacuumingKeeps tells old t output new)
+upto-keeps tells old new None output told sound refused = refused.0
+upto-keeps tells old new (Some t) output told sound did = vacuum-keeps tells old new t output told sound did
+
 -- so does each action
 pub keeps-acts : (tells : Bool) (a : Action) (old new : DiskState) (input : Input) (output : Output) → IsTrue tells → AreSound old.areas → Acts tells a old input output new → KeepsPromise tells a old input output new
 keeps-acts tells action.Example old new input output told sound acts = example-keeps tells old new input output told acts
@@ -49,5 +167,6 @@ keeps-acts tells (action.Run dir) old new input output told sound acts = λ head
 keeps-acts tells (action.Format dir slots) old new input output told sound acts = tt
 keeps-acts tells (action.At dir key time) old new input output told sound acts = tt
 keeps-acts tells (action.Between dir key from to) old new input output told sound acts = tt
+keeps-acts tells (action.Vacuum dir time) old new input output told sound acts = upto-keeps tells old new (time_in time.now) output told sound acts
 keeps-acts tells (action.Dump dir) old new input output told sound acts = tt
 keeps-acts tells (action.Stress writers readers rounds) old new input output told sound acts = tt

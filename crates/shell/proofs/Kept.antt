@@ -14,7 +14,10 @@ use Rattle.session.specs.declared.ending.Ending.TheVariants.{OutputRefused, Whol
 use Rattle.session.specs.declared.reply.Reply.{Reply}
 use Rattle.words.specs.declared.action.Action.{Action}
 use Rattle.words.specs.declared.action.Action.TheVariants as action
-use Rattle.shell.specs.Acts.{Acts, Asks, Dumps, DoesNotOpen, GivesOut, HasNoMemory, HasStatusOf, Input, IsRefused, IsSaid, IsTold, Makes, Output, RefusesTime, RefusesToMake, Runs, RunsNew, RunsScript, SaysAll, SaysFront, is_refusal}
+use Rattle.shell.specs.Acts.{Acts, Asks, Dumps, DoesNotOpen, GivesOut, HasNoMemory, HasStatusOf, Input, IsRefused, IsSaid, IsTold, Makes, Output, RefusesTime, RefusesToMake, Runs, RunsNew, RunsScript, SaysAll, SaysArchived, SaysBoth, SaysFront, SaysVacuum, Vacuums}
+use Rattle.shell.specs.Vacuums.{is_refusal}
+use Rattle.shell.specs.declared.vacuuming.Vacuumed.{Vacuumed}
+use Rattle.shell.specs.declared.vacuuming.Vacuumed.TheVariants as vacuumed
 
 all-kept : (o v : Output) (text : Text) → GivesOut o v → SaysAll o text → SaysAll v text
 all-kept o v text gives says = subst (λ (b : Option Text). Appends b v.after text) (sym gives.0) (Appends-kept o.before o.after v.after text says gives.1)
@@ -139,6 +142,38 @@ between-kept : (tells : Bool) (old new : DiskState) (from to : Option ℕ) (line
 between-kept tells old new None to line o v gives refused = time-kept old new o v gives refused
 between-kept tells old new (Some s) to line o v gives asks = at-kept tells old new to (line s) o v gives asks
 
+archived-kept : (tells : Bool) (upto : ℕ) (given new : DiskState) (refusal : Reply) (o v : Output) → GivesOut o v → SaysArchived tells upto given refusal o new → SaysArchived tells upto given refusal v new
+archived-kept tells upto given new refusal o v gives (inl said) = inl (said.0, said.1, refused-kept o v _ gives said.2)
+archived-kept tells upto given new refusal o v gives (inr lacks) = inr (lacks.0, lacks.1, refused-kept o v _ gives lacks.2)
+
+both-kept : (tells : Bool) (upto : ℕ) (given new : DiskState) (o v : Output) → GivesOut o v → SaysBoth tells upto given o new → SaysBoth tells upto given v new
+both-kept tells upto given new o v gives (inl said) = inl (said.0, said.1, said-kept o v _ gives said.2)
+both-kept tells upto given new o v gives (inr lacks) = inr (lacks.0, lacks.1, refused-kept o v _ gives lacks.2)
+
+vacuum_said-kept : (tells : Bool) (upto : ℕ) (given new : DiskState) (done : Vacuumed) (o v : Output) → GivesOut o v → SaysVacuum tells upto given done o new → SaysVacuum tells upto given done v new
+vacuum_said-kept tells upto given new (vacuumed.Nothing refusal) o v gives said = (said.0, refused-kept o v _ gives said.1)
+vacuum_said-kept tells upto given new (vacuumed.Archived refusal) o v gives said = archived-kept tells upto given new refusal o v gives said
+vacuum_said-kept tells upto given new vacuumed.Both o v gives said = both-kept tells upto given new o v gives said
+
+vacuums-kept : (tells : Bool) (old new : DiskState) (upto : ℕ) (o v : Output) → GivesOut o v → Vacuums tells old upto o new → Vacuums tells old upto v new
+vacuums-kept tells old new upto o v gives (inl refused) = inl (not_opened-kept tells old new o v gives refused)
+vacuums-kept tells old new upto o v gives (inr (inl lacks)) = inr (inl (no_memory-kept tells old new o v gives lacks))
+vacuums-kept tells old new upto o v gives (inr (inr did)) = inr (inr (record {
+  opened = did.opened;
+  opens = did.opens;
+  done = did.done;
+  asked = did.asked;
+  does = did.does;
+  given = did.given;
+  closes = did.closes;
+  says = vacuum_said-kept tells upto did.given new did.done o v gives did.says;
+}))
+
+upto-kept : (tells : Bool) (old new : DiskState) (time : Option ℕ) (o v : Output) → GivesOut o v
+    → MatchOption time (RefusesTime old o new) (λ t. Vacuums tells old t o new) → MatchOption time (RefusesTime old v new) (λ t. Vacuums tells old t v new)
+upto-kept tells old new None o v gives refused = time-kept old new o v gives refused
+upto-kept tells old new (Some t) o v gives did = vacuums-kept tells old new t o v gives did
+
 dumps-kept : (tells : Bool) (old new : DiskState) (o v : Output) → GivesOut o v → Dumps tells old o new → Dumps tells old v new
 dumps-kept tells old new o v gives (inl (inl lacks)) = inl (inl (record { why = lacks.why; fault = lacks.fault; only = lacks.only; same = lacks.same; said = refused-kept o v _ gives lacks.said }))
 dumps-kept tells old new o v gives (inl (inr lacks)) = inl (inr (record { header = lacks.header; reads = lacks.reads; why = lacks.why; fault = lacks.fault; same = lacks.same; said = refused-kept o v _ gives lacks.said }))
@@ -151,5 +186,6 @@ acts-kept tells (action.Format dir slots) old new input o v gives acts = makes-k
 acts-kept tells (action.Run dir) old new input o v gives acts = runs-kept tells old new input o v gives acts
 acts-kept tells (action.At dir key time) old new input o v gives acts = at-kept tells old new (time_in time.now) (λ t. line.At key t) o v gives acts
 acts-kept tells (action.Between dir key from to) old new input o v gives acts = between-kept tells old new (time_in from.now) (time_in to.now) (λ s t. line.Between key s t) o v gives acts
+acts-kept tells (action.Vacuum dir time) old new input o v gives acts = upto-kept tells old new (time_in time.now) o v gives acts
 acts-kept tells (action.Dump dir) old new input o v gives acts = dumps-kept tells old new o v gives acts
 acts-kept tells (action.Stress writers readers rounds) old new input o v gives acts = (acts.0, refused-kept o v [] gives acts.1)

@@ -1,18 +1,32 @@
 -- What was said, and the status.
-use Rattle.std.proofs.Common.{◌≡◌, ◌≢◌, ◌≤◌, ◌⊎◌, ◌∙◌, inl, inr, ℕ, ◌++◌, [], ap, Bool, true, false, Option, Some, None, Result, Ok, Err, refl, sym, subst, arith}
+use Rattle.std.proofs.Common.{◌≡◌, ◌≢◌, ◌≤◌, ◌⊎◌, ◌∙◌, inl, inr, ℕ, ◌++◌, [], ap, Bool, true, false, Option, Some, None, Result, Ok, Err, refl, sym, subst, arith, append_assoc}
 use Rattle.std.specs.Prelude.{MatchBool, MatchOption, MatchResult}
 use Rattle.disk.specs.Calls.{DiskState}
 use Rattle.script.specs.Lines.{time_in}
 use Rattle.script.specs.declared.line.Line.{Line}
 use Rattle.script.specs.declared.line.Line.TheVariants as line
-use Rattle.session.specs.Streams.{Says}
+use Rattle.std.specs.Io.KnownBytes.{Appends}
+use Rattle.std.proofs.KnownBytes.{Appends-trans}
+use Rattle.session.specs.Streams.{AppendsFront, Says}
 use Rattle.session.specs.Texts.{Text, text_of}
 use Rattle.session.specs.declared.ending.Ending.{Ending}
 use Rattle.session.specs.declared.ending.Ending.TheVariants.{Whole}
 use Rattle.session.specs.declared.reply.Reply.{Reply}
 use Rattle.words.specs.declared.action.Action.{Action}
 use Rattle.words.specs.declared.action.Action.TheVariants as action
-use Rattle.shell.specs.Acts.{Acts, Asks, HasStatusOf, Input, IsRefused, IsSaid, IsTold, Makes, Output, RefusesTime, RunsNew, RunsScript, SaysAll, SaysFront, is_refusal}
+use Rattle.shell.specs.Acts.{Acts, Asks, HasStatusOf, Input, IsRefused, IsSaid, IsTold, Makes, Output, RefusesTime, RunsNew, RunsScript, SaysAll, SaysFront, SaysVacuum, Vacuums}
+use Rattle.shell.specs.Vacuums.{is_refusal}
+use Rattle.shell.specs.declared.vacuuming.Vacuumed.{Vacuumed}
+use Rattle.shell.specs.declared.vacuuming.Vacuumed.TheVariants as vacuumed
+
+-- one text is said after another, of which the first was said in full
+pub says-more : {T E : Type 0} (a b c : Option Text) (x y : Text) (r : Result T E) (refused : Bool) → Appends a b x → Says b y r c refused → Says a (x ++ y) r c refused
+says-more a b c x y (Ok u) refused first says = Appends-trans a b c x y first says
+says-more a b c x y (Err e) refused first says = ((x ++ says.0.0, (says.0.1.0, ap (λ (t : Text). x ++ t) says.0.1.1 ∙ sym (append_assoc x says.0.0 says.0.1.0)), Appends-trans a b c x says.0.0 first says.0.2), says.1)
+
+-- a front of the first is one of both
+pub front-more : (a b : Option Text) (x y : Text) → AppendsFront a b x → AppendsFront a b (x ++ y)
+front-more a b x y front = (front.0, (front.1.0 ++ y, ap (λ (t : Text). t ++ y) front.1.1 ∙ append_assoc front.0 front.1.0 y), front.2)
 
 -- a text was written where nothing was
 pub appended-none : (old new text : Text) → old ≡ [] → new ≡ old ++ text → new ≡ text
@@ -95,12 +109,29 @@ between-status : (tells : Bool) (old new : DiskState) (from to : Option ℕ) (li
 between-status tells old new None to line o refused = time-status old new o refused
 between-status tells old new (Some s) to line o asks = at-status tells old new to (line s) o asks
 
+vacuum_said-status : (tells : Bool) (upto : ℕ) (given new : DiskState) (done : Vacuumed) (o : Output) → SaysVacuum tells upto given done o new → o.status ≤ 1
+vacuum_said-status tells upto given new (vacuumed.Nothing refusal) o said = refused-status o _ said.1
+vacuum_said-status tells upto given new (vacuumed.Archived refusal) o (inl said) = refused-status o _ said.2
+vacuum_said-status tells upto given new (vacuumed.Archived refusal) o (inr lacks) = refused-status o _ lacks.2
+vacuum_said-status tells upto given new vacuumed.Both o (inl said) = said-status o _ said.2
+vacuum_said-status tells upto given new vacuumed.Both o (inr lacks) = refused-status o _ lacks.2
+
+vacuums-status : (tells : Bool) (old new : DiskState) (upto : ℕ) (o : Output) → Vacuums tells old upto o new → o.status ≤ 1
+vacuums-status tells old new upto o (inl refused) = refused-status o _ refused.2
+vacuums-status tells old new upto o (inr (inl lacks)) = refused-status o _ lacks.3
+vacuums-status tells old new upto o (inr (inr did)) = vacuum_said-status tells upto did.given new did.done o did.says
+
+upto-status : (tells : Bool) (old new : DiskState) (time : Option ℕ) (o : Output) → MatchOption time (RefusesTime old o new) (λ t. Vacuums tells old t o new) → o.status ≤ 1
+upto-status tells old new None o refused = time-status old new o refused
+upto-status tells old new (Some t) o did = vacuums-status tells old new t o did
+
 pub acts-status : (tells : Bool) (a : Action) (old new : DiskState) (input : Input) (o : Output) → Acts tells a old input o new → o.status ≤ 1
 acts-status tells action.Example old new input o acts = runs_new-status tells old new input o acts
 acts-status tells (action.Format dir slots) old new input o acts = makes-status tells old new slots o acts
 acts-status tells (action.Run dir) old new input o acts = runs-status tells old new input o acts
 acts-status tells (action.At dir key time) old new input o acts = at-status tells old new (time_in time.now) (λ t. line.At key t) o acts
 acts-status tells (action.Between dir key from to) old new input o acts = between-status tells old new (time_in from.now) (time_in to.now) (λ s t. line.Between key s t) o acts
+acts-status tells (action.Vacuum dir time) old new input o acts = upto-status tells old new (time_in time.now) o acts
 acts-status tells (action.Dump dir) old new input o (inl (inl lacks)) = refused-status o _ lacks.said
 acts-status tells (action.Dump dir) old new input o (inl (inr lacks)) = refused-status o _ lacks.said
 acts-status tells (action.Dump dir) old new input o (inr (inl done)) = said-status o done.text done.said

@@ -30,8 +30,10 @@ use Rattle.session.specs.declared.fault.Fault.TheVariants as fault
 use Rattle.session.specs.declared.input.Lines.{Lines}
 use Rattle.session.specs.declared.output.Answers.{Answers}
 use Rattle.session.specs.declared.reply.Reply.{Reply}
-use Rattle.session.specs.declared.reply.Reply.TheVariants as reply
 use Rattle.shell.specs.Dump.{IsDump}
+use Rattle.shell.specs.Vacuums.{DoesVacuum, HasLog, LacksLog, archived_line, is_refusal, reclaimed_line}
+use Rattle.shell.specs.declared.vacuuming.Vacuumed.{Vacuumed}
+use Rattle.shell.specs.declared.vacuuming.Vacuumed.TheVariants as vacuumed
 use Rattle.words.specs.declared.action.Action.{Action}
 use Rattle.words.specs.declared.action.Action.TheVariants as action
 
@@ -133,10 +135,6 @@ RunsNew tells old input output new = RefusesToMake tells old 16 output new ⊎ R
 
 -- ---- one question
 
-abbrev pub is_refusal : Reply → Bool
-is_refusal (reply.Refused f) = true
-is_refusal _ = false
-
 -- a reply is said
 abbrev pub IsTold : Output → Reply → Type 0
 IsTold o r = MatchBool (is_refusal r) (IsRefused o (text_of r)) (IsSaid o (text_of r))
@@ -206,6 +204,38 @@ LacksText old output new = (new ≡ old) × IsRefused output (refusal_line fault
 abbrev pub Dumps : Bool → DiskState → Output → DiskState → Type 0
 Dumps tells old output new = (HasNoHeader tells old output new ⊎ HasNoLog tells old output new) ⊎ (DumpsLog tells old output new ⊎ LacksText old output new)
 
+-- ---- vacuum
+
+-- the archive is done, and its records are said; then the reclaim is refused so, which alone is said where the log is not read
+abbrev pub SaysArchived : Bool → ℕ → DiskState → Reply → Output → DiskState → Type 0
+SaysArchived tells upto given refusal output new = ((slots : List Slot) × HasLog tells given slots new × IsRefused output (archived_line upto slots ++ text_of refusal))
+    ⊎ ((why : LogFault) × LacksLog tells given why new × IsRefused output (text_of refusal))
+
+-- both are done, and the records of each are said, or why the log is not read
+abbrev pub SaysBoth : Bool → ℕ → DiskState → Output → DiskState → Type 0
+SaysBoth tells upto given output new = ((slots : List Slot) × HasLog tells given slots new × IsSaid output (archived_line upto slots ++ reclaimed_line upto slots))
+    ⊎ ((why : LogFault) × LacksLog tells given why new × IsRefused output (open_line (open_fault_of why)))
+
+-- of a vacuum that got so far, by the log that stands on the disk once the store is closed
+abbrev pub SaysVacuum : Bool → ℕ → DiskState → Vacuumed → Output → DiskState → Type 0
+SaysVacuum tells upto given (vacuumed.Nothing refusal) output new = (new ≡ given) × IsRefused output (text_of refusal)
+SaysVacuum tells upto given (vacuumed.Archived refusal) output new = SaysArchived tells upto given refusal output new
+SaysVacuum tells upto given vacuumed.Both output new = SaysBoth tells upto given output new
+
+-- the store opens, a session answers the lines of a vacuum, and it is closed
+pub record VacuumsStore (tells : Bool) (old : DiskState) (upto : ℕ) (output : Output) (new : DiskState) : Type 0 where
+  pub opened : StoreValue
+  pub opens : Opens tells old 1 opened
+  pub done : Vacuumed
+  pub asked : State
+  pub does : DoesVacuum (Step tells) upto (fresh opened) done asked
+  pub given : DiskState
+  pub closes : Closes asked given
+  pub says : SaysVacuum tells upto given done output new
+
+abbrev pub Vacuums : Bool → DiskState → ℕ → Output → DiskState → Type 0
+Vacuums tells old upto output new = DoesNotOpen tells old output new ⊎ (HasNoMemory tells old output new ⊎ VacuumsStore tells old upto output new)
+
 -- ---- actions
 
 -- With status 0 it is done and said in full. With status 1 the store, the input or the output was refused, which is said as far as the output took it, and the disk is as this says.
@@ -216,5 +246,6 @@ Acts tells (action.Run dir) old input output new = RunsScript tells old input ou
 Acts tells (action.At dir key time) old input output new = MatchOption (time_in time.now) (RefusesTime old output new) (λ t. Asks tells old (line.At key t) output new)
 Acts tells (action.Between dir key from to) old input output new =
     MatchOption (time_in from.now) (RefusesTime old output new) (λ a. MatchOption (time_in to.now) (RefusesTime old output new) (λ b. Asks tells old (line.Between key a b) output new))
+Acts tells (action.Vacuum dir time) old input output new = MatchOption (time_in time.now) (RefusesTime old output new) (λ t. Vacuums tells old t output new)
 Acts tells (action.Dump dir) old input output new = Dumps tells old output new
 Acts tells (action.Stress writers readers rounds) old input output new = DoesNothing old output new

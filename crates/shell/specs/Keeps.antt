@@ -1,5 +1,5 @@
 -- What the program promises of a script that it runs, however it ends.
-use Rattle.std.specs.Prelude.{ℕ, ◌≡◌, ◌⊎◌, ◌+◌, Bool, List, []}
+use Rattle.std.specs.Prelude.{ℕ, ◌≡◌, ◌⊎◌, ◌+◌, Bool, List, [], MatchOption}
 use Rattle.disk.specs.Areas.{image_of}
 use Rattle.disk.specs.Calls.{DiskState}
 use Rattle.history.specs.Histories.{History}
@@ -12,14 +12,20 @@ use Rattle.status.specs.declared.header.Header.{Header}
 use Rattle.standing.specs.OnDisk.{IsImageOf}
 use Rattle.store.specs.Values.{StoreValue}
 use Rattle.store.specs.Opens.{Opens, OpenRefuses}
+use Rattle.script.specs.declared.line.Line.{Line}
 use Rattle.session.specs.Lines.{AreLines}
+use Rattle.session.specs.declared.reply.Reply.{Reply}
 use Rattle.session.specs.Texts.{Text}
 use Rattle.session.specs.declared.ending.Ending.{Ending}
-use Rattle.script_promise.specs.ScriptMoments.{first_script_moment}
+use Rattle.script.specs.Lines.{time_in}
+use Rattle.script_promise.specs.Keeps.{Closed, LineKeeps}
+use Rattle.script_promise.specs.ScriptMoments.{ScriptMoment, first_script_moment}
 use Rattle.script_promise.specs.Promise.{ScriptKeeps}
 use Rattle.words.specs.declared.action.Action.{Action}
 use Rattle.words.specs.declared.action.Action.TheVariants as action
-use Rattle.shell.specs.Acts.{Input, Output, SaysAll}
+use Rattle.shell.specs.Acts.{Input, Output, SaysAll, SaysVacuum}
+use Rattle.shell.specs.Vacuums.{DoesVacuum}
+use Rattle.shell.specs.declared.vacuuming.Vacuumed.{Vacuumed}
 
 -- The lines of the input are run, all or a front of them, and the run keeps the promise: at every moment whatever a stop may leave survives, with every commit of which `done` was written, and what is written is what a run of the machine answers.
 pub record LinesKeep (tells : Bool) (h : History Value) (floors : ℕ → ℕ) (store : StoreValue) (input : Input) (output : Output) (new : DiskState) : Type 0 where
@@ -44,12 +50,36 @@ pub record NewRunKeeps (tells : Bool) (old : DiskState) (input : Input) (output 
   pub formatted : IsFormatted 16 old.areas made.areas
   pub keeps : RunKeeps tells [] (λ relation. 0) made input output new
 
--- A script is run on an empty store, or on the one that a disk holds, of whatever history its image stands for. The other actions run none.
+-- a line leads from a moment to the next, and keeps the promise
+abbrev pub LineLeads : Bool → ScriptMoment → Line → Reply → ScriptMoment → Type 0
+LineLeads tells before l r after = LineKeeps tells l r before after
+
+-- The lines of a vacuum are answered as those of a script, and the store is closed: at every moment whatever a stop may leave survives. The log is read of what the disk holds then.
+pub record VacuumKeeps (tells : Bool) (h : History Value) (floors : ℕ → ℕ) (store : StoreValue) (upto : ℕ) (output : Output) (new : DiskState) : Type 0 where
+  pub done : Vacuumed
+  pub after : ScriptMoment
+  pub does : DoesVacuum (LineLeads tells) upto (first_script_moment store (machine.opened h floors)) done after
+  pub given : DiskState
+  pub closed : Closed tells after given
+  pub says : SaysVacuum tells upto given done output new
+  pub holds : new.areas ≡ given.areas
+
+-- the store opens as this history; no line is answered, or lines are
+abbrev pub VacuumOpenedKeeps : Bool → History Value → (ℕ → ℕ) → DiskState → ℕ → Output → DiskState → Type 0
+VacuumOpenedKeeps tells h floors old upto output new = (store : StoreValue) × Opens tells old 1 store × ((new ≡ store.disk) ⊎ VacuumKeeps tells h floors store upto output new)
+
+-- it does not open, and the disk holds what it held, or it does
+abbrev pub VacuumingKeeps : Bool → DiskState → ℕ → Output → DiskState → Type 0
+VacuumingKeeps tells old upto output new = (header : Header) (h : History Value) (floors : ℕ → ℕ) → IsImageOf header (image_of old.areas) h floors
+    → ((f : OpenFault) × OpenRefuses tells old f new) ⊎ VacuumOpenedKeeps tells h floors old upto output new
+
+-- A script is run on an empty store, or on the one that a disk holds, of whatever history its image stands for, and so are the lines of a vacuum. The other actions run none.
 abbrev pub KeepsPromise : Bool → Action → DiskState → Input → Output → DiskState → Type 0
 KeepsPromise tells action.Example old input output new = ((f : FormatFault) × FormatRefuses tells 16 old f new) ⊎ NewRunKeeps tells old input output new
 KeepsPromise tells (action.Run dir) old input output new = (header : Header) (h : History Value) (floors : ℕ → ℕ) → IsImageOf header (image_of old.areas) h floors → RunKeeps tells h floors old input output new
 KeepsPromise tells (action.Format dir slots) old input output new = Unit {0}
 KeepsPromise tells (action.At dir key time) old input output new = Unit {0}
 KeepsPromise tells (action.Between dir key from to) old input output new = Unit {0}
+KeepsPromise tells (action.Vacuum dir time) old input output new = MatchOption (time_in time.now) (new ≡ old) (λ t. VacuumingKeeps tells old t output new)
 KeepsPromise tells (action.Dump dir) old input output new = Unit {0}
 KeepsPromise tells (action.Stress writers readers rounds) old input output new = Unit {0}

@@ -1,3 +1,4 @@
+pub mod Vacuums
 pub mod Acts
 pub mod Dump
 pub mod Needs

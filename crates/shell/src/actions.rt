@@ -4,14 +4,15 @@ ghost use Rattle.std.specs.Fmt.{decimal};
 ghost use Rattle.script.specs.Lines.{time_in};
 ghost use Rattle.script.specs.declared.line.Line.TheVariants.{At, Between, Reopen};
 ghost use Rattle.session.specs.Streams.{Says, is_output_refused, text_said};
-ghost use Rattle.session.specs.Texts.{Text, open_line, refusal_line};
+ghost use Rattle.session.specs.Texts.{Text, open_line, refusal_line, text_of};
 ghost use Rattle.session.specs.declared.ending.Ending.TheVariants.{Whole};
-ghost use Rattle.shell.specs.Acts as acts;
-ghost use Rattle.shell.specs.Acts.{Acts, Asks, Dumps, GivesOut, IsRefused, IsTold, Makes, RefusesTime, RunsNew, RunsScript, given, open_fault_of, told};
+ghost use Rattle.shell.specs.Acts.{Acts, Asks, Dumps, GivesOut, IsRefused, IsTold, Makes, RefusesTime, RunsNew, RunsScript, SaysArchived, SaysBoth, SaysVacuum, Vacuums, given, open_fault_of, told};
 ghost use Rattle.shell.specs.Dump.{IsDump};
 ghost use Rattle.shell.specs.Keeps.{KeepsPromise};
+ghost use Rattle.shell.specs.Vacuums.{archived_line, reclaimed_line};
 
 use crate::dump::{DumpFault, write_dump};
+use crate::vacuuming::{Job, Vacuumed, do_jobs, is_refusal, log_of, records_in};
 use disk::{Area, Disk};
 use history::Key;
 use recovery::{OpenFault, format};
@@ -122,12 +123,6 @@ fn run_example<D: Disk, R: LineInput, W: Write>(
     }
 }
 
-fn is_refusal(reply: &Reply) -> bool
-    ensures { result ≡ acts.is_refusal reply.now }
-{
-    matches!(reply, Reply::Refused(_))
-}
-
 /// Says the one reply of a command.
 fn tell<W: Write>(output: &mut Answers<W>, reply: &Reply) -> u8
     ensures { IsTold (told W.contents result output.old output.new) reply.now }
@@ -202,6 +197,140 @@ fn ask_between<D: Disk, W: Write>(
     }
 }
 
+/// Says the records that were archived.
+fn say_archived<W: Write>(output: &mut Answers<W>, upto: u64, slots: &[Slot]) -> Result<(), Refused>
+    ensures { Says (text_said W.contents output.old) (archived_line upto slots.now) result (text_said W.contents output.new) (is_output_refused output.new) }
+{
+    let records = records_in(Job::Archive, upto, slots);
+    write_numbered(output, "archived ", records)
+}
+
+/// Says the records that were archived, and those that were written anew.
+fn say_both<W: Write>(output: &mut Answers<W>, upto: u64, slots: &[Slot]) -> Result<(), Refused>
+    ensures { Says (text_said W.contents output.old) (archived_line upto slots.now ++ reclaimed_line upto slots.now) result (text_said W.contents output.new) (is_output_refused output.new) }
+{
+    match say_archived(output, upto, slots) {
+        Ok(()) => {
+            let records = records_in(Job::Reclaim, upto, slots);
+            write_numbered(output, "reclaimed ", records)
+        }
+        Err(refused) => Err(refused),
+    }
+}
+
+/// Says the records that were archived, and what was refused then.
+fn say_refused_after<W: Write>(
+    output: &mut Answers<W>,
+    upto: u64,
+    slots: &[Slot],
+    refusal: &Reply,
+) -> Result<(), Refused>
+    ensures { Says (text_said W.contents output.old) (archived_line upto slots.now ++ text_of refusal.now) result (text_said W.contents output.new) (is_output_refused output.new) }
+{
+    match say_archived(output, upto, slots) {
+        Ok(()) => write_reply(output, refusal),
+        Err(refused) => Err(refused),
+    }
+}
+
+/// As much of it as the output takes. The program's status is 1.
+fn refuse_after<W: Write>(output: &mut Answers<W>, upto: u64, slots: &[Slot], refusal: &Reply) -> u8
+    ensures { IsRefused (told W.contents result output.old output.new) (archived_line upto slots.now ++ text_of refusal.now) }
+{
+    let _ = say_refused_after(output, upto, slots, refusal);
+    REFUSED
+}
+
+/// Says a reply that refuses. The program's status is 1.
+fn refuse_reply<W: Write>(output: &mut Answers<W>, refusal: &Reply) -> u8
+    ensures { IsRefused (told W.contents result output.old output.new) (text_of refusal.now) }
+{
+    let _ = write_reply(output, refusal);
+    REFUSED
+}
+
+/// Says what was archived, and that the reclaim was refused.
+fn tell_archived<D: Disk, W: Write>(
+    alloc: Global,
+    disk: &mut D,
+    upto: u64,
+    refusal: &Reply,
+    output: &mut Answers<W>,
+) -> u8
+    ensures { SaysArchived D.tells upto (D.state disk.old) refusal.now (told W.contents result output.old output.new) (D.state disk.new) }
+{
+    match log_of(alloc, disk) {
+        Ok(slots) => refuse_after(output, upto, slots.as_slice(), refusal),
+        Err(_) => refuse_reply(output, refusal),
+    }
+}
+
+/// Says what was archived and reclaimed.
+fn tell_both<D: Disk, W: Write>(
+    alloc: Global,
+    disk: &mut D,
+    upto: u64,
+    output: &mut Answers<W>,
+) -> u8
+    ensures { SaysBoth D.tells upto (D.state disk.old) (told W.contents result output.old output.new) (D.state disk.new) }
+{
+    match log_of(alloc, disk) {
+        Ok(slots) => status_of(say_both(output, upto, slots.as_slice())),
+        Err(fault) => refuse_log(output, fault),
+    }
+}
+
+/// Says what a vacuum did, by the log of the store that was closed after it.
+fn tell_vacuum<D: Disk, W: Write>(
+    alloc: Global,
+    disk: &mut D,
+    upto: u64,
+    done: &Vacuumed,
+    output: &mut Answers<W>,
+) -> u8
+    ensures { SaysVacuum D.tells upto (D.state disk.old) done.now (told W.contents result output.old output.new) (D.state disk.new) }
+{
+    match done {
+        Vacuumed::Nothing(refusal) => refuse_reply(output, refusal),
+        Vacuumed::Archived(refusal) => tell_archived(alloc, disk, upto, refusal, output),
+        Vacuumed::Both => tell_both(alloc, disk, upto, output),
+    }
+}
+
+/// Archives what ended by a time and reclaims its space, in a store opened for it.
+fn vacuum<D: Disk, W: Write>(alloc: Global, disk: D, upto: u64, output: &mut Answers<W>) -> (u8, D)
+    ensures { Vacuums D.tells (D.state disk) upto (told W.contents result.0 output.old output.new) (D.state result.1) }
+{
+    let store = match Store::open(alloc, disk, MARK) {
+        Ok(store) => store,
+        Err((fault, disk)) => return (refuse(output, Fault::Open(fault)), disk),
+    };
+    let mut session = match Session::new(alloc, store) {
+        Ok(session) => session,
+        Err(store) => return (refuse(output, Fault::NoMemory), store.close()),
+    };
+    let done = do_jobs(&mut session, alloc, upto);
+    let mut disk = session.close();
+    let status = tell_vacuum(alloc, &mut disk, upto, &done, output);
+    (status, disk)
+}
+
+/// Vacuums up to the time that a text spells.
+fn vacuum_upto<D: Disk, W: Write>(
+    alloc: Global,
+    disk: D,
+    time: &str,
+    output: &mut Answers<W>,
+) -> (u8, D)
+    ensures { MatchOption (time_in time.now) (RefusesTime (D.state disk) (told W.contents result.0 output.old output.new) (D.state result.1))
+        (λ t. Vacuums D.tells (D.state disk) t (told W.contents result.0 output.old output.new) (D.state result.1)) }
+{
+    match read_time(time.as_bytes()) {
+        Some(upto) => vacuum(alloc, disk, upto, output),
+        None => (refuse(output, Fault::Time), disk),
+    }
+}
+
 /// What a fault of the log is called where a store is opened.
 fn open_fault(fault: LogFault) -> OpenFault
     ensures { result ≡ open_fault_of fault }
@@ -270,6 +399,7 @@ fn perform<D: Disk, R: LineInput, W: Write>(
             from,
             to,
         } => ask_between(alloc, disk, key, from, to, output),
+        Action::Vacuum { dir: _, time } => vacuum_upto(alloc, disk, time, output),
         Action::Dump { dir: _ } => dump(alloc, disk, output),
         // It is of no disk: the program runs it in threads of its own.
         Action::Stress {
@@ -301,7 +431,7 @@ pub fn act<D: Disk, R: LineInput, W: Write>(
     output: &mut Answers<W>,
 ) -> (u8, D)
     ensures acts { Acts D.tells action.entry (D.state disk) (given R.remaining input.old input.new) (told W.contents result.0 output.old output.new) (D.state result.1) }
-    // Of a script, on a disk that tells its bytes: at every moment of its run whatever a stop may leave survives, with every commit of which a line `done` was written, and what is written is what a run of the machine answers. So it is whatever the status is.
+    // Of a script, and of the lines of a vacuum, on a disk that tells its bytes: at every moment of its run whatever a stop may leave survives, with every commit of which a line `done` was written, and what is written is what a run of the machine answers. So it is whatever the status is.
     ensures promise { IsTrue D.tells → KeepsPromise D.tells action.entry (D.state disk) (given R.remaining input.old input.new) (told W.contents result.0 output.old output.new) (D.state result.1) }
     ensures status { result.0 ≤ 1 }
 {

@@ -4,6 +4,7 @@
 mod actions;
 mod dump;
 mod needs;
+mod vacuuming;
 
 pub use actions::{act, refuse_folder};
 pub use dump::{DumpFault, write_dump};

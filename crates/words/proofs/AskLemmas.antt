@@ -12,6 +12,7 @@ no_slots rows none (action.Format dir slots) asked = none slots asked.1
 no_slots rows none (action.Run dir) asked = asked
 no_slots rows none (action.At dir key time) asked = asked
 no_slots rows none (action.Between dir key from to) asked = asked
+no_slots rows none (action.Vacuum dir time) asked = asked
 no_slots rows none (action.Dump dir) asked = asked
 no_slots rows none (action.Stress writers readers rounds) asked = asked
 
@@ -21,6 +22,7 @@ no_key rows none (action.Format dir slots) asked = asked
 no_key rows none (action.Run dir) asked = asked
 no_key rows none (action.At dir key time) asked = none key asked.1
 no_key rows none (action.Between dir key from to) asked = asked
+no_key rows none (action.Vacuum dir time) asked = asked
 no_key rows none (action.Dump dir) asked = asked
 no_key rows none (action.Stress writers readers rounds) asked = asked
 
@@ -30,6 +32,7 @@ no_key_between rows none (action.Format dir slots) asked = asked
 no_key_between rows none (action.Run dir) asked = asked
 no_key_between rows none (action.At dir key time) asked = asked
 no_key_between rows none (action.Between dir key from to) asked = none key asked.1
+no_key_between rows none (action.Vacuum dir time) asked = asked
 no_key_between rows none (action.Dump dir) asked = asked
 no_key_between rows none (action.Stress writers readers rounds) asked = asked
 
@@ -39,5 +42,6 @@ no_stress rows none (action.Format dir slots) asked = asked
 no_stress rows none (action.Run dir) asked = asked
 no_stress rows none (action.At dir key time) asked = asked
 no_stress rows none (action.Between dir key from to) asked = asked
+no_stress rows none (action.Vacuum dir time) asked = asked
 no_stress rows none (action.Dump dir) asked = asked
 no_stress rows none (action.Stress writers readers rounds) asked = none writers readers rounds asked

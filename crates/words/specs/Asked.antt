@@ -33,6 +33,10 @@ AsksBetween rows (action.Between dir key from to) = (first_of (codes "DIR") rows
     × HasKey rows key × (first_of (codes "FROM") rows ≡ Some from.now) × (first_of (codes "TO") rows ≡ Some to.now)
 AsksBetween rows _ = ⊥
 
+abbrev pub AsksVacuum : List Row → Action → Type 0
+AsksVacuum rows (action.Vacuum dir time) = (first_of (codes "DIR") rows ≡ Some dir.now) × (first_of (codes "TIME") rows ≡ Some time.now)
+AsksVacuum rows _ = ⊥
+
 abbrev pub AsksDump : List Row → Action → Type 0
 AsksDump rows (action.Dump dir) = first_of (codes "DIR") rows ≡ Some dir.now
 AsksDump rows _ = ⊥
@@ -48,8 +52,9 @@ AsksCommand name rows a = MatchBool (bytes_eq name (codes "format")) (AsksFormat
     (MatchBool (bytes_eq name (codes "run")) (AsksRun rows a)
     (MatchBool (bytes_eq name (codes "at")) (AsksAt rows a)
     (MatchBool (bytes_eq name (codes "between")) (AsksBetween rows a)
+    (MatchBool (bytes_eq name (codes "vacuum")) (AsksVacuum rows a)
     (MatchBool (bytes_eq name (codes "dump")) (AsksDump rows a)
-    (MatchBool (bytes_eq name (codes "stress")) (AsksStress rows a) ⊥)))))
+    (MatchBool (bytes_eq name (codes "stress")) (AsksStress rows a) ⊥))))))
 
 -- without a subcommand the example is asked for
 abbrev pub Asks : Option (Text × List Row) → Action → Type 0

@@ -69,6 +69,9 @@ at = with_rule (of_record (codes "at")) time
 abbrev pub between : App
 between = with_rule (with_rule (of_record (codes "between")) from) to
 
+abbrev pub vacuum : App
+vacuum = with_rule (with_rule (new_app (codes "vacuum")) dir) time
+
 abbrev pub dump : App
 dump = with_rule (new_app (codes "dump")) dir
 
@@ -83,5 +86,9 @@ making = with_subcommand (with_subcommand (new_app (codes "timestore")) format.t
 abbrev pub asking : App
 asking = with_subcommand (with_subcommand making at.top) between.top
 
+-- these, and the commands about all of a store
+abbrev pub keeping : App
+keeping = with_subcommand (with_subcommand asking vacuum.top) dump.top
+
 abbrev pub timestore : App
-timestore = with_subcommand (with_subcommand asking dump.top) stress.top
+timestore = with_subcommand keeping stress.top

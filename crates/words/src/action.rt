@@ -28,6 +28,12 @@ pub enum Action<'a> {
         from: &'a str,
         to: &'a str,
     },
+    /// Archives what ended in the store in a folder by a time, which is as the words spell it, and
+    /// reclaims its space.
+    Vacuum {
+        dir: &'a str,
+        time: &'a str,
+    },
     /// Shows what the log of the store in a folder says.
     Dump {
         dir: &'a str,

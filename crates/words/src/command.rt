@@ -167,6 +167,15 @@ fn between<'a>(alloc: Global) -> Result<Command<'a>, AllocError>
     with_arg(command, to(alloc))
 }
 
+fn vacuum<'a>(alloc: Global) -> Result<Command<'a>, AllocError>
+    ensures { IfOk result (λ c. told.IsCommand c told.vacuum) }
+{
+    let about = "Archive what ended by a time, and reclaim its space";
+    let command = command(alloc, "vacuum", about, help::VACUUM);
+    let command = with_arg(Ok(command), dir(alloc));
+    with_arg(command, time(alloc))
+}
+
 fn dump<'a>(alloc: Global) -> Result<Command<'a>, AllocError>
     ensures { IfOk result (λ c. told.IsCommand c told.dump) }
 {
@@ -226,12 +235,19 @@ fn asking<'a>(alloc: Global) -> Result<Command<'a>, AllocError>
     with_command(command, between(alloc))
 }
 
+/// These, and the commands about all of a store.
+fn keeping<'a>(alloc: Global) -> Result<Command<'a>, AllocError>
+    ensures { IfOk result (λ c. told.IsCommand c told.keeping) }
+{
+    let command = with_command(asking(alloc), vacuum(alloc));
+    with_command(command, dump(alloc))
+}
+
 /// The whole command line.
 fn timestore<'a>(alloc: Global) -> Result<Command<'a>, AllocError>
     ensures { IfOk result (λ c. told.IsCommand c told.timestore) }
 {
-    let command = with_command(asking(alloc), dump(alloc));
-    with_command(command, stress(alloc))
+    with_command(keeping(alloc), stress(alloc))
 }
 
 /// What the words say, as `clap` reads them.

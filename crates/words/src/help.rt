@@ -55,6 +55,19 @@ the last commit is refused: `not yet` and the time of that commit. A value is 1 
 16 fields in hexadecimal, `-` for an empty one. The store is opened for this
 alone: where another process has it open, the answer is `refused: device`.";
 
+/// Of `vacuum`.
+pub const VACUUM: &str =
+    "Up to the time, which is read as that of `at`, what was replaced or deleted by
+then goes to the archive, and the heap gives up its space. Both take a slot. Every
+answer stays as it was. The lines are:
+  archived N    N versions went to the archive
+  reclaimed N   N versions that stand at the time were written anew
+It stops at the first refusal, after the line of what was done before it:
+  nothing to do   the archive already reaches the time
+  not yet T       the time is after the last commit, that of T
+  status full     no slot is left
+  heap full       no extents are left for what is written anew";
+
 /// Of `dump`.
 pub const DUMP: &str = "The store is not opened, and nothing is written. The lines are:
   header SLOTS

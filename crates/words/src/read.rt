@@ -4,7 +4,7 @@ ghost use Rattle.clap.specs.Words.{first_of, found_of, rows_of, subcommand_of, s
 ghost use Rattle.history.specs.declared.key.Key.{Key as AnyKey};
 ghost use Rattle.words.specs.declared.action.Action.{Action as Asked};
 ghost use Rattle.words.specs.Commands as told;
-ghost use Rattle.words.specs.Asked.{HasKey, HasNumber, Asks, AsksFormat, AsksNothing, AsksRun, AsksAt, AsksBetween, AsksDump, AsksStress};
+ghost use Rattle.words.specs.Asked.{HasKey, HasNumber, Asks, AsksFormat, AsksNothing, AsksRun, AsksAt, AsksBetween, AsksVacuum, AsksDump, AsksStress};
 ghost use Rattle.words.specs.Refused.{IsRefusal};
 
 use crate::action::Action;
@@ -111,6 +111,16 @@ fn between<'a>(matches: &ArgMatches<'a>) -> Option<Action<'a>>
     })
 }
 
+fn vacuum<'a>(matches: &ArgMatches<'a>) -> Option<Action<'a>>
+    ensures some { IfSome result (AsksVacuum (rows_of (found_of matches.now))) }
+    ensures none { IfNone result ((a : Asked) → AsksVacuum (rows_of (found_of matches.now)) a → ⊥) }
+{
+    Some(Action::Vacuum {
+        dir: text(matches, "DIR")?,
+        time: text(matches, "TIME")?,
+    })
+}
+
 fn dump<'a>(matches: &ArgMatches<'a>) -> Option<Action<'a>>
     ensures some { IfSome result (AsksDump (rows_of (found_of matches.now))) }
     ensures none { IfNone result ((a : Asked) → AsksDump (rows_of (found_of matches.now)) a → ⊥) }
@@ -147,6 +157,8 @@ fn action<'a>(matches: &ArgMatches<'a>) -> Option<Action<'a>>
         at(inner)
     } else if name == "between" {
         between(inner)
+    } else if name == "vacuum" {
+        vacuum(inner)
     } else if name == "dump" {
         dump(inner)
     } else if name == "stress" {

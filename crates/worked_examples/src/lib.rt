@@ -38,3 +38,5 @@ mod refused_calls;
 mod stops;
 #[cfg(test)]
 mod streams;
+#[cfg(test)]
+mod vacuums;

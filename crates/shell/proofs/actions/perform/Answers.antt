@@ -5,3 +5,6 @@ returns-in-At g c = rw c.in-At.is c.ask_at.ensures
 
 pub returns-in-Between : goal.returns-in-Between
 returns-in-Between g c = rw c.in-Between.is c.ask_between.ensures
+
+pub returns-in-Vacuum : goal.returns-in-Vacuum
+returns-in-Vacuum g c = rw c.in-Vacuum.is c.vacuum_upto.ensures

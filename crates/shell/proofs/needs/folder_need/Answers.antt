@@ -8,3 +8,6 @@ returns-in-At c = rw c.in-At.is (cc)
 
 pub returns-in-Between : goal.returns-in-Between
 returns-in-Between c = rw c.in-Between.is (cc)
+
+pub returns-in-Vacuum : goal.returns-in-Vacuum
+returns-in-Vacuum c = rw c.in-Vacuum.is (cc)
