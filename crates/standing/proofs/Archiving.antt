@@ -101,9 +101,9 @@ run-same rs = let one = records-same rs in let rest = index-same 0 rs in λ i. o
 pub memory-in-range : (header : Header) (v : StoreValue) (m : Machine Value) → StandsInMemory v.transactions m → Works header v m
     → AllByRecursion (λ (c : KeyWrites). IsRisingAfter 0 c.writes × AllByRecursion (IsInRange c.key) c.writes) v.transactions.versions
 memory-in-range header v m memory w =
-    let rising = rises w.reading m.published m.floors w.stands in
+    let rising = rises w.log.reading m.published m.floors w.log.stands in
     each-chain (λ key ws. IsRisingAfter 0 ws × AllByRecursion (IsInRange key) ws) (λ key. (tt, tt)) v.transactions.versions memory.versions.ordered (λ key.
-    (rising-held memory.versions rising key, subst (λ (ws : List Write). AllByRecursion (IsInRange key) ws) (sym (w.heap key)) (facts-in-range w.reading m.published m.floors key w.stands w.laid.heap.anchors_are.each)))
+    (rising-held memory.versions rising key, subst (λ (ws : List Write). AllByRecursion (IsInRange key) ws) (sym (w.heap.facts key)) (facts-in-range w.log.reading m.published m.floors key w.log.stands w.log.laid.heap.anchors_are.each)))
 
 -- ---- the records are in range
 
@@ -196,7 +196,7 @@ none-held at content within = record { inside = omega (arith, within); is = empt
 module _ (header : Header) (v : StoreValue) (m : Machine Value) (memory : StandsInMemory v.transactions m) (machine : IsMachine IsValue m) (w : Works header v m)
     (upto : ℕ) (may : MayBegin v upto) (range : upto < 2 ^ 63 → IsRun (run_of upto v.runs_end (archive_of v upto))) where
   low : upto < 2 ^ 63
-  low = omega (arith, may.by_last, last-is v.transactions m memory, last-range w.reading m.published m.floors w.stands)
+  low = omega (arith, may.by_last, last-is v.transactions m memory, last-range w.log.reading m.published m.floors w.log.stands)
 
   chains : AllByRecursion (λ (c : KeyWrites). IsRisingAfter 0 c.writes × AllByRecursion (IsInRange c.key) c.writes) v.transactions.versions
   chains = memory-in-range header v m memory w
@@ -208,11 +208,11 @@ module _ (header : Header) (v : StoreValue) (m : Machine Value) (memory : Stands
         (weaker (λ (c : KeyWrites). IsRisingAfter 0 c.writes × AllByRecursion (IsInRange c.key) c.writes) (λ (c : KeyWrites). IsRisingAfter 0 c.writes) v.transactions.versions (λ c both. both.0) chains);
   }
 
-  next-run : IsNextRun w.layout w.reading m.published (record { entry = run_of upto v.runs_end (archive_of v upto); records = archive_of v upto })
+  next-run : IsNextRun w.log.layout w.log.reading m.published (record { entry = run_of upto v.runs_end (archive_of v upto); records = archive_of v upto })
   next-run = record {
-    plan = archive_plan-is w.reading v.transactions.versions in-memory (λ key. ap (λ (ws : List (TimedWrite Value)). versions ws) (sym (w.heap key)))
-        v.archived (stores.floor v) upto (sym w.archived) (λ relation. w.stands.opens.floors_given relation ∙ sym (memory.floors relation));
-    later = omega (arith, w.archived, may.later);
+    plan = archive_plan-is w.log.reading v.transactions.versions in-memory (λ key. ap (λ (ws : List (TimedWrite Value)). versions ws) (sym (w.heap.facts key)))
+        v.archived (stores.floor v) upto (sym w.log.archived) (λ relation. w.log.stands.opens.floors_given relation ∙ sym (memory.floors relation));
+    later = omega (arith, w.log.archived, may.later);
     by_last = omega (arith, may.by_last, last-is v.transactions m memory);
     stored = record {
       length_is = ap (λ (l : List ℕ). length l) (sym (run-same (archive_of v upto)));
@@ -220,29 +220,20 @@ module _ (header : Header) (v : StoreValue) (m : Machine Value) (memory : Stands
       each = records-in-range (max v.archived (stores.floor v)) upto v.transactions.versions low
           (weaker (λ (c : KeyWrites). IsRisingAfter 0 c.writes × AllByRecursion (IsInRange c.key) c.writes) (λ (c : KeyWrites). AllByRecursion (IsInRange c.key) c.writes) v.transactions.versions (λ c both. both.1) chains);
     };
-    behind = w.runs_end;
+    behind = w.log.runs_end;
     in_range = range low;
   }
 
   begun-works : (entry : RunEntry) → Works header (with_archive v upto entry) m
   begun-works entry = record {
-    layout = w.layout;
-    reading = w.reading;
-    laid = w.laid;
-    stands = w.stands;
-    built = w.built;
-    used = w.used;
-    kept = w.kept;
-    times = w.times;
-    times_long = w.times_long;
+    log = w.log;
     heap = w.heap;
     packed = w.packed;
-    archived = w.archived;
-    reclaimed = w.reclaimed;
-    runs_end = w.runs_end;
-    rested = w.rested;
-    rests = subst (λ (o : Option Job). IsRested header w.layout (turn_of o) w.rested v.disk.areas.status) may.free w.rests;
-    at = w.at;
+    group = record {
+      rested = w.group.rested;
+      rests = subst (λ (o : Option Job). IsRested header w.log.layout (turn_of o) w.group.rested v.disk.areas.status) may.free w.group.rests;
+      at = w.group.at;
+    };
     job = record {
       product = OfRun (record { entry = run_of upto v.runs_end (archive_of v upto); records = archive_of v upto });
       made = refl;
@@ -252,7 +243,7 @@ module _ (header : Header) (v : StoreValue) (m : Machine Value) (memory : Stands
         whole = run-same (archive_of v upto);
         place = omega arith;
         held = none-held v.runs_end v.disk.areas.archive.bytes
-            (let within = row-within header w.layout w.reading v.disk.areas w.laid w.sound (keeps-parts header v m w).runs in omega (arith, within, w.runs_end));
+            (let within = row-within header w.log.layout w.log.reading v.disk.areas w.log.laid w.sound (keeps-parts header v m w).runs in omega (arith, within, w.log.runs_end));
       };
     };
     sound = w.sound;

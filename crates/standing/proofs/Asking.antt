@@ -39,23 +39,10 @@ module _ (tells : Bool) (v : StoreValue) (m : Machine Value) (stands : Stands te
   asked-works : (header : Header) → Works header v m → Works header asked m
   unfolding asked
   asked-works header w = record {
-    layout = w.layout;
-    reading = w.reading;
-    laid = w.laid;
-    stands = w.stands;
-    built = w.built;
-    used = w.used;
-    kept = w.kept;
-    times = w.times;
-    times_long = w.times_long;
+    log = w.log;
     heap = w.heap;
     packed = w.packed;
-    archived = w.archived;
-    reclaimed = w.reclaimed;
-    runs_end = w.runs_end;
-    rested = w.rested;
-    rests = w.rests;
-    at = w.at;
+    group = w.group;
     job = w.job;
     sound = w.sound;
   }

@@ -78,23 +78,10 @@ use Rattle.standing.proofs.RunsCalls.{left-beside}
 same-works : (header : Header) (v : StoreValue) (m : Machine Value) (opened : List (Option ℕ)) (heads : List CommitHead) (snapshots : List ℕ) → Works header v m
     → Works header (record v { transactions = record v.transactions { opened = opened; heads = heads } }) (record m { snapshots = snapshots })
 same-works header v m opened heads snapshots w = record {
-  layout = w.layout;
-  reading = w.reading;
-  laid = w.laid;
-  stands = w.stands;
-  built = w.built;
-  used = w.used;
-  kept = w.kept;
-  times = w.times;
-  times_long = w.times_long;
+  log = w.log;
   heap = w.heap;
   packed = w.packed;
-  archived = w.archived;
-  reclaimed = w.reclaimed;
-  runs_end = w.runs_end;
-  rested = w.rested;
-  rests = w.rests;
-  at = w.at;
+  group = w.group;
   job = w.job;
   sound = w.sound;
 }
@@ -346,29 +333,20 @@ queued-works : (header : Header) (v : StoreValue) (m : Machine Value) (label tim
 queued-works header v m label time numbers snapshots c order memory machine least many w =
     let q : QueuedValue = queued_as v.transactions label time c.writes numbers in
     let long = as-many v.transactions.reclaimed v.transactions.versions v.transactions.queue m.queue memory.queue in
-    let members = group-same w.layout v.transactions m q c order.group_within long in
+    let members = group-same w.log.layout v.transactions m q c order.group_within long in
     let entries : take v.transactions.group (v.transactions.queue ++ q ∷ []) ≡ take v.transactions.group v.transactions.queue = take-append-le v.transactions.group v.transactions.queue (q ∷ []) order.group_within in
-    let groups : Path Group (group_of w.layout v.transactions m) (record { members = members_of m.published (take v.transactions.group (v.transactions.queue ++ q ∷ [])) (take v.transactions.group (m.queue ++ c ∷ [])); slot = slot_for (length w.layout.slots) (take v.transactions.group (v.transactions.queue ++ q ∷ [])) }) =
-    (let a = sym members in let b = sym entries in λ i. record { members = a i; slot = slot_for (length w.layout.slots) (b i) }) in
+    let groups : Path Group (group_of w.log.layout v.transactions m) (record { members = members_of m.published (take v.transactions.group (v.transactions.queue ++ q ∷ [])) (take v.transactions.group (m.queue ++ c ∷ [])); slot = slot_for (length w.log.layout.slots) (take v.transactions.group (v.transactions.queue ++ q ∷ [])) }) =
+    (let a = sym members in let b = sym entries in λ i. record { members = a i; slot = slot_for (length w.log.layout.slots) (b i) }) in
     record {
-      layout = w.layout;
-      reading = w.reading;
-      laid = w.laid;
-      stands = w.stands;
-      built = w.built;
-      used = w.used;
-      kept = all-taken v.transactions.usages numbers (live w.layout) least w.kept;
-      times = w.times;
-      times_long = w.times_long;
-      heap = w.heap;
+      log = w.log;
+      heap = record { kept = all-taken v.transactions.usages numbers (live w.log.layout) least w.heap.kept; times = w.heap.times; times_long = w.heap.times_long; facts = w.heap.facts };
       packed = packed-more m.published v.transactions.queue m.queue q c w.packed (queued-packed v.transactions (commit_order m) c label time numbers m.floors (order-sorted v.transactions m memory) (order-has v.transactions m memory machine) (order-rising m machine) (floors-order m machine) many);
-      at = subst (λ (g : Group). IsAtStage header w.layout g (v.transactions.queue ++ q ∷ []) v.transactions.stage v.turn (record v.disk.areas { status = w.rested })) groups
-          (stage-same header w.layout (group_of w.layout v.transactions m) v.transactions.queue q v.transactions.group v.transactions.stage v.turn (record v.disk.areas { status = w.rested }) order.stage_fits order.group_within w.at);
-      archived = w.archived;
-      reclaimed = w.reclaimed;
-      runs_end = w.runs_end;
-      rested = w.rested;
-      rests = w.rests;
+      group = record {
+        rested = w.group.rested;
+        rests = w.group.rests;
+        at = subst (λ (g : Group). IsAtStage header w.log.layout g (v.transactions.queue ++ q ∷ []) v.transactions.stage v.turn (record v.disk.areas { status = w.group.rested })) groups
+            (stage-same header w.log.layout (group_of w.log.layout v.transactions m) v.transactions.queue q v.transactions.group v.transactions.stage v.turn (record v.disk.areas { status = w.group.rested }) order.stage_fits order.group_within w.group.at);
+      };
       job = w.job;
       sound = w.sound;
     }

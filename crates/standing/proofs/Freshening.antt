@@ -100,28 +100,19 @@ module _ (t : TransactionsValue) where
 -- the works of a store whose group is stored
 pub fresh-works : (header : Header) (v : StoreValue) (m : Machine Value) → v.transactions.stage ≡ Stored → Works header v m → Works header (freshly v) m
 fresh-works header v m stored w =
-    let base : Areas = record v.disk.areas { status = w.rested } in
-    let was = subst (λ (s : GroupStage). IsAtStage header w.layout (group_of w.layout v.transactions m) v.transactions.queue s v.turn base) stored w.at in
-    let at : IsAtStage header w.layout (group_of w.layout (freshened v.transactions) m) (freshened v.transactions).queue Stored v.turn base =
-    subst (λ (g : Group). IsAtStage header w.layout g (freshened v.transactions).queue Stored v.turn base) (sym (fresh-group v.transactions w.layout m)) was in
+    let base : Areas = record v.disk.areas { status = w.group.rested } in
+    let was = subst (λ (s : GroupStage). IsAtStage header w.log.layout (group_of w.log.layout v.transactions m) v.transactions.queue s v.turn base) stored w.group.at in
+    let at : IsAtStage header w.log.layout (group_of w.log.layout (freshened v.transactions) m) (freshened v.transactions).queue Stored v.turn base =
+    subst (λ (g : Group). IsAtStage header w.log.layout g (freshened v.transactions).queue Stored v.turn base) (sym (fresh-group v.transactions w.log.layout m)) was in
     record {
-      layout = w.layout;
-      reading = w.reading;
-      laid = w.laid;
-      stands = w.stands;
-      built = w.built;
-      used = w.used;
-      kept = w.kept;
-      times = w.times;
-      times_long = w.times_long;
+      log = w.log;
       heap = w.heap;
       packed = fresh-packed v.transactions m.published m.queue w.packed;
-      archived = w.archived;
-      reclaimed = w.reclaimed;
-      runs_end = w.runs_end;
-      rested = w.rested;
-      rests = w.rests;
-      at = subst (λ (s : GroupStage). IsAtStage header w.layout (group_of w.layout (freshened v.transactions) m) (freshened v.transactions).queue s v.turn base) (sym stored) at;
+      group = record {
+        rested = w.group.rested;
+        rests = w.group.rests;
+        at = subst (λ (s : GroupStage). IsAtStage header w.log.layout (group_of w.log.layout (freshened v.transactions) m) (freshened v.transactions).queue s v.turn base) (sym stored) at;
+      };
       job = w.job;
       sound = w.sound;
     }

@@ -216,45 +216,36 @@ fails tells v new m why log j parts works said profile many used lent keeps is l
 -- ---- what the job makes is written
 
 -- the layout's parts are kept
-pub keeps-parts : (header : Header) (v : StoreValue) (m : Machine Value) (w : Works header v m) → KeepsParts w.layout v.disk.areas
+pub keeps-parts : (header : Header) (v : StoreValue) (m : Machine Value) (w : Works header v m) → KeepsParts w.log.layout v.disk.areas
 keeps-parts header v m w =
-    let k = parts-of header w.layout (group_of w.layout v.transactions m) v.transactions.queue v.transactions.stage v.turn (record v.disk.areas { status = w.rested }) w.at in
+    let k = parts-of header w.log.layout (group_of w.log.layout v.transactions m) v.transactions.queue v.transactions.stage v.turn (record v.disk.areas { status = w.group.rested }) w.group.at in
     record { extents = k.extents; runs = k.runs }
 
 -- what a store keeps of the job that it has
 module _ (header : Header) (v : StoreValue) (m : Machine Value) (w : Works header v m) (j : Job) (is : v.job ≡ Some j) where
-  pub own : JobIsAt header w.layout w.reading m.published v.transactions.reserved j v.disk.areas
-  own = subst (λ (o : Option Job). HasJob header w.layout w.reading m.published v.transactions.reserved o v.disk.areas) is w.job
+  pub own : JobIsAt header w.log.layout w.log.reading m.published v.transactions.reserved j v.disk.areas
+  own = subst (λ (o : Option Job). HasJob header w.log.layout w.log.reading m.published v.transactions.reserved o v.disk.areas) is w.job
 
   -- the runs are kept, whatever is written behind them
-  behind : (at n : ℕ) (archive : AreaState) → row_end 0 (runs_of w.layout.slots) ≤ at → IsLoosened at n v.disk.areas.archive archive → KeepsRuns w.layout.runs archive
-  behind at n archive past loose = (archive_beside header w.layout w.reading at n v.disk.areas archive w.laid w.sound past loose (keeps-parts header v m w)).runs
+  behind : (at n : ℕ) (archive : AreaState) → row_end 0 (runs_of w.log.layout.slots) ≤ at → IsLoosened at n v.disk.areas.archive archive → KeepsRuns w.log.layout.runs archive
+  behind at n archive past loose = (archive_beside header w.log.layout w.log.reading at n v.disk.areas archive w.log.laid w.sound past loose (keeps-parts header v m w)).runs
 
   -- the works of the store with another job, where no slot of a job is in the writing
   works-with : (new : StoreValue) (j' : Job) → turn_of v.job ≡ None → turn_in j'.stage ≡ None → AreSound new.disk.areas → (areas : Areas) → new.disk.areas ≡ areas → areas.status ≡ v.disk.areas.status
-      → IsAtStage header w.layout (group_of w.layout v.transactions m) v.transactions.queue v.transactions.stage v.turn (record areas { status = w.rested })
-      → JobIsAt header w.layout w.reading m.published v.transactions.reserved j' areas → Works header (with_job v j' new) m
+      → IsAtStage header w.log.layout (group_of w.log.layout v.transactions m) v.transactions.queue v.transactions.stage v.turn (record areas { status = w.group.rested })
+      → JobIsAt header w.log.layout w.log.reading m.published v.transactions.reserved j' areas → Works header (with_job v j' new) m
   works-with new j' none none' sound areas are status at has = record {
-    layout = w.layout;
-    reading = w.reading;
-    laid = w.laid;
-    stands = w.stands;
-    built = w.built;
-    used = w.used;
-    kept = w.kept;
-    times = w.times;
-    times_long = w.times_long;
+    log = w.log;
     heap = w.heap;
     packed = w.packed;
-    archived = w.archived;
-    reclaimed = w.reclaimed;
-    runs_end = w.runs_end;
-    rested = w.rested;
-    rests = subst (λ (a : Areas). IsRested header w.layout (turn_in j'.stage) w.rested a.status) (sym are)
-        (subst (λ (a : AreaState). IsRested header w.layout (turn_in j'.stage) w.rested a) (sym status)
-        (subst (λ (o : Option TurnState). IsRested header w.layout o w.rested v.disk.areas.status) (none ∙ sym none') w.rests));
-    at = subst (λ (a : Areas). IsAtStage header w.layout (group_of w.layout v.transactions m) v.transactions.queue v.transactions.stage v.turn (record a { status = w.rested })) (sym are) at;
-    job = subst (λ (a : Areas). JobIsAt header w.layout w.reading m.published v.transactions.reserved j' a) (sym are) has;
+    group = record {
+      rested = w.group.rested;
+      rests = subst (λ (a : Areas). IsRested header w.log.layout (turn_in j'.stage) w.group.rested a.status) (sym are)
+          (subst (λ (a : AreaState). IsRested header w.log.layout (turn_in j'.stage) w.group.rested a) (sym status)
+          (subst (λ (o : Option TurnState). IsRested header w.log.layout o w.group.rested v.disk.areas.status) (none ∙ sym none') w.group.rests));
+      at = subst (λ (a : Areas). IsAtStage header w.log.layout (group_of w.log.layout v.transactions m) v.transactions.queue v.transactions.stage v.turn (record a { status = w.group.rested })) (sym are) at;
+    };
+    job = subst (λ (a : Areas). JobIsAt header w.log.layout w.log.reading m.published v.transactions.reserved j' a) (sym are) has;
     sound = sound;
   }
 
@@ -286,7 +277,7 @@ module _ (tells : Bool) (v new : StoreValue) (m : Machine Value) (parts : Parts 
       works-leave d.header v m parts.memory machine parts.order parts.in_step d.slots d.profile_built (parts.gate works) (d.works works) image (subst (λ (a : Areas). LeavesImage a image) is left)
 
   -- what is left while something is written beside the group and the log
-  torn-leaves : (told : IsTrue tells) (areas : Areas) → IsAtStage (parts.disk told).header ((parts.disk told).works works).layout (group_of ((parts.disk told).works works).layout v.transactions m) v.transactions.queue v.transactions.stage v.turn areas
+  torn-leaves : (told : IsTrue tells) (areas : Areas) → IsAtStage (parts.disk told).header ((parts.disk told).works works).log.layout (group_of ((parts.disk told).works works).log.layout v.transactions m) v.transactions.queue v.transactions.stage v.turn areas
       → (image : Image) → LeavesImage areas image → OnFront (IsImageOf (parts.disk told).header image) m
   torn-leaves told areas at image left =
       let d = parts.disk told in
@@ -337,17 +328,17 @@ module _ (tells : Bool) (v new : StoreValue) (m : Machine Value) (parts : Parts 
   own-run-of layout reading areas header (OfRun stored) made next at = record { stored = stored; entry = made; next = next; at = at }
   own-run-of layout reading areas header (OfAnchors a) made next at = absurd made
 
-  own-run : (told : IsTrue tells) → OwnRun ((parts.disk told).works works).layout ((parts.disk told).works works).reading v.disk.areas.archive
+  own-run : (told : IsTrue tells) → OwnRun ((parts.disk told).works works).log.layout ((parts.disk told).works works).log.reading v.disk.areas.archive
   own-run told =
       let d = parts.disk told in
       let w = d.works works in
       let has = own d.header v m w (archiving (ArchiveWork run writer) job.Writing) is in
-      own-run-of w.layout w.reading v.disk.areas d.header has.product has.made has.next has.at
+      own-run-of w.log.layout w.log.reading v.disk.areas d.header has.product has.made has.next has.at
 
   abbrev piece : List ℕ
   piece = take 8192 writer.left
 
-  past : (told : IsTrue tells) → row_end 0 (runs_of ((parts.disk told).works works).layout.slots) ≤ writer.at
+  past : (told : IsTrue tells) → row_end 0 (runs_of ((parts.disk told).works works).log.layout.slots) ≤ writer.at
   past told = let has = own-run told in omega (arith, has.at.place, has.next.behind)
 
   written-on : (told : IsTrue tells) → IsWritten (own-run told).stored (behind_piece writer) (written writer.at piece v.disk.areas.archive)
@@ -365,13 +356,13 @@ module _ (tells : Bool) (v new : StoreValue) (m : Machine Value) (parts : Parts 
   run-kept = kept-so tells v new m parts machine works sound (archiving (ArchiveWork run writer) job.Writing) is
 
   -- the archive is written behind the runs: where the group is then
-  on-archive : (told : IsTrue tells) (areas : Areas) (archive : AreaState) → KeepsRuns ((parts.disk told).works works).layout.runs archive
-      → IsAtStage (parts.disk told).header ((parts.disk told).works works).layout (group_of ((parts.disk told).works works).layout v.transactions m) v.transactions.queue v.transactions.stage v.turn areas
-      → IsAtStage (parts.disk told).header ((parts.disk told).works works).layout (group_of ((parts.disk told).works works).layout v.transactions m) v.transactions.queue v.transactions.stage v.turn (record areas { archive = archive })
+  on-archive : (told : IsTrue tells) (areas : Areas) (archive : AreaState) → KeepsRuns ((parts.disk told).works works).log.layout.runs archive
+      → IsAtStage (parts.disk told).header ((parts.disk told).works works).log.layout (group_of ((parts.disk told).works works).log.layout v.transactions m) v.transactions.queue v.transactions.stage v.turn areas
+      → IsAtStage (parts.disk told).header ((parts.disk told).works works).log.layout (group_of ((parts.disk told).works works).log.layout v.transactions m) v.transactions.queue v.transactions.stage v.turn (record areas { archive = archive })
   on-archive told areas archive kept at =
       let d = parts.disk told in
       let w = d.works works in
-      stage-beside d.header w.layout (group_of w.layout v.transactions m) v.transactions.queue v.transactions.stage v.turn areas archive kept at
+      stage-beside d.header w.log.layout (group_of w.log.layout v.transactions m) v.transactions.queue v.transactions.stage v.turn areas archive kept at
 
   wrote-run : (answer : Result JobDid PumpFault) → WritesRun tells run writer (archiving (ArchiveWork run writer) job.Writing) v answer new → Ends tells m answer new
   wrote-run (Ok said) takes =
@@ -384,7 +375,7 @@ module _ (tells : Bool) (v new : StoreValue) (m : Machine Value) (parts : Parts 
       let archive : AreaState = written writer.at piece v.disk.areas.archive in
       let kept = behind d.header v m w (archiving (ArchiveWork run writer) job.Writing) is writer.at (length piece) archive (past told) (written_is writer.at piece v.disk.areas.archive (w.sound Archive)) in
       works-with d.header v m w (archiving (ArchiveWork run writer) job.Writing) is new j' still-none refl (sound told) (record v.disk.areas { archive = archive }) (takes.call.areas told).written refl
-      (on-archive told (record v.disk.areas { status = w.rested }) archive kept w.at)
+      (on-archive told (record v.disk.areas { status = w.group.rested }) archive kept w.group.at)
       (record { product = OfRun has.stored; made = has.entry; next = has.next; at = written-on told })))
   wrote-run (Err why) takes =
       fails tells v new m why v.log (archiving (ArchiveWork run (behind_piece writer)) job.Writing) parts works takes.moves.0 refl refl refl (ap lent_to is) run-kept takes.moves.1 (λ told image left.
@@ -406,10 +397,10 @@ module _ (tells : Bool) (v new : StoreValue) (m : Machine Value) (parts : Parts 
       let has = own-run told in
       let at = has.at in
       let archive : AreaState = synced v.disk.areas.archive in
-      let kept = weaker (KeepsRun v.disk.areas.archive) (KeepsRun archive) w.layout.runs (λ s kept. kept_by_sync s.entry.start (run_bytes s.records) v.disk.areas.archive (w.sound Archive) kept) (keeps-parts d.header v m w).runs in
+      let kept = weaker (KeepsRun v.disk.areas.archive) (KeepsRun archive) w.log.layout.runs (λ s kept. kept_by_sync s.entry.start (run_bytes s.records) v.disk.areas.archive (w.sound Archive) kept) (keeps-parts d.header v m w).runs in
       let whole : at.front ≡ run_bytes has.stored.records = sym (append-nil at.front) ∙ ap (λ (l : List ℕ). at.front ++ l) (sym all) ∙ at.whole in
       works-with d.header v m w (archiving (ArchiveWork run writer) job.Writing) is new j' still-none refl (sound told) (record v.disk.areas { archive = archive }) (takes.call.areas told).synced refl
-      (on-archive told (record v.disk.areas { status = w.rested }) archive kept w.at)
+      (on-archive told (record v.disk.areas { status = w.group.rested }) archive kept w.group.at)
       (record {
         product = OfRun has.stored;
         made = has.entry;
@@ -450,39 +441,39 @@ module _ (tells : Bool) (v new : StoreValue) (m : Machine Value) (parts : Parts 
   own-anchors-of layout reading areas header (OfRun stored) made next at = absurd made
   own-anchors-of layout reading areas header (OfAnchors a) made next at = record { stored = a; entry = made.0; numbers = made.1; next = next; at = at }
 
-  own-anchors : (told : IsTrue tells) → OwnAnchors ((parts.disk told).works works).layout ((parts.disk told).works works).reading v.disk.areas.heap
+  own-anchors : (told : IsTrue tells) → OwnAnchors ((parts.disk told).works works).log.layout ((parts.disk told).works works).log.reading v.disk.areas.heap
   own-anchors told =
       let d = parts.disk told in
       let w = d.works works in
       let has = own d.header v m w now is in
-      own-anchors-of w.layout w.reading v.disk.areas d.header has.product has.made has.next has.at
+      own-anchors-of w.log.layout w.log.reading v.disk.areas d.header has.product has.made has.next has.at
 
   chain-kept : Keeps v m (Reclaim anchors source done) job.Writing
   chain-kept = kept-so tells v new m parts machine works sound now is
 
   -- the group's extents are none of those that are out for the job
   group-apart : (told : IsTrue tells) (n : ℕ) → AllByRecursion (λ (k : ℕ). k ≢ n) (flat_map numbers_of v.transactions.queue) → 0 < v.transactions.group
-      → AreBeside n (extents_of (group_of ((parts.disk told).works works).layout v.transactions m).members)
+      → AreBeside n (extents_of (group_of ((parts.disk told).works works).log.layout v.transactions m).members)
   group-apart told n others some =
       let d = parts.disk told in
       let w = d.works works in
       let room = room-left d.header v m parts.order parts.in_step d.slots w some in
-      let named = joining.numbers d.header v.transactions m w.layout w.reading parts.memory machine parts.order w.laid w.stands d.profile_built w.built w.kept w.packed some room in
+      let named = joining.numbers d.header v.transactions m w.log.layout w.log.reading parts.memory machine parts.order w.log.laid w.log.stands d.profile_built w.log.built w.heap.kept w.packed some room in
       let front = all_of_front (λ (k : ℕ). k ≢ n) (flat_map numbers_of (take v.transactions.group v.transactions.queue)) (flat_map numbers_of (drop v.transactions.group v.transactions.queue))
       (subst (AllByRecursion (λ (k : ℕ). k ≢ n)) (numbers-split v.transactions.group v.transactions.queue) others) in
-      beside-numbers n (extents_of (group_of w.layout v.transactions m).members)
-      (joining.group_are d.header v.transactions m w.layout w.reading parts.memory machine parts.order w.laid w.stands d.profile_built w.built w.kept w.packed some room)
+      beside-numbers n (extents_of (group_of w.log.layout v.transactions m).members)
+      (joining.group_are d.header v.transactions m w.log.layout w.log.reading parts.memory machine parts.order w.log.laid w.log.stands d.profile_built w.log.built w.heap.kept w.packed some room)
       (subst (AllByRecursion (λ (k : ℕ). k ≢ n)) (sym named) front)
 
   -- the heap is written beside the group: where the group is then
-  on-heap : (told : IsTrue tells) (areas : Areas) (heap : AreaState) (n : ℕ) → IsBeside n areas.heap heap → AreBeside n (live ((parts.disk told).works works).layout)
-      → (0 < v.transactions.group → AreBeside n (extents_of (group_of ((parts.disk told).works works).layout v.transactions m).members))
-      → IsAtStage (parts.disk told).header ((parts.disk told).works works).layout (group_of ((parts.disk told).works works).layout v.transactions m) v.transactions.queue v.transactions.stage v.turn areas
-      → IsAtStage (parts.disk told).header ((parts.disk told).works works).layout (group_of ((parts.disk told).works works).layout v.transactions m) v.transactions.queue v.transactions.stage v.turn (record areas { heap = heap })
+  on-heap : (told : IsTrue tells) (areas : Areas) (heap : AreaState) (n : ℕ) → IsBeside n areas.heap heap → AreBeside n (live ((parts.disk told).works works).log.layout)
+      → (0 < v.transactions.group → AreBeside n (extents_of (group_of ((parts.disk told).works works).log.layout v.transactions m).members))
+      → IsAtStage (parts.disk told).header ((parts.disk told).works works).log.layout (group_of ((parts.disk told).works works).log.layout v.transactions m) v.transactions.queue v.transactions.stage v.turn areas
+      → IsAtStage (parts.disk told).header ((parts.disk told).works works).log.layout (group_of ((parts.disk told).works works).log.layout v.transactions m) v.transactions.queue v.transactions.stage v.turn (record areas { heap = heap })
   on-heap told areas heap n beside apart mine at =
       let d = parts.disk told in
       let w = d.works works in
-      stage-on-heap d.header w.layout (group_of w.layout v.transactions m) areas heap n beside apart v.transactions.queue v.transactions.stage v.transactions.group v.turn parts.order.stage_fits mine at
+      stage-on-heap d.header w.log.layout (group_of w.log.layout v.transactions m) areas heap n beside apart v.transactions.queue v.transactions.stage v.transactions.group v.turn parts.order.stage_fits mine at
 
   -- the next extent of the chain
   record OwnExtent (layout : Layout) (stored : StoredAnchors) (number : ℕ) (image : List ℕ) (left : Sourced) : Type 0 where
@@ -497,7 +488,7 @@ module _ (tells : Bool) (v new : StoreValue) (m : Machine Value) (parts : Parts 
     pub queued : AllByRecursion (λ (k : ℕ). k ≢ extent.number) (flat_map numbers_of v.transactions.queue)
 
   next-extent : (told : IsTrue tells) (number : ℕ) → slice_get v.transactions.reserved done ≡ Some number → (takes : (image : List ℕ) × (filled : FilledExtent) × (left : Sourced) × IsFilled number (first_number (drop (done + 1) v.transactions.reserved)) source.left image filled left.left)
-      → OwnExtent ((parts.disk told).works works).layout (own-anchors told).stored number takes.0 takes.2
+      → OwnExtent ((parts.disk told).works works).log.layout (own-anchors told).stored number takes.0 takes.2
   next-extent told number there takes =
       let d = parts.disk told in
       let w = d.works works in
@@ -514,8 +505,8 @@ module _ (tells : Bool) (v new : StoreValue) (m : Machine Value) (parts : Parts 
       (ap (λ (l : List ℕ). l ++ flat_map numbers_of v.transactions.queue) (sym named) ∙ append_assoc (map of (take done a.extents)) (e.number ∷ map of (drop (done + 1) a.extents)) (flat_map numbers_of v.transactions.queue)) swapped in
       let middle = out-middle v.transactions.usages (map of (take done a.extents)) (map of (drop (done + 1) a.extents) ++ flat_map numbers_of v.transactions.queue) e.number whole in
       let free = job-free d.header v m parts.order w (Reclaim anchors source done) (OfAnchors a) (has.entry, has.numbers) has.next in
-      let apart = others e (live w.layout ++ take done a.extents) (drop (done + 1) a.extents)
-      (subst AreDistinct (ap (λ (l : List Extent). live w.layout ++ l) (sym split) ∙ sym (append_assoc (live w.layout) (take done a.extents) (e ∷ drop (done + 1) a.extents))) free) in
+      let apart = others e (live w.log.layout ++ take done a.extents) (drop (done + 1) a.extents)
+      (subst AreDistinct (ap (λ (l : List Extent). live w.log.layout ++ l) (sym split) ∙ sym (append_assoc (live w.log.layout) (take done a.extents) (e ∷ drop (done + 1) a.extents))) free) in
       record {
         extent = e;
         is_extent = (all_of_back IsExtent (take done a.extents) (e ∷ drop (done + 1) a.extents) each).0;
@@ -523,13 +514,13 @@ module _ (tells : Bool) (v new : StoreValue) (m : Machine Value) (parts : Parts 
         image_is = fill.image_is;
         front = fill.front;
         rest = fill.others;
-        live = beside-out v.transactions.usages e.number middle.0 (live w.layout) (live_extents_are d.header w.layout w.reading w.laid) w.kept;
-        before = all_of_back (λ (f : Extent). f.number ≢ e.number) (live w.layout) (take done a.extents) apart;
+        live = beside-out v.transactions.usages e.number middle.0 (live w.log.layout) (live_extents_are d.header w.log.layout w.log.reading w.log.laid) w.heap.kept;
+        before = all_of_back (λ (f : Extent). f.number ≢ e.number) (live w.log.layout) (take done a.extents) apart;
         queued = all_of_back (λ (k : ℕ). k ≢ e.number) (map of (drop (done + 1) a.extents)) (flat_map numbers_of v.transactions.queue) middle.1;
       }
 
   -- a write of it, in full or in part, is beside all others
-  beside-it : (told : IsTrue tells) (number : ℕ) (image : List ℕ) (left : Sourced) → OwnExtent ((parts.disk told).works works).layout (own-anchors told).stored number image left
+  beside-it : (told : IsTrue tells) (number : ℕ) (image : List ℕ) (left : Sourced) → OwnExtent ((parts.disk told).works works).log.layout (own-anchors told).stored number image left
       → IsBeside number v.disk.areas.heap (written (extent_start number) image v.disk.areas.heap) × IsBeside number v.disk.areas.heap (loosened (extent_start number) (length image) v.disk.areas.heap.bytes v.disk.areas.heap)
   beside-it told number image left mine =
       let w = (parts.disk told).works works in
@@ -548,14 +539,14 @@ module _ (tells : Bool) (v new : StoreValue) (m : Machine Value) (parts : Parts 
       let mine = next-extent told number there (takes.image, takes.filled, takes.behind, takes.is_filled) in
       let heap : AreaState = written (extent_start number) takes.image v.disk.areas.heap in
       let beside : IsBeside number v.disk.areas.heap heap = (beside-it told number takes.image takes.behind mine).0 in
-      let live-apart : AreBeside number (live w.layout) = subst (λ (n : ℕ). AreBeside n (live w.layout)) mine.number_is mine.live in
+      let live-apart : AreBeside number (live w.log.layout) = subst (λ (n : ℕ). AreBeside n (live w.log.layout)) mine.number_is mine.live in
       let group-is = λ (some : 0 < v.transactions.group). group-apart told number (subst (λ (n : ℕ). AllByRecursion (λ (k : ℕ). k ≢ n) (flat_map numbers_of v.transactions.queue)) mine.number_is mine.queued) some in
       let held : AllByRecursion (HoldsExtent heap.bytes) (take done has.stored.extents ++ mine.extent ∷ []) =
       subst (λ (n : ℕ). AllByRecursion (HoldsExtent (overlaid v.disk.areas.heap.bytes (extent_start n) takes.image)) (take done has.stored.extents ++ mine.extent ∷ [])) mine.number_is
       (subst (λ (bytes : List ℕ). AllByRecursion (HoldsExtent (overlaid v.disk.areas.heap.bytes (extent_start mine.extent.number) bytes)) (take done has.stored.extents ++ mine.extent ∷ [])) (sym mine.image_is)
       (one_more_held mine.extent mine.is_extent (take done has.stored.extents) (all-front-of IsExtent done has.stored.extents has.next.chain.is_chain.each) mine.before v.disk.areas.heap.bytes has.at.held)) in
       works-with d.header v m w now is new j' none-turning refl (sound told) (record v.disk.areas { heap = heap }) (takes.call.areas told).written refl
-      (on-heap told (record v.disk.areas { status = w.rested }) heap number beside live-apart group-is w.at)
+      (on-heap told (record v.disk.areas { status = w.group.rested }) heap number beside live-apart group-is w.group.at)
       (record {
         product = OfAnchors has.stored;
         made = (has.entry, has.numbers);
@@ -569,7 +560,7 @@ module _ (tells : Bool) (v new : StoreValue) (m : Machine Value) (parts : Parts 
       let mine = next-extent told number there (takes.image, takes.filled, takes.behind, takes.is_filled) in
       let heap : AreaState = loosened (extent_start number) (length takes.image) v.disk.areas.heap.bytes v.disk.areas.heap in
       let beside : IsBeside number v.disk.areas.heap heap = (beside-it told number takes.image takes.behind mine).1 in
-      let live-apart : AreBeside number (live w.layout) = subst (λ (n : ℕ). AreBeside n (live w.layout)) mine.number_is mine.live in
+      let live-apart : AreBeside number (live w.log.layout) = subst (λ (n : ℕ). AreBeside n (live w.log.layout)) mine.number_is mine.live in
       let group-is = λ (some : 0 < v.transactions.group). group-apart told number (subst (λ (n : ℕ). AllByRecursion (λ (k : ℕ). k ≢ n) (flat_map numbers_of v.transactions.queue)) mine.number_is mine.queued) some in
       torn-leaves tells v new m parts machine works sound now is told (record v.disk.areas { heap = heap })
       (on-heap told v.disk.areas heap number beside live-apart group-is (now-at d.header v m w none-turning)) image
@@ -584,13 +575,13 @@ module _ (tells : Bool) (v new : StoreValue) (m : Machine Value) (parts : Parts 
       let w = d.works works in
       let has = own-anchors told in
       let heap : AreaState = synced v.disk.areas.heap in
-      let live-are = live_extents_are d.header w.layout w.reading w.laid in
-      let group-is : 0 < v.transactions.group → AreBeside 0 (extents_of (group_of w.layout v.transactions m).members) =
+      let live-are = live_extents_are d.header w.log.layout w.log.reading w.log.laid in
+      let group-is : 0 < v.transactions.group → AreBeside 0 (extents_of (group_of w.log.layout v.transactions m).members) =
       λ some.
-      beside-none (extents_of (group_of w.layout v.transactions m).members)
-      (joining.group_are d.header v.transactions m w.layout w.reading parts.memory machine parts.order w.laid w.stands d.profile_built w.built w.kept w.packed some (room-left d.header v m parts.order parts.in_step d.slots w some)) in
+      beside-none (extents_of (group_of w.log.layout v.transactions m).members)
+      (joining.group_are d.header v.transactions m w.log.layout w.log.reading parts.memory machine parts.order w.log.laid w.log.stands d.profile_built w.log.built w.heap.kept w.packed some (room-left d.header v m parts.order parts.in_step d.slots w some)) in
       works-with d.header v m w now is new j' none-turning refl (sound told) (record v.disk.areas { heap = heap }) (takes.call.areas told).synced refl
-      (on-heap told (record v.disk.areas { status = w.rested }) heap 0 (sync-beside v.disk.areas.heap (w.sound Heap)) (beside-none (live w.layout) live-are) group-is w.at)
+      (on-heap told (record v.disk.areas { status = w.group.rested }) heap 0 (sync-beside v.disk.areas.heap (w.sound Heap)) (beside-none (live w.log.layout) live-are) group-is w.group.at)
       (record {
         product = OfAnchors has.stored;
         made = (has.entry, has.numbers);
@@ -635,88 +626,89 @@ product-kept layout (OfAnchors a) areas parts kept = reclaim_kept layout (slot_n
 -- the first call of the slot, and every other one
 module _ (header : Header) (v new : StoreValue) (m : Machine Value) (order : IsInOrder v.transactions) (in_step : IsInStep v) (slots_are : v.log.slots ≡ total header) (built : IsTrue (is_built header.profile 1)) (w : Works header v m)
     (j : Job) (is : v.job ≡ Some j) where
-  abbrev mine : JobIsAt header w.layout w.reading m.published v.transactions.reserved j v.disk.areas
+  abbrev mine : JobIsAt header w.log.layout w.log.reading m.published v.transactions.reserved j v.disk.areas
   mine = own header v m w j is
 
   abbrev product : Product
   product = mine.product
 
-  place : length w.layout.slots < total header
+  place : length w.log.layout.slots < total header
   place = job-room header v m order in_step slots_are w (ap lent_to is)
 
-  free-now : IsFree w.layout product
+  free-now : IsFree w.log.layout product
   free-now = job-free header v m order w j.work product mine.made mine.next
 
   -- the slot is begun: what the job made is kept, and the status area rests
-  begun : j.stage ≡ job.Stored → v.transactions.failed ≡ false → v.turn ≡ None → v.log.profile ≡ header.profile → IsTurnFor header w.layout product (first_turn v j) v.disk.areas
+  begun : j.stage ≡ job.Stored → v.transactions.failed ≡ false → v.turn ≡ None → v.log.profile ≡ header.profile → IsTurnFor header w.log.layout product (first_turn v j) v.disk.areas
   begun stored on free profile =
-      let kept : KeepsProduct product v.disk.areas = subst (λ (s : JobStage). IsAtJob header w.layout j.work product s v.disk.areas) stored mine.at in
+      let kept : KeepsProduct product v.disk.areas = subst (λ (s : JobStage). IsAtJob header w.log.layout j.work product s v.disk.areas) stored mine.at in
       let none : turn_of v.job ≡ None = ap turn_of is ∙ ap turn_in stored in
       let turning : is_turning v.transactions.stage ≡ false = (in_step.turns on).turning ∙ ap (λ (o : Option TurnState). is_some o) free in
       let at = now-at header v m w none in
       let parts = keeps-parts header v m w in
-      let number = sym w.used in
+      let number = sym w.log.used in
       let what = body-is v.transactions.reserved j.work product mine.made in
-      let same : spelling header.profile (slot_naming (length w.layout.slots) product) ≡ spelling v.log.profile (record { number = v.log.used; body = slot_body j.work }) =
+      let same : spelling header.profile (slot_naming (length w.log.layout.slots) product) ≡ spelling v.log.profile (record { number = v.log.used; body = slot_body j.work }) =
       (let p = sym profile in λ i. spelling (p i) (record { number = number i; body = what i })) in
-      let whole : IsSpelled header.profile (length w.layout.slots) (spelling header.profile (slot_naming (length w.layout.slots) product)) (slot_naming (length w.layout.slots) product) =
-      record { own = refl; in_range = slot-in-range w.layout w.reading m.published header.profile product mine.next; bytes_are = refl } in
+      let whole : IsSpelled header.profile (length w.log.layout.slots) (spelling header.profile (slot_naming (length w.log.layout.slots) product)) (slot_naming (length w.log.layout.slots) product) =
+      record { own = refl; in_range = slot-in-range w.log.layout w.log.reading m.published header.profile product mine.next; bytes_are = refl } in
       record {
-        number = w.used;
-        long = subst (λ (l : List ℕ). length l ≡ 511) same (slot-long header.profile (length w.layout.slots) product);
-        spelled = subst (λ (l : List ℕ). IsSpelled header.profile (length w.layout.slots) l (slot_naming (length w.layout.slots) product)) same whole;
+        number = w.log.used;
+        long = subst (λ (l : List ℕ). length l ≡ 511) same (slot-long header.profile (length w.log.layout.slots) product);
+        spelled = subst (λ (l : List ℕ). IsSpelled header.profile (length w.log.layout.slots) l (slot_naming (length w.log.layout.slots) product)) same whole;
         at = record {
-          status = rests-of header w.layout (group_of w.layout v.transactions m) v.transactions.queue v.transactions.stage v.turn v.disk.areas turning at;
+          status = rests-of header w.log.layout (group_of w.log.layout v.transactions m) v.transactions.queue v.transactions.stage v.turn v.disk.areas turning at;
           old_parts = parts;
-          new_parts = product-kept w.layout product v.disk.areas parts kept;
+          new_parts = product-kept w.log.layout product v.disk.areas parts kept;
         };
       }
 
-  module _ (t : TurnState) (at : IsTurnFor header w.layout product t v.disk.areas) where
+  module _ (t : TurnState) (at : IsTurnFor header w.log.layout product t v.disk.areas) where
     abbrev slot : Slot
-    slot = slot_naming (length w.layout.slots) product
+    slot = slot_naming (length w.log.layout.slots) product
 
     abbrev behind-it : Layout
-    behind-it = laid_with w.layout product
+    behind-it = laid_with w.log.layout product
 
-    own-call : (answer : Result (Unit {0}) DeviceFault) → IsSlotCall t.number t.body t.stage answer v.disk.areas new.disk.areas → IsSlotCall (length w.layout.slots) t.body t.stage answer v.disk.areas new.disk.areas
+    own-call : (answer : Result (Unit {0}) DeviceFault) → IsSlotCall t.number t.body t.stage answer v.disk.areas new.disk.areas → IsSlotCall (length w.log.layout.slots) t.body t.stage answer v.disk.areas new.disk.areas
     own-call answer call = subst (λ (n : ℕ). IsSlotCall n t.body t.stage answer v.disk.areas new.disk.areas) at.number call
 
     -- a refused call leaves what a stop within it leaves
     turn-leaves : IsSlotCall t.number t.body t.stage (Err (record {})) v.disk.areas new.disk.areas → (image : Image) → LeavesImage new.disk.areas image → OnFront (IsImageOf header image) m
     turn-leaves call image left =
-        product-leaves-within header m w.layout w.reading w.laid w.stands built w.built place product mine.next free-now t.body at.long at.spelled t.stage (Err (record {})) v.disk.areas new.disk.areas image at.at w.sound
+        product-leaves-within header m w.log.layout w.log.reading w.log.laid w.log.stands built w.log.built place product mine.next free-now t.body at.long at.spelled t.stage (Err (record {})) v.disk.areas new.disk.areas image at.at w.sound
         (own-call (Err (record {})) call) left
 
-    turn-leads : IsSlotCall t.number t.body t.stage (Ok tt) v.disk.areas new.disk.areas → IsTurnAt header w.layout slot behind-it (slots.slot_stage_after t.stage) new.disk.areas
+    turn-leads : IsSlotCall t.number t.body t.stage (Ok tt) v.disk.areas new.disk.areas → IsTurnAt header w.log.layout slot behind-it (slots.slot_stage_after t.stage) new.disk.areas
     turn-leads call =
-        product-leads header m w.layout w.reading w.laid w.stands built w.built place product mine.next free-now t.body at.long at.spelled t.stage v.disk.areas new.disk.areas at.at w.sound (own-call (Ok tt) call)
+        product-leads header m w.log.layout w.log.reading w.log.laid w.log.stands built w.log.built place product mine.next free-now t.body at.long at.spelled t.stage v.disk.areas new.disk.areas at.at w.sound (own-call (Ok tt) call)
 
     -- the works of the store while the slot goes on; the group is where it was
-    turning-works : (log : LogState) → log.used ≡ v.log.used → AreSound new.disk.areas → (rested : AreaState) → StatusRests header w.layout.slots rested → IsSound rested
-        → IsAtStage header w.layout (group_of w.layout v.transactions m) v.transactions.queue v.transactions.stage v.turn (record v.disk.areas { status = rested })
+    turning-works : (log : LogState) → log.used ≡ v.log.used → AreSound new.disk.areas → (rested : AreaState) → StatusRests header w.log.layout.slots rested → IsSound rested
+        → IsAtStage header w.log.layout (group_of w.log.layout v.transactions m) v.transactions.queue v.transactions.stage v.turn (record v.disk.areas { status = rested })
         → IsSlotCall t.number t.body t.stage (Ok tt) v.disk.areas new.disk.areas
         → Works header (record v { log = log; job = Some (record j { stage = job.Turning (record t { stage = slots.slot_stage_after t.stage }) }); disk = new.disk }) m
     turning-works log used sound rested rests whole stands call =
         let areas = slot-alone t.stage t.number t.body v.disk.areas new.disk.areas call in
         record {
-          layout = w.layout;
-          reading = w.reading;
-          laid = w.laid;
-          stands = w.stands;
-          built = w.built;
-          used = used ∙ w.used;
-          kept = w.kept;
-          times = w.times;
-          times_long = w.times_long;
+          log = record {
+            layout = w.log.layout;
+            reading = w.log.reading;
+            laid = w.log.laid;
+            stands = w.log.stands;
+            built = w.log.built;
+            used = used ∙ w.log.used;
+            archived = w.log.archived;
+            reclaimed = w.log.reclaimed;
+            runs_end = w.log.runs_end;
+          };
           heap = w.heap;
           packed = w.packed;
-          archived = w.archived;
-          reclaimed = w.reclaimed;
-          runs_end = w.runs_end;
-          rested = rested;
-          rests = (rests, whole);
-          at = subst (λ (a : Areas). IsAtStage header w.layout (group_of w.layout v.transactions m) v.transactions.queue v.transactions.stage v.turn (record a { status = rested })) (sym areas) stands;
+          group = record {
+            rested = rested;
+            rests = (rests, whole);
+            at = subst (λ (a : Areas). IsAtStage header w.log.layout (group_of w.log.layout v.transactions m) v.transactions.queue v.transactions.stage v.turn (record a { status = rested })) (sym areas) stands;
+          };
           job = record { product = product; made = mine.made; next = mine.next; at = record { number = at.number; long = at.long; spelled = at.spelled; at = turn-leads call } };
           sound = sound;
         }
@@ -733,91 +725,97 @@ module _ (header : Header) (v new : StoreValue) (m : Machine Value) (order : IsI
       pub reclaimed : after.transactions.reclaimed ≡ reclaimed_upto reading
       pub runs_end : after.runs_end ≡ row_end 0 (runs_of layout.slots)
 
-    done-by : (work : JobWork) (p : Product) → IsMadeBy v.transactions.reserved work p → MayBeNext w.layout w.reading m.published p → KeepsWork work (job.Turning t) v.archived (last m.published) v.transactions.opened v.transactions.pending v.transactions.versions
-        → IsOrdered v.transactions.versions → IsDone (work_done work v) (laid_with w.layout p) (read_with w.reading p)
+    done-by : (work : JobWork) (p : Product) → IsMadeBy v.transactions.reserved work p → MayBeNext w.log.layout w.log.reading m.published p → KeepsWork work (job.Turning t) v.archived (last m.published) v.transactions.opened v.transactions.pending v.transactions.versions
+        → IsOrdered v.transactions.versions → IsDone (work_done work v) (laid_with w.log.layout p) (read_with w.log.reading p)
     done-by (ArchiveWork run writer) (OfRun r) made next keeps sorted =
-        let slot' : Slot = slot_naming (length w.layout.slots) (OfRun r) in
-        let more : runs_of (w.layout.slots ++ slot' ∷ []) ≡ runs_of w.layout.slots ++ r.entry ∷ [] = flat_map-append (λ (s : Slot). runs_in s.body) w.layout.slots (slot' ∷ []) in
+        let slot' : Slot = slot_naming (length w.log.layout.slots) (OfRun r) in
+        let more : runs_of (w.log.layout.slots ++ slot' ∷ []) ≡ runs_of w.log.layout.slots ++ r.entry ∷ [] = flat_map-append (λ (s : Slot). runs_in s.body) w.log.layout.slots (slot' ∷ []) in
         record {
-          kept = w.kept;
-          times = w.times;
-          times_long = w.times_long;
-          heap = w.heap;
-          archived = ap (λ (x : WireRun). x.upto) (sym made) ∙ sym (archive_mark-append 0 w.reading.log (Archived r.entry.upto ∷ []));
-          reclaimed = w.reclaimed ∙ sym (reclaim_mark-append 0 w.reading.log (Archived r.entry.upto ∷ []));
-          runs_end = ap (λ (x : WireRun). x.start + x.len) (sym made) ∙ sym (ap (row_end 0) more ∙ row_end-more 0 (runs_of w.layout.slots) r.entry);
+          kept = w.heap.kept;
+          times = w.heap.times;
+          times_long = w.heap.times_long;
+          heap = w.heap.facts;
+          archived = ap (λ (x : WireRun). x.upto) (sym made) ∙ sym (archive_mark-append 0 w.log.reading.log (Archived r.entry.upto ∷ []));
+          reclaimed = w.log.reclaimed ∙ sym (reclaim_mark-append 0 w.log.reading.log (Archived r.entry.upto ∷ []));
+          runs_end = ap (λ (x : WireRun). x.start + x.len) (sym made) ∙ sym (ap (row_end 0) more ∙ row_end-more 0 (runs_of w.log.layout.slots) r.entry);
         }
     done-by (ArchiveWork run writer) (OfAnchors a) made next keeps sorted = absurd made
     done-by (Reclaim anchors source written) (OfRun r) made next keeps sorted = absurd made
     done-by (Reclaim anchors source written) (OfAnchors a) made next keeps sorted =
-        let slot' : Slot = slot_naming (length w.layout.slots) (OfAnchors a) in
-        let mark : anchors.upto ≡ archived_upto w.reading = ap (λ (x : Anchors). x.upto) (sym made.0) ∙ next.upto in
+        let slot' : Slot = slot_naming (length w.log.layout.slots) (OfAnchors a) in
+        let mark : anchors.upto ≡ archived_upto w.log.reading = ap (λ (x : Anchors). x.upto) (sym made.0) ∙ next.upto in
         let upto : a.entry.upto ≡ anchors.upto = ap (λ (x : Anchors). x.upto) made.0 in
         let pending : v.transactions.pending ≡ Some (forgotten anchors.upto v.transactions.versions) = keeps.made refl in
-        let more : runs_of (w.layout.slots ++ slot' ∷ []) ≡ runs_of w.layout.slots = flat_map-append (λ (s : Slot). runs_in s.body) w.layout.slots (slot' ∷ []) ∙ append-nil (runs_of w.layout.slots) in
+        let more : runs_of (w.log.layout.slots ++ slot' ∷ []) ≡ runs_of w.log.layout.slots = flat_map-append (λ (s : Slot). runs_in s.body) w.log.layout.slots (slot' ∷ []) ∙ append-nil (runs_of w.log.layout.slots) in
         record {
-          kept = subst (λ (n : ℕ). AllByRecursion (λ (e : Extent). IsKept (reclaimed_to v.transactions anchors.upto).usages e.number) (live (reclaimed w.layout slot' n a.extents))) (sym upto)
-              (reclaimed-kept v.transactions anchors.upto w.layout slot' a.extents order made.1 w.kept w.times);
-          times = subst (λ (n : ℕ). HasTimes (reclaimed_to v.transactions anchors.upto).times (reclaimed w.layout slot' n a.extents).members) (sym upto)
-              (reclaimed-times v.transactions anchors.upto w.layout slot' a.extents order w.kept w.times);
-          times_long = times-long v.transactions.times v.transactions.reserved 0 ∙ w.times_long;
+          kept = subst (λ (n : ℕ). AllByRecursion (λ (e : Extent). IsKept (reclaimed_to v.transactions anchors.upto).usages e.number) (live (reclaimed w.log.layout slot' n a.extents))) (sym upto)
+              (reclaimed-kept v.transactions anchors.upto w.log.layout slot' a.extents order made.1 w.heap.kept w.heap.times);
+          times = subst (λ (n : ℕ). HasTimes (reclaimed_to v.transactions anchors.upto).times (reclaimed w.log.layout slot' n a.extents).members) (sym upto)
+              (reclaimed-times v.transactions anchors.upto w.log.layout slot' a.extents order w.heap.kept w.heap.times);
+          times_long = times-long v.transactions.times v.transactions.reserved 0 ∙ w.heap.times_long;
           heap = λ key.
               ap (λ (o : Option (List KeyWrites)). writes_of (versions_once o v.transactions.versions) key) pending
               ∙ writes_of-forgotten anchors.upto v.transactions.versions key sorted
-              ∙ ap (kept_after anchors.upto) (w.heap key)
-              ∙ ap (λ (n : ℕ). kept_after n (heap_facts w.reading key)) mark
-              ∙ sym (heap-forgets w.reading m.published m.floors w.stands a.olds next.plan key);
-          archived = w.archived ∙ sym (archive_mark-append 0 w.reading.log (ReclaimedSlot (archived_upto w.reading) ∷ []));
-          reclaimed = mark ∙ sym (reclaim_mark-append 0 w.reading.log (ReclaimedSlot (archived_upto w.reading) ∷ []));
-          runs_end = w.runs_end ∙ sym (ap (row_end 0) more);
+              ∙ ap (kept_after anchors.upto) (w.heap.facts key)
+              ∙ ap (λ (n : ℕ). kept_after n (heap_facts w.log.reading key)) mark
+              ∙ sym (heap-forgets w.log.reading m.published m.floors w.log.stands a.olds next.plan key);
+          archived = w.log.archived ∙ sym (archive_mark-append 0 w.log.reading.log (ReclaimedSlot (archived_upto w.log.reading) ∷ []));
+          reclaimed = mark ∙ sym (reclaim_mark-append 0 w.log.reading.log (ReclaimedSlot (archived_upto w.log.reading) ∷ []));
+          runs_end = w.log.runs_end ∙ sym (ap (row_end 0) more);
         }
 
     long-used : t.number + 1 ≡ length behind-it.slots
     long-used =
-        let added = adds header m w.layout w.reading w.laid w.stands built w.built place product mine.next free-now in
-        let long : length behind-it.slots ≡ length w.layout.slots + 1 = ap (λ (l : List Slot). length l) added.slots_are ∙ length-append w.layout.slots (slot ∷ []) in
+        let added = adds header m w.log.layout w.log.reading w.log.laid w.log.stands built w.log.built place product mine.next free-now in
+        let long : length behind-it.slots ≡ length w.log.layout.slots + 1 = ap (λ (l : List Slot). length l) added.slots_are ∙ length-append w.log.layout.slots (slot ∷ []) in
         omega (arith, long, at.number)
 
     -- the works of the store once the slot is open, where its work is done
-    opened-works : (x : StoreValue) → IsDone x behind-it (read_with w.reading product) → AllPacked m.published x.transactions.queue m.queue → AreSound new.disk.areas
+    opened-works : (x : StoreValue) → IsDone x behind-it (read_with w.log.reading product) → AllPacked m.published x.transactions.queue m.queue → AreSound new.disk.areas
         → IsAtStage header behind-it (group_of behind-it x.transactions m) x.transactions.queue x.transactions.stage x.turn new.disk.areas → Works header (slot_opened x t new) m
     opened-works x done packed sound stage = record {
-      layout = behind-it;
-      reading = read_with w.reading product;
-      laid = laid-after header m w.layout w.reading w.laid w.stands built w.built place product mine.next free-now;
-      stands = stands-after header m w.layout w.reading w.laid w.stands built w.built place product mine.next free-now;
-      built = built-after header m w.layout w.reading w.laid w.stands built w.built place product mine.next free-now;
-      used = long-used;
-      kept = done.kept;
-      times = done.times;
-      times_long = done.times_long;
-      heap = done.heap;
+      log = record {
+        layout = behind-it;
+        reading = read_with w.log.reading product;
+        laid = laid-after header m w.log.layout w.log.reading w.log.laid w.log.stands built w.log.built place product mine.next free-now;
+        stands = stands-after header m w.log.layout w.log.reading w.log.laid w.log.stands built w.log.built place product mine.next free-now;
+        built = built-after header m w.log.layout w.log.reading w.log.laid w.log.stands built w.log.built place product mine.next free-now;
+        used = long-used;
+        archived = done.archived;
+        reclaimed = done.reclaimed;
+        runs_end = done.runs_end;
+      };
+      heap = record {
+        kept = done.kept;
+        times = done.times;
+        times_long = done.times_long;
+        facts = done.heap;
+      };
       packed = packed;
-      archived = done.archived;
-      reclaimed = done.reclaimed;
-      runs_end = done.runs_end;
-      rested = new.disk.areas.status;
-      rests = refl;
-      at = stage;
+      group = record {
+        rested = new.disk.areas.status;
+        rests = refl;
+        at = stage;
+      };
       job = tt;
       sound = sound;
     }
 
     done-works : t.stage ≡ slots.GateWritten → AreSound new.disk.areas → is_turning v.transactions.stage ≡ false → Keeps v m j.work (job.Turning t) → IsOrdered v.transactions.versions
-        → IsAtStage header w.layout (group_of w.layout v.transactions m) v.transactions.queue v.transactions.stage v.turn (record v.disk.areas { status = w.rested })
+        → IsAtStage header w.log.layout (group_of w.log.layout v.transactions m) v.transactions.queue v.transactions.stage v.turn (record v.disk.areas { status = w.group.rested })
         → IsSlotCall t.number t.body t.stage (Ok tt) v.disk.areas new.disk.areas → Works header (slot_opened (work_done j.work v) t new) m
     done-works gate sound free keeps sorted stands call =
         let areas = slot-alone t.stage t.number t.body v.disk.areas new.disk.areas call in
-        let opened : IsTurnAt header w.layout slot behind-it slots.Opened new.disk.areas = subst (λ (s : SlotStage). IsTurnAt header w.layout slot behind-it (slots.slot_stage_after s) new.disk.areas) gate (turn-leads call) in
+        let opened : IsTurnAt header w.log.layout slot behind-it slots.Opened new.disk.areas = subst (λ (s : SlotStage). IsTurnAt header w.log.layout slot behind-it (slots.slot_stage_after s) new.disk.areas) gate (turn-leads call) in
         let kept : KeepsParts behind-it (record v.disk.areas { status = new.disk.areas.status }) = subst (λ (a : Areas). KeepsParts behind-it a) areas opened.new_parts in
-        let added = adds header m w.layout w.reading w.laid w.stands built w.built place product mine.next free-now in
+        let added = adds header m w.log.layout w.log.reading w.log.laid w.log.stands built w.log.built place product mine.next free-now in
         let rests : StatusRests header behind-it.slots new.disk.areas.status = subst (λ (ss : List Slot). StatusRests header ss new.disk.areas.status) (sym added.slots_are) opened.status in
-        let stage = stage-behind header w.layout v.transactions m product v.transactions.queue v.transactions.stage v.turn (record v.disk.areas { status = w.rested }) new.disk.areas.status free rests
+        let stage = stage-behind header w.log.layout v.transactions m product v.transactions.queue v.transactions.stage v.turn (record v.disk.areas { status = w.group.rested }) new.disk.areas.status free rests
         (record { extents = kept.extents; runs = kept.runs }) stands in
         by-work j.work (done-by j.work product mine.made mine.next keeps sorted)
         (subst (λ (a : Areas). IsAtStage header behind-it (group_of behind-it v.transactions m) v.transactions.queue v.transactions.stage v.turn a) (sym areas) stage)
       where
-        by-work : (work : JobWork) → IsDone (work_done work v) behind-it (read_with w.reading product)
+        by-work : (work : JobWork) → IsDone (work_done work v) behind-it (read_with w.log.reading product)
             → IsAtStage header behind-it (group_of behind-it v.transactions m) v.transactions.queue v.transactions.stage v.turn new.disk.areas → Works header (slot_opened (work_done work v) t new) m
         by-work (ArchiveWork run writer) done stage = opened-works (work_done (ArchiveWork run writer) v) done w.packed sound stage
         by-work (Reclaim anchors source written) done stage = opened-works (work_done (Reclaim anchors source written) v) done w.packed sound stage
@@ -963,17 +961,17 @@ module _ (tells : Bool) (v new : StoreValue) (m : Machine Value) (parts : Parts 
     no-turn (ArchiveWork run writer) keeps = keeps
     no-turn (Reclaim anchors source written) keeps = record { is = keeps.is; recent = keeps.recent; made = λ no. absurd cc }
 
-    at-turn : (told : IsTrue tells) → IsTurnFor (parts.disk told).header ((parts.disk told).works works).layout (own (parts.disk told).header v m ((parts.disk told).works works) j is).product t v.disk.areas
+    at-turn : (told : IsTrue tells) → IsTurnFor (parts.disk told).header ((parts.disk told).works works).log.layout (own (parts.disk told).header v m ((parts.disk told).works works) j is).product t v.disk.areas
     at-turn told =
         let d = parts.disk told in
         let has = own d.header v m (d.works works) j is in
-        subst (λ (s : JobStage). IsAtJob d.header (d.works works).layout j.work has.product s v.disk.areas) turning has.at
+        subst (λ (s : JobStage). IsAtJob d.header (d.works works).log.layout j.work has.product s v.disk.areas) turning has.at
 
-    at-rest : (told : IsTrue tells) → StatusRests (parts.disk told).header ((parts.disk told).works works).layout.slots ((parts.disk told).works works).rested × IsSound ((parts.disk told).works works).rested
+    at-rest : (told : IsTrue tells) → StatusRests (parts.disk told).header ((parts.disk told).works works).log.layout.slots ((parts.disk told).works works).group.rested × IsSound ((parts.disk told).works works).group.rested
     at-rest told =
         let d = parts.disk told in
         let w = d.works works in
-        subst (λ (o : Option TurnState). IsRested d.header w.layout o w.rested v.disk.areas.status) (ap turn_of is ∙ ap turn_in turning) w.rests
+        subst (λ (o : Option TurnState). IsRested d.header w.log.layout o w.group.rested v.disk.areas.status) (ap turn_of is ∙ ap turn_in turning) w.group.rests
 
     log-writes : v.log.writing ≡ true
     log-writes = (parts.in_step.turns on).writing ∙ ap (λ (o : Option TurnState). is_some o || is_some (turn_of v.job)) was-turning.2 ∙ ap (λ (o : Option TurnState). is_some o) (ap turn_of is ∙ ap turn_in turning)
@@ -988,7 +986,7 @@ module _ (tells : Bool) (v new : StoreValue) (m : Machine Value) (parts : Parts 
         let d = parts.disk told in
         let w = d.works works in
         let rest = at-rest told in
-        turning-works d.header v new m parts.order parts.in_step d.slots d.profile_built w j is t (at-turn told) v.log refl (sound told) w.rested rest.0 rest.1 w.at (call told)))
+        turning-works d.header v new m parts.order parts.in_step d.slots d.profile_built w j is t (at-turn told) v.log refl (sound told) w.group.rested rest.0 rest.1 w.group.at (call told)))
 
     last-step : t.stage ≡ slots.GateWritten → (said : JobDid) → ((told : IsTrue tells) → IsSlotCall t.number t.body t.stage (Ok tt) v.disk.areas new.disk.areas) → v.transactions.slots < 65536 → new ≡ job_done v j t new → Ends tells m (Ok said) new
     last-step gate said call few to =
@@ -1021,7 +1019,7 @@ module _ (tells : Bool) (v new : StoreValue) (m : Machine Value) (parts : Parts 
               let d = parts.disk told in
               let w = d.works works in
               on-disk d.header (job_done v j t new) m memory machine order in_step (ap (λ (l : LogState). l.profile) leaves.log ∙ d.profile) (ap (λ (l : LogState). l.slots) leaves.log ∙ d.slots) d.profile_built (parts.gate works ∙ ap gate_of (sym leaves.turn))
-              (done-works d.header v new m parts.order parts.in_step d.slots d.profile_built w j is t (at-turn told) gate (sound told) still keeps-turning parts.memory.versions.ordered w.at (call told));
+              (done-works d.header v new m parts.order parts.in_step d.slots d.profile_built w j is t (at-turn told) gate (sound told) still keeps-turning parts.memory.versions.ordered w.group.at (call told));
         })
 
     turned : (stage : SlotStage) → t.stage ≡ stage → ((told : IsTrue tells) → IsSlotCall t.number t.body t.stage (Ok tt) v.disk.areas new.disk.areas) → (said : JobDid) → IsJobTurned stage t j v said new → Ends tells m (Ok said) new
@@ -1056,23 +1054,10 @@ prepared-order v mark order = record {
 
 prepared-works : (header : Header) (v : StoreValue) (m : Machine Value) (mark : ℕ) → Works header v m → Works header (record v { transactions = prepared v.transactions mark }) m
 prepared-works header v m mark w = record {
-  layout = w.layout;
-  reading = w.reading;
-  laid = w.laid;
-  stands = w.stands;
-  built = w.built;
-  used = w.used;
-  kept = w.kept;
-  times = w.times;
-  times_long = w.times_long;
+  log = w.log;
   heap = w.heap;
   packed = w.packed;
-  archived = w.archived;
-  reclaimed = w.reclaimed;
-  runs_end = w.runs_end;
-  rested = w.rested;
-  rests = w.rests;
-  at = w.at;
+  group = w.group;
   job = w.job;
   sound = w.sound;
 }

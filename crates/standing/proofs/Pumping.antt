@@ -102,10 +102,10 @@ claims-some (Storing member extent) group waiting some within = omega (arith, so
 claims-some Stored group waiting some within = omega (arith, some, within)
 claims-some Turning group waiting some within = omega arith
 
-pub room-left : (header : Header) (v : StoreValue) (m : Machine Value) → IsInOrder v.transactions → IsInStep v → (v.log.slots ≡ total header) → (w : Works header v m) → 0 < v.transactions.group → length w.layout.slots < total header
+pub room-left : (header : Header) (v : StoreValue) (m : Machine Value) → IsInOrder v.transactions → IsInStep v → (v.log.slots ≡ total header) → (w : Works header v m) → 0 < v.transactions.group → length w.log.layout.slots < total header
 room-left header v m order in_step slots_are w some =
     let claims = claims-some v.transactions.stage v.transactions.group (length v.transactions.queue) some order.group_within in
-    omega (arith, claims, order.room, in_step.slots, in_step.used, slots_are, w.used)
+    omega (arith, claims, order.room, in_step.slots, in_step.used, slots_are, w.log.used)
 
 -- ---- the gate
 
@@ -149,58 +149,58 @@ gate-shut v m in_step failed gate works still =
 -- ---- what a stop may leave
 
 pub stage-leaves : (header : Header) (v : StoreValue) (m : Machine Value) → StandsInMemory v.transactions m → IsMachine IsValue m → IsInOrder v.transactions → IsTrue (is_built header.profile 1)
-    → (w : Works header v m) → ((0 < v.transactions.group) → length w.layout.slots < total header) → (areas : Areas) (s : GroupStage) (o : Option TurnState) → m.gate ≡ gate_of o → StageFits s v.transactions.group v.transactions.queue
-    → IsAtStage header w.layout (group_of w.layout v.transactions m) v.transactions.queue s o areas → (image : Image) → LeavesImage areas image → OnFront (IsImageOf header image) m
+    → (w : Works header v m) → ((0 < v.transactions.group) → length w.log.layout.slots < total header) → (areas : Areas) (s : GroupStage) (o : Option TurnState) → m.gate ≡ gate_of o → StageFits s v.transactions.group v.transactions.queue
+    → IsAtStage header w.log.layout (group_of w.log.layout v.transactions m) v.transactions.queue s o areas → (image : Image) → LeavesImage areas image → OnFront (IsImageOf header image) m
 stage-leaves header v m memory machine order built w room areas NoGroup o gate fits at image left =
-    inl record { layout = w.layout; reading = w.reading; laid = w.laid; held = rests_hold header w.layout areas image at left; stands = w.stands; profile_built = built; built = w.built }
+    inl record { layout = w.log.layout; reading = w.log.reading; laid = w.log.laid; held = rests_hold header w.log.layout areas image at left; stands = w.log.stands; profile_built = built; built = w.log.built }
 stage-leaves header v m memory machine order built w room areas (Storing member extent) o gate fits at image left =
-    joining.leaves_at header v.transactions m w.layout w.reading memory machine order w.laid w.stands built w.built w.kept w.packed fits.0 (room fits.0) m.gate (turns.Storing _ _) areas image (λ no. absurd no) at left
+    joining.leaves_at header v.transactions m w.log.layout w.log.reading memory machine order w.log.laid w.log.stands built w.log.built w.heap.kept w.packed fits.0 (room fits.0) m.gate (turns.Storing _ _) areas image (λ no. absurd no) at left
 stage-leaves header v m memory machine order built w room areas Stored o gate fits at image left =
-    joining.leaves_at header v.transactions m w.layout w.reading memory machine order w.laid w.stands built w.built w.kept w.packed fits (room fits) m.gate (turns.Turning slots.Begun) areas image (λ no. absurd no) at left
+    joining.leaves_at header v.transactions m w.log.layout w.log.reading memory machine order w.log.laid w.log.stands built w.log.built w.heap.kept w.packed fits (room fits) m.gate (turns.Turning slots.Begun) areas image (λ no. absurd no) at left
 stage-leaves header v m memory machine order built w room areas Turning None gate fits at image left = absurd at
 stage-leaves header v m memory machine order built w room areas Turning (Some t) gate fits at image left =
-    joining.leaves_at header v.transactions m w.layout w.reading memory machine order w.laid w.stands built w.built w.kept w.packed fits (room fits) m.gate (turns.Turning t.stage) areas image (λ may. gate ∙ open-is t.stage may) at.at left
+    joining.leaves_at header v.transactions m w.log.layout w.log.reading memory machine order w.log.laid w.log.stands built w.log.built w.heap.kept w.packed fits (room fits) m.gate (turns.Turning t.stage) areas image (λ may. gate ∙ open-is t.stage may) at.at left
 
 -- the areas, with the status area as it would rest
 abbrev resting-areas : (header : Header) (v : StoreValue) (m : Machine Value) → Works header v m → Areas
-resting-areas header v m w = record v.disk.areas { status = w.rested }
+resting-areas header v m w = record v.disk.areas { status = w.group.rested }
 
 -- where no job's slot is in the writing, a group is where it is on the disk as it stands
 pub now-at : (header : Header) (v : StoreValue) (m : Machine Value) (w : Works header v m) → turn_of v.job ≡ None
-    → IsAtStage header w.layout (group_of w.layout v.transactions m) v.transactions.queue v.transactions.stage v.turn v.disk.areas
+    → IsAtStage header w.log.layout (group_of w.log.layout v.transactions m) v.transactions.queue v.transactions.stage v.turn v.disk.areas
 now-at header v m w still =
-    subst (λ (a : AreaState). IsAtStage header w.layout (group_of w.layout v.transactions m) v.transactions.queue v.transactions.stage v.turn (record v.disk.areas { status = a }))
-    (sym (resting header w.layout (turn_of v.job) w.rested v.disk.areas.status still w.rests)) w.at
+    subst (λ (a : AreaState). IsAtStage header w.log.layout (group_of w.log.layout v.transactions m) v.transactions.queue v.transactions.stage v.turn (record v.disk.areas { status = a }))
+    (sym (resting header w.log.layout (turn_of v.job) w.group.rested v.disk.areas.status still w.group.rests)) w.group.at
 
 resting-sound : (header : Header) (v : StoreValue) (m : Machine Value) (w : Works header v m) → AreSound (resting-areas header v m w)
-resting-sound header v m w = sound-at v.disk.areas w.rested w.sound (rested-sound header w.layout (turn_of v.job) w.rested v.disk.areas.status (w.sound Status) w.rests)
+resting-sound header v m w = sound-at v.disk.areas w.group.rested w.sound (rested-sound header w.log.layout (turn_of v.job) w.group.rested v.disk.areas.status (w.sound Status) w.group.rests)
 
 -- a slot is there for a job
-pub job-room : (header : Header) (v : StoreValue) (m : Machine Value) → IsInOrder v.transactions → IsInStep v → (v.log.slots ≡ total header) → (w : Works header v m) → lent_to v.job ≡ 1 → length w.layout.slots < total header
-job-room header v m order in_step slots_are w lent = omega (arith, lent, order.room, in_step.slots, in_step.used, slots_are, w.used)
+pub job-room : (header : Header) (v : StoreValue) (m : Machine Value) → IsInOrder v.transactions → IsInStep v → (v.log.slots ≡ total header) → (w : Works header v m) → lent_to v.job ≡ 1 → length w.log.layout.slots < total header
+job-room header v m order in_step slots_are w lent = omega (arith, lent, order.room, in_step.slots, in_step.used, slots_are, w.log.used)
 
 -- what a job makes is in no live chain
-pub job-free : (header : Header) (v : StoreValue) (m : Machine Value) → IsInOrder v.transactions → (w : Works header v m) → (work : JobWork) (p : Product) → IsMadeBy v.transactions.reserved work p → MayBeNext w.layout w.reading m.published p → IsFree w.layout p
-job-free header v m order w (ArchiveWork run writer) (OfRun r) made next = subst AreDistinct (sym (append-nil (live w.layout))) w.laid.heap.apart
+pub job-free : (header : Header) (v : StoreValue) (m : Machine Value) → IsInOrder v.transactions → (w : Works header v m) → (work : JobWork) (p : Product) → IsMadeBy v.transactions.reserved work p → MayBeNext w.log.layout w.log.reading m.published p → IsFree w.log.layout p
+job-free header v m order w (ArchiveWork run writer) (OfRun r) made next = subst AreDistinct (sym (append-nil (live w.log.layout))) w.log.laid.heap.apart
 job-free header v m order w (ArchiveWork run writer) (OfAnchors a) made next = absurd made
 job-free header v m order w (Reclaim anchors source written) (OfRun r) made next = absurd made
 job-free header v m order w (Reclaim anchors source written) (OfAnchors a) made next =
     let out = reserved-out v.transactions order in
-    distinct_join (live w.layout) a.extents w.laid.heap.apart (joining.distinct-extents a.extents (subst usages.AreDistinct (sym made.1) out.distinct))
-    (joining.kept-cross v.transactions.usages (live w.layout) a.extents w.kept (subst (AllByRecursion (IsOut v.transactions.usages)) (sym made.1) out.each))
+    distinct_join (live w.log.layout) a.extents w.log.laid.heap.apart (joining.distinct-extents a.extents (subst usages.AreDistinct (sym made.1) out.distinct))
+    (joining.kept-cross v.transactions.usages (live w.log.layout) a.extents w.heap.kept (subst (AllByRecursion (IsOut v.transactions.usages)) (sym made.1) out.each))
 
 -- what is left while a job's slot is in the writing, or by what else is so
 pub by-job : (header : Header) (v : StoreValue) (m : Machine Value) → IsInOrder v.transactions → IsInStep v → v.log.slots ≡ total header → IsTrue (is_built header.profile 1)
-    → (w : Works header v m) (areas : Areas) (image : Image) → (o : Option Job) → v.job ≡ o → HasJob header w.layout w.reading m.published v.transactions.reserved o areas → LeavesImage areas image
+    → (w : Works header v m) (areas : Areas) (image : Image) → (o : Option Job) → v.job ≡ o → HasJob header w.log.layout w.log.reading m.published v.transactions.reserved o areas → LeavesImage areas image
     → (turn_of v.job ≡ None → OnFront (IsImageOf header image) m) → OnFront (IsImageOf header image) m
 by-job header v m order in_step slots_are built w areas image None is has left other = other (ap turn_of is)
 by-job header v m order in_step slots_are built w areas image (Some j) is has left other = by-stage j.stage refl has.at
   where
-    by-stage : (s : JobStage) → j.stage ≡ s → IsAtJob header w.layout j.work has.product s areas → OnFront (IsImageOf header image) m
+    by-stage : (s : JobStage) → j.stage ≡ s → IsAtJob header w.log.layout j.work has.product s areas → OnFront (IsImageOf header image) m
     by-stage job.Writing at _ = other (ap turn_of is ∙ ap turn_in at)
     by-stage job.Stored at _ = other (ap turn_of is ∙ ap turn_in at)
     by-stage (job.Turning t) at turn =
-        product-leaves header m w.layout w.reading w.laid w.stands built w.built (job-room header v m order in_step slots_are w (ap lent_to is)) has.product has.next
+        product-leaves header m w.log.layout w.log.reading w.log.laid w.log.stands built w.log.built (job-room header v m order in_step slots_are w (ap lent_to is)) has.product has.next
         (job-free header v m order w j.work has.product has.made has.next) t.stage areas image turn.at left
 
 pub works-leave : (header : Header) (v : StoreValue) (m : Machine Value) → StandsInMemory v.transactions m → IsMachine IsValue m → IsInOrder v.transactions → IsInStep v → v.log.slots ≡ total header
@@ -242,48 +242,26 @@ started-works : (header : Header) (v : StoreValue) (m : Machine Value) (size : �
     → Works header (record v { transactions = record v.transactions { group = size; stage = Storing 0 0 } }) (record m { group = size })
 started-works header v m size order none w =
     let is : v.transactions.stage ≡ NoGroup = no-group v.transactions.stage v.transactions.group v.transactions.queue order.stage_fits none in
-    let at = subst (λ (s : GroupStage). IsAtStage header w.layout (group_of w.layout v.transactions m) v.transactions.queue s v.turn (resting-areas header v m w)) is w.at in
+    let at = subst (λ (s : GroupStage). IsAtStage header w.log.layout (group_of w.log.layout v.transactions m) v.transactions.queue s v.turn (resting-areas header v m w)) is w.group.at in
     record {
-      layout = w.layout;
-      reading = w.reading;
-      laid = w.laid;
-      stands = w.stands;
-      built = w.built;
-      used = w.used;
-      kept = w.kept;
-      times = w.times;
-      times_long = w.times_long;
+      log = w.log;
       heap = w.heap;
       packed = w.packed;
-      archived = w.archived;
-      reclaimed = w.reclaimed;
-      runs_end = w.runs_end;
-      rested = w.rested;
-      rests = w.rests;
-      at = record { rests = at; parts_are = refl; written = tt };
+      group = record {
+        rested = w.group.rested;
+        rests = w.group.rests;
+        at = record { rests = at; parts_are = refl; written = tt };
+      };
       job = w.job;
       sound = w.sound;
     }
 
 regrouped : (header : Header) (v : StoreValue) (m : Machine Value) (size : ℕ) → Works header v m → Works header v (record m { group = size })
 regrouped header v m size w = record {
-  layout = w.layout;
-  reading = w.reading;
-  laid = w.laid;
-  stands = w.stands;
-  built = w.built;
-  used = w.used;
-  kept = w.kept;
-  times = w.times;
-  times_long = w.times_long;
+  log = w.log;
   heap = w.heap;
   packed = w.packed;
-  archived = w.archived;
-  reclaimed = w.reclaimed;
-  runs_end = w.runs_end;
-  rested = w.rested;
-  rests = w.rests;
-  at = w.at;
+  group = w.group;
   job = w.job;
   sound = w.sound;
 }
@@ -340,12 +318,12 @@ commit-is es (Floor relation floor) is = absurd is
 -- the call that the store makes is the group's next one, and it answers so
 pub record Goes (header : Header) (v : StoreValue) (m : Machine Value) (w : Works header v m) (answer : Result (Unit {0}) DeviceFault) (old new : Areas) : Type 0 where
   pub stage : turns.Stage
-  pub at : turns.IsAt header w.layout (group_of w.layout v.transactions m) stage old
+  pub at : turns.IsAt header w.log.layout (group_of w.log.layout v.transactions m) stage old
   pub sound : AreSound old
   pub bytes : List ℕ
   pub long : length bytes ≡ 511
-  pub spelled : IsSpelled header.profile (length w.layout.slots) bytes ((group_of w.layout v.transactions m).slot)
-  pub call : turns.IsCallOf w.layout bytes stage answer old new
+  pub spelled : IsSpelled header.profile (length w.log.layout.slots) bytes ((group_of w.log.layout v.transactions m).slot)
+  pub call : turns.IsCallOf w.log.layout bytes stage answer old new
   pub some : 0 < v.transactions.group
 
 -- a store with these parts on the disk of another
@@ -357,7 +335,7 @@ module _ (header : Header) (v new : StoreValue) (m : Machine Value) (memory : St
   -- a refused call leaves what a stop within it leaves
   goes-leaves : (gate : Gate) (fault : DeviceFault) (old new : Areas) → (goes : Goes header v m w (Err fault) old new) → (joining.MayOpenInCall goes.stage → gate ≡ MayBeOpen OfGroup) → (image : Image) → LeavesImage new image → OnFront (IsImageOf header image) (steps.gated m gate)
   goes-leaves gate fault old new goes opens image left =
-      joining.leaves_within header v.transactions m w.layout w.reading memory machine order w.laid w.stands built w.built w.kept w.packed goes.some (room-left header v m order in_step slots_are w goes.some)
+      joining.leaves_within header v.transactions m w.log.layout w.log.reading memory machine order w.log.laid w.log.stands built w.log.built w.heap.kept w.packed goes.some (room-left header v m order in_step slots_are w goes.some)
       goes.bytes goes.long goes.spelled gate goes.stage (Err fault) old new image opens goes.at goes.sound goes.call left
 
   -- and the store has failed
@@ -373,42 +351,43 @@ module _ (header : Header) (v new : StoreValue) (m : Machine Value) (memory : St
   }
 
   -- one that is made leads on
-  goes-on : (old new : Areas) → (goes : Goes header v m w (Ok tt) old new) → turns.IsAt header w.layout (group_of w.layout v.transactions m) (turns.stage_after goes.stage) new
+  goes-on : (old new : Areas) → (goes : Goes header v m w (Ok tt) old new) → turns.IsAt header w.log.layout (group_of w.log.layout v.transactions m) (turns.stage_after goes.stage) new
   goes-on old new goes =
-      joining.leads header v.transactions m w.layout w.reading memory machine order w.laid w.stands built w.built w.kept w.packed goes.some (room-left header v m order in_step slots_are w goes.some)
+      joining.leads header v.transactions m w.log.layout w.log.reading memory machine order w.log.laid w.log.stands built w.log.built w.heap.kept w.packed goes.some (room-left header v m order in_step slots_are w goes.some)
       goes.bytes goes.long goes.spelled goes.stage old new goes.at goes.sound goes.call
 
   -- the bytes that spell the group's slot
-  slot-bytes : 0 < v.transactions.group → (bytes : List ℕ) × (length bytes ≡ 511) × IsSpelled header.profile (length w.layout.slots) bytes ((group_of w.layout v.transactions m).slot)
+  slot-bytes : 0 < v.transactions.group → (bytes : List ℕ) × (length bytes ≡ 511) × IsSpelled header.profile (length w.log.layout.slots) bytes ((group_of w.log.layout v.transactions m).slot)
   slot-bytes some =
       let room = room-left header v m order in_step slots_are w some in (
-        spelling header.profile (group_of w.layout v.transactions m).slot,
-        joining.long header v.transactions m w.layout w.reading memory machine order w.laid w.stands built w.built w.kept w.packed some room,
-        joining.spelled header v.transactions m w.layout w.reading memory machine order w.laid w.stands built w.built w.kept w.packed some room,
+        spelling header.profile (group_of w.log.layout v.transactions m).slot,
+        joining.long header v.transactions m w.log.layout w.log.reading memory machine order w.log.laid w.log.stands built w.log.built w.heap.kept w.packed some room,
+        joining.spelled header v.transactions m w.log.layout w.log.reading memory machine order w.log.laid w.log.stands built w.log.built w.heap.kept w.packed some room,
       )
 
   -- the works of the store after a step that changes its stage alone
-  staged-works : (s : GroupStage) (log : LogState) (turn : Option TurnState) → log.used ≡ v.log.used → AreSound new.disk.areas → (rested : AreaState) → IsRested header w.layout (turn_of v.job) rested new.disk.areas.status
-      → IsAtStage header w.layout (group_of w.layout v.transactions m) v.transactions.queue s turn (record new.disk.areas { status = rested }) → HasJob header w.layout w.reading m.published v.transactions.reserved v.job new.disk.areas
+  staged-works : (s : GroupStage) (log : LogState) (turn : Option TurnState) → log.used ≡ v.log.used → AreSound new.disk.areas → (rested : AreaState) → IsRested header w.log.layout (turn_of v.job) rested new.disk.areas.status
+      → IsAtStage header w.log.layout (group_of w.log.layout v.transactions m) v.transactions.queue s turn (record new.disk.areas { status = rested }) → HasJob header w.log.layout w.log.reading m.published v.transactions.reserved v.job new.disk.areas
       → Works header (with_parts v new (groups.at_stage s v.transactions) log turn) m
   staged-works s log turn used sound rested rests at has = record {
-    layout = w.layout;
-    reading = w.reading;
-    laid = w.laid;
-    stands = w.stands;
-    built = w.built;
-    used = used ∙ w.used;
-    kept = w.kept;
-    times = w.times;
-    times_long = w.times_long;
+    log = record {
+      layout = w.log.layout;
+      reading = w.log.reading;
+      laid = w.log.laid;
+      stands = w.log.stands;
+      built = w.log.built;
+      used = used ∙ w.log.used;
+      archived = w.log.archived;
+      reclaimed = w.log.reclaimed;
+      runs_end = w.log.runs_end;
+    };
     heap = w.heap;
     packed = w.packed;
-    archived = w.archived;
-    reclaimed = w.reclaimed;
-    runs_end = w.runs_end;
-    rested = rested;
-    rests = rests;
-    at = at;
+    group = record {
+      rested = rested;
+      rests = rests;
+      at = at;
+    };
     job = has;
     sound = sound;
   }
@@ -417,9 +396,9 @@ module _ (header : Header) (v new : StoreValue) (m : Machine Value) (memory : St
 
   module _ (answer : Result (Unit {0}) DeviceFault) (member extent : ℕ) (is : v.transactions.stage ≡ Storing member extent) (low : member < v.transactions.group) (stored : StoredExtent)
       (there : groups.extent_at (slice_get v.transactions.queue member) extent ≡ Some stored) (old next : Areas) (sound : AreSound old)
-      (at : IsAtStage header w.layout (group_of w.layout v.transactions m) v.transactions.queue v.transactions.stage v.turn old) (call : Writes Heap (extent_start stored.extent) stored.image answer old next) where
+      (at : IsAtStage header w.log.layout (group_of w.log.layout v.transactions m) v.transactions.queue v.transactions.stage v.turn old) (call : Writes Heap (extent_start stored.extent) stored.image answer old next) where
     abbrev all : List Extent
-    all = extents_of ((group_of w.layout v.transactions m).members)
+    all = extents_of ((group_of w.log.layout v.transactions m).members)
 
     abbrev k : ℕ
     k = written_before v.transactions.queue member extent
@@ -427,10 +406,10 @@ module _ (header : Header) (v new : StoreValue) (m : Machine Value) (memory : St
     found : IsNext (drop k all) stored
     found = next-is v.transactions.group m.published v.transactions.queue m.queue member extent stored w.packed low there
 
-    storing : turns.IsStoring header w.layout (group_of w.layout v.transactions m) (take k all) (found.extent ∷ found.rest) old
+    storing : turns.IsStoring header w.log.layout (group_of w.log.layout v.transactions m) (take k all) (found.extent ∷ found.rest) old
     storing =
-        let there' = subst (λ (s : GroupStage). IsAtStage header w.layout (group_of w.layout v.transactions m) v.transactions.queue s v.turn old) is at in
-        subst (λ (es : List Extent). turns.IsStoring header w.layout (group_of w.layout v.transactions m) (take k all) es old) found.is there'
+        let there' = subst (λ (s : GroupStage). IsAtStage header w.log.layout (group_of w.log.layout v.transactions m) v.transactions.queue s v.turn old) is at in
+        subst (λ (es : List Extent). turns.IsStoring header w.log.layout (group_of w.log.layout v.transactions m) (take k all) es old) found.is there'
 
     some : 0 < v.transactions.group
     some = omega (arith, low)
@@ -449,31 +428,31 @@ module _ (header : Header) (v new : StoreValue) (m : Machine Value) (memory : St
           some = some;
         }
 
-    wrote-at : turns.IsStoring header w.layout (group_of w.layout v.transactions m) (take k all ++ found.extent ∷ []) found.rest next
-        → IsAtStage header w.layout (group_of w.layout v.transactions m) v.transactions.queue (groups.stage_behind v.transactions.queue v.transactions.stage) v.turn next
+    wrote-at : turns.IsStoring header w.log.layout (group_of w.log.layout v.transactions m) (take k all ++ found.extent ∷ []) found.rest next
+        → IsAtStage header w.log.layout (group_of w.log.layout v.transactions m) v.transactions.queue (groups.stage_behind v.transactions.queue v.transactions.stage) v.turn next
     wrote-at on =
         let behind = behind-is v.transactions.queue member extent stored (slice_get v.transactions.queue member) refl there in
-        let then : turns.IsStoring header w.layout (group_of w.layout v.transactions m) (take (suc k) all) (drop (suc k) all) next =
-        subst (λ (es : List Extent). turns.IsStoring header w.layout (group_of w.layout v.transactions m) (take (suc k) all) es next) (sym (drop-next k all found.extent found.rest found.is))
-        (subst (λ (es : List Extent). turns.IsStoring header w.layout (group_of w.layout v.transactions m) es found.rest next) (sym (take-next k all found.extent found.rest found.is)) on) in
-        let there' : IsAtStage header w.layout (group_of w.layout v.transactions m) v.transactions.queue (Storing behind.member behind.extent) v.turn next =
-        subst (λ (n : ℕ). turns.IsStoring header w.layout (group_of w.layout v.transactions m) (take n all) (drop n all) next) (sym behind.written_is) then in
+        let then : turns.IsStoring header w.log.layout (group_of w.log.layout v.transactions m) (take (suc k) all) (drop (suc k) all) next =
+        subst (λ (es : List Extent). turns.IsStoring header w.log.layout (group_of w.log.layout v.transactions m) (take (suc k) all) es next) (sym (drop-next k all found.extent found.rest found.is))
+        (subst (λ (es : List Extent). turns.IsStoring header w.log.layout (group_of w.log.layout v.transactions m) es found.rest next) (sym (take-next k all found.extent found.rest found.is)) on) in
+        let there' : IsAtStage header w.log.layout (group_of w.log.layout v.transactions m) v.transactions.queue (Storing behind.member behind.extent) v.turn next =
+        subst (λ (n : ℕ). turns.IsStoring header w.log.layout (group_of w.log.layout v.transactions m) (take n all) (drop n all) next) (sym behind.written_is) then in
         let stage : groups.stage_behind v.transactions.queue v.transactions.stage ≡ Storing behind.member behind.extent = ap (groups.stage_behind v.transactions.queue) is ∙ behind.is in
-        subst (λ (s : GroupStage). IsAtStage header w.layout (group_of w.layout v.transactions m) v.transactions.queue s v.turn next) (sym stage) there'
+        subst (λ (s : GroupStage). IsAtStage header w.log.layout (group_of w.log.layout v.transactions m) v.transactions.queue s v.turn next) (sym stage) there'
 
   -- ---- the heap is synced
 
   module _ (answer : Result (Unit {0}) DeviceFault) (member extent : ℕ) (is : v.transactions.stage ≡ Storing member extent) (past : member ≡ v.transactions.group) (some : 0 < v.transactions.group)
-      (old next : Areas) (sound : AreSound old) (at : IsAtStage header w.layout (group_of w.layout v.transactions m) v.transactions.queue v.transactions.stage v.turn old) (call : Syncs Heap answer old next) where
+      (old next : Areas) (sound : AreSound old) (at : IsAtStage header w.log.layout (group_of w.log.layout v.transactions m) v.transactions.queue v.transactions.stage v.turn old) (call : Syncs Heap answer old next) where
     abbrev whole : List Extent
-    whole = extents_of (group_of w.layout v.transactions m).members
+    whole = extents_of (group_of w.log.layout v.transactions m).members
 
     abbrev at_end : ℕ
     at_end = written_before v.transactions.queue member extent
 
     none : drop at_end whole ≡ []
     none =
-        let named = joining.numbers header v.transactions m w.layout w.reading memory machine order w.laid w.stands built w.built w.kept w.packed some (room-left header v m order in_step slots_are w some) in
+        let named = joining.numbers header v.transactions m w.log.layout w.log.reading memory machine order w.log.laid w.log.stands built w.log.built w.heap.kept w.packed some (room-left header v m order in_step slots_are w some) in
         let many : length whole ≡ length (flat_map numbers_of (take v.transactions.group v.transactions.queue)) = sym (length-mapped (λ (e : Extent). e.number) whole) ∙ ap (λ (l : List ℕ). length l) named in
         let same : length (flat_map numbers_of (take member v.transactions.queue)) ≡ length (flat_map numbers_of (take v.transactions.group v.transactions.queue)) = ap (λ (n : ℕ). length (flat_map numbers_of (take n v.transactions.queue))) past in
         none-left at_end whole (omega (arith, many, same))
@@ -481,9 +460,9 @@ module _ (header : Header) (v new : StoreValue) (m : Machine Value) (memory : St
     abbrev synced-goes : Goes header v m w answer old next
     synced-goes =
         let bytes = slot-bytes some in
-        let there = subst (λ (s : GroupStage). IsAtStage header w.layout (group_of w.layout v.transactions m) v.transactions.queue s v.turn old) is at in record {
+        let there = subst (λ (s : GroupStage). IsAtStage header w.log.layout (group_of w.log.layout v.transactions m) v.transactions.queue s v.turn old) is at in record {
           stage = turns.Storing (take at_end whole) [];
-          at = subst (λ (es : List Extent). turns.IsStoring header w.layout (group_of w.layout v.transactions m) (take at_end whole) es old) none there;
+          at = subst (λ (es : List Extent). turns.IsStoring header w.log.layout (group_of w.log.layout v.transactions m) (take at_end whole) es old) none there;
           sound = sound;
           bytes = bytes.0;
           long = bytes.1;
@@ -497,14 +476,14 @@ module _ (header : Header) (v new : StoreValue) (m : Machine Value) (memory : St
   -- an extent of the group is beside the live chains and beside what is out for a job
   record IsApart (e : Extent) : Type 0 where
     pub is : IsExtent e
-    pub live : AreBeside e.number (live w.layout)
+    pub live : AreBeside e.number (live w.log.layout)
     pub others : AllByRecursion (λ (k : ℕ). k ≢ e.number) v.transactions.reserved
 
-  extent-apart : 0 < v.transactions.group → (k : ℕ) (e : Extent) (rest : List Extent) → drop k (extents_of ((group_of w.layout v.transactions m).members)) ≡ e ∷ rest → IsApart e
+  extent-apart : 0 < v.transactions.group → (k : ℕ) (e : Extent) (rest : List Extent) → drop k (extents_of ((group_of w.log.layout v.transactions m).members)) ≡ e ∷ rest → IsApart e
   extent-apart some k e rest found =
-      let all : List Extent = extents_of ((group_of w.layout v.transactions m).members) in
+      let all : List Extent = extents_of ((group_of w.log.layout v.transactions m).members) in
       let room = room-left header v m order in_step slots_are w some in
-      let named = joining.numbers header v.transactions m w.layout w.reading memory machine order w.laid w.stands built w.built w.kept w.packed some room in
+      let named = joining.numbers header v.transactions m w.log.layout w.log.reading memory machine order w.log.laid w.log.stands built w.log.built w.heap.kept w.packed some room in
       let number : Extent → ℕ = λ f. f.number in
       let split : take k all ++ e ∷ rest ≡ all = ap (λ (l : List Extent). take k all ++ l) (sym found) ∙ take-append-drop k all in
       let behind : List ℕ = flat_map numbers_of (drop v.transactions.group v.transactions.queue) in
@@ -517,10 +496,10 @@ module _ (header : Header) (v new : StoreValue) (m : Machine Value) (memory : St
       ∙ append_assoc (map number (take k all)) (e.number ∷ (map number rest ++ behind)) v.transactions.reserved in
       let middle = out-middle v.transactions.usages (map number (take k all)) ((map number rest ++ behind) ++ v.transactions.reserved) e.number (subst (AreOut v.transactions.usages) whole order.out) in
       let each : AllByRecursion IsExtent (take k all ++ e ∷ rest) =
-      subst (AllByRecursion IsExtent) (sym split) (joining.group_are header v.transactions m w.layout w.reading memory machine order w.laid w.stands built w.built w.kept w.packed some room) in
+      subst (AllByRecursion IsExtent) (sym split) (joining.group_are header v.transactions m w.log.layout w.log.reading memory machine order w.log.laid w.log.stands built w.log.built w.heap.kept w.packed some room) in
       record {
         is = (all_of_back IsExtent (take k all) (e ∷ rest) each).0;
-        live = beside-out v.transactions.usages e.number middle.0 (live w.layout) (live_extents_are header w.layout w.reading w.laid) w.kept;
+        live = beside-out v.transactions.usages e.number middle.0 (live w.log.layout) (live_extents_are header w.log.layout w.log.reading w.log.laid) w.heap.kept;
         others = all_of_back (λ (k : ℕ). k ≢ e.number) (map number rest ++ behind) v.transactions.reserved middle.1;
       }
 
@@ -530,7 +509,7 @@ module _ (header : Header) (v new : StoreValue) (m : Machine Value) (memory : St
       → (image : Image) → LeavesImage new.disk.areas image → OnFront (IsImageOf header image) m
   wrote-leaves member extent is low stored there call image left =
       let some : 0 < v.transactions.group = omega (arith, low) in
-      let found : IsNext (drop (written_before v.transactions.queue member extent) (extents_of ((group_of w.layout v.transactions m).members))) stored = next-is v.transactions.group m.published v.transactions.queue m.queue member extent stored w.packed low there in
+      let found : IsNext (drop (written_before v.transactions.queue member extent) (extents_of ((group_of w.log.layout v.transactions m).members))) stored = next-is v.transactions.group m.published v.transactions.queue m.queue member extent stored w.packed low there in
       let k : ℕ = written_before v.transactions.queue member extent in
       let before = (left_by_write Heap (extent_start stored.extent) stored.image (Err (record {})) v.disk.areas new.disk.areas call w.sound).each image left in
       let torn : AreaState = loosened (extent_start stored.extent) (length stored.image) v.disk.areas.heap.bytes v.disk.areas.heap in
@@ -540,7 +519,7 @@ module _ (header : Header) (v new : StoreValue) (m : Machine Value) (memory : St
       (subst (λ (bytes : List ℕ). IsBeside found.extent.number v.disk.areas.heap (loosened (extent_start found.extent.number) (length bytes) v.disk.areas.heap.bytes v.disk.areas.heap)) found.bytes
       (torn-beside found.extent apart.is v.disk.areas.heap (w.sound Heap))) in
       by-job header v m order in_step slots_are built w (record v.disk.areas { heap = torn }) image v.job refl
-      (job-beside-heap header w.layout w.reading m.published v.transactions.reserved v.job v.disk.areas torn found.extent.number beside apart.live apart.others w.job) before
+      (job-beside-heap header w.log.layout w.log.reading m.published v.transactions.reserved v.job v.disk.areas torn found.extent.number beside apart.live apart.others w.job) before
       (λ still. goes-leaves m.gate (record {}) v.disk.areas new.disk.areas
       (wrote-goes (Err (record {})) member extent is low stored there v.disk.areas new.disk.areas w.sound (now-at header v m w still) call) (λ no. absurd no) image left)
 
@@ -550,22 +529,22 @@ module _ (header : Header) (v new : StoreValue) (m : Machine Value) (memory : St
       works-leave header v m memory machine order in_step slots_are built gate w image (subst (λ (a : Areas). LeavesImage a image) same left)
 
   -- the store after a call of the heap that was made
-  heap-works : (s : GroupStage) → AreSound new.disk.areas → (heap : AreaState) → new.disk.areas ≡ record v.disk.areas { heap = heap } → (n : ℕ) → IsBeside n v.disk.areas.heap heap → AreBeside n (live w.layout) → AllByRecursion (λ (k : ℕ). k ≢ n) v.transactions.reserved
-      → IsAtStage header w.layout (group_of w.layout v.transactions m) v.transactions.queue s v.turn (record new.disk.areas { status = w.rested }) → Works header (with_parts v new (groups.at_stage s v.transactions) v.log v.turn) m
+  heap-works : (s : GroupStage) → AreSound new.disk.areas → (heap : AreaState) → new.disk.areas ≡ record v.disk.areas { heap = heap } → (n : ℕ) → IsBeside n v.disk.areas.heap heap → AreBeside n (live w.log.layout) → AllByRecursion (λ (k : ℕ). k ≢ n) v.transactions.reserved
+      → IsAtStage header w.log.layout (group_of w.log.layout v.transactions m) v.transactions.queue s v.turn (record new.disk.areas { status = w.group.rested }) → Works header (with_parts v new (groups.at_stage s v.transactions) v.log v.turn) m
   heap-works s sound heap is n beside apart others at =
-      staged-works s v.log v.turn refl sound w.rested
-      (subst (λ (a : Areas). IsRested header w.layout (turn_of v.job) w.rested a.status) (sym is) w.rests) at
-      (subst (λ (a : Areas). HasJob header w.layout w.reading m.published v.transactions.reserved v.job a) (sym is)
-      (job-beside-heap header w.layout w.reading m.published v.transactions.reserved v.job v.disk.areas heap n beside apart others w.job))
+      staged-works s v.log v.turn refl sound w.group.rested
+      (subst (λ (a : Areas). IsRested header w.log.layout (turn_of v.job) w.group.rested a.status) (sym is) w.group.rests) at
+      (subst (λ (a : Areas). HasJob header w.log.layout w.log.reading m.published v.transactions.reserved v.job a) (sym is)
+      (job-beside-heap header w.log.layout w.log.reading m.published v.transactions.reserved v.job v.disk.areas heap n beside apart others w.job))
 
   -- so after the write of the group's next extent
   heap-wrote : (member extent : ℕ) → member < v.transactions.group → (stored : StoredExtent) → groups.extent_at (slice_get v.transactions.queue member) extent ≡ Some stored
       → Writes Heap (extent_start stored.extent) stored.image (Ok tt) v.disk.areas new.disk.areas → (s : GroupStage) → AreSound new.disk.areas
-      → IsAtStage header w.layout (group_of w.layout v.transactions m) v.transactions.queue s v.turn (record new.disk.areas { status = w.rested }) → Works header (with_parts v new (groups.at_stage s v.transactions) v.log v.turn) m
+      → IsAtStage header w.log.layout (group_of w.log.layout v.transactions m) v.transactions.queue s v.turn (record new.disk.areas { status = w.group.rested }) → Works header (with_parts v new (groups.at_stage s v.transactions) v.log v.turn) m
   heap-wrote member extent low stored there call s sound at =
       let some : 0 < v.transactions.group = omega (arith, low) in
       let k : ℕ = written_before v.transactions.queue member extent in
-      let found : IsNext (drop k (extents_of ((group_of w.layout v.transactions m).members))) stored = next-is v.transactions.group m.published v.transactions.queue m.queue member extent stored w.packed low there in
+      let found : IsNext (drop k (extents_of ((group_of w.log.layout v.transactions m).members))) stored = next-is v.transactions.group m.published v.transactions.queue m.queue member extent stored w.packed low there in
       let apart = extent-apart some k found.extent found.rest found.is in
       let heap : AreaState = written (extent_start stored.extent) stored.image v.disk.areas.heap in
       let beside : IsBeside found.extent.number v.disk.areas.heap heap =
@@ -576,17 +555,17 @@ module _ (header : Header) (v new : StoreValue) (m : Machine Value) (memory : St
 
   -- and after a sync of the heap
   heap-synced : Syncs Heap (Ok tt) v.disk.areas new.disk.areas → (s : GroupStage) → AreSound new.disk.areas
-      → IsAtStage header w.layout (group_of w.layout v.transactions m) v.transactions.queue s v.turn (record new.disk.areas { status = w.rested }) → Works header (with_parts v new (groups.at_stage s v.transactions) v.log v.turn) m
+      → IsAtStage header w.log.layout (group_of w.log.layout v.transactions m) v.transactions.queue s v.turn (record new.disk.areas { status = w.group.rested }) → Works header (with_parts v new (groups.at_stage s v.transactions) v.log v.turn) m
   heap-synced call s sound at =
-      heap-works s sound (synced v.disk.areas.heap) call.synced 0 (sync-beside v.disk.areas.heap (w.sound Heap)) (beside-none (live w.layout) (live_extents_are header w.layout w.reading w.laid))
+      heap-works s sound (synced v.disk.areas.heap) call.synced 0 (sync-beside v.disk.areas.heap (w.sound Heap)) (beside-none (live w.log.layout) (live_extents_are header w.log.layout w.log.reading w.log.laid))
       (none-number v.transactions.reserved (all-numbered v.transactions.usages v.transactions.reserved (reserved-out v.transactions order).each)) at
 
   -- ---- the slot is begun, or goes on
 
   abbrev named : Slot
-  named = (group_of w.layout v.transactions m).slot
+  named = (group_of w.log.layout v.transactions m).slot
 
-  abbrev slot-goes : (answer : Result (Unit {0}) DeviceFault) (t : TurnState) → IsTurnOf header w.layout (group_of w.layout v.transactions m) t v.disk.areas → 0 < v.transactions.group
+  abbrev slot-goes : (answer : Result (Unit {0}) DeviceFault) (t : TurnState) → IsTurnOf header w.log.layout (group_of w.log.layout v.transactions m) t v.disk.areas → 0 < v.transactions.group
       → IsSlotCall t.number t.body t.stage answer v.disk.areas new.disk.areas → Goes header v m w answer v.disk.areas new.disk.areas
   slot-goes answer t is some call = record {
     stage = turns.Turning t.stage;
@@ -600,98 +579,104 @@ module _ (header : Header) (v new : StoreValue) (m : Machine Value) (memory : St
   }
 
   -- the slot that is begun is the group's
-  begun-turn : (body : Body) → IsCommitOf (groups.entries v.transactions) body → IsTurnAt header w.layout named (laid_out w.layout (group_of w.layout v.transactions m)) slots.Begun v.disk.areas → 0 < v.transactions.group
-      → IsTurnOf header w.layout (group_of w.layout v.transactions m) (record { number = v.log.used; body = spelling v.log.profile (record { number = v.log.used; body = body }); stage = slots.Begun }) v.disk.areas
+  begun-turn : (body : Body) → IsCommitOf (groups.entries v.transactions) body → IsTurnAt header w.log.layout named (laid_out w.log.layout (group_of w.log.layout v.transactions m)) slots.Begun v.disk.areas → 0 < v.transactions.group
+      → IsTurnOf header w.log.layout (group_of w.log.layout v.transactions m) (record { number = v.log.used; body = spelling v.log.profile (record { number = v.log.used; body = body }); stage = slots.Begun }) v.disk.areas
   begun-turn body commit at some =
       let room = room-left header v m order in_step slots_are w some in
-      let number = sym w.used in
+      let number = sym w.log.used in
       let what = sym (commit-is (groups.entries v.transactions) body commit) in
       let same : Path Slot named (record { number = v.log.used; body = body }) = λ i. record { number = number i; body = what i } in
       let bytes : spelling header.profile named ≡ spelling v.log.profile (record { number = v.log.used; body = body }) = let p = sym profile in λ i. spelling (p i) (same i) in
       record {
-        number = w.used;
-        long = subst (λ (l : List ℕ). length l ≡ 511) bytes (joining.long header v.transactions m w.layout w.reading memory machine order w.laid w.stands built w.built w.kept w.packed some room);
-        spelled = subst (λ (l : List ℕ). IsSpelled header.profile (length w.layout.slots) l named) bytes
-            (joining.spelled header v.transactions m w.layout w.reading memory machine order w.laid w.stands built w.built w.kept w.packed some room);
+        number = w.log.used;
+        long = subst (λ (l : List ℕ). length l ≡ 511) bytes (joining.long header v.transactions m w.log.layout w.log.reading memory machine order w.log.laid w.log.stands built w.log.built w.heap.kept w.packed some room);
+        spelled = subst (λ (l : List ℕ). IsSpelled header.profile (length w.log.layout.slots) l named) bytes
+            (joining.spelled header v.transactions m w.log.layout w.log.reading memory machine order w.log.laid w.log.stands built w.log.built w.heap.kept w.packed some room);
         at = at;
       }
 
   -- ---- the group is published
 
   -- what may come next still may, behind the group
-  next-product : (some : 0 < v.transactions.group) (p : Product) → MayBeNext w.layout w.reading m.published p
-      → MayBeNext (laid_out w.layout (group_of w.layout v.transactions m)) (with_group w.reading (turns.members_of (group_of w.layout v.transactions m))) (m.published ++ take m.group m.queue) p
+  next-product : (some : 0 < v.transactions.group) (p : Product) → MayBeNext w.log.layout w.log.reading m.published p
+      → MayBeNext (laid_out w.log.layout (group_of w.log.layout v.transactions m)) (with_group w.log.reading (turns.members_of (group_of w.log.layout v.transactions m))) (m.published ++ take m.group m.queue) p
   next-product some p next =
       let room = room-left header v m order in_step slots_are w some in
-      let group : turns.Group = group_of w.layout v.transactions m in
-      let joins = joining.joins header v.transactions m w.layout w.reading memory machine order w.laid w.stands built w.built w.kept w.packed some room in
-      let space = has_room header w.layout w.reading m.published (take v.transactions.group m.queue) m.floors group w.laid w.stands joins in
+      let group : turns.Group = group_of w.log.layout v.transactions m in
+      let joins = joining.joins header v.transactions m w.log.layout w.log.reading memory machine order w.log.laid w.log.stands built w.log.built w.heap.kept w.packed some room in
+      let space = has_room header w.log.layout w.log.reading m.published (take v.transactions.group m.queue) m.floors group w.log.laid w.log.stands joins in
       let grown : last m.published ≤ last (m.published ++ take v.transactions.group m.queue) =
       (let up = last-later (last m.published) (take v.transactions.group m.queue) (rising-from_following IsValue m.published (take v.transactions.group m.queue) joins.is_group.may) in
       omega (arith, up, last_after-append 0 m.published (take v.transactions.group m.queue))) in
-      let same : archived_upto (with_group w.reading (turns.members_of group)) ≡ archived_upto w.reading = same_archived w.reading m.published m.floors w.stands (turns.members_of group) (take v.transactions.group m.queue) joins.is_group space in
-      let mark : reclaimed_upto (with_group w.reading (turns.members_of group)) ≡ reclaimed_upto w.reading = reclaim_mark-append 0 w.reading.log (Commits (map (λ (x : Member). x.head) (turns.members_of group)) ∷ []) in
-      let by-kind : (q : Product) → MayBeNext w.layout w.reading m.published q → MayBeNext (laid_out w.layout group) (with_group w.reading (turns.members_of group)) (m.published ++ take v.transactions.group m.queue) q =
+      let same : archived_upto (with_group w.log.reading (turns.members_of group)) ≡ archived_upto w.log.reading = same_archived w.log.reading m.published m.floors w.log.stands (turns.members_of group) (take v.transactions.group m.queue) joins.is_group space in
+      let mark : reclaimed_upto (with_group w.log.reading (turns.members_of group)) ≡ reclaimed_upto w.log.reading = reclaim_mark-append 0 w.log.reading.log (Commits (map (λ (x : Member). x.head) (turns.members_of group)) ∷ []) in
+      let by-kind : (q : Product) → MayBeNext w.log.layout w.log.reading m.published q → MayBeNext (laid_out w.log.layout group) (with_group w.log.reading (turns.members_of group)) (m.published ++ take v.transactions.group m.queue) q =
       next-by joins space grown same mark in
-      subst (λ (n : ℕ). MayBeNext (laid_out w.layout group) (with_group w.reading (turns.members_of group)) (m.published ++ take n m.queue) p) memory.group (by-kind p next)
+      subst (λ (n : ℕ). MayBeNext (laid_out w.log.layout group) (with_group w.log.reading (turns.members_of group)) (m.published ++ take n m.queue) p) memory.group (by-kind p next)
     where
-      next-by : (joins : turns.MayJoin header w.layout w.reading m.published (take v.transactions.group m.queue) (group_of w.layout v.transactions m)) → HasRoom w.reading
-          → last m.published ≤ last (m.published ++ take v.transactions.group m.queue) → archived_upto (with_group w.reading (turns.members_of (group_of w.layout v.transactions m))) ≡ archived_upto w.reading
-          → reclaimed_upto (with_group w.reading (turns.members_of (group_of w.layout v.transactions m))) ≡ reclaimed_upto w.reading → (q : Product) → MayBeNext w.layout w.reading m.published q
-          → MayBeNext (laid_out w.layout (group_of w.layout v.transactions m)) (with_group w.reading (turns.members_of (group_of w.layout v.transactions m))) (m.published ++ take v.transactions.group m.queue) q
+      next-by : (joins : turns.MayJoin header w.log.layout w.log.reading m.published (take v.transactions.group m.queue) (group_of w.log.layout v.transactions m)) → HasRoom w.log.reading
+          → last m.published ≤ last (m.published ++ take v.transactions.group m.queue) → archived_upto (with_group w.log.reading (turns.members_of (group_of w.log.layout v.transactions m))) ≡ archived_upto w.log.reading
+          → reclaimed_upto (with_group w.log.reading (turns.members_of (group_of w.log.layout v.transactions m))) ≡ reclaimed_upto w.log.reading → (q : Product) → MayBeNext w.log.layout w.log.reading m.published q
+          → MayBeNext (laid_out w.log.layout (group_of w.log.layout v.transactions m)) (with_group w.log.reading (turns.members_of (group_of w.log.layout v.transactions m))) (m.published ++ take v.transactions.group m.queue) q
       next-by joins space grown same mark (OfRun run) next = record {
-        plan = archive-plan-stays w.reading m.published (take v.transactions.group m.queue) m.floors (turns.members_of (group_of w.layout v.transactions m)) w.stands joins.is_group space run.entry.upto run.records next.by_last next.plan;
+        plan = archive-plan-stays w.log.reading m.published (take v.transactions.group m.queue) m.floors (turns.members_of (group_of w.log.layout v.transactions m)) w.log.stands joins.is_group space run.entry.upto run.records next.by_last next.plan;
         later = omega (arith, same, next.later);
         by_last = omega (arith, grown, next.by_last);
         stored = next.stored;
-        behind = next.behind ∙ ap (row_end 0) (sym (runs_more header w.layout w.reading m.published (take v.transactions.group m.queue) m.floors (group_of w.layout v.transactions m) w.laid w.stands joins));
+        behind = next.behind ∙ ap (row_end 0) (sym (runs_more header w.log.layout w.log.reading m.published (take v.transactions.group m.queue) m.floors (group_of w.log.layout v.transactions m) w.log.laid w.log.stands joins));
         in_range = next.in_range;
       }
       next-by joins space grown same mark (OfAnchors a) next = record {
-        plan = reclaim-plan-stays w.reading m.published (take v.transactions.group m.queue) m.floors (turns.members_of (group_of w.layout v.transactions m)) w.stands joins.is_group space a.olds next.plan;
+        plan = reclaim-plan-stays w.log.reading m.published (take v.transactions.group m.queue) m.floors (turns.members_of (group_of w.log.layout v.transactions m)) w.log.stands joins.is_group space a.olds next.plan;
         upto = next.upto ∙ sym same;
         later = omega (arith, same, mark, next.later);
         chain = next.chain;
         in_range = next.in_range;
       }
 
-  published-works : 0 < v.transactions.group → is_turning v.transactions.stage ≡ true → turn_of v.job ≡ None → (number : ℕ) → number ≡ length w.layout.slots → AreSound new.disk.areas → (status : AreaState) → new.disk.areas ≡ record v.disk.areas { status = status }
-      → IsTurnAt header w.layout named (laid_out w.layout (group_of w.layout v.transactions m)) slots.Opened new.disk.areas
+  published-works : 0 < v.transactions.group → is_turning v.transactions.stage ≡ true → turn_of v.job ≡ None → (number : ℕ) → number ≡ length w.log.layout.slots → AreSound new.disk.areas → (status : AreaState) → new.disk.areas ≡ record v.disk.areas { status = status }
+      → IsTurnAt header w.log.layout named (laid_out w.log.layout (group_of w.log.layout v.transactions m)) slots.Opened new.disk.areas
       → Works header (with_parts v new (groups.published v.transactions) (record v.log { used = number + 1; writing = false }) None) (steps.group_published m)
   published-works some turning still number last sound status is at =
       let room = room-left header v m order in_step slots_are w some in
-      let joins = joining.joins header v.transactions m w.layout w.reading memory machine order w.laid w.stands built w.built w.kept w.packed some room in
-      let space = has_room header w.layout w.reading m.published (take v.transactions.group m.queue) m.floors (group_of w.layout v.transactions m) w.laid w.stands joins in
-      let group : turns.Group = group_of w.layout v.transactions m in
+      let joins = joining.joins header v.transactions m w.log.layout w.log.reading memory machine order w.log.laid w.log.stands built w.log.built w.heap.kept w.packed some room in
+      let space = has_room header w.log.layout w.log.reading m.published (take v.transactions.group m.queue) m.floors (group_of w.log.layout v.transactions m) w.log.laid w.log.stands joins in
+      let group : turns.Group = group_of w.log.layout v.transactions m in
       let size : v.transactions.group ≡ m.group = memory.group in
       record {
-        layout = laid_out w.layout (group_of w.layout v.transactions m);
-        reading = with_group w.reading (turns.members_of (group_of w.layout v.transactions m));
-        laid = joining.laid_then header v.transactions m w.layout w.reading memory machine order w.laid w.stands built w.built w.kept w.packed some room;
-        stands = subst (λ (n : ℕ). StandsFor (with_group w.reading (turns.members_of (group_of w.layout v.transactions m))) (m.published ++ take n m.queue) m.floors) size
-            (joining.stands_then header v.transactions m w.layout w.reading memory machine order w.laid w.stands built w.built w.kept w.packed some room);
-        built = joining.built_then header v.transactions m w.layout w.reading memory machine order w.laid w.stands built w.built w.kept w.packed some room;
-        used = let long : length (w.layout.slots ++ named ∷ []) ≡ length w.layout.slots + 1 = length-append w.layout.slots (named ∷ []) in omega (arith, long, last);
-        kept = subst (AllKept (groups.published v.transactions).usages) (sym (live_more w.layout (group_of w.layout v.transactions m)))
-            (all-published v.transactions.usages (flat_map numbers_of (take v.transactions.group v.transactions.queue)) (live w.layout) (extents_of (group_of w.layout v.transactions m).members)
-            (joining.out header v.transactions m w.layout w.reading memory machine order w.laid w.stands built w.built w.kept w.packed some room)
-            (joining.numbers header v.transactions m w.layout w.reading memory machine order w.laid w.stands built w.built w.kept w.packed some room)
-            w.kept);
-        times = published-times v.transactions w.layout m order w.times_long w.kept w.times;
-        times_long = chains-long v.transactions.times (take v.transactions.group v.transactions.queue) ∙ w.times_long;
-        heap = λ key.
-            behind-group v.transactions m memory turning key
-            ∙ ap (λ (ws : List (TimedWrite Value)). ws ++ histories.writes_of (take v.transactions.group m.queue) key) (w.heap key)
-            ∙ sym (more_facts w.reading m.published m.floors w.stands (turns.members_of (group_of w.layout v.transactions m)) (take v.transactions.group m.queue) joins.is_group space key);
+        log = record {
+          layout = laid_out w.log.layout (group_of w.log.layout v.transactions m);
+          reading = with_group w.log.reading (turns.members_of (group_of w.log.layout v.transactions m));
+          laid = joining.laid_then header v.transactions m w.log.layout w.log.reading memory machine order w.log.laid w.log.stands built w.log.built w.heap.kept w.packed some room;
+          stands = subst (λ (n : ℕ). StandsFor (with_group w.log.reading (turns.members_of (group_of w.log.layout v.transactions m))) (m.published ++ take n m.queue) m.floors) size
+              (joining.stands_then header v.transactions m w.log.layout w.log.reading memory machine order w.log.laid w.log.stands built w.log.built w.heap.kept w.packed some room);
+          built = joining.built_then header v.transactions m w.log.layout w.log.reading memory machine order w.log.laid w.log.stands built w.log.built w.heap.kept w.packed some room;
+          used = let long : length (w.log.layout.slots ++ named ∷ []) ≡ length w.log.layout.slots + 1 = length-append w.log.layout.slots (named ∷ []) in omega (arith, long, last);
+          archived = w.log.archived ∙ sym (same_archived w.log.reading m.published m.floors w.log.stands (turns.members_of (group_of w.log.layout v.transactions m)) (take v.transactions.group m.queue) joins.is_group space);
+          reclaimed = w.log.reclaimed ∙ sym (reclaim_mark-append 0 w.log.reading.log (Commits (map (λ (x : Member). x.head) (turns.members_of (group_of w.log.layout v.transactions m))) ∷ []));
+          runs_end = w.log.runs_end ∙ ap (row_end 0) (sym (runs_more header w.log.layout w.log.reading m.published (take v.transactions.group m.queue) m.floors (group_of w.log.layout v.transactions m) w.log.laid w.log.stands joins));
+        };
+        heap = record {
+          kept = subst (AllKept (groups.published v.transactions).usages) (sym (live_more w.log.layout (group_of w.log.layout v.transactions m)))
+              (all-published v.transactions.usages (flat_map numbers_of (take v.transactions.group v.transactions.queue)) (live w.log.layout) (extents_of (group_of w.log.layout v.transactions m).members)
+              (joining.out header v.transactions m w.log.layout w.log.reading memory machine order w.log.laid w.log.stands built w.log.built w.heap.kept w.packed some room)
+              (joining.numbers header v.transactions m w.log.layout w.log.reading memory machine order w.log.laid w.log.stands built w.log.built w.heap.kept w.packed some room)
+              w.heap.kept);
+          times = published-times v.transactions w.log.layout m order w.heap.times_long w.heap.kept w.heap.times;
+          times_long = chains-long v.transactions.times (take v.transactions.group v.transactions.queue) ∙ w.heap.times_long;
+          facts = λ key.
+              behind-group v.transactions m memory turning key
+              ∙ ap (λ (ws : List (TimedWrite Value)). ws ++ histories.writes_of (take v.transactions.group m.queue) key) (w.heap.facts key)
+              ∙ sym (more_facts w.log.reading m.published m.floors w.log.stands (turns.members_of (group_of w.log.layout v.transactions m)) (take v.transactions.group m.queue) joins.is_group space key);
+        };
         packed = subst (λ (n : ℕ). AllPacked (m.published ++ take n m.queue) (drop v.transactions.group v.transactions.queue) (drop n m.queue)) size (packed-rest v.transactions.group m.published v.transactions.queue m.queue w.packed);
-        archived = w.archived ∙ sym (same_archived w.reading m.published m.floors w.stands (turns.members_of (group_of w.layout v.transactions m)) (take v.transactions.group m.queue) joins.is_group space);
-        reclaimed = w.reclaimed ∙ sym (reclaim_mark-append 0 w.reading.log (Commits (map (λ (x : Member). x.head) (turns.members_of (group_of w.layout v.transactions m))) ∷ []));
-        runs_end = w.runs_end ∙ ap (row_end 0) (sym (runs_more header w.layout w.reading m.published (take v.transactions.group m.queue) m.floors (group_of w.layout v.transactions m) w.laid w.stands joins));
-        rested = new.disk.areas.status;
-        rests = rested-now header (laid_out w.layout (group_of w.layout v.transactions m)) (turn_of v.job) new.disk.areas.status still;
-        at = record { status = at.status; parts = at.new_parts };
-        job = job-moves header w.layout (laid_out w.layout (group_of w.layout v.transactions m)) w.reading (with_group w.reading (turns.members_of (group_of w.layout v.transactions m))) m.published (m.published ++ take m.group m.queue) v.transactions.reserved v.job new.disk.areas still (next-product some)
-            (subst (λ (a : Areas). HasJob header w.layout w.reading m.published v.transactions.reserved v.job a) (sym is) (job-beside-status header w.layout w.reading m.published v.transactions.reserved v.job v.disk.areas status still w.job));
+        group = record {
+          rested = new.disk.areas.status;
+          rests = rested-now header (laid_out w.log.layout (group_of w.log.layout v.transactions m)) (turn_of v.job) new.disk.areas.status still;
+          at = record { status = at.status; parts = at.new_parts };
+        };
+        job = job-moves header w.log.layout (laid_out w.log.layout (group_of w.log.layout v.transactions m)) w.log.reading (with_group w.log.reading (turns.members_of (group_of w.log.layout v.transactions m))) m.published (m.published ++ take m.group m.queue) v.transactions.reserved v.job new.disk.areas still (next-product some)
+            (subst (λ (a : Areas). HasJob header w.log.layout w.log.reading m.published v.transactions.reserved v.job a) (sym is) (job-beside-status header w.log.layout w.log.reading m.published v.transactions.reserved v.job v.disk.areas status still w.job));
         sound = sound;
       }
 
@@ -821,14 +806,14 @@ wrote-step tells v new answer m parts machine works asks sound (Some stored) fou
               let d = parts.disk told in
               let w = d.works works in
               let base = resting-areas d.header v m w in
-              let then : Areas = record new.disk.areas { status = w.rested } in
-              let call = rested-write w.rested (extent_start stored.extent) stored.image v.disk.areas new.disk.areas (takes.call.areas told) in
+              let then : Areas = record new.disk.areas { status = w.group.rested } in
+              let call = rested-write w.group.rested (extent_start stored.extent) stored.image v.disk.areas new.disk.areas (takes.call.areas told) in
               let sound' = resting-sound d.header v m w in
-              let goes = wrote-goes d.header v new m parts.memory machine parts.order parts.in_step d.profile d.slots d.profile_built w (Ok tt) at.member at.extent at.is at.low stored there base then sound' w.at call in
+              let goes = wrote-goes d.header v new m parts.memory machine parts.order parts.in_step d.profile d.slots d.profile_built w (Ok tt) at.member at.extent at.is at.low stored there base then sound' w.group.at call in
               let on = goes-on d.header v new m parts.memory machine parts.order parts.in_step d.profile d.slots d.profile_built w base then goes in
               on-disk d.header (with_parts v new (groups.wrote_extent v.transactions) v.log v.turn) m memory machine order in_step d.profile d.slots d.profile_built (parts.gate works)
               (heap-wrote d.header v new m parts.memory machine parts.order parts.in_step d.profile d.slots d.profile_built w at.member at.extent at.low stored there (takes.call.areas told) stage (sound told)
-              (wrote-at d.header v new m parts.memory machine parts.order parts.in_step d.profile d.slots d.profile_built w (Ok tt) at.member at.extent at.is at.low stored there base then sound' w.at call on));
+              (wrote-at d.header v new m parts.memory machine parts.order parts.in_step d.profile d.slots d.profile_built w (Ok tt) at.member at.extent at.is at.low stored there base then sound' w.group.at call on));
         })
 
 -- ---- the heap
@@ -879,9 +864,9 @@ synced-step tells v new answer m parts machine works asks sound takes =
               let d = parts.disk told in
               let w = d.works works in
               let base = resting-areas d.header v m w in
-              let then : Areas = record new.disk.areas { status = w.rested } in
-              let goes = synced-goes d.header v new m parts.memory machine parts.order parts.in_step d.profile d.slots d.profile_built w (Ok tt) at.member at.extent at.is at.past at.some base then (resting-sound d.header v m w) w.at
-              (rested-sync w.rested v.disk.areas new.disk.areas (takes.call.areas told)) in
+              let then : Areas = record new.disk.areas { status = w.group.rested } in
+              let goes = synced-goes d.header v new m parts.memory machine parts.order parts.in_step d.profile d.slots d.profile_built w (Ok tt) at.member at.extent at.is at.past at.some base then (resting-sound d.header v m w) w.group.at
+              (rested-sync w.group.rested v.disk.areas new.disk.areas (takes.call.areas told)) in
               let on = goes-on d.header v new m parts.memory machine parts.order parts.in_step d.profile d.slots d.profile_built w base then goes in
               on-disk d.header (with_parts v new (groups.at_stage Stored v.transactions) v.log v.turn) m memory machine order in_step d.profile d.slots d.profile_built (parts.gate works)
               (heap-synced d.header v new m parts.memory machine parts.order parts.in_step d.profile d.slots d.profile_built w (takes.call.areas told) Stored (sound told) on);
@@ -910,7 +895,7 @@ job-later (Some j) archived early late opened pending versions versions' still g
 
 -- the turn of the slot is the group's, where the store tells what is on its disk
 abbrev IsGroupTurn : (tells : Bool) (v : StoreValue) (m : Machine Value) → (IsTrue tells → StandsOnDisk v m) → m.failed ≡ false → TurnState → Type 0
-IsGroupTurn tells v m disk works t = (told : IsTrue tells) → IsTurnOf (disk told).header ((disk told).works works).layout (group_of ((disk told).works works).layout v.transactions m) t v.disk.areas
+IsGroupTurn tells v m disk works t = (told : IsTrue tells) → IsTurnOf (disk told).header ((disk told).works works).log.layout (group_of ((disk told).works works).log.layout v.transactions m) t v.disk.areas
 
 -- a slot on its way: the store has the stage and the turn of it
 module _ (tells : Bool) (v new : StoreValue) (m : Machine Value) (t : TurnState) (parts : Parts tells v m) (machine : IsMachine IsValue m) (works : m.failed ≡ false) (turning : v.transactions.stage ≡ Turning) (mine-is : v.turn ≡ Some t) (number : t.number ≡ v.log.used)
@@ -920,13 +905,13 @@ module _ (tells : Bool) (v new : StoreValue) (m : Machine Value) (t : TurnState)
 
   -- the next call of the slot is made
   led : (stage : SlotStage) → t.stage ≡ stage → (IsTrue tells → IsSlotCall t.number t.body t.stage (Ok tt) v.disk.areas new.disk.areas) → (told : IsTrue tells) →
-      IsTurnAt (parts.disk told).header ((parts.disk told).works works).layout (group_of ((parts.disk told).works works).layout v.transactions m).slot
-      (laid_out ((parts.disk told).works works).layout (group_of ((parts.disk told).works works).layout v.transactions m)) (slots.slot_stage_after stage) new.disk.areas
+      IsTurnAt (parts.disk told).header ((parts.disk told).works works).log.layout (group_of ((parts.disk told).works works).log.layout v.transactions m).slot
+      (laid_out ((parts.disk told).works works).log.layout (group_of ((parts.disk told).works works).log.layout v.transactions m)) (slots.slot_stage_after stage) new.disk.areas
   led stage is call told =
       let d = parts.disk told in
       let w = d.works works in
       let goes = slot-goes d.header v new m parts.memory machine parts.order parts.in_step d.profile d.slots d.profile_built w (Ok tt) t (own told) group-some (call told) in
-      subst (λ (s : SlotStage). IsTurnAt d.header w.layout (group_of w.layout v.transactions m).slot (laid_out w.layout (group_of w.layout v.transactions m)) (slots.slot_stage_after s) new.disk.areas) is
+      subst (λ (s : SlotStage). IsTurnAt d.header w.log.layout (group_of w.log.layout v.transactions m).slot (laid_out w.log.layout (group_of w.log.layout v.transactions m)) (slots.slot_stage_after s) new.disk.areas) is
       (goes-on d.header v new m parts.memory machine parts.order parts.in_step d.profile d.slots d.profile_built w v.disk.areas new.disk.areas goes)
 
   -- no job's slot is in the writing beside it
@@ -965,27 +950,18 @@ module _ (tells : Bool) (v new : StoreValue) (m : Machine Value) (t : TurnState)
             let d = parts.disk told in
             let w = d.works works in
             let mine = own told in
-            let at : IsAtStage d.header w.layout (group_of w.layout v.transactions m) v.transactions.queue Turning after new.disk.areas = record { number = mine.number; long = mine.long; spelled = mine.spelled; at = led stage is call told } in
+            let at : IsAtStage d.header w.log.layout (group_of w.log.layout v.transactions m) v.transactions.queue Turning after new.disk.areas = record { number = mine.number; long = mine.long; spelled = mine.spelled; at = led stage is call told } in
             on-disk d.header (with_parts v new v.transactions v.log after) to memory machine' parts.order in_step d.profile d.slots d.profile_built refl (record {
-              layout = w.layout;
-              reading = w.reading;
-              laid = w.laid;
-              stands = w.stands;
-              built = w.built;
-              used = w.used;
-              kept = w.kept;
-              times = w.times;
-              times_long = w.times_long;
+              log = w.log;
               heap = w.heap;
               packed = w.packed;
-              archived = w.archived;
-              reclaimed = w.reclaimed;
-              runs_end = w.runs_end;
-              rested = new.disk.areas.status;
-              rests = rested-now d.header w.layout (turn_of v.job) new.disk.areas.status still;
-              at = subst (λ (s : GroupStage). IsAtStage d.header w.layout (group_of w.layout v.transactions m) v.transactions.queue s after new.disk.areas) (sym turning) at;
-              job = subst (λ (a : Areas). HasJob d.header w.layout w.reading m.published v.transactions.reserved v.job a) (sym (slot-alone t.stage t.number t.body v.disk.areas new.disk.areas (call told)))
-                  (job-beside-status d.header w.layout w.reading m.published v.transactions.reserved v.job v.disk.areas new.disk.areas.status still w.job);
+              group = record {
+                rested = new.disk.areas.status;
+                rests = rested-now d.header w.log.layout (turn_of v.job) new.disk.areas.status still;
+                at = subst (λ (s : GroupStage). IsAtStage d.header w.log.layout (group_of w.log.layout v.transactions m) v.transactions.queue s after new.disk.areas) (sym turning) at;
+              };
+              job = subst (λ (a : Areas). HasJob d.header w.log.layout w.log.reading m.published v.transactions.reserved v.job a) (sym (slot-alone t.stage t.number t.body v.disk.areas new.disk.areas (call told)))
+                  (job-beside-status d.header w.log.layout w.log.reading m.published v.transactions.reserved v.job v.disk.areas new.disk.areas.status still w.job);
               sound = sound told;
             });
       } in
@@ -1070,12 +1046,12 @@ module _ (tells : Bool) (v new : StoreValue) (m : Machine Value) (parts : Parts 
   shut : m.gate ≡ Shut
   shut = gate-shut v m parts.in_step parts.memory.failed parts.gate works (ap is_turning stored)
 
-  first-turn : (told : IsTrue tells) → IsTurnOf (parts.disk told).header ((parts.disk told).works works).layout (group_of ((parts.disk told).works works).layout v.transactions m) first v.disk.areas
+  first-turn : (told : IsTrue tells) → IsTurnOf (parts.disk told).header ((parts.disk told).works works).log.layout (group_of ((parts.disk told).works works).log.layout v.transactions m) first v.disk.areas
   first-turn told =
       let d = parts.disk told in
       let w = d.works works in
       begun-turn d.header v new m parts.memory machine parts.order parts.in_step d.profile d.slots d.profile_built w body commit
-      (subst (λ (s : GroupStage). IsAtStage d.header w.layout (group_of w.layout v.transactions m) v.transactions.queue s v.turn v.disk.areas) stored (now-at d.header v m w still)) some-stored
+      (subst (λ (s : GroupStage). IsAtStage d.header w.log.layout (group_of w.log.layout v.transactions m) v.transactions.queue s v.turn v.disk.areas) stored (now-at d.header v m w still)) some-stored
 
   abbrev first-goes : (answer : Result (Unit {0}) DeviceFault) (told : IsTrue tells) → IsSlotCall first.number first.body slots.Begun answer v.disk.areas new.disk.areas → Goes (parts.disk told).header v m ((parts.disk told).works works) answer v.disk.areas new.disk.areas
   first-goes answer told call =
@@ -1112,9 +1088,9 @@ module _ (tells : Bool) (v new : StoreValue) (m : Machine Value) (parts : Parts 
             let on = goes-on d.header v new m parts.memory machine parts.order parts.in_step d.profile d.slots d.profile_built w v.disk.areas new.disk.areas (first-goes (Ok tt) told (to.call.areas told)) in
             on-disk d.header (with_parts v new (groups.at_stage Turning v.transactions) log after) m memory machine order in_step d.profile d.slots d.profile_built shut
             (staged-works d.header v new m parts.memory machine parts.order parts.in_step d.profile d.slots d.profile_built w Turning log after refl (sound told) new.disk.areas.status
-            (rested-now d.header w.layout (turn_of v.job) new.disk.areas.status still) (record { number = mine.number; long = mine.long; spelled = mine.spelled; at = on })
-            (subst (λ (a : Areas). HasJob d.header w.layout w.reading m.published v.transactions.reserved v.job a) (sym (slot-alone slots.Begun first.number first.body v.disk.areas new.disk.areas (to.call.areas told)))
-            (job-beside-status d.header w.layout w.reading m.published v.transactions.reserved v.job v.disk.areas new.disk.areas.status still w.job)));
+            (rested-now d.header w.log.layout (turn_of v.job) new.disk.areas.status still) (record { number = mine.number; long = mine.long; spelled = mine.spelled; at = on })
+            (subst (λ (a : Areas). HasJob d.header w.log.layout w.log.reading m.published v.transactions.reserved v.job a) (sym (slot-alone slots.Begun first.number first.body v.disk.areas new.disk.areas (to.call.areas told)))
+            (job-beside-status d.header w.log.layout w.log.reading m.published v.transactions.reserved v.job v.disk.areas new.disk.areas.status still w.job)));
       })
   begun-step asks (Err why) to =
       let log : LogState = record v.log { writing = true } in
@@ -1190,8 +1166,8 @@ advance-step tells v new m parts machine works asks sound answer takes =
         (λ told.
         let d = parts.disk told in
         let w = d.works works in
-        subst (λ (o : Option TurnState). IsAtStage d.header w.layout (group_of w.layout v.transactions m) v.transactions.queue Turning o v.disk.areas) at
-        (subst (λ (s : GroupStage). IsAtStage d.header w.layout (group_of w.layout v.transactions m) v.transactions.queue s v.turn v.disk.areas) is (now-at d.header v m w still)))
+        subst (λ (o : Option TurnState). IsAtStage d.header w.log.layout (group_of w.log.layout v.transactions m) v.transactions.queue Turning o v.disk.areas) at
+        (subst (λ (s : GroupStage). IsAtStage d.header w.log.layout (group_of w.log.layout v.transactions m) v.transactions.queue s v.turn v.disk.areas) is (now-at d.header v m w still)))
         sound still takes.job asks answer takes
 
 step : (tells : Bool) (s : NextStep) (v new : StoreValue) (answer : Result Did PumpFault) (m : Machine Value) → Parts tells v m → IsMachine IsValue m → m.failed ≡ false → groups.due v.transactions ≡ s → (IsTrue tells → AreSound new.disk.areas)

@@ -175,13 +175,13 @@ module _ (header : Header) (v : StoreValue) (m : Machine Value) (memory : Stands
   later = ⊎_elim (λ (less : v.transactions.reclaimed < v.archived). less) (λ (no : v.archived ≤ v.transactions.reclaimed). let low = marks.0 in absurd (may.other (omega (arith, no, low)))) (cases_lt v.transactions.reclaimed v.archived)
 
   low : v.archived < 2 ^ 63
-  low = let by = marks.1 in omega (arith, by, last-range w.reading m.published m.floors w.stands)
+  low = let by = marks.1 in omega (arith, by, last-range w.log.reading m.published m.floors w.log.stands)
 
   chains : AllByRecursion (λ (c : KeyWrites). IsRisingAfter 0 c.writes × AllByRecursion (IsInRange c.key) c.writes) v.transactions.versions
   chains =
       each-chain (λ key ws. IsRisingAfter 0 ws × AllByRecursion (IsInRange key) ws) (λ key. (tt, tt)) v.transactions.versions memory.versions.ordered (λ key.
-      subst (λ (ws : List Write). IsRisingAfter 0 ws × AllByRecursion (IsInRange key) ws) (sym (w.heap key))
-      (facts-rise w.reading m.published m.floors w.stands key, facts-in-range w.reading m.published m.floors key w.stands w.laid.heap.anchors_are.each))
+      subst (λ (ws : List Write). IsRisingAfter 0 ws × AllByRecursion (IsInRange key) ws) (sym (w.heap.facts key))
+      (facts-rise w.log.reading m.published m.floors w.log.stands key, facts-in-range w.log.reading m.published m.floors key w.log.stands w.log.laid.heap.anchors_are.each))
 
   in-memory : AreInMemory v.transactions.versions
   in-memory = record {
@@ -194,11 +194,11 @@ module _ (header : Header) (v : StoreValue) (m : Machine Value) (memory : Stands
   numbered = least-numbered v.transactions.usages numbers least
 
   -- the chain of its anchors may come next
-  pub next-chain : IsNextChain w.reading (begun v numbers)
+  pub next-chain : IsNextChain w.log.reading (begun v numbers)
   next-chain = record {
-    plan = reclaim_plan-is w.reading v.transactions.versions in-memory (λ key. ap (λ (ws : List (TimedWrite Value)). versions ws) (sym (w.heap key))) v.archived (sym w.archived);
-    upto = w.archived;
-    later = omega (arith, w.archived, w.reclaimed, later);
+    plan = reclaim_plan-is w.log.reading v.transactions.versions in-memory (λ key. ap (λ (ws : List (TimedWrite Value)). versions ws) (sym (w.heap.facts key))) v.archived (sym w.log.archived);
+    upto = w.log.archived;
+    later = omega (arith, w.log.archived, w.log.reclaimed, later);
     chain = begun-chain v numbers numbered many
         (anchors-in-range v.archived v.transactions.versions low
         (weaker (λ (c : KeyWrites). IsRisingAfter 0 c.writes × AllByRecursion (IsInRange c.key) c.writes) (λ (c : KeyWrites). AllByRecursion (IsInRange c.key) c.writes) v.transactions.versions (λ c both. both.1) chains));
@@ -207,23 +207,19 @@ module _ (header : Header) (v : StoreValue) (m : Machine Value) (memory : Stands
 
   pub begun-works : Works header (with_reclaim v numbers) m
   begun-works = record {
-    layout = w.layout;
-    reading = w.reading;
-    laid = w.laid;
-    stands = w.stands;
-    built = w.built;
-    used = w.used;
-    kept = reserved-live v.transactions numbers (live w.layout) order least w.kept;
-    times = w.times;
-    times_long = w.times_long;
-    heap = w.heap;
+    log = w.log;
+    heap = record {
+      kept = reserved-live v.transactions numbers (live w.log.layout) order least w.heap.kept;
+      times = w.heap.times;
+      times_long = w.heap.times_long;
+      facts = w.heap.facts;
+    };
     packed = w.packed;
-    archived = w.archived;
-    reclaimed = w.reclaimed;
-    runs_end = w.runs_end;
-    rested = w.rested;
-    rests = subst (λ (o : Option Job). IsRested header w.layout (turn_of o) w.rested v.disk.areas.status) may.free w.rests;
-    at = w.at;
+    group = record {
+      rested = w.group.rested;
+      rests = subst (λ (o : Option Job). IsRested header w.log.layout (turn_of o) w.group.rested v.disk.areas.status) may.free w.group.rests;
+      at = w.group.at;
+    };
     job = record { product = OfAnchors (begun v numbers); made = (refl, begun-named v numbers numbered many); next = next-chain; at = begun-filling v numbers numbered many v.disk.areas.heap };
     sound = w.sound;
   }

@@ -18,7 +18,8 @@ use Rattle.image.specs.Reading.{OldRecord, Reading}
 use Rattle.image.specs.Facts.{latest, heap_facts}
 use Rattle.image.specs.Plans.{stored_record, stored_member, IsArchivePlan, IsReclaimPlan, with_run, with_anchors}
 use Rattle.image.specs.StandsFor.{StandsFor, archived_upto, reclaimed_upto}
-use Rattle.chains.specs.KeyWrites.{writes_of}
+use Rattle.chains.specs.KeyWrites.{KeyWrites, writes_of}
+use Rattle.extents.specs.declared.usage.Usage.{Usage}
 use Rattle.extents.specs.Usages.{IsKept}
 use Rattle.extents.specs.Times.{time_of}
 use Rattle.deltas.specs.Extents.{Extent, extent_bytes}
@@ -243,28 +244,39 @@ IsRested header layout (Some t) rested status = StatusRests header layout.slots 
 abbrev pub HasTimes : List ℕ → List StoredMember → Type 0
 HasTimes times members = AllByRecursion (λ (s : StoredMember). AllByRecursion (λ (e : Extent). time_of times e.number ≡ s.entry.time) s.extents) members
 
--- No call was refused. The disk has a log that stands for what is published, beside it what is written of the group and of what the job makes, and no live chain has an extent that is not kept.
-pub record Works (header : Header) (v : StoreValue) (m : Machine Value) : Type 0 where
+-- The log stands for what is published. So many of its slots are used, and these are its marks and the end of its runs.
+pub record HasLog (header : Header) (many mark forgotten end : ℕ) (h : History Value) (floors : ℕ → ℕ) : Type 0 where
   pub layout : Layout
   pub reading : Reading
   pub laid : IsLayoutOf header layout reading
-  pub stands : StandsFor reading m.published m.floors
+  pub stands : StandsFor reading h floors
   pub built : AreBuilt header layout.slots
-  pub used : v.log.used ≡ length layout.slots
-  pub kept : AllByRecursion (λ e. IsKept v.transactions.usages e.number) (live layout)
+  pub used : many ≡ length layout.slots
+  pub archived : mark ≡ archived_upto reading
+  pub reclaimed : forgotten ≡ reclaimed_upto reading
+  pub runs_end : end ≡ row_end 0 (runs_of layout.slots)
+
+-- No live chain has an extent that is not kept, and memory has the facts of the heap.
+pub record HasHeap (layout : Layout) (reading : Reading) (usages : List Usage) (chains : List ℕ) (versions : List KeyWrites) : Type 0 where
+  pub kept : AllByRecursion (λ e. IsKept usages e.number) (live layout)
   -- each extent of a commit's chain is known by the time of its commit
-  pub times : HasTimes v.transactions.times layout.members
-  pub times_long : length v.transactions.times ≡ 65536
-  -- memory has the facts of the heap
-  pub heap : (key : Key) → writes_of v.transactions.versions key ≡ heap_facts reading key
-  pub packed : AllPacked m.published v.transactions.queue m.queue
-  pub archived : v.archived ≡ archived_upto reading
-  pub reclaimed : v.transactions.reclaimed ≡ reclaimed_upto reading
-  pub runs_end : v.runs_end ≡ row_end 0 (runs_of layout.slots)
+  pub times : HasTimes chains layout.members
+  pub times_long : length chains ≡ 65536
+  pub facts : (key : Key) → writes_of versions key ≡ heap_facts reading key
+
+-- what is written of the group, on areas whose status area is as it would rest
+pub record HasGroup (header : Header) (layout : Layout) (group : Group) (qs : List QueuedValue) (stage : GroupStage) (turn other : Option TurnState) (areas : Areas) : Type 0 where
   pub rested : AreaState
-  pub rests : IsRested header layout (turn_of v.job) rested v.disk.areas.status
-  pub at : IsAtStage header layout (group_of layout v.transactions m) v.transactions.queue v.transactions.stage v.turn (record v.disk.areas { status = rested })
-  pub job : HasJob header layout reading m.published v.transactions.reserved v.job v.disk.areas
+  pub rests : IsRested header layout other rested areas.status
+  pub at : IsAtStage header layout group qs stage turn (record areas { status = rested })
+
+-- No call was refused. The disk has a log that stands for what is published, and beside it what is written of the group and of what the job makes.
+pub record Works (header : Header) (v : StoreValue) (m : Machine Value) : Type 0 where
+  pub log : HasLog header v.log.used v.archived v.transactions.reclaimed v.runs_end m.published m.floors
+  pub heap : HasHeap log.layout log.reading v.transactions.usages v.transactions.times v.transactions.versions
+  pub packed : AllPacked m.published v.transactions.queue m.queue
+  pub group : HasGroup header log.layout (group_of log.layout v.transactions m) v.transactions.queue v.transactions.stage v.turn (turn_of v.job) v.disk.areas
+  pub job : HasJob header log.layout log.reading m.published v.transactions.reserved v.job v.disk.areas
   pub sound : AreSound v.disk.areas
 
 -- Whatever a stop may leave stands for a front of the commit order: for what is published, or, once the gate of the group may be open, for that or for what is published with the whole group.
