@@ -63,7 +63,6 @@ use Rattle.standing.proofs.Memory.{last-is}
 use Rattle.standing.proofs.Jobs.{resting}
 use Rattle.standing.proofs.JobPumping.{keeps-parts}
 use Rattle.standing.proofs.Ranges.{IsInRange, each-chain, all-rising, versions-in-range, facts-in-range}
-use Rattle.standing.proofs.Pumping.{on-disk}
 
 -- ---- a run has one spelling
 

@@ -94,7 +94,8 @@ use Rattle.standing.proofs.Publishing.{breaks}
 use Rattle.standing.proofs.Reclaimed.{prepares, reclaims}
 use Rattle.standing.proofs.Retired.{reserved-out, reclaimed-kept, reclaimed-times, reclaimed-order, times-long}
 use Rattle.standing.proofs.Jobs.{IsFree, resting, adds, made_extents, made-are, live-with, product-built, laid-after, stands-after, built-after, product-leaves-within, product-leads}
-use Rattle.standing.proofs.Pumping.{Parts, now-at, job-room, job-free, room-left, out-middle, stage-leaves, works-leave, on-disk, broken-order, slot-alone}
+use Rattle.standing.proofs.Working.{Working, working, group_in, room-left, job-room}
+use Rattle.standing.proofs.Pumping.{now-at, job-free, out-middle, stage-leaves, works-leave, goes-on-working, goes-on-failed, broken-machine, broken-order, slot-alone}
 
 -- ---- what a group's stage says of the areas
 
@@ -176,41 +177,33 @@ stage-behind header layout v m p qs Turning turn old status still rests keeps at
 -- ---- the store after a step
 
 abbrev Ends : Bool → Machine Value → Result JobDid PumpFault → StoreValue → Type 0
-Ends tells m answer v = (after : Machine Value) × steps.Run IsValue m (job_ends_in answer) after × Parts tells v after
+Ends tells m answer v = (after : Machine Value) × steps.Run IsValue m (job_ends_in answer) after × Stands tells v after
 
 -- what memory keeps of a job, in this store
 abbrev Keeps : StoreValue → Machine Value → JobWork → JobStage → Type 0
 Keeps v m work stage = KeepsWork work stage v.archived (last m.published) v.transactions.opened v.transactions.pending v.transactions.versions
 
 -- a call that is made
-stays : (tells : Bool) (new to : StoreValue) (m : Machine Value) (said : JobDid) → new ≡ to → Parts tells to m → Ends tells m (Ok said) new
-stays tells new to m said is parts = (m, refl, subst (λ (x : StoreValue). Parts tells x m) (sym is) parts)
+stays : (tells : Bool) (new to : StoreValue) (m : Machine Value) (said : JobDid) → new ≡ to → Stands tells to m → Ends tells m (Ok said) new
+stays tells new to m said is parts = (m, refl, subst (λ (x : StoreValue). Stands tells x m) (sym is) parts)
 
 -- a refused call
-fails : (tells : Bool) (v new : StoreValue) (m : Machine Value) (why : PumpFault) (log : LogState) (j : Job) → (parts : Parts tells v m) → (works : m.failed ≡ false) → why ≡ pump.Failed → log.profile ≡ v.log.profile → log.slots ≡ v.log.slots → log.used ≡ v.log.used → lent_to v.job ≡ 1
+fails : (tells : Bool) (v new : StoreValue) (m : Machine Value) (why : PumpFault) (log : LogState) (j : Job) → (stands : Stands tells v m) → (works : m.failed ≡ false) → why ≡ pump.Failed → log.profile ≡ v.log.profile → log.slots ≡ v.log.slots → log.used ≡ v.log.used → lent_to v.job ≡ 1
     → Keeps v m j.work j.stage → new ≡ record v { transactions = groups.broken v.transactions; log = log; job = Some j; disk = new.disk }
-    → ((told : IsTrue tells) (image : Image) → LeavesImage new.disk.areas image → OnFront (IsImageOf (parts.disk told).header image) m) → Ends tells m (Err why) new
-fails tells v new m why log j parts works said profile many used lent keeps is leaves =
+    → ((told : IsTrue tells) (image : Image) → LeavesImage new.disk.areas image → OnFront (IsImageOf (stands.disk told).header image) m) → Ends tells m (Err why) new
+fails tells v new m why log j stands works said profile many used lent keeps is leaves =
     subst (λ (e : PumpFault). Ends tells m (Err e) new) (sym said) (
       steps.broken m,
       (steps.broken m, (works, refl), refl),
-      subst (λ (x : StoreValue). Parts tells x (steps.broken m)) (sym is) (record {
-        memory = breaks v.transactions m parts.memory;
-        order = broken-order v.transactions parts.order;
-        in_step = record { slots = omega (arith, many, parts.in_step.slots, lent); used = used ∙ parts.in_step.used; turns = λ no. absurd cc };
+      subst (λ (x : StoreValue). Stands tells x (steps.broken m)) (sym is) (goes-on-failed tells v (record v { transactions = groups.broken v.transactions; log = log; job = Some j; disk = new.disk }) m (steps.broken m) stands (record {
+        memory = breaks v.transactions m stands.memory;
+        machine = broken-machine m m.gate stands.machine;
+        order = broken-order v.transactions stands.order;
+        in_step = record { slots = omega (arith, many, stands.in_step.slots, lent); used = used ∙ stands.in_step.used; turns = λ no. absurd cc };
         gate = λ no. absurd cc;
-        marks = parts.marks;
+        marks = stands.marks;
         job = keeps;
-        disk = λ told.
-            let d = parts.disk told in record {
-              header = d.header;
-              profile = profile ∙ d.profile;
-              slots = many ∙ d.slots;
-              profile_built = d.profile_built;
-              leaves = leaves told;
-              works = λ no. absurd cc;
-            };
-      }),
+      }) refl profile many leaves),
     )
 
 -- ---- what the job makes is written
@@ -263,42 +256,32 @@ in-step-with v new j j' is none none' in_step = record {
       };
 }
 
-module _ (tells : Bool) (v new : StoreValue) (m : Machine Value) (parts : Parts tells v m) (machine : IsMachine IsValue m) (works : m.failed ≡ false) (sound : IsTrue tells → AreSound new.disk.areas) (j : Job) (is : v.job ≡ Some j) where
+module _ (tells : Bool) (v new : StoreValue) (m : Machine Value) (stands : Stands tells v m) (works : m.failed ≡ false) (sound : IsTrue tells → AreSound new.disk.areas) (j : Job) (is : v.job ≡ Some j) where
   lent : lent_to v.job ≡ 1
   lent = ap lent_to is
 
   kept-so : Keeps v m j.work j.stage
-  kept-so = subst (λ (o : Option Job). KeepsJobOf o v.archived (last m.published) v.transactions.opened v.transactions.pending v.transactions.versions) is parts.job
+  kept-so = subst (λ (o : Option Job). KeepsJobOf o v.archived (last m.published) v.transactions.opened v.transactions.pending v.transactions.versions) is stands.job
 
   -- what is left by a call that changed nothing
-  same : (told : IsTrue tells) → new.disk.areas ≡ v.disk.areas → (image : Image) → LeavesImage new.disk.areas image → OnFront (IsImageOf (parts.disk told).header image) m
+  same : (told : IsTrue tells) → new.disk.areas ≡ v.disk.areas → (image : Image) → LeavesImage new.disk.areas image → OnFront (IsImageOf (stands.disk told).header image) m
   same told is image left =
-      let d = parts.disk told in
-      works-leave d.header v m parts.memory machine parts.order parts.in_step d.slots d.profile_built (parts.gate works) (d.works works) image (subst (λ (a : Areas). LeavesImage a image) is left)
+      let c = working tells v m stands works told in
+      works-leave v m c image (subst (λ (a : Areas). LeavesImage a image) is left)
 
   -- what is left while something is written beside the group and the log
-  torn-leaves : (told : IsTrue tells) (areas : Areas) → IsAtStage (parts.disk told).header ((parts.disk told).works works).log.layout (group_of ((parts.disk told).works works).log.layout v.transactions m) v.transactions.queue v.transactions.stage v.turn areas
-      → (image : Image) → LeavesImage areas image → OnFront (IsImageOf (parts.disk told).header image) m
+  torn-leaves : (told : IsTrue tells) (areas : Areas) → IsAtStage (stands.disk told).header ((stands.disk told).works works).log.layout (group_of ((stands.disk told).works works).log.layout v.transactions m) v.transactions.queue v.transactions.stage v.turn areas
+      → (image : Image) → LeavesImage areas image → OnFront (IsImageOf (stands.disk told).header image) m
   torn-leaves told areas at image left =
-      let d = parts.disk told in
-      let w = d.works works in
-      stage-leaves d.header v m parts.memory machine parts.order d.profile_built w (room-left d.header v m parts.order parts.in_step d.slots w) areas v.transactions.stage v.turn (parts.gate works) parts.order.stage_fits at image left
+      let c = working tells v m stands works told in
+      let w = c.works in
+      stage-leaves v m c areas v.transactions.stage v.turn (stands.gate works) stands.order.stage_fits at image left
 
   -- the store with another job
-  moved : (j' : Job) → turn_of v.job ≡ None → turn_in j'.stage ≡ None → Keeps v m j'.work j'.stage → ((told : IsTrue tells) → Works (parts.disk told).header (with_job v j' new) m) → Parts tells (with_job v j' new) m
-  moved j' none none' keeps working =
-      let in_step = in-step-with v new j j' is none none' parts.in_step in
-      record {
-        memory = parts.memory;
-        order = parts.order;
-        in_step = in_step;
-        gate = parts.gate;
-        marks = parts.marks;
-        job = keeps;
-        disk = λ told.
-            let d = parts.disk told in
-            on-disk d.header (with_job v j' new) m parts.memory machine parts.order in_step d.profile d.slots d.profile_built (parts.gate works) (working told);
-      }
+  moved : (j' : Job) → turn_of v.job ≡ None → turn_in j'.stage ≡ None → Keeps v m j'.work j'.stage → ((told : IsTrue tells) → Works (stands.disk told).header (with_job v j' new) m) → Stands tells (with_job v j' new) m
+  moved j' none none' keeps works-so =
+      goes-on-working tells v (with_job v j' new) m m stands works
+      (record { memory = stands.memory; machine = stands.machine; order = stands.order; in_step = in-step-with v new j j' is none none' stands.in_step; gate = stands.gate; marks = stands.marks; job = keeps }) works refl refl works-so
 
 -- the first of these have what all have
 all-front-of : {X : Type 0} (P : X → Type 0) (n : ℕ) (xs : List X) → AllByRecursion P xs → AllByRecursion P (take n xs)
@@ -308,7 +291,7 @@ all-front-of P (suc n) (x ∷ xs) all = (all.0, all-front-of P n xs all.1)
 
 -- ---- a run is written
 
-module _ (tells : Bool) (v new : StoreValue) (m : Machine Value) (parts : Parts tells v m) (machine : IsMachine IsValue m) (works : m.failed ≡ false) (sound : IsTrue tells → AreSound new.disk.areas)
+module _ (tells : Bool) (v new : StoreValue) (m : Machine Value) (stands : Stands tells v m) (works : m.failed ≡ false) (sound : IsTrue tells → AreSound new.disk.areas)
     (run : WireRun) (writer : InWriting) (is : v.job ≡ Some (record { work = ArchiveWork run writer; stage = job.Writing })) where
   abbrev archiving : JobWork → JobStage → Job
   archiving work stage = record { work = work; stage = stage }
@@ -328,17 +311,17 @@ module _ (tells : Bool) (v new : StoreValue) (m : Machine Value) (parts : Parts 
   own-run-of layout reading areas header (OfRun stored) made next at = record { stored = stored; entry = made; next = next; at = at }
   own-run-of layout reading areas header (OfAnchors a) made next at = absurd made
 
-  own-run : (told : IsTrue tells) → OwnRun ((parts.disk told).works works).log.layout ((parts.disk told).works works).log.reading v.disk.areas.archive
+  own-run : (told : IsTrue tells) → OwnRun ((stands.disk told).works works).log.layout ((stands.disk told).works works).log.reading v.disk.areas.archive
   own-run told =
-      let d = parts.disk told in
-      let w = d.works works in
-      let has = own d.header v m w (archiving (ArchiveWork run writer) job.Writing) is in
-      own-run-of w.log.layout w.log.reading v.disk.areas d.header has.product has.made has.next has.at
+      let c = working tells v m stands works told in
+      let w = c.works in
+      let has = own c.header v m w (archiving (ArchiveWork run writer) job.Writing) is in
+      own-run-of w.log.layout w.log.reading v.disk.areas c.header has.product has.made has.next has.at
 
   abbrev piece : List ℕ
   piece = take 8192 writer.left
 
-  past : (told : IsTrue tells) → row_end 0 (runs_of ((parts.disk told).works works).log.layout.slots) ≤ writer.at
+  past : (told : IsTrue tells) → row_end 0 (runs_of ((stands.disk told).works works).log.layout.slots) ≤ writer.at
   past told = let has = own-run told in omega (arith, has.at.place, has.next.behind)
 
   written-on : (told : IsTrue tells) → IsWritten (own-run told).stored (behind_piece writer) (written writer.at piece v.disk.areas.archive)
@@ -353,53 +336,53 @@ module _ (tells : Bool) (v new : StoreValue) (m : Machine Value) (parts : Parts 
       }
 
   run-kept : Keeps v m (ArchiveWork run writer) job.Writing
-  run-kept = kept-so tells v new m parts machine works sound (archiving (ArchiveWork run writer) job.Writing) is
+  run-kept = kept-so tells v new m stands works sound (archiving (ArchiveWork run writer) job.Writing) is
 
   -- the archive is written behind the runs: where the group is then
-  on-archive : (told : IsTrue tells) (areas : Areas) (archive : AreaState) → KeepsRuns ((parts.disk told).works works).log.layout.runs archive
-      → IsAtStage (parts.disk told).header ((parts.disk told).works works).log.layout (group_of ((parts.disk told).works works).log.layout v.transactions m) v.transactions.queue v.transactions.stage v.turn areas
-      → IsAtStage (parts.disk told).header ((parts.disk told).works works).log.layout (group_of ((parts.disk told).works works).log.layout v.transactions m) v.transactions.queue v.transactions.stage v.turn (record areas { archive = archive })
+  on-archive : (told : IsTrue tells) (areas : Areas) (archive : AreaState) → KeepsRuns ((stands.disk told).works works).log.layout.runs archive
+      → IsAtStage (stands.disk told).header ((stands.disk told).works works).log.layout (group_of ((stands.disk told).works works).log.layout v.transactions m) v.transactions.queue v.transactions.stage v.turn areas
+      → IsAtStage (stands.disk told).header ((stands.disk told).works works).log.layout (group_of ((stands.disk told).works works).log.layout v.transactions m) v.transactions.queue v.transactions.stage v.turn (record areas { archive = archive })
   on-archive told areas archive kept at =
-      let d = parts.disk told in
-      let w = d.works works in
-      stage-beside d.header w.log.layout (group_of w.log.layout v.transactions m) v.transactions.queue v.transactions.stage v.turn areas archive kept at
+      let c = working tells v m stands works told in
+      let w = c.works in
+      stage-beside c.header w.log.layout (group_of w.log.layout v.transactions m) v.transactions.queue v.transactions.stage v.turn areas archive kept at
 
   wrote-run : (answer : Result JobDid PumpFault) → WritesRun tells run writer (archiving (ArchiveWork run writer) job.Writing) v answer new → Ends tells m answer new
   wrote-run (Ok said) takes =
       let j' : Job = archiving (ArchiveWork run (behind_piece writer)) job.Writing in
       stays tells new (with_job v j' new) m said takes.moves.1
-      (moved tells v new m parts machine works sound (archiving (ArchiveWork run writer) job.Writing) is j' still-none refl run-kept (λ told.
-      let d = parts.disk told in
-      let w = d.works works in
+      (moved tells v new m stands works sound (archiving (ArchiveWork run writer) job.Writing) is j' still-none refl run-kept (λ told.
+      let c = working tells v m stands works told in
+      let w = c.works in
       let has = own-run told in
       let archive : AreaState = written writer.at piece v.disk.areas.archive in
-      let kept = behind d.header v m w (archiving (ArchiveWork run writer) job.Writing) is writer.at (length piece) archive (past told) (written_is writer.at piece v.disk.areas.archive (w.sound Archive)) in
-      works-with d.header v m w (archiving (ArchiveWork run writer) job.Writing) is new j' still-none refl (sound told) (record v.disk.areas { archive = archive }) (takes.call.areas told).written refl
+      let kept = behind c.header v m w (archiving (ArchiveWork run writer) job.Writing) is writer.at (length piece) archive (past told) (written_is writer.at piece v.disk.areas.archive (w.sound Archive)) in
+      works-with c.header v m w (archiving (ArchiveWork run writer) job.Writing) is new j' still-none refl (sound told) (record v.disk.areas { archive = archive }) (takes.call.areas told).written refl
       (on-archive told (record v.disk.areas { status = w.group.rested }) archive kept w.group.at)
       (record { product = OfRun has.stored; made = has.entry; next = has.next; at = written-on told })))
   wrote-run (Err why) takes =
-      fails tells v new m why v.log (archiving (ArchiveWork run (behind_piece writer)) job.Writing) parts works takes.moves.0 refl refl refl (ap lent_to is) run-kept takes.moves.1 (λ told image left.
-      let d = parts.disk told in
-      let w = d.works works in
+      fails tells v new m why v.log (archiving (ArchiveWork run (behind_piece writer)) job.Writing) stands works takes.moves.0 refl refl refl (ap lent_to is) run-kept takes.moves.1 (λ told image left.
+      let c = working tells v m stands works told in
+      let w = c.works in
       let archive : AreaState = loosened writer.at (length piece) v.disk.areas.archive.bytes v.disk.areas.archive in
-      let kept = behind d.header v m w (archiving (ArchiveWork run writer) job.Writing) is writer.at (length piece) archive (past told) (loosened_is writer.at (length piece) v.disk.areas.archive) in
-      torn-leaves tells v new m parts machine works sound (archiving (ArchiveWork run writer) job.Writing) is told (record v.disk.areas { archive = archive })
-      (on-archive told v.disk.areas archive kept (now-at d.header v m w still-none)) image
+      let kept = behind c.header v m w (archiving (ArchiveWork run writer) job.Writing) is writer.at (length piece) archive (past told) (loosened_is writer.at (length piece) v.disk.areas.archive) in
+      torn-leaves tells v new m stands works sound (archiving (ArchiveWork run writer) job.Writing) is told (record v.disk.areas { archive = archive })
+      (on-archive told v.disk.areas archive kept (now-at v m c still-none)) image
       ((left_by_write Archive writer.at piece (Err (record {})) v.disk.areas new.disk.areas (takes.call.areas told) w.sound).each image left))
 
   synced-run : (answer : Result JobDid PumpFault) → writer.left ≡ [] → SyncsStored tells Archive did.RunSynced (archiving (ArchiveWork run writer) job.Writing) v answer new → Ends tells m answer new
   synced-run (Ok said) all takes =
       let j' : Job = archiving (ArchiveWork run writer) job.Stored in
       stays tells new (with_job v j' new) m said takes.moves.1
-      (moved tells v new m parts machine works sound (archiving (ArchiveWork run writer) job.Writing) is j' still-none refl run-kept (λ told.
-      let d = parts.disk told in
-      let w = d.works works in
+      (moved tells v new m stands works sound (archiving (ArchiveWork run writer) job.Writing) is j' still-none refl run-kept (λ told.
+      let c = working tells v m stands works told in
+      let w = c.works in
       let has = own-run told in
       let at = has.at in
       let archive : AreaState = synced v.disk.areas.archive in
-      let kept = weaker (KeepsRun v.disk.areas.archive) (KeepsRun archive) w.log.layout.runs (λ s kept. kept_by_sync s.entry.start (run_bytes s.records) v.disk.areas.archive (w.sound Archive) kept) (keeps-parts d.header v m w).runs in
+      let kept = weaker (KeepsRun v.disk.areas.archive) (KeepsRun archive) w.log.layout.runs (λ s kept. kept_by_sync s.entry.start (run_bytes s.records) v.disk.areas.archive (w.sound Archive) kept) (keeps-parts c.header v m w).runs in
       let whole : at.front ≡ run_bytes has.stored.records = sym (append-nil at.front) ∙ ap (λ (l : List ℕ). at.front ++ l) (sym all) ∙ at.whole in
-      works-with d.header v m w (archiving (ArchiveWork run writer) job.Writing) is new j' still-none refl (sound told) (record v.disk.areas { archive = archive }) (takes.call.areas told).synced refl
+      works-with c.header v m w (archiving (ArchiveWork run writer) job.Writing) is new j' still-none refl (sound told) (record v.disk.areas { archive = archive }) (takes.call.areas told).synced refl
       (on-archive told (record v.disk.areas { status = w.group.rested }) archive kept w.group.at)
       (record {
         product = OfRun has.stored;
@@ -408,8 +391,8 @@ module _ (tells : Bool) (v new : StoreValue) (m : Machine Value) (parts : Parts 
         at = synced_part has.stored.entry.start (run_bytes has.stored.records) v.disk.areas.archive (subst (λ (l : List ℕ). HoldsPart has.stored.entry.start l v.disk.areas.archive.bytes) whole at.held);
       })))
   synced-run (Err why) all takes =
-      fails tells v new m why v.log (archiving (ArchiveWork run writer) job.Writing) parts works takes.moves.0 refl refl refl (ap lent_to is) run-kept takes.moves.1
-      (λ told image left. same tells v new m parts machine works sound (archiving (ArchiveWork run writer) job.Writing) is told (takes.call.areas told).same image left)
+      fails tells v new m why v.log (archiving (ArchiveWork run writer) job.Writing) stands works takes.moves.0 refl refl refl (ap lent_to is) run-kept takes.moves.1
+      (λ told image left. same tells v new m stands works sound (archiving (ArchiveWork run writer) job.Writing) is told (takes.call.areas told).same image left)
 
   run-step : (left : List ℕ) → writer.left ≡ left → (answer : Result JobDid PumpFault) → WritesOrSyncs tells left run writer (archiving (ArchiveWork run writer) job.Writing) v answer new → Ends tells m answer new
   run-step [] all answer takes = synced-run answer all takes
@@ -417,7 +400,7 @@ module _ (tells : Bool) (v new : StoreValue) (m : Machine Value) (parts : Parts 
 
 -- ---- anchors are written
 
-module _ (tells : Bool) (v new : StoreValue) (m : Machine Value) (parts : Parts tells v m) (machine : IsMachine IsValue m) (works : m.failed ≡ false) (sound : IsTrue tells → AreSound new.disk.areas)
+module _ (tells : Bool) (v new : StoreValue) (m : Machine Value) (stands : Stands tells v m) (works : m.failed ≡ false) (sound : IsTrue tells → AreSound new.disk.areas)
     (anchors : Anchors) (source : Sourced) (done : ℕ) (is : v.job ≡ Some (record { work = Reclaim anchors source done; stage = job.Writing })) where
   abbrev reclaiming : Sourced → ℕ → JobStage → Job
   reclaiming left n stage = record { work = Reclaim anchors left n; stage = stage }
@@ -441,39 +424,38 @@ module _ (tells : Bool) (v new : StoreValue) (m : Machine Value) (parts : Parts 
   own-anchors-of layout reading areas header (OfRun stored) made next at = absurd made
   own-anchors-of layout reading areas header (OfAnchors a) made next at = record { stored = a; entry = made.0; numbers = made.1; next = next; at = at }
 
-  own-anchors : (told : IsTrue tells) → OwnAnchors ((parts.disk told).works works).log.layout ((parts.disk told).works works).log.reading v.disk.areas.heap
+  own-anchors : (told : IsTrue tells) → OwnAnchors ((stands.disk told).works works).log.layout ((stands.disk told).works works).log.reading v.disk.areas.heap
   own-anchors told =
-      let d = parts.disk told in
-      let w = d.works works in
-      let has = own d.header v m w now is in
-      own-anchors-of w.log.layout w.log.reading v.disk.areas d.header has.product has.made has.next has.at
+      let c = working tells v m stands works told in
+      let w = c.works in
+      let has = own c.header v m w now is in
+      own-anchors-of w.log.layout w.log.reading v.disk.areas c.header has.product has.made has.next has.at
 
   chain-kept : Keeps v m (Reclaim anchors source done) job.Writing
-  chain-kept = kept-so tells v new m parts machine works sound now is
+  chain-kept = kept-so tells v new m stands works sound now is
 
   -- the group's extents are none of those that are out for the job
   group-apart : (told : IsTrue tells) (n : ℕ) → AllByRecursion (λ (k : ℕ). k ≢ n) (flat_map numbers_of v.transactions.queue) → 0 < v.transactions.group
-      → AreBeside n (extents_of (group_of ((parts.disk told).works works).log.layout v.transactions m).members)
+      → AreBeside n (extents_of (group_of ((stands.disk told).works works).log.layout v.transactions m).members)
   group-apart told n others some =
-      let d = parts.disk told in
-      let w = d.works works in
-      let room = room-left d.header v m parts.order parts.in_step d.slots w some in
-      let named = joining.numbers d.header v.transactions m w.log.layout w.log.reading parts.memory machine parts.order w.log.laid w.log.stands d.profile_built w.log.built w.heap.kept w.packed some room in
+      let c = working tells v m stands works told in
+      let w = c.works in
+      let named = joining.numbers v m c some in
       let front = all_of_front (λ (k : ℕ). k ≢ n) (flat_map numbers_of (take v.transactions.group v.transactions.queue)) (flat_map numbers_of (drop v.transactions.group v.transactions.queue))
       (subst (AllByRecursion (λ (k : ℕ). k ≢ n)) (numbers-split v.transactions.group v.transactions.queue) others) in
       beside-numbers n (extents_of (group_of w.log.layout v.transactions m).members)
-      (joining.group_are d.header v.transactions m w.log.layout w.log.reading parts.memory machine parts.order w.log.laid w.log.stands d.profile_built w.log.built w.heap.kept w.packed some room)
+      (joining.group_are v m c some)
       (subst (AllByRecursion (λ (k : ℕ). k ≢ n)) (sym named) front)
 
   -- the heap is written beside the group: where the group is then
-  on-heap : (told : IsTrue tells) (areas : Areas) (heap : AreaState) (n : ℕ) → IsBeside n areas.heap heap → AreBeside n (live ((parts.disk told).works works).log.layout)
-      → (0 < v.transactions.group → AreBeside n (extents_of (group_of ((parts.disk told).works works).log.layout v.transactions m).members))
-      → IsAtStage (parts.disk told).header ((parts.disk told).works works).log.layout (group_of ((parts.disk told).works works).log.layout v.transactions m) v.transactions.queue v.transactions.stage v.turn areas
-      → IsAtStage (parts.disk told).header ((parts.disk told).works works).log.layout (group_of ((parts.disk told).works works).log.layout v.transactions m) v.transactions.queue v.transactions.stage v.turn (record areas { heap = heap })
+  on-heap : (told : IsTrue tells) (areas : Areas) (heap : AreaState) (n : ℕ) → IsBeside n areas.heap heap → AreBeside n (live ((stands.disk told).works works).log.layout)
+      → (0 < v.transactions.group → AreBeside n (extents_of (group_of ((stands.disk told).works works).log.layout v.transactions m).members))
+      → IsAtStage (stands.disk told).header ((stands.disk told).works works).log.layout (group_of ((stands.disk told).works works).log.layout v.transactions m) v.transactions.queue v.transactions.stage v.turn areas
+      → IsAtStage (stands.disk told).header ((stands.disk told).works works).log.layout (group_of ((stands.disk told).works works).log.layout v.transactions m) v.transactions.queue v.transactions.stage v.turn (record areas { heap = heap })
   on-heap told areas heap n beside apart mine at =
-      let d = parts.disk told in
-      let w = d.works works in
-      stage-on-heap d.header w.log.layout (group_of w.log.layout v.transactions m) areas heap n beside apart v.transactions.queue v.transactions.stage v.transactions.group v.turn parts.order.stage_fits mine at
+      let c = working tells v m stands works told in
+      let w = c.works in
+      stage-on-heap c.header w.log.layout (group_of w.log.layout v.transactions m) areas heap n beside apart v.transactions.queue v.transactions.stage v.transactions.group v.turn stands.order.stage_fits mine at
 
   -- the next extent of the chain
   record OwnExtent (layout : Layout) (stored : StoredAnchors) (number : ℕ) (image : List ℕ) (left : Sourced) : Type 0 where
@@ -488,10 +470,10 @@ module _ (tells : Bool) (v new : StoreValue) (m : Machine Value) (parts : Parts 
     pub queued : AllByRecursion (λ (k : ℕ). k ≢ extent.number) (flat_map numbers_of v.transactions.queue)
 
   next-extent : (told : IsTrue tells) (number : ℕ) → slice_get v.transactions.reserved done ≡ Some number → (takes : (image : List ℕ) × (filled : FilledExtent) × (left : Sourced) × IsFilled number (first_number (drop (done + 1) v.transactions.reserved)) source.left image filled left.left)
-      → OwnExtent ((parts.disk told).works works).log.layout (own-anchors told).stored number takes.0 takes.2
+      → OwnExtent ((stands.disk told).works works).log.layout (own-anchors told).stored number takes.0 takes.2
   next-extent told number there takes =
-      let d = parts.disk told in
-      let w = d.works works in
+      let c = working tells v m stands works told in
+      let w = c.works in
       let has = own-anchors told in
       let a : StoredAnchors = has.stored in
       let fill = fill-is a v.transactions.reserved source done number v.disk.areas.heap takes.0 takes.1 takes.2.left has.next.chain has.numbers has.at there takes.3 in
@@ -500,11 +482,11 @@ module _ (tells : Bool) (v new : StoreValue) (m : Machine Value) (parts : Parts 
       let each = subst (AllByRecursion IsExtent) (sym split) has.next.chain.is_chain.each in
       let of : Extent → ℕ = λ f. f.number in
       let named : map of (take done a.extents) ++ e.number ∷ map of (drop (done + 1) a.extents) ≡ v.transactions.reserved = sym (map-append of (take done a.extents) (e ∷ drop (done + 1) a.extents)) ∙ ap (map of) split ∙ has.numbers in
-      let swapped = out-swapped v.transactions.usages (flat_map numbers_of v.transactions.queue) v.transactions.reserved parts.order.out in
+      let swapped = out-swapped v.transactions.usages (flat_map numbers_of v.transactions.queue) v.transactions.reserved stands.order.out in
       let whole = subst (AreOut v.transactions.usages)
       (ap (λ (l : List ℕ). l ++ flat_map numbers_of v.transactions.queue) (sym named) ∙ append_assoc (map of (take done a.extents)) (e.number ∷ map of (drop (done + 1) a.extents)) (flat_map numbers_of v.transactions.queue)) swapped in
       let middle = out-middle v.transactions.usages (map of (take done a.extents)) (map of (drop (done + 1) a.extents) ++ flat_map numbers_of v.transactions.queue) e.number whole in
-      let free = job-free d.header v m parts.order w (Reclaim anchors source done) (OfAnchors a) (has.entry, has.numbers) has.next in
+      let free = job-free v m c (Reclaim anchors source done) (OfAnchors a) (has.entry, has.numbers) has.next in
       let apart = others e (live w.log.layout ++ take done a.extents) (drop (done + 1) a.extents)
       (subst AreDistinct (ap (λ (l : List Extent). live w.log.layout ++ l) (sym split) ∙ sym (append_assoc (live w.log.layout) (take done a.extents) (e ∷ drop (done + 1) a.extents))) free) in
       record {
@@ -514,16 +496,16 @@ module _ (tells : Bool) (v new : StoreValue) (m : Machine Value) (parts : Parts 
         image_is = fill.image_is;
         front = fill.front;
         rest = fill.others;
-        live = beside-out v.transactions.usages e.number middle.0 (live w.log.layout) (live_extents_are d.header w.log.layout w.log.reading w.log.laid) w.heap.kept;
+        live = beside-out v.transactions.usages e.number middle.0 (live w.log.layout) (live_extents_are c.header w.log.layout w.log.reading w.log.laid) w.heap.kept;
         before = all_of_back (λ (f : Extent). f.number ≢ e.number) (live w.log.layout) (take done a.extents) apart;
         queued = all_of_back (λ (k : ℕ). k ≢ e.number) (map of (drop (done + 1) a.extents)) (flat_map numbers_of v.transactions.queue) middle.1;
       }
 
   -- a write of it, in full or in part, is beside all others
-  beside-it : (told : IsTrue tells) (number : ℕ) (image : List ℕ) (left : Sourced) → OwnExtent ((parts.disk told).works works).log.layout (own-anchors told).stored number image left
+  beside-it : (told : IsTrue tells) (number : ℕ) (image : List ℕ) (left : Sourced) → OwnExtent ((stands.disk told).works works).log.layout (own-anchors told).stored number image left
       → IsBeside number v.disk.areas.heap (written (extent_start number) image v.disk.areas.heap) × IsBeside number v.disk.areas.heap (loosened (extent_start number) (length image) v.disk.areas.heap.bytes v.disk.areas.heap)
   beside-it told number image left mine =
-      let w = (parts.disk told).works works in
+      let w = (stands.disk told).works works in
       subst (λ (bytes : List ℕ). IsBeside number v.disk.areas.heap (written (extent_start number) bytes v.disk.areas.heap) × IsBeside number v.disk.areas.heap (loosened (extent_start number) (length bytes) v.disk.areas.heap.bytes v.disk.areas.heap)) (sym mine.image_is)
       (subst (λ (n : ℕ). IsBeside n v.disk.areas.heap (written (extent_start n) (extent_bytes mine.extent) v.disk.areas.heap) × IsBeside n v.disk.areas.heap (loosened (extent_start n) (length (extent_bytes mine.extent)) v.disk.areas.heap.bytes v.disk.areas.heap)) mine.number_is
       (write-beside mine.extent mine.is_extent v.disk.areas.heap (w.sound Heap), torn-beside mine.extent mine.is_extent v.disk.areas.heap (w.sound Heap)))
@@ -532,9 +514,9 @@ module _ (tells : Bool) (v new : StoreValue) (m : Machine Value) (parts : Parts 
   wrote-anchors number there (Ok said) takes =
       let j' : Job = reclaiming takes.behind (done + 1) job.Writing in
       stays tells new (with_job v j' new) m said takes.moves.1
-      (moved tells v new m parts machine works sound now is j' none-turning refl chain-kept (λ told.
-      let d = parts.disk told in
-      let w = d.works works in
+      (moved tells v new m stands works sound now is j' none-turning refl chain-kept (λ told.
+      let c = working tells v m stands works told in
+      let w = c.works in
       let has = own-anchors told in
       let mine = next-extent told number there (takes.image, takes.filled, takes.behind, takes.is_filled) in
       let heap : AreaState = written (extent_start number) takes.image v.disk.areas.heap in
@@ -545,7 +527,7 @@ module _ (tells : Bool) (v new : StoreValue) (m : Machine Value) (parts : Parts 
       subst (λ (n : ℕ). AllByRecursion (HoldsExtent (overlaid v.disk.areas.heap.bytes (extent_start n) takes.image)) (take done has.stored.extents ++ mine.extent ∷ [])) mine.number_is
       (subst (λ (bytes : List ℕ). AllByRecursion (HoldsExtent (overlaid v.disk.areas.heap.bytes (extent_start mine.extent.number) bytes)) (take done has.stored.extents ++ mine.extent ∷ [])) (sym mine.image_is)
       (one_more_held mine.extent mine.is_extent (take done has.stored.extents) (all-front-of IsExtent done has.stored.extents has.next.chain.is_chain.each) mine.before v.disk.areas.heap.bytes has.at.held)) in
-      works-with d.header v m w now is new j' none-turning refl (sound told) (record v.disk.areas { heap = heap }) (takes.call.areas told).written refl
+      works-with c.header v m w now is new j' none-turning refl (sound told) (record v.disk.areas { heap = heap }) (takes.call.areas told).written refl
       (on-heap told (record v.disk.areas { status = w.group.rested }) heap number beside live-apart group-is w.group.at)
       (record {
         product = OfAnchors has.stored;
@@ -554,33 +536,33 @@ module _ (tells : Bool) (v new : StoreValue) (m : Machine Value) (parts : Parts 
         at = record { rest = mine.rest; held = subst (AllByRecursion (HoldsExtent heap.bytes)) (sym mine.front) held };
       })))
   wrote-anchors number there (Err why) takes =
-      fails tells v new m why v.log (reclaiming takes.behind (done + 1) job.Writing) parts works takes.moves.0 refl refl refl (ap lent_to is) chain-kept takes.moves.1 (λ told image left.
-      let d = parts.disk told in
-      let w = d.works works in
+      fails tells v new m why v.log (reclaiming takes.behind (done + 1) job.Writing) stands works takes.moves.0 refl refl refl (ap lent_to is) chain-kept takes.moves.1 (λ told image left.
+      let c = working tells v m stands works told in
+      let w = c.works in
       let mine = next-extent told number there (takes.image, takes.filled, takes.behind, takes.is_filled) in
       let heap : AreaState = loosened (extent_start number) (length takes.image) v.disk.areas.heap.bytes v.disk.areas.heap in
       let beside : IsBeside number v.disk.areas.heap heap = (beside-it told number takes.image takes.behind mine).1 in
       let live-apart : AreBeside number (live w.log.layout) = subst (λ (n : ℕ). AreBeside n (live w.log.layout)) mine.number_is mine.live in
       let group-is = λ (some : 0 < v.transactions.group). group-apart told number (subst (λ (n : ℕ). AllByRecursion (λ (k : ℕ). k ≢ n) (flat_map numbers_of v.transactions.queue)) mine.number_is mine.queued) some in
-      torn-leaves tells v new m parts machine works sound now is told (record v.disk.areas { heap = heap })
-      (on-heap told v.disk.areas heap number beside live-apart group-is (now-at d.header v m w none-turning)) image
+      torn-leaves tells v new m stands works sound now is told (record v.disk.areas { heap = heap })
+      (on-heap told v.disk.areas heap number beside live-apart group-is (now-at v m c none-turning)) image
       ((left_by_write Heap (extent_start number) takes.image (Err (record {})) v.disk.areas new.disk.areas (takes.call.areas told) w.sound).each image left))
 
   synced-anchors : slice_get v.transactions.reserved done ≡ None → (answer : Result JobDid PumpFault) → SyncsStored tells Heap did.HeapSynced now v answer new → Ends tells m answer new
   synced-anchors none (Ok said) takes =
       let j' : Job = reclaiming source done job.Stored in
       stays tells new (with_job v j' new) m said takes.moves.1
-      (moved tells v new m parts machine works sound now is j' none-turning refl chain-kept (λ told.
-      let d = parts.disk told in
-      let w = d.works works in
+      (moved tells v new m stands works sound now is j' none-turning refl chain-kept (λ told.
+      let c = working tells v m stands works told in
+      let w = c.works in
       let has = own-anchors told in
       let heap : AreaState = synced v.disk.areas.heap in
-      let live-are = live_extents_are d.header w.log.layout w.log.reading w.log.laid in
+      let live-are = live_extents_are c.header w.log.layout w.log.reading w.log.laid in
       let group-is : 0 < v.transactions.group → AreBeside 0 (extents_of (group_of w.log.layout v.transactions m).members) =
       λ some.
       beside-none (extents_of (group_of w.log.layout v.transactions m).members)
-      (joining.group_are d.header v.transactions m w.log.layout w.log.reading parts.memory machine parts.order w.log.laid w.log.stands d.profile_built w.log.built w.heap.kept w.packed some (room-left d.header v m parts.order parts.in_step d.slots w some)) in
-      works-with d.header v m w now is new j' none-turning refl (sound told) (record v.disk.areas { heap = heap }) (takes.call.areas told).synced refl
+      (joining.group_are v m c some) in
+      works-with c.header v m w now is new j' none-turning refl (sound told) (record v.disk.areas { heap = heap }) (takes.call.areas told).synced refl
       (on-heap told (record v.disk.areas { status = w.group.rested }) heap 0 (sync-beside v.disk.areas.heap (w.sound Heap)) (beside-none (live w.log.layout) live-are) group-is w.group.at)
       (record {
         product = OfAnchors has.stored;
@@ -589,8 +571,8 @@ module _ (tells : Bool) (v new : StoreValue) (m : Machine Value) (parts : Parts 
         at = extents_synced has.stored.extents v.disk.areas.heap (subst (AllByRecursion (HoldsExtent v.disk.areas.heap.bytes)) (all-filled has.stored v.transactions.reserved done has.numbers none) has.at.held);
       })))
   synced-anchors none (Err why) takes =
-      fails tells v new m why v.log now parts works takes.moves.0 refl refl refl (ap lent_to is) chain-kept takes.moves.1
-      (λ told image left. same tells v new m parts machine works sound now is told (takes.call.areas told).same image left)
+      fails tells v new m why v.log now stands works takes.moves.0 refl refl refl (ap lent_to is) chain-kept takes.moves.1
+      (λ told image left. same tells v new m stands works sound now is told (takes.call.areas told).same image left)
 
   anchors-step : (o : Option ℕ) → slice_get v.transactions.reserved done ≡ o → (answer : Result JobDid PumpFault) → AnchorsOrSync tells o anchors source done now v answer new → Ends tells m answer new
   anchors-step None there answer takes = synced-anchors there answer takes
@@ -624,8 +606,13 @@ product-kept layout (OfRun run) areas parts kept = archive_kept layout (slot_nam
 product-kept layout (OfAnchors a) areas parts kept = reclaim_kept layout (slot_naming (length layout.slots) (OfAnchors a)) a.entry.upto a.extents areas parts kept
 
 -- the first call of the slot, and every other one
-module _ (header : Header) (v new : StoreValue) (m : Machine Value) (order : IsInOrder v.transactions) (in_step : IsInStep v) (slots_are : v.log.slots ≡ total header) (built : IsTrue (is_built header.profile 1)) (w : Works header v m)
-    (j : Job) (is : v.job ≡ Some j) where
+module _ (v new : StoreValue) (m : Machine Value) (c : Working v m) (j : Job) (is : v.job ≡ Some j) where
+  abbrev header : Header
+  header = c.header
+
+  abbrev w : Works c.header v m
+  w = c.works
+
   abbrev mine : JobIsAt header w.log.layout w.log.reading m.published v.transactions.reserved j v.disk.areas
   mine = own header v m w j is
 
@@ -633,23 +620,23 @@ module _ (header : Header) (v new : StoreValue) (m : Machine Value) (order : IsI
   product = mine.product
 
   place : length w.log.layout.slots < total header
-  place = job-room header v m order in_step slots_are w (ap lent_to is)
+  place = job-room v m c (ap lent_to is)
 
   free-now : IsFree w.log.layout product
-  free-now = job-free header v m order w j.work product mine.made mine.next
+  free-now = job-free v m c j.work product mine.made mine.next
 
   -- the slot is begun: what the job made is kept, and the status area rests
-  begun : j.stage ≡ job.Stored → v.transactions.failed ≡ false → v.turn ≡ None → v.log.profile ≡ header.profile → IsTurnFor header w.log.layout product (first_turn v j) v.disk.areas
-  begun stored on free profile =
+  begun : j.stage ≡ job.Stored → v.transactions.failed ≡ false → v.turn ≡ None → IsTurnFor header w.log.layout product (first_turn v j) v.disk.areas
+  begun stored on free =
       let kept : KeepsProduct product v.disk.areas = subst (λ (s : JobStage). IsAtJob header w.log.layout j.work product s v.disk.areas) stored mine.at in
       let none : turn_of v.job ≡ None = ap turn_of is ∙ ap turn_in stored in
-      let turning : is_turning v.transactions.stage ≡ false = (in_step.turns on).turning ∙ ap (λ (o : Option TurnState). is_some o) free in
-      let at = now-at header v m w none in
+      let turning : is_turning v.transactions.stage ≡ false = (c.inside.in_step.turns on).turning ∙ ap (λ (o : Option TurnState). is_some o) free in
+      let at = now-at v m c none in
       let parts = keeps-parts header v m w in
       let number = sym w.log.used in
       let what = body-is v.transactions.reserved j.work product mine.made in
       let same : spelling header.profile (slot_naming (length w.log.layout.slots) product) ≡ spelling v.log.profile (record { number = v.log.used; body = slot_body j.work }) =
-      (let p = sym profile in λ i. spelling (p i) (record { number = number i; body = what i })) in
+      (let p = sym c.profile in λ i. spelling (p i) (record { number = number i; body = what i })) in
       let whole : IsSpelled header.profile (length w.log.layout.slots) (spelling header.profile (slot_naming (length w.log.layout.slots) product)) (slot_naming (length w.log.layout.slots) product) =
       record { own = refl; in_range = slot-in-range w.log.layout w.log.reading m.published header.profile product mine.next; bytes_are = refl } in
       record {
@@ -676,12 +663,12 @@ module _ (header : Header) (v new : StoreValue) (m : Machine Value) (order : IsI
     -- a refused call leaves what a stop within it leaves
     turn-leaves : IsSlotCall t.number t.body t.stage (Err (record {})) v.disk.areas new.disk.areas → (image : Image) → LeavesImage new.disk.areas image → OnFront (IsImageOf header image) m
     turn-leaves call image left =
-        product-leaves-within header m w.log.layout w.log.reading w.log.laid w.log.stands built w.log.built place product mine.next free-now t.body at.long at.spelled t.stage (Err (record {})) v.disk.areas new.disk.areas image at.at w.sound
+        product-leaves-within header m w.log.layout w.log.reading w.log.laid w.log.stands c.profile_built w.log.built place product mine.next free-now t.body at.long at.spelled t.stage (Err (record {})) v.disk.areas new.disk.areas image at.at w.sound
         (own-call (Err (record {})) call) left
 
     turn-leads : IsSlotCall t.number t.body t.stage (Ok tt) v.disk.areas new.disk.areas → IsTurnAt header w.log.layout slot behind-it (slots.slot_stage_after t.stage) new.disk.areas
     turn-leads call =
-        product-leads header m w.log.layout w.log.reading w.log.laid w.log.stands built w.log.built place product mine.next free-now t.body at.long at.spelled t.stage v.disk.areas new.disk.areas at.at w.sound (own-call (Ok tt) call)
+        product-leads header m w.log.layout w.log.reading w.log.laid w.log.stands c.profile_built w.log.built place product mine.next free-now t.body at.long at.spelled t.stage v.disk.areas new.disk.areas at.at w.sound (own-call (Ok tt) call)
 
     -- the works of the store while the slot goes on; the group is where it was
     turning-works : (log : LogState) → log.used ≡ v.log.used → AreSound new.disk.areas → (rested : AreaState) → StatusRests header w.log.layout.slots rested → IsSound rested
@@ -749,9 +736,9 @@ module _ (header : Header) (v new : StoreValue) (m : Machine Value) (order : IsI
         let more : runs_of (w.log.layout.slots ++ slot' ∷ []) ≡ runs_of w.log.layout.slots = flat_map-append (λ (s : Slot). runs_in s.body) w.log.layout.slots (slot' ∷ []) ∙ append-nil (runs_of w.log.layout.slots) in
         record {
           kept = subst (λ (n : ℕ). AllByRecursion (λ (e : Extent). IsKept (reclaimed_to v.transactions anchors.upto).usages e.number) (live (reclaimed w.log.layout slot' n a.extents))) (sym upto)
-              (reclaimed-kept v.transactions anchors.upto w.log.layout slot' a.extents order made.1 w.heap.kept w.heap.times);
+              (reclaimed-kept v.transactions anchors.upto w.log.layout slot' a.extents c.inside.order made.1 w.heap.kept w.heap.times);
           times = subst (λ (n : ℕ). HasTimes (reclaimed_to v.transactions anchors.upto).times (reclaimed w.log.layout slot' n a.extents).members) (sym upto)
-              (reclaimed-times v.transactions anchors.upto w.log.layout slot' a.extents order w.heap.kept w.heap.times);
+              (reclaimed-times v.transactions anchors.upto w.log.layout slot' a.extents c.inside.order w.heap.kept w.heap.times);
           times_long = times-long v.transactions.times v.transactions.reserved 0 ∙ w.heap.times_long;
           heap = λ key.
               ap (λ (o : Option (List KeyWrites)). writes_of (versions_once o v.transactions.versions) key) pending
@@ -766,7 +753,7 @@ module _ (header : Header) (v new : StoreValue) (m : Machine Value) (order : IsI
 
     long-used : t.number + 1 ≡ length behind-it.slots
     long-used =
-        let added = adds header m w.log.layout w.log.reading w.log.laid w.log.stands built w.log.built place product mine.next free-now in
+        let added = adds header m w.log.layout w.log.reading w.log.laid w.log.stands c.profile_built w.log.built place product mine.next free-now in
         let long : length behind-it.slots ≡ length w.log.layout.slots + 1 = ap (λ (l : List Slot). length l) added.slots_are ∙ length-append w.log.layout.slots (slot ∷ []) in
         omega (arith, long, at.number)
 
@@ -777,9 +764,9 @@ module _ (header : Header) (v new : StoreValue) (m : Machine Value) (order : IsI
       log = record {
         layout = behind-it;
         reading = read_with w.log.reading product;
-        laid = laid-after header m w.log.layout w.log.reading w.log.laid w.log.stands built w.log.built place product mine.next free-now;
-        stands = stands-after header m w.log.layout w.log.reading w.log.laid w.log.stands built w.log.built place product mine.next free-now;
-        built = built-after header m w.log.layout w.log.reading w.log.laid w.log.stands built w.log.built place product mine.next free-now;
+        laid = laid-after header m w.log.layout w.log.reading w.log.laid w.log.stands c.profile_built w.log.built place product mine.next free-now;
+        stands = stands-after header m w.log.layout w.log.reading w.log.laid w.log.stands c.profile_built w.log.built place product mine.next free-now;
+        built = built-after header m w.log.layout w.log.reading w.log.laid w.log.stands c.profile_built w.log.built place product mine.next free-now;
         used = long-used;
         archived = done.archived;
         reclaimed = done.reclaimed;
@@ -808,7 +795,7 @@ module _ (header : Header) (v new : StoreValue) (m : Machine Value) (order : IsI
         let areas = slot-alone t.stage t.number t.body v.disk.areas new.disk.areas call in
         let opened : IsTurnAt header w.log.layout slot behind-it slots.Opened new.disk.areas = subst (λ (s : SlotStage). IsTurnAt header w.log.layout slot behind-it (slots.slot_stage_after s) new.disk.areas) gate (turn-leads call) in
         let kept : KeepsParts behind-it (record v.disk.areas { status = new.disk.areas.status }) = subst (λ (a : Areas). KeepsParts behind-it a) areas opened.new_parts in
-        let added = adds header m w.log.layout w.log.reading w.log.laid w.log.stands built w.log.built place product mine.next free-now in
+        let added = adds header m w.log.layout w.log.reading w.log.laid w.log.stands c.profile_built w.log.built place product mine.next free-now in
         let rests : StatusRests header behind-it.slots new.disk.areas.status = subst (λ (ss : List Slot). StatusRests header ss new.disk.areas.status) (sym added.slots_are) opened.status in
         let stage = stage-behind header w.log.layout v.transactions m product v.transactions.queue v.transactions.stage v.turn (record v.disk.areas { status = w.group.rested }) new.disk.areas.status free rests
         (record { extents = kept.extents; runs = kept.runs }) stands in
@@ -885,26 +872,26 @@ module _ (v : StoreValue) (m : Machine Value) (memory : StandsInMemory v.transac
   slots-done (ArchiveWork run writer) = record { slots = refl; used = refl; turning = refl; failed = refl; turn = refl; log = refl }
   slots-done (Reclaim anchors source written) = record { slots = refl; used = refl; turning = refl; failed = refl; turn = refl; log = refl }
 
-module _ (tells : Bool) (v new : StoreValue) (m : Machine Value) (parts : Parts tells v m) (machine : IsMachine IsValue m) (works : m.failed ≡ false) (sound : IsTrue tells → AreSound new.disk.areas) (j : Job) (is : v.job ≡ Some j) where
+module _ (tells : Bool) (v new : StoreValue) (m : Machine Value) (stands : Stands tells v m) (works : m.failed ≡ false) (sound : IsTrue tells → AreSound new.disk.areas) (j : Job) (is : v.job ≡ Some j) where
   on : v.transactions.failed ≡ false
-  on = parts.memory.failed ∙ works
+  on = stands.memory.failed ∙ works
 
   one : lent_to v.job ≡ 1
   one = ap lent_to is
 
   kept-now : Keeps v m j.work j.stage
-  kept-now = kept-so tells v new m parts machine works sound j is
+  kept-now = kept-so tells v new m stands works sound j is
 
   -- the slot goes on, and another call of it is to come
   goes-on : (t : TurnState) (log : LogState) → log.profile ≡ v.log.profile → log.slots ≡ v.log.slots → log.used ≡ v.log.used → log.writing ≡ true → t.number ≡ v.log.used → v.turn ≡ None → IsOnItsWay (slots.slot_stage_after t.stage)
       → Keeps v m j.work (job.Turning (record t { stage = slots.slot_stage_after t.stage }))
-      → ((told : IsTrue tells) → Works (parts.disk told).header (record v { log = log; job = Some (record j { stage = job.Turning (record t { stage = slots.slot_stage_after t.stage }) }); disk = new.disk }) m)
-      → Parts tells (record v { log = log; job = Some (record j { stage = job.Turning (record t { stage = slots.slot_stage_after t.stage }) }); disk = new.disk }) m
-  goes-on t log profile many used writing number free way keeps working =
-      let was = parts.in_step.turns on in
+      → ((told : IsTrue tells) → Works (stands.disk told).header (record v { log = log; job = Some (record j { stage = job.Turning (record t { stage = slots.slot_stage_after t.stage }) }); disk = new.disk }) m)
+      → Stands tells (record v { log = log; job = Some (record j { stage = job.Turning (record t { stage = slots.slot_stage_after t.stage }) }); disk = new.disk }) m
+  goes-on t log profile many used writing number free way keeps works-so =
+      let was = stands.in_step.turns on in
       let in_step : IsInStep (record v { log = log; job = Some (record j { stage = job.Turning (record t { stage = slots.slot_stage_after t.stage }) }); disk = new.disk }) = record {
-        slots = omega (arith, many, parts.in_step.slots, one);
-        used = used ∙ parts.in_step.used;
+        slots = omega (arith, many, stands.in_step.slots, one);
+        used = used ∙ stands.in_step.used;
         turns = λ _. record {
           turning = was.turning;
           writing = writing ∙ sym (ap (λ (o : Option TurnState). is_some o || true) free);
@@ -912,17 +899,8 @@ module _ (tells : Bool) (v new : StoreValue) (m : Machine Value) (parts : Parts 
           job = (number ∙ sym used, way, free);
         };
       } in
-      record {
-        memory = parts.memory;
-        order = parts.order;
-        in_step = in_step;
-        gate = parts.gate;
-        marks = parts.marks;
-        job = keeps;
-        disk = λ told.
-            let d = parts.disk told in
-            on-disk d.header (record v { log = log; job = Some (record j { stage = job.Turning (record t { stage = slots.slot_stage_after t.stage }) }); disk = new.disk }) m parts.memory machine parts.order in_step (profile ∙ d.profile) (many ∙ d.slots) d.profile_built (parts.gate works) (working told);
-      }
+      goes-on-working tells v (record v { log = log; job = Some (record j { stage = job.Turning (record t { stage = slots.slot_stage_after t.stage }) }); disk = new.disk }) m m stands works
+      (record { memory = stands.memory; machine = stands.machine; order = stands.order; in_step = in_step; gate = stands.gate; marks = stands.marks; job = keeps }) works profile many works-so
 
   -- ---- the first call
 
@@ -931,23 +909,23 @@ module _ (tells : Bool) (v new : StoreValue) (m : Machine Value) (parts : Parts 
       let log : LogState = record v.log { writing = true } in
       stays tells new (record v { log = log; job = Some (record j { stage = job.Turning (record (first_turn v j) { stage = slots.BodyWritten }) }); disk = new.disk }) m said takes.answer.1
       (goes-on (first_turn v j) log refl refl refl refl refl free tt keeps (λ told.
-      let d = parts.disk told in
-      let w = d.works works in
+      let c = working tells v m stands works told in
+      let w = c.works in
       let none : turn_of v.job ≡ None = ap turn_of is ∙ ap turn_in stored in
-      let at = begun d.header v new m parts.order parts.in_step d.slots d.profile_built w j is stored on free d.profile in
-      turning-works d.header v new m parts.order parts.in_step d.slots d.profile_built w j is (first_turn v j) at log refl (sound told) v.disk.areas.status at.at.status (w.sound Status) (now-at d.header v m w none) (takes.call.areas told)))
+      let at = begun v new m c j is stored on free in
+      turning-works v new m c j is (first_turn v j) at log refl (sound told) v.disk.areas.status at.at.status (w.sound Status) (now-at v m c none) (takes.call.areas told)))
   begin-step stored keeps free (Err why) takes =
-      fails tells v new m why (record v.log { writing = true }) (record j { stage = job.Stored }) parts works takes.answer.0 refl refl refl one (subst (λ (s : JobStage). Keeps v m j.work s) stored kept-now) takes.answer.1 (λ told image left.
-      let d = parts.disk told in
-      let w = d.works works in
-      let at = begun d.header v new m parts.order parts.in_step d.slots d.profile_built w j is stored on free d.profile in
-      turn-leaves d.header v new m parts.order parts.in_step d.slots d.profile_built w j is (first_turn v j) at (takes.call.areas told) image left)
+      fails tells v new m why (record v.log { writing = true }) (record j { stage = job.Stored }) stands works takes.answer.0 refl refl refl one (subst (λ (s : JobStage). Keeps v m j.work s) stored kept-now) takes.answer.1 (λ told image left.
+      let c = working tells v m stands works told in
+      let w = c.works in
+      let at = begun v new m c j is stored on free in
+      turn-leaves v new m c j is (first_turn v j) at (takes.call.areas told) image left)
 
   -- ---- the others
 
   module _ (t : TurnState) (turning : j.stage ≡ job.Turning t) where
     was-turning : MatchOption (Some t) (Unit {0}) (λ u. (u.number ≡ v.log.used) × IsOnItsWay u.stage × (v.turn ≡ None))
-    was-turning = subst (λ (o : Option TurnState). MatchOption o (Unit {0}) (λ u. (u.number ≡ v.log.used) × IsOnItsWay u.stage × (v.turn ≡ None))) (ap turn_of is ∙ ap turn_in turning) (parts.in_step.turns on).job
+    was-turning = subst (λ (o : Option TurnState). MatchOption o (Unit {0}) (λ u. (u.number ≡ v.log.used) × IsOnItsWay u.stage × (v.turn ≡ None))) (ap turn_of is ∙ ap turn_in turning) (stands.in_step.turns on).job
 
     keeps-turning : Keeps v m j.work (job.Turning t)
     keeps-turning = subst (λ (s : JobStage). Keeps v m j.work s) turning kept-now
@@ -961,20 +939,20 @@ module _ (tells : Bool) (v new : StoreValue) (m : Machine Value) (parts : Parts 
     no-turn (ArchiveWork run writer) keeps = keeps
     no-turn (Reclaim anchors source written) keeps = record { is = keeps.is; recent = keeps.recent; made = λ no. absurd cc }
 
-    at-turn : (told : IsTrue tells) → IsTurnFor (parts.disk told).header ((parts.disk told).works works).log.layout (own (parts.disk told).header v m ((parts.disk told).works works) j is).product t v.disk.areas
+    at-turn : (told : IsTrue tells) → IsTurnFor (stands.disk told).header ((stands.disk told).works works).log.layout (own (stands.disk told).header v m ((stands.disk told).works works) j is).product t v.disk.areas
     at-turn told =
-        let d = parts.disk told in
-        let has = own d.header v m (d.works works) j is in
-        subst (λ (s : JobStage). IsAtJob d.header (d.works works).log.layout j.work has.product s v.disk.areas) turning has.at
+        let c = working tells v m stands works told in
+        let has = own c.header v m c.works j is in
+        subst (λ (s : JobStage). IsAtJob c.header c.works.log.layout j.work has.product s v.disk.areas) turning has.at
 
-    at-rest : (told : IsTrue tells) → StatusRests (parts.disk told).header ((parts.disk told).works works).log.layout.slots ((parts.disk told).works works).group.rested × IsSound ((parts.disk told).works works).group.rested
+    at-rest : (told : IsTrue tells) → StatusRests (stands.disk told).header ((stands.disk told).works works).log.layout.slots ((stands.disk told).works works).group.rested × IsSound ((stands.disk told).works works).group.rested
     at-rest told =
-        let d = parts.disk told in
-        let w = d.works works in
-        subst (λ (o : Option TurnState). IsRested d.header w.log.layout o w.group.rested v.disk.areas.status) (ap turn_of is ∙ ap turn_in turning) w.group.rests
+        let c = working tells v m stands works told in
+        let w = c.works in
+        subst (λ (o : Option TurnState). IsRested c.header w.log.layout o w.group.rested v.disk.areas.status) (ap turn_of is ∙ ap turn_in turning) w.group.rests
 
     log-writes : v.log.writing ≡ true
-    log-writes = (parts.in_step.turns on).writing ∙ ap (λ (o : Option TurnState). is_some o || is_some (turn_of v.job)) was-turning.2 ∙ ap (λ (o : Option TurnState). is_some o) (ap turn_of is ∙ ap turn_in turning)
+    log-writes = (stands.in_step.turns on).writing ∙ ap (λ (o : Option TurnState). is_some o || is_some (turn_of v.job)) was-turning.2 ∙ ap (λ (o : Option TurnState). is_some o) (ap turn_of is ∙ ap turn_in turning)
 
     next-step : (stage : SlotStage) → t.stage ≡ stage → IsOnItsWay (slots.slot_stage_after stage) → (said : JobDid) → (call : (told : IsTrue tells) → IsSlotCall t.number t.body t.stage (Ok tt) v.disk.areas new.disk.areas)
         → new ≡ with_job v (record j { stage = job.Turning (record t { stage = slots.slot_stage_after stage }) }) new → Ends tells m (Ok said) new
@@ -983,24 +961,24 @@ module _ (tells : Bool) (v new : StoreValue) (m : Machine Value) (parts : Parts 
         ap (λ (s : SlotStage). with_job v (record j { stage = job.Turning (record t { stage = slots.slot_stage_after s }) }) new) (sym at) in
         stays tells new (with_job v (record j { stage = job.Turning (record t { stage = slots.slot_stage_after t.stage }) }) new) m said (to ∙ same)
         (goes-on t v.log refl refl refl log-writes was-turning.0 was-turning.2 (subst (λ (s : SlotStage). IsOnItsWay (slots.slot_stage_after s)) (sym at) way) (any-turn j.work (record t { stage = slots.slot_stage_after t.stage }) keeps-turning) (λ told.
-        let d = parts.disk told in
-        let w = d.works works in
+        let c = working tells v m stands works told in
+        let w = c.works in
         let rest = at-rest told in
-        turning-works d.header v new m parts.order parts.in_step d.slots d.profile_built w j is t (at-turn told) v.log refl (sound told) w.group.rested rest.0 rest.1 w.group.at (call told)))
+        turning-works v new m c j is t (at-turn told) v.log refl (sound told) w.group.rested rest.0 rest.1 w.group.at (call told)))
 
     last-step : t.stage ≡ slots.GateWritten → (said : JobDid) → ((told : IsTrue tells) → IsSlotCall t.number t.body t.stage (Ok tt) v.disk.areas new.disk.areas) → v.transactions.slots < 65536 → new ≡ job_done v j t new → Ends tells m (Ok said) new
     last-step gate said call few to =
-        let was = parts.in_step.turns on in
+        let was = stands.in_step.turns on in
         let free : v.turn ≡ None = was-turning.2 in
         let still : is_turning v.transactions.stage ≡ false = was.turning ∙ ap (λ (o : Option TurnState). is_some o) free in
         let x : StoreValue = work_done j.work v in
-        let leaves = slots-done v m parts.memory parts.order parts.marks still j.work in
-        let memory = used-memory x.transactions m (memory-done v m parts.memory parts.order parts.marks still j.work t keeps-turning) in
-        let order = used-order x.transactions (omega (arith, few, leaves.slots)) (order-done v m parts.memory parts.order parts.marks still j.work) in
+        let leaves = slots-done v m stands.memory stands.order stands.marks still j.work in
+        let memory = used-memory x.transactions m (memory-done v m stands.memory stands.order stands.marks still j.work t keeps-turning) in
+        let order = used-order x.transactions (omega (arith, few, leaves.slots)) (order-done v m stands.memory stands.order stands.marks still j.work) in
         let no-turn-of : (o : Option TurnState) → o ≡ None → MatchOption o (Unit {0}) (λ u. (u.number ≡ t.number + 1) × IsOnItsWay u.stage) = λ o none. subst (λ (y : Option TurnState). MatchOption y (Unit {0}) (λ u. (u.number ≡ t.number + 1) × IsOnItsWay u.stage)) (sym none) tt in
         let in_step : IsInStep (job_done v j t new) = record {
-          slots = ap (λ (l : LogState). l.slots) leaves.log ∙ omega (arith, parts.in_step.slots, one, leaves.slots);
-          used = omega (arith, was-turning.0, parts.in_step.used, leaves.used);
+          slots = ap (λ (l : LogState). l.slots) leaves.log ∙ omega (arith, stands.in_step.slots, one, leaves.slots);
+          used = omega (arith, was-turning.0, stands.in_step.used, leaves.used);
           turns = λ _. record {
             turning = leaves.turning ∙ was.turning ∙ sym (ap (λ (o : Option TurnState). is_some o) leaves.turn);
             writing = sym (ap (λ (o : Option TurnState). is_some o || false) (leaves.turn ∙ free));
@@ -1008,19 +986,17 @@ module _ (tells : Bool) (v new : StoreValue) (m : Machine Value) (parts : Parts 
             job = tt;
           };
         } in
-        stays tells new (job_done v j t new) m said to (record {
+        stays tells new (job_done v j t new) m said to (goes-on-working tells v (job_done v j t new) m m stands works (record {
           memory = memory;
+          machine = stands.machine;
           order = order;
           in_step = in_step;
-          gate = λ on. parts.gate on ∙ ap gate_of (sym leaves.turn);
-          marks = marks-done v m parts.memory parts.order parts.marks still j.work t keeps-turning;
+          gate = λ on. stands.gate on ∙ ap gate_of (sym leaves.turn);
+          marks = marks-done v m stands.memory stands.order stands.marks still j.work t keeps-turning;
           job = tt;
-          disk = λ told.
-              let d = parts.disk told in
-              let w = d.works works in
-              on-disk d.header (job_done v j t new) m memory machine order in_step (ap (λ (l : LogState). l.profile) leaves.log ∙ d.profile) (ap (λ (l : LogState). l.slots) leaves.log ∙ d.slots) d.profile_built (parts.gate works ∙ ap gate_of (sym leaves.turn))
-              (done-works d.header v new m parts.order parts.in_step d.slots d.profile_built w j is t (at-turn told) gate (sound told) still keeps-turning parts.memory.versions.ordered w.group.at (call told));
-        })
+        }) works (ap (λ (l : LogState). l.profile) leaves.log) (ap (λ (l : LogState). l.slots) leaves.log) (λ told.
+        let c = working tells v m stands works told in
+        done-works v new m c j is t (at-turn told) gate (sound told) still keeps-turning stands.memory.versions.ordered c.works.group.at (call told)))
 
     turned : (stage : SlotStage) → t.stage ≡ stage → ((told : IsTrue tells) → IsSlotCall t.number t.body t.stage (Ok tt) v.disk.areas new.disk.areas) → (said : JobDid) → IsJobTurned stage t j v said new → Ends tells m (Ok said) new
     turned slots.Begun at call said to = next-step slots.Begun at tt said call to.1
@@ -1032,9 +1008,9 @@ module _ (tells : Bool) (v new : StoreValue) (m : Machine Value) (parts : Parts 
     turn-step : (answer : Result JobDid PumpFault) → TurnsJob tells j t v answer new → Ends tells m answer new
     turn-step (Ok said) takes = turned t.stage refl takes.call.areas said takes.answer
     turn-step (Err why) takes =
-        fails tells v new m why v.log (record j { stage = job.Stored }) parts works takes.answer.0 refl refl refl one (no-turn j.work keeps-turning) takes.answer.1 (λ told image left.
-        let d = parts.disk told in
-        turn-leaves d.header v new m parts.order parts.in_step d.slots d.profile_built (d.works works) j is t (at-turn told) (takes.call.areas told) image left)
+        fails tells v new m why v.log (record j { stage = job.Stored }) stands works takes.answer.0 refl refl refl one (no-turn j.work keeps-turning) takes.answer.1 (λ told image left.
+        let c = working tells v m stands works told in
+        turn-leaves v new m c j is t (at-turn told) (takes.call.areas told) image left)
 
 -- ---- what is made in memory before the slot is begun
 
@@ -1062,62 +1038,58 @@ prepared-works header v m mark w = record {
   sound = w.sound;
 }
 
-prepared-parts : (tells : Bool) (v : StoreValue) (m : Machine Value) (anchors : Anchors) (source : Sourced) (written : ℕ) → v.job ≡ Some (record { work = Reclaim anchors source written; stage = job.Stored }) → (parts : Parts tells v m) → IsMachine IsValue m → (works : m.failed ≡ false)
-    → Parts tells (record v { transactions = prepared v.transactions anchors.upto }) m
-prepared-parts tells v m anchors source written is parts machine works =
-    let memory = prepares v.transactions m anchors.upto parts.memory in
-    let order = prepared-order v.transactions anchors.upto parts.order in
+prepared-parts : (tells : Bool) (v : StoreValue) (m : Machine Value) (anchors : Anchors) (source : Sourced) (written : ℕ) → v.job ≡ Some (record { work = Reclaim anchors source written; stage = job.Stored }) → (stands : Stands tells v m) → (works : m.failed ≡ false)
+    → Stands tells (record v { transactions = prepared v.transactions anchors.upto }) m
+prepared-parts tells v m anchors source written is stands works =
     let after : StoreValue = record v { transactions = prepared v.transactions anchors.upto } in
-    let keeps : Keeps v m (Reclaim anchors source written) job.Stored = subst (λ (o : Option Job). KeepsJobOf o v.archived (last m.published) v.transactions.opened v.transactions.pending v.transactions.versions) is parts.job in
+    let keeps : Keeps v m (Reclaim anchors source written) job.Stored = subst (λ (o : Option Job). KeepsJobOf o v.archived (last m.published) v.transactions.opened v.transactions.pending v.transactions.versions) is stands.job in
     let keeps' : Reclaims v.archived anchors.upto false v.transactions.opened (Some (forgotten anchors.upto v.transactions.versions)) v.transactions.versions = record { is = keeps.is; recent = keeps.recent; made = λ no. absurd cc } in
     let in_step : IsInStep (record v { transactions = prepared v.transactions anchors.upto }) = record {
-      slots = parts.in_step.slots;
-      used = parts.in_step.used;
-      turns = λ on. let was = parts.in_step.turns on in record { turning = was.turning; writing = was.writing; turn = was.turn; job = was.job };
+      slots = stands.in_step.slots;
+      used = stands.in_step.used;
+      turns = λ on. let was = stands.in_step.turns on in record { turning = was.turning; writing = was.writing; turn = was.turn; job = was.job };
     } in
-    record {
-      memory = memory;
-      order = order;
+    goes-on-working tells v after m m stands works (record {
+      memory = prepares v.transactions m anchors.upto stands.memory;
+      machine = stands.machine;
+      order = prepared-order v.transactions anchors.upto stands.order;
       in_step = in_step;
-      gate = parts.gate;
-      marks = parts.marks;
+      gate = stands.gate;
+      marks = stands.marks;
       job = subst (λ (o : Option Job). KeepsJobOf o v.archived (last m.published) v.transactions.opened (Some (forgotten anchors.upto v.transactions.versions)) v.transactions.versions) (sym is) keeps';
-      disk = λ told.
-          let d = parts.disk told in
-          on-disk d.header (record v { transactions = prepared v.transactions anchors.upto }) m memory machine order in_step d.profile d.slots d.profile_built (parts.gate works) (prepared-works d.header v m anchors.upto (d.works works));
-    }
+    }) works refl refl (λ told. let c = working tells v m stands works told in prepared-works c.header v m anchors.upto c.works)
 
 -- ---- every step
 
-module _ (tells : Bool) (v new : StoreValue) (m : Machine Value) (parts : Parts tells v m) (machine : IsMachine IsValue m) (works : m.failed ≡ false) (sound : IsTrue tells → AreSound new.disk.areas) where
+module _ (tells : Bool) (v new : StoreValue) (m : Machine Value) (stands : Stands tells v m) (works : m.failed ≡ false) (sound : IsTrue tells → AreSound new.disk.areas) where
   begins-slot : (work : JobWork) → v.job ≡ Some (record { work = work; stage = job.Stored }) → v.turn ≡ None → (answer : Result JobDid PumpFault) → BeginsJobSlot tells (record { work = work; stage = job.Stored }) v answer new → Ends tells m answer new
   begins-slot (ArchiveWork run writer) is free answer (inl short) = absurd short.0
   begins-slot (ArchiveWork run writer) is free answer (inr first) =
-      begin-step tells v new m parts machine works sound (record { work = ArchiveWork run writer; stage = job.Stored }) is refl (kept-so tells v new m parts machine works sound (record { work = ArchiveWork run writer; stage = job.Stored }) is) free answer first
-  begins-slot (Reclaim anchors source written) is free answer (inl short) = subst (λ (r : Result JobDid PumpFault). Ends tells m r new) (sym short.1) (m, refl, subst (λ (x : StoreValue). Parts tells x m) (sym short.2) parts)
+      begin-step tells v new m stands works sound (record { work = ArchiveWork run writer; stage = job.Stored }) is refl (kept-so tells v new m stands works sound (record { work = ArchiveWork run writer; stage = job.Stored }) is) free answer first
+  begins-slot (Reclaim anchors source written) is free answer (inl short) = subst (λ (r : Result JobDid PumpFault). Ends tells m r new) (sym short.1) (m, refl, subst (λ (x : StoreValue). Stands tells x m) (sym short.2) stands)
   begins-slot (Reclaim anchors source written) is free answer (inr first) =
       let ready : StoreValue = record v { transactions = prepared v.transactions anchors.upto } in
-      let then = prepared-parts tells v m anchors source written is parts machine works in
-      let keeps = kept-so tells v new m parts machine works sound (record { work = Reclaim anchors source written; stage = job.Stored }) is in
-      begin-step tells (record v { transactions = prepared v.transactions anchors.upto }) new m then machine works sound (record { work = Reclaim anchors source written; stage = job.Stored }) is refl
+      let then = prepared-parts tells v m anchors source written is stands works in
+      let keeps = kept-so tells v new m stands works sound (record { work = Reclaim anchors source written; stage = job.Stored }) is in
+      begin-step tells (record v { transactions = prepared v.transactions anchors.upto }) new m then works sound (record { work = Reclaim anchors source written; stage = job.Stored }) is refl
       (record { is = keeps.is; recent = keeps.recent; made = λ _. refl }) free answer first
 
   waits-or-begins : (work : JobWork) → v.job ≡ Some (record { work = work; stage = job.Stored }) → (o : Option TurnState) → v.turn ≡ o → (answer : Result JobDid PumpFault)
       → MatchBool (is_some o) ((answer ≡ Err pump.Busy) × (new ≡ v)) (BeginsJobSlot tells (record { work = work; stage = job.Stored }) v answer new) → Ends tells m answer new
-  waits-or-begins work is (Some t) at answer busy = subst (λ (r : Result JobDid PumpFault). Ends tells m r new) (sym busy.0) (m, refl, subst (λ (x : StoreValue). Parts tells x m) (sym busy.1) parts)
+  waits-or-begins work is (Some t) at answer busy = subst (λ (r : Result JobDid PumpFault). Ends tells m r new) (sym busy.0) (m, refl, subst (λ (x : StoreValue). Stands tells x m) (sym busy.1) stands)
   waits-or-begins work is None free answer begins = begins-slot work is free answer begins
 
   write-step : (work : JobWork) → v.job ≡ Some (record { work = work; stage = job.Writing }) → (answer : Result JobDid PumpFault) → Stores tells work (record { work = work; stage = job.Writing }) v answer new → Ends tells m answer new
-  write-step (ArchiveWork run writer) is answer takes = run-step tells v new m parts machine works sound run writer is writer.left refl answer takes
-  write-step (Reclaim anchors source written) is answer takes = anchors-step tells v new m parts machine works sound anchors source written is (slice_get v.transactions.reserved written) refl answer takes
+  write-step (ArchiveWork run writer) is answer takes = run-step tells v new m stands works sound run writer is writer.left refl answer takes
+  write-step (Reclaim anchors source written) is answer takes = anchors-step tells v new m stands works sound anchors source written is (slice_get v.transactions.reserved written) refl answer takes
 
   job-step : (work : JobWork) (s : JobStage) → v.job ≡ Some (record { work = work; stage = s }) → (answer : Result JobDid PumpFault) → TakesJobStep tells s (record { work = work; stage = s }) v answer new → Ends tells m answer new
   job-step work job.Writing is answer takes = write-step work is answer takes
   job-step work job.Stored is answer takes = waits-or-begins work is v.turn refl answer takes
-  job-step work (job.Turning t) is answer takes = turn-step tells v new m parts machine works sound (record { work = work; stage = job.Turning t }) is t refl answer takes
+  job-step work (job.Turning t) is answer takes = turn-step tells v new m stands works sound (record { work = work; stage = job.Turning t }) is t refl answer takes
 
   step : (o : Option Job) → v.job ≡ o → (answer : Result JobDid PumpFault) → MatchOption o ((answer ≡ Ok did.Idle) × (new ≡ v)) (λ j. TakesJobStep tells j.stage j v answer new) → Ends tells m answer new
-  step None is answer idle = subst (λ (r : Result JobDid PumpFault). Ends tells m r new) (sym idle.0) (m, refl, subst (λ (x : StoreValue). Parts tells x m) (sym idle.1) parts)
+  step None is answer idle = subst (λ (r : Result JobDid PumpFault). Ends tells m r new) (sym idle.0) (m, refl, subst (λ (x : StoreValue). Stands tells x m) (sym idle.1) stands)
   step (Some j) is answer takes = job-step j.work j.stage is answer takes
 
 pub job-pump-stands : (tells : Bool) (old new : StoreValue) (answer : Result JobDid PumpFault) (m : Machine Value) → Stands tells old m → (IsTrue tells → AreSound new.disk.areas) → PumpsJob tells old answer new
@@ -1130,18 +1102,4 @@ job-pump-stands tells old new answer m stands sound pumps =
         → MatchBool b ((answer ≡ Err pump.Failed) × Stands tells new m) ((after : Machine Value) × steps.Run IsValue m (job_ends_in answer) after × Stands tells new after)
     by-failure true failed is = (is.0, subst (λ (x : StoreValue). Stands tells x m) (sym is.1) stands)
     by-failure false works takes =
-        let parts : Parts tells old m = record { memory = stands.memory; order = stands.order; in_step = stands.in_step; gate = stands.gate; marks = stands.marks; job = stands.job; disk = stands.disk } in
-        let ends = step tells old new m parts stands.machine works sound old.job refl answer takes in (
-          ends.0,
-          ends.1,
-          record {
-            memory = ends.2.memory;
-            machine = run-machine IsValue m ends.0 (job_ends_in answer) stands.machine ends.1;
-            order = ends.2.order;
-            in_step = ends.2.in_step;
-            gate = ends.2.gate;
-            marks = ends.2.marks;
-            job = ends.2.job;
-            disk = ends.2.disk;
-          },
-        )
+        step tells old new m stands works sound old.job refl answer takes

@@ -47,8 +47,10 @@ use Rattle.group.specs.Queued.{QueuedValue, numbers_of}
 use Rattle.transactions.specs.Values.{TransactionsValue}
 use Rattle.transactions.specs.Order.{IsInOrder}
 use Rattle.transactions.proofs.Publishing.{out-front}
-use Rattle.standing.specs.Standing.{AllWait, StandsInMemory}
+use Rattle.store.specs.Values.{StoreValue}
+use Rattle.standing.specs.Standing.{AllWait}
 use Rattle.standing.specs.OnDisk.{IsImageOf, values_in, AllPacked, group_of}
+use Rattle.standing.proofs.Working.{Working, room-left}
 use Rattle.standing.proofs.Packed.{as-many, wait-front, packed-front, entries-named, members-are, members-stored, extents-numbered, length-mapped}
 use Rattle.standing.proofs.Naming.{spelling-long, slot-spelled}
 
@@ -131,10 +133,22 @@ MayOpenInCall (turns.Turning stage) = MayOpenWithin stage
 -- ---- what the store keeps of its disk, apart from where the group is
 
 -- the log stands for what is published, and the group may follow it
-module _ (header : Header) (v : TransactionsValue) (m : Machine Value) (layout : Layout) (reading : Reading)
-    (memory : StandsInMemory v m) (machine : IsMachine IsValue m) (order : IsInOrder v)
-    (laid : IsLayoutOf header layout reading) (stands : StandsFor reading m.published m.floors) (profile_built : IsTrue (is_built header.profile 1)) (built : AreBuilt header layout.slots)
-    (kept : AllByRecursion (λ (e : Extent). IsKept v.usages e.number) (live layout)) (packed : AllPacked m.published v.queue m.queue) (some : 0 < v.group) (room : length layout.slots < total header) where
+module _ (store : StoreValue) (m : Machine Value) (c : Working store m) (some : 0 < store.transactions.group) where
+  abbrev v : TransactionsValue
+  v = store.transactions
+
+  abbrev header : Header
+  header = c.header
+
+  abbrev layout : Layout
+  layout = c.works.log.layout
+
+  abbrev reading : Reading
+  reading = c.works.log.reading
+
+  room : length layout.slots < total header
+  room = room-left store m c some
+
   abbrev next : History Value
   next = take v.group m.queue
 
@@ -142,27 +156,27 @@ module _ (header : Header) (v : TransactionsValue) (m : Machine Value) (layout :
   taken = take v.group v.queue
 
   waits : AllWait v.reclaimed v.versions taken next
-  waits = wait-front v.group v.reclaimed v.versions v.queue m.queue memory.queue
+  waits = wait-front v.group v.reclaimed v.versions v.queue m.queue c.inside.memory.queue
 
   each : AllPacked m.published taken next
-  each = packed-front v.group m.published v.queue m.queue packed
+  each = packed-front v.group m.published v.queue m.queue c.works.packed
 
   may : MayAllFollow IsValue m.published next
   may =
-      let behind : MayAllFollow IsValue m.published m.queue = may_follow-behind IsValue [] m.published m.queue machine.history in
+      let behind : MayAllFollow IsValue m.published m.queue = may_follow-behind IsValue [] m.published m.queue c.inside.machine.history in
       may_follow-front IsValue m.published (take v.group m.queue) (drop v.group m.queue) (subst (λ (l : History Value). MayAllFollow IsValue m.published l) (sym (taken-and-rest v.group m.queue)) behind)
 
   pub out : AreOut v.usages (flat_map numbers_of taken)
-  out = out-front v.usages (flat_map numbers_of (take v.group v.queue)) (flat_map numbers_of (drop v.group v.queue)) (subst (λ (l : List ℕ). AreOut v.usages l) (numbers-split v.group v.queue) (out-front v.usages (flat_map numbers_of v.queue) v.reserved order.out))
+  out = out-front v.usages (flat_map numbers_of (take v.group v.queue)) (flat_map numbers_of (drop v.group v.queue)) (subst (λ (l : List ℕ). AreOut v.usages l) (numbers-split v.group v.queue) (out-front v.usages (flat_map numbers_of v.queue) v.reserved c.inside.order.out))
 
   pub in_range : AllByRecursion IsNumber (flat_map numbers_of taken)
   in_range = numbered v.usages (flat_map numbers_of taken) out.each
 
   many : length next ≡ v.group
-  many = length-taken v.group m.queue (omega (arith, order.group_within, as-many v.reclaimed v.versions v.queue m.queue memory.queue))
+  many = length-taken v.group m.queue (omega (arith, c.inside.order.group_within, as-many v.reclaimed v.versions v.queue m.queue c.inside.memory.queue))
 
   taken-many : length taken ≡ v.group
-  taken-many = length-taken v.group v.queue order.group_within
+  taken-many = length-taken v.group v.queue c.inside.order.group_within
 
   abbrev group : Group
   group = group_of layout v m
@@ -171,13 +185,13 @@ module _ (header : Header) (v : TransactionsValue) (m : Machine Value) (layout :
   stored = members-stored v.reclaimed v.versions m.published taken next waits each may in_range
 
   values : (λ (key : Key). latest (heap_facts reading key)) ≡ values_in m.published
-  values = fun_ext (λ key. sym (latest-is reading m.published m.floors stands key))
+  values = fun_ext (λ key. sym (latest-is reading m.published m.floors c.works.log.stands key))
 
   is_group : IsGroupOf reading m.published next (map (λ (s : StoredMember). s.member) group.members)
   is_group =
       subst (λ (ms : List Member). IsGroupOf reading m.published next ms)
       (ap (λ (f : Key → Option Value). stored_members f next) values ∙ sym (members-are v.reclaimed v.versions m.published taken next waits may))
-      (stored-is_group reading m.published m.floors stands next may (omega (arith, many, some)) (omega (arith, many, order.group_few)))
+      (stored-is_group reading m.published m.floors c.works.log.stands next may (omega (arith, many, some)) (omega (arith, many, c.inside.order.group_few)))
 
   pub numbers : map (λ (e : Extent). e.number) (extents_of group.members) ≡ flat_map numbers_of taken
   numbers = extents-numbered m.published taken next each
@@ -185,8 +199,8 @@ module _ (header : Header) (v : TransactionsValue) (m : Machine Value) (layout :
   free : AreDistinct (live layout ++ extents_of group.members)
   free =
       let outs : AllByRecursion (IsOut v.usages) (map (λ (e : Extent). e.number) (extents_of group.members)) = subst (AllByRecursion (IsOut v.usages)) (sym numbers) out.each in
-      distinct_join (live layout) (extents_of group.members) laid.heap.apart (distinct-extents (extents_of group.members) (subst usages.AreDistinct (sym numbers) out.distinct))
-      (kept-cross v.usages (live layout) (extents_of group.members) kept outs)
+      distinct_join (live layout) (extents_of group.members) c.works.log.laid.heap.apart (distinct-extents (extents_of group.members) (subst usages.AreDistinct (sym numbers) out.distinct))
+      (kept-cross v.usages (live layout) (extents_of group.members) c.works.heap.kept outs)
 
   pub joins : MayJoin header layout reading m.published next group
   joins = record {
@@ -203,33 +217,33 @@ module _ (header : Header) (v : TransactionsValue) (m : Machine Value) (layout :
   body = spelling header.profile group.slot
 
   pub long : length body ≡ 511
-  long = spelling-long header.profile (length layout.slots) (map (λ (q : QueuedValue). q.entry) taken) (omega (arith, length-mapped (λ (q : QueuedValue). q.entry) taken, taken-many, order.group_few))
+  long = spelling-long header.profile (length layout.slots) (map (λ (q : QueuedValue). q.entry) taken) (omega (arith, length-mapped (λ (q : QueuedValue). q.entry) taken, taken-many, c.inside.order.group_few))
 
   pub spelled : IsSpelled header.profile (length layout.slots) body group.slot
-  spelled = slot-spelled header.profile (length layout.slots) v.reclaimed v.versions m.published taken next waits each may in_range (omega (arith, taken-many, some)) (omega (arith, taken-many, order.group_few))
+  spelled = slot-spelled header.profile (length layout.slots) v.reclaimed v.versions m.published taken next waits each may in_range (omega (arith, taken-many, some)) (omega (arith, taken-many, c.inside.order.group_few))
 
   -- ---- images
 
   pub old_image : (image : Image) → HoldsLayout header image layout → IsImageOf header image m.published m.floors
-  old_image image held = record { layout = layout; reading = reading; laid = laid; held = held; stands = stands; profile_built = profile_built; built = built }
+  old_image image held = record { layout = layout; reading = reading; laid = c.works.log.laid; held = held; stands = c.works.log.stands; profile_built = c.profile_built; built = c.works.log.built }
 
   pub built_then : AreBuilt header (laid_out layout group).slots
-  built_then = built-more header layout.slots group.slot built profile_built
+  built_then = built-more header layout.slots group.slot c.works.log.built c.profile_built
 
   pub laid_then : IsLayoutOf header (laid_out layout group) (with_group reading (turns.members_of group))
-  laid_then = laid_more header layout reading m.published next m.floors group laid stands joins
+  laid_then = laid_more header layout reading m.published next m.floors group c.works.log.laid c.works.log.stands joins
 
   pub stands_then : StandsFor (with_group reading (turns.members_of group)) (m.published ++ next) m.floors
-  stands_then = stands_more header layout reading m.published next m.floors group laid stands joins
+  stands_then = stands_more header layout reading m.published next m.floors group c.works.log.laid c.works.log.stands joins
 
   pub new_image : (image : Image) → HoldsLayout header image (laid_out layout group) → IsImageOf header image (m.published ++ next) m.floors
   new_image image held =
-      record { layout = laid_out layout group; reading = with_group reading (turns.members_of group); laid = laid_then; held = held; stands = stands_then; profile_built = profile_built; built = built_then }
+      record { layout = laid_out layout group; reading = with_group reading (turns.members_of group); laid = laid_then; held = held; stands = stands_then; profile_built = c.profile_built; built = built_then }
 
   -- what is published with the whole group is a front, where the gate may be open
   opened-front : (gate : Gate) → gate ≡ MayBeOpen OfGroup → (image : Image) → IsImageOf header image (m.published ++ next) m.floors → OnFront (IsImageOf header image) (gated m gate)
   opened-front gate is image new =
-      inr (subst (λ (g : Gate). OnOpened (IsImageOf header image) (gated m g) g) (sym is) (subst (λ (n : ℕ). IsImageOf header image (m.published ++ take n m.queue) m.floors) memory.group new))
+      inr (subst (λ (g : Gate). OnOpened (IsImageOf header image) (gated m g) g) (sym is) (subst (λ (n : ℕ). IsImageOf header image (m.published ++ take n m.queue) m.floors) c.inside.memory.group new))
 
   by-slot : (gate : Gate) (stage : SlotStage) (image : Image) → (MayOpen stage → gate ≡ MayBeOpen OfGroup) → MayAt stage (HoldsLayout header image layout) (HoldsLayout header image (laid_out layout group)) → OnFront (IsImageOf header image) (gated m gate)
   by-slot gate slots.Begun image open-is may_be = inl (old_image image may_be)
@@ -249,7 +263,7 @@ module _ (header : Header) (v : TransactionsValue) (m : Machine Value) (layout :
   within-slot gate slots.Opened image open-is may_be = opened-front gate (open-is tt) image (new_image image may_be)
 
   pub live_are : AllByRecursion IsExtent (live layout)
-  live_are = live_extents_are header layout reading laid
+  live_are = live_extents_are header layout reading c.works.log.laid
 
   pub group_are : AllByRecursion IsExtent (extents_of group.members)
   group_are = group_extents_are group.members stored
@@ -267,7 +281,7 @@ module _ (header : Header) (v : TransactionsValue) (m : Machine Value) (layout :
   leaves_within bytes long spelled gate (turns.Turning stage) result old new image open-is at sound call left =
       within-slot gate stage image open-is (group_call_holds header layout group room live_are group_are free bytes long spelled (turns.Turning stage) result old new image at sound call left)
 
-  -- while an extent of the group is written, the live chains are kept
+  -- while an extent of the group is written, the live chains are c.works.heap.kept
   pub torn_kept : (done : List Extent) (e : Extent) (rest : List Extent) (old : Areas) → IsStoring header layout group done (e ∷ rest) old → AreSound old
       → KeepsExtents (live layout) (loosened (extent_start e.number) (length (extent_bytes e)) old.heap.bytes old.heap)
   torn_kept done e rest old at sound = grouping.torn_kept header layout group room live_are group_are free done e rest old at sound

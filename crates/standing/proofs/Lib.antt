@@ -18,6 +18,7 @@ pub mod Packed
 pub mod Naming
 pub mod Places
 pub mod Usages
+pub mod Working
 pub mod Joining
 pub mod Besides
 pub mod Freshening

@@ -48,7 +48,7 @@ use Rattle.disk.specs.declared.area.DeviceFault.{DeviceFault}
 use Rattle.reading.specs.Extents.{IsExtent, AreDistinct}
 use Rattle.reading.specs.Layouts.{live, extents_of}
 use Rattle.reading.specs.Turn as turns
-use Rattle.reading.specs.Turn.{laid_out}
+use Rattle.reading.specs.Turn.{Group, laid_out}
 use Rattle.reading.specs.Runs.{StoredRun}
 use Rattle.reading.proofs.Layouts.{live_more, runs_more, has_room, live_extents_are}
 use Rattle.reading.proofs.Lists.{all_of_back, distinct_join}
@@ -87,25 +87,13 @@ use Rattle.standing.proofs.Packed.{packed-rest, length-mapped}
 use Rattle.standing.proofs.Retired.{reserved-out, published-times, chains-long}
 use Rattle.standing.proofs.Places.{IsNext, next-is, behind-is, take-next, drop-next, none-left}
 use Rattle.standing.proofs.Usages.{AllKept, all-published}
+use Rattle.standing.proofs.Working.{Inside, Working, working, group_in, room-left, job-room}
 use Rattle.standing.proofs.Joining as joining
 use Rattle.standing.proofs.Joining.{numbers-split}
 use Rattle.standing.proofs.Publishing.{restaged, regated, breaks, publishes, freshens, fresh-marks, begins}
 use Rattle.standing.proofs.Besides.{IsBeside, AreBeside, all-keep, write-beside, torn-beside, sync-beside, beside-none, beside-out, none-number}
 use Rattle.standing.proofs.Freshening.{fresh-entries, fresh-order, fresh-works}
 use Rattle.standing.proofs.Jobs.{IsFree, made_extents, resting, rested-now, rested-sound, sound-at, job-beside-heap, job-beside-status, job-moves, product-leaves, rested-write, rested-sync}
-
--- ---- room in the log
-
-claims-some : (s : GroupStage) (group waiting : ℕ) → 0 < group → group ≤ waiting → 0 < claimed_by s group waiting
-claims-some NoGroup group waiting some within = omega (arith, some, within)
-claims-some (Storing member extent) group waiting some within = omega (arith, some, within)
-claims-some Stored group waiting some within = omega (arith, some, within)
-claims-some Turning group waiting some within = omega arith
-
-pub room-left : (header : Header) (v : StoreValue) (m : Machine Value) → IsInOrder v.transactions → IsInStep v → (v.log.slots ≡ total header) → (w : Works header v m) → 0 < v.transactions.group → length w.log.layout.slots < total header
-room-left header v m order in_step slots_are w some =
-    let claims = claims-some v.transactions.stage v.transactions.group (length v.transactions.queue) some order.group_within in
-    omega (arith, claims, order.room, in_step.slots, in_step.used, slots_are, w.log.used)
 
 -- ---- the gate
 
@@ -148,87 +136,96 @@ gate-shut v m in_step failed gate works still =
 
 -- ---- what a stop may leave
 
-pub stage-leaves : (header : Header) (v : StoreValue) (m : Machine Value) → StandsInMemory v.transactions m → IsMachine IsValue m → IsInOrder v.transactions → IsTrue (is_built header.profile 1)
-    → (w : Works header v m) → ((0 < v.transactions.group) → length w.log.layout.slots < total header) → (areas : Areas) (s : GroupStage) (o : Option TurnState) → m.gate ≡ gate_of o → StageFits s v.transactions.group v.transactions.queue
-    → IsAtStage header w.log.layout (group_of w.log.layout v.transactions m) v.transactions.queue s o areas → (image : Image) → LeavesImage areas image → OnFront (IsImageOf header image) m
-stage-leaves header v m memory machine order built w room areas NoGroup o gate fits at image left =
-    inl record { layout = w.log.layout; reading = w.log.reading; laid = w.log.laid; held = rests_hold header w.log.layout areas image at left; stands = w.log.stands; profile_built = built; built = w.log.built }
-stage-leaves header v m memory machine order built w room areas (Storing member extent) o gate fits at image left =
-    joining.leaves_at header v.transactions m w.log.layout w.log.reading memory machine order w.log.laid w.log.stands built w.log.built w.heap.kept w.packed fits.0 (room fits.0) m.gate (turns.Storing _ _) areas image (λ no. absurd no) at left
-stage-leaves header v m memory machine order built w room areas Stored o gate fits at image left =
-    joining.leaves_at header v.transactions m w.log.layout w.log.reading memory machine order w.log.laid w.log.stands built w.log.built w.heap.kept w.packed fits (room fits) m.gate (turns.Turning slots.Begun) areas image (λ no. absurd no) at left
-stage-leaves header v m memory machine order built w room areas Turning None gate fits at image left = absurd at
-stage-leaves header v m memory machine order built w room areas Turning (Some t) gate fits at image left =
-    joining.leaves_at header v.transactions m w.log.layout w.log.reading memory machine order w.log.laid w.log.stands built w.log.built w.heap.kept w.packed fits (room fits) m.gate (turns.Turning t.stage) areas image (λ may. gate ∙ open-is t.stage may) at.at left
+pub stage-leaves : (v : StoreValue) (m : Machine Value) (c : Working v m) (areas : Areas) (s : GroupStage) (o : Option TurnState) → m.gate ≡ gate_of o → StageFits s v.transactions.group v.transactions.queue
+    → IsAtStage c.header c.works.log.layout (group_in v m c) v.transactions.queue s o areas → (image : Image) → LeavesImage areas image → OnFront (IsImageOf c.header image) m
+stage-leaves v m c areas NoGroup o gate fits at image left =
+    inl record { layout = c.works.log.layout; reading = c.works.log.reading; laid = c.works.log.laid; held = rests_hold c.header c.works.log.layout areas image at left; stands = c.works.log.stands; profile_built = c.profile_built; built = c.works.log.built }
+stage-leaves v m c areas (Storing member extent) o gate fits at image left = joining.leaves_at v m c fits.0 m.gate (turns.Storing _ _) areas image (λ no. absurd no) at left
+stage-leaves v m c areas Stored o gate fits at image left = joining.leaves_at v m c fits m.gate (turns.Turning slots.Begun) areas image (λ no. absurd no) at left
+stage-leaves v m c areas Turning None gate fits at image left = absurd at
+stage-leaves v m c areas Turning (Some t) gate fits at image left = joining.leaves_at v m c fits m.gate (turns.Turning t.stage) areas image (λ may. gate ∙ open-is t.stage may) at.at left
 
 -- the areas, with the status area as it would rest
-abbrev resting-areas : (header : Header) (v : StoreValue) (m : Machine Value) → Works header v m → Areas
-resting-areas header v m w = record v.disk.areas { status = w.group.rested }
+abbrev resting-areas : (v : StoreValue) (m : Machine Value) → Working v m → Areas
+resting-areas v m c = record v.disk.areas { status = c.works.group.rested }
 
 -- where no job's slot is in the writing, a group is where it is on the disk as it stands
-pub now-at : (header : Header) (v : StoreValue) (m : Machine Value) (w : Works header v m) → turn_of v.job ≡ None
-    → IsAtStage header w.log.layout (group_of w.log.layout v.transactions m) v.transactions.queue v.transactions.stage v.turn v.disk.areas
-now-at header v m w still =
-    subst (λ (a : AreaState). IsAtStage header w.log.layout (group_of w.log.layout v.transactions m) v.transactions.queue v.transactions.stage v.turn (record v.disk.areas { status = a }))
-    (sym (resting header w.log.layout (turn_of v.job) w.group.rested v.disk.areas.status still w.group.rests)) w.group.at
+pub now-at : (v : StoreValue) (m : Machine Value) (c : Working v m) → turn_of v.job ≡ None
+    → IsAtStage c.header c.works.log.layout (group_in v m c) v.transactions.queue v.transactions.stage v.turn v.disk.areas
+now-at v m c still =
+    subst (λ (a : AreaState). IsAtStage c.header c.works.log.layout (group_in v m c) v.transactions.queue v.transactions.stage v.turn (record v.disk.areas { status = a }))
+    (sym (resting c.header c.works.log.layout (turn_of v.job) c.works.group.rested v.disk.areas.status still c.works.group.rests)) c.works.group.at
 
-resting-sound : (header : Header) (v : StoreValue) (m : Machine Value) (w : Works header v m) → AreSound (resting-areas header v m w)
-resting-sound header v m w = sound-at v.disk.areas w.group.rested w.sound (rested-sound header w.log.layout (turn_of v.job) w.group.rested v.disk.areas.status (w.sound Status) w.group.rests)
-
--- a slot is there for a job
-pub job-room : (header : Header) (v : StoreValue) (m : Machine Value) → IsInOrder v.transactions → IsInStep v → (v.log.slots ≡ total header) → (w : Works header v m) → lent_to v.job ≡ 1 → length w.log.layout.slots < total header
-job-room header v m order in_step slots_are w lent = omega (arith, lent, order.room, in_step.slots, in_step.used, slots_are, w.log.used)
+resting-sound : (v : StoreValue) (m : Machine Value) (c : Working v m) → AreSound (resting-areas v m c)
+resting-sound v m c = sound-at v.disk.areas c.works.group.rested c.works.sound (rested-sound c.header c.works.log.layout (turn_of v.job) c.works.group.rested v.disk.areas.status (c.works.sound Status) c.works.group.rests)
 
 -- what a job makes is in no live chain
-pub job-free : (header : Header) (v : StoreValue) (m : Machine Value) → IsInOrder v.transactions → (w : Works header v m) → (work : JobWork) (p : Product) → IsMadeBy v.transactions.reserved work p → MayBeNext w.log.layout w.log.reading m.published p → IsFree w.log.layout p
-job-free header v m order w (ArchiveWork run writer) (OfRun r) made next = subst AreDistinct (sym (append-nil (live w.log.layout))) w.log.laid.heap.apart
-job-free header v m order w (ArchiveWork run writer) (OfAnchors a) made next = absurd made
-job-free header v m order w (Reclaim anchors source written) (OfRun r) made next = absurd made
-job-free header v m order w (Reclaim anchors source written) (OfAnchors a) made next =
-    let out = reserved-out v.transactions order in
-    distinct_join (live w.log.layout) a.extents w.log.laid.heap.apart (joining.distinct-extents a.extents (subst usages.AreDistinct (sym made.1) out.distinct))
-    (joining.kept-cross v.transactions.usages (live w.log.layout) a.extents w.heap.kept (subst (AllByRecursion (IsOut v.transactions.usages)) (sym made.1) out.each))
+pub job-free : (v : StoreValue) (m : Machine Value) (c : Working v m) (work : JobWork) (p : Product) → IsMadeBy v.transactions.reserved work p → MayBeNext c.works.log.layout c.works.log.reading m.published p → IsFree c.works.log.layout p
+job-free v m c (ArchiveWork run writer) (OfRun r) made next = subst AreDistinct (sym (append-nil (live c.works.log.layout))) c.works.log.laid.heap.apart
+job-free v m c (ArchiveWork run writer) (OfAnchors a) made next = absurd made
+job-free v m c (Reclaim anchors source written) (OfRun r) made next = absurd made
+job-free v m c (Reclaim anchors source written) (OfAnchors a) made next =
+    let out = reserved-out v.transactions c.inside.order in
+    distinct_join (live c.works.log.layout) a.extents c.works.log.laid.heap.apart (joining.distinct-extents a.extents (subst usages.AreDistinct (sym made.1) out.distinct))
+    (joining.kept-cross v.transactions.usages (live c.works.log.layout) a.extents c.works.heap.kept (subst (AllByRecursion (IsOut v.transactions.usages)) (sym made.1) out.each))
 
 -- what is left while a job's slot is in the writing, or by what else is so
-pub by-job : (header : Header) (v : StoreValue) (m : Machine Value) → IsInOrder v.transactions → IsInStep v → v.log.slots ≡ total header → IsTrue (is_built header.profile 1)
-    → (w : Works header v m) (areas : Areas) (image : Image) → (o : Option Job) → v.job ≡ o → HasJob header w.log.layout w.log.reading m.published v.transactions.reserved o areas → LeavesImage areas image
-    → (turn_of v.job ≡ None → OnFront (IsImageOf header image) m) → OnFront (IsImageOf header image) m
-by-job header v m order in_step slots_are built w areas image None is has left other = other (ap turn_of is)
-by-job header v m order in_step slots_are built w areas image (Some j) is has left other = by-stage j.stage refl has.at
+by-job : (v : StoreValue) (m : Machine Value) (c : Working v m) (areas : Areas) (image : Image) → (o : Option Job) → v.job ≡ o → HasJob c.header c.works.log.layout c.works.log.reading m.published v.transactions.reserved o areas → LeavesImage areas image
+    → (turn_of v.job ≡ None → OnFront (IsImageOf c.header image) m) → OnFront (IsImageOf c.header image) m
+by-job v m c areas image None is has left other = other (ap turn_of is)
+by-job v m c areas image (Some j) is has left other = by-stage j.stage refl has.at
   where
-    by-stage : (s : JobStage) → j.stage ≡ s → IsAtJob header w.log.layout j.work has.product s areas → OnFront (IsImageOf header image) m
+    by-stage : (s : JobStage) → j.stage ≡ s → IsAtJob c.header c.works.log.layout j.work has.product s areas → OnFront (IsImageOf c.header image) m
     by-stage job.Writing at _ = other (ap turn_of is ∙ ap turn_in at)
     by-stage job.Stored at _ = other (ap turn_of is ∙ ap turn_in at)
     by-stage (job.Turning t) at turn =
-        product-leaves header m w.log.layout w.log.reading w.log.laid w.log.stands built w.log.built (job-room header v m order in_step slots_are w (ap lent_to is)) has.product has.next
-        (job-free header v m order w j.work has.product has.made has.next) t.stage areas image turn.at left
+        product-leaves c.header m c.works.log.layout c.works.log.reading c.works.log.laid c.works.log.stands c.profile_built c.works.log.built (job-room v m c (ap lent_to is)) has.product has.next
+        (job-free v m c j.work has.product has.made has.next) t.stage areas image turn.at left
 
-pub works-leave : (header : Header) (v : StoreValue) (m : Machine Value) → StandsInMemory v.transactions m → IsMachine IsValue m → IsInOrder v.transactions → IsInStep v → v.log.slots ≡ total header
-    → IsTrue (is_built header.profile 1) → m.gate ≡ gate_of v.turn → (w : Works header v m) → (image : Image) → LeavesImage v.disk.areas image → OnFront (IsImageOf header image) m
-works-leave header v m memory machine order in_step slots_are built gate w image left =
-    by-job header v m order in_step slots_are built w v.disk.areas image v.job refl w.job left
-    (λ still. stage-leaves header v m memory machine order built w (room-left header v m order in_step slots_are w) v.disk.areas v.transactions.stage v.turn gate order.stage_fits (now-at header v m w still) image left)
+pub works-leave : (v : StoreValue) (m : Machine Value) (c : Working v m) (image : Image) → LeavesImage v.disk.areas image → OnFront (IsImageOf c.header image) m
+works-leave v m c image left =
+    by-job v m c v.disk.areas image v.job refl c.works.job left (λ still. stage-leaves v m c v.disk.areas v.transactions.stage v.turn (c.inside.gate c.on) c.inside.order.stage_fits (now-at v m c still) image left)
 
-pub on-disk : (header : Header) (v : StoreValue) (m : Machine Value) → StandsInMemory v.transactions m → IsMachine IsValue m → IsInOrder v.transactions → IsInStep v → v.log.profile ≡ header.profile → v.log.slots ≡ total header
-    → IsTrue (is_built header.profile 1) → m.gate ≡ gate_of v.turn → Works header v m → StandsOnDisk v m
-on-disk header v m memory machine order in_step profile slots_are built gate w = record {
-  header = header;
-  profile = profile;
-  slots = slots_are;
-  profile_built = built;
-  leaves = works-leave header v m memory machine order in_step slots_are built gate w;
-  works = λ _. w;
+-- ---- what is said of a store after a call
+
+-- one that goes on working, of a store that worked
+pub goes-on-working : (tells : Bool) (v v' : StoreValue) (m m' : Machine Value) (stands : Stands tells v m) → m.failed ≡ false → Inside v' m' → m'.failed ≡ false → v'.log.profile ≡ v.log.profile → v'.log.slots ≡ v.log.slots
+    → ((told : IsTrue tells) → Works (stands.disk told).header v' m') → Stands tells v' m'
+goes-on-working tells v v' m m' stands on now on' profile many works = record {
+  memory = now.memory;
+  machine = now.machine;
+  order = now.order;
+  in_step = now.in_step;
+  gate = now.gate;
+  marks = now.marks;
+  job = now.job;
+  disk = λ told.
+      let d = stands.disk told in
+      let c : Working v' m' = record { header = d.header; inside = now; on = on'; profile = profile ∙ d.profile; slots = many ∙ d.slots; profile_built = d.profile_built; works = works told } in
+      record { header = d.header; profile = c.profile; slots = c.slots; profile_built = d.profile_built; leaves = works-leave v' m' c; works = λ _. works told };
 }
 
--- what is said of a store but that its state is one of the machine's
-pub record Parts (tells : Bool) (v : StoreValue) (m : Machine Value) : Type 0 where
-  pub memory : StandsInMemory v.transactions m
-  pub order : IsInOrder v.transactions
-  pub in_step : IsInStep v
-  pub gate : HasGate v m
-  pub marks : HasMarks v m
-  pub job : KeepsJobIn v m
-  pub disk : IsTrue tells → StandsOnDisk v m
+-- and one that has failed
+pub goes-on-failed : (tells : Bool) (v v' : StoreValue) (m m' : Machine Value) (stands : Stands tells v m) → Inside v' m' → m'.failed ≡ true → v'.log.profile ≡ v.log.profile → v'.log.slots ≡ v.log.slots
+    → ((told : IsTrue tells) (image : Image) → LeavesImage v'.disk.areas image → OnFront (IsImageOf (stands.disk told).header image) m') → Stands tells v' m'
+goes-on-failed tells v v' m m' stands now failed profile many leaves = record {
+  memory = now.memory;
+  machine = now.machine;
+  order = now.order;
+  in_step = now.in_step;
+  gate = now.gate;
+  marks = now.marks;
+  job = now.job;
+  disk = λ told.
+      let d = stands.disk told in record {
+        header = d.header;
+        profile = profile ∙ d.profile;
+        slots = many ∙ d.slots;
+        profile_built = d.profile_built;
+        leaves = leaves told;
+        works = λ on. (let no : true ≡ false = sym failed ∙ on in absurd cc);
+      };
+}
 
 -- ---- a group begins
 
@@ -242,7 +239,7 @@ started-works : (header : Header) (v : StoreValue) (m : Machine Value) (size : �
     → Works header (record v { transactions = record v.transactions { group = size; stage = Storing 0 0 } }) (record m { group = size })
 started-works header v m size order none w =
     let is : v.transactions.stage ≡ NoGroup = no-group v.transactions.stage v.transactions.group v.transactions.queue order.stage_fits none in
-    let at = subst (λ (s : GroupStage). IsAtStage header w.log.layout (group_of w.log.layout v.transactions m) v.transactions.queue s v.turn (resting-areas header v m w)) is w.group.at in
+    let at = subst (λ (s : GroupStage). IsAtStage header w.log.layout (group_of w.log.layout v.transactions m) v.transactions.queue s v.turn (record v.disk.areas { status = w.group.rested })) is w.group.at in
     record {
       log = w.log;
       heap = w.heap;
@@ -316,58 +313,54 @@ commit-is es (Reclaimed anchors) is = absurd is
 commit-is es (Floor relation floor) is = absurd is
 
 -- the call that the store makes is the group's next one, and it answers so
-pub record Goes (header : Header) (v : StoreValue) (m : Machine Value) (w : Works header v m) (answer : Result (Unit {0}) DeviceFault) (old new : Areas) : Type 0 where
+pub record Goes (v : StoreValue) (m : Machine Value) (c : Working v m) (answer : Result (Unit {0}) DeviceFault) (old new : Areas) : Type 0 where
   pub stage : turns.Stage
-  pub at : turns.IsAt header w.log.layout (group_of w.log.layout v.transactions m) stage old
+  pub at : turns.IsAt c.header c.works.log.layout (group_in v m c) stage old
   pub sound : AreSound old
   pub bytes : List ℕ
   pub long : length bytes ≡ 511
-  pub spelled : IsSpelled header.profile (length w.log.layout.slots) bytes ((group_of w.log.layout v.transactions m).slot)
-  pub call : turns.IsCallOf w.log.layout bytes stage answer old new
+  pub spelled : IsSpelled c.header.profile (length c.works.log.layout.slots) bytes (group_in v m c).slot
+  pub call : turns.IsCallOf c.works.log.layout bytes stage answer old new
   pub some : 0 < v.transactions.group
 
 -- a store with these parts on the disk of another
 abbrev with_parts : StoreValue → StoreValue → TransactionsValue → LogState → Option TurnState → StoreValue
 with_parts v new transactions log turn = record v { transactions = transactions; log = log; turn = turn; disk = new.disk }
 
-module _ (header : Header) (v new : StoreValue) (m : Machine Value) (memory : StandsInMemory v.transactions m) (machine : IsMachine IsValue m) (order : IsInOrder v.transactions) (in_step : IsInStep v)
-    (profile : v.log.profile ≡ header.profile) (slots_are : v.log.slots ≡ total header) (built : IsTrue (is_built header.profile 1)) (w : Works header v m) where
+module _ (v new : StoreValue) (m : Machine Value) (c : Working v m) where
+  abbrev header : Header
+  header = c.header
+
+  abbrev w : Works c.header v m
+  w = c.works
+
+  abbrev group : Group
+  group = group_in v m c
+
   -- a refused call leaves what a stop within it leaves
-  goes-leaves : (gate : Gate) (fault : DeviceFault) (old new : Areas) → (goes : Goes header v m w (Err fault) old new) → (joining.MayOpenInCall goes.stage → gate ≡ MayBeOpen OfGroup) → (image : Image) → LeavesImage new image → OnFront (IsImageOf header image) (steps.gated m gate)
+  goes-leaves : (gate : Gate) (fault : DeviceFault) (old new : Areas) → (goes : Goes v m c (Err fault) old new) → (joining.MayOpenInCall goes.stage → gate ≡ MayBeOpen OfGroup) → (image : Image) → LeavesImage new image → OnFront (IsImageOf header image) (steps.gated m gate)
   goes-leaves gate fault old new goes opens image left =
-      joining.leaves_within header v.transactions m w.log.layout w.log.reading memory machine order w.log.laid w.log.stands built w.log.built w.heap.kept w.packed goes.some (room-left header v m order in_step slots_are w goes.some)
+      joining.leaves_within v m c goes.some
       goes.bytes goes.long goes.spelled gate goes.stage (Err fault) old new image opens goes.at goes.sound goes.call left
 
-  -- and the store has failed
-  breaks-disk : (gate : Gate) (log : LogState) (turn : Option TurnState) → ((image : Image) → LeavesImage new.disk.areas image → OnFront (IsImageOf header image) (steps.gated m gate)) → log.profile ≡ v.log.profile → log.slots ≡ v.log.slots
-      → StandsOnDisk (with_parts v new (groups.broken v.transactions) log turn) (steps.broken (steps.gated m gate))
-  breaks-disk gate log turn leaves same many = record {
-    header = header;
-    profile = same ∙ profile;
-    slots = many ∙ slots_are;
-    profile_built = built;
-    leaves = leaves;
-    works = λ no. absurd cc;
-  }
-
   -- one that is made leads on
-  goes-on : (old new : Areas) → (goes : Goes header v m w (Ok tt) old new) → turns.IsAt header w.log.layout (group_of w.log.layout v.transactions m) (turns.stage_after goes.stage) new
+  goes-on : (old new : Areas) → (goes : Goes v m c (Ok tt) old new) → turns.IsAt header w.log.layout group (turns.stage_after goes.stage) new
   goes-on old new goes =
-      joining.leads header v.transactions m w.log.layout w.log.reading memory machine order w.log.laid w.log.stands built w.log.built w.heap.kept w.packed goes.some (room-left header v m order in_step slots_are w goes.some)
+      joining.leads v m c goes.some
       goes.bytes goes.long goes.spelled goes.stage old new goes.at goes.sound goes.call
 
   -- the bytes that spell the group's slot
-  slot-bytes : 0 < v.transactions.group → (bytes : List ℕ) × (length bytes ≡ 511) × IsSpelled header.profile (length w.log.layout.slots) bytes ((group_of w.log.layout v.transactions m).slot)
+  slot-bytes : 0 < v.transactions.group → (bytes : List ℕ) × (length bytes ≡ 511) × IsSpelled header.profile (length w.log.layout.slots) bytes group.slot
   slot-bytes some =
-      let room = room-left header v m order in_step slots_are w some in (
-        spelling header.profile (group_of w.log.layout v.transactions m).slot,
-        joining.long header v.transactions m w.log.layout w.log.reading memory machine order w.log.laid w.log.stands built w.log.built w.heap.kept w.packed some room,
-        joining.spelled header v.transactions m w.log.layout w.log.reading memory machine order w.log.laid w.log.stands built w.log.built w.heap.kept w.packed some room,
+      let room = room-left v m c some in (
+        spelling header.profile group.slot,
+        joining.long v m c some,
+        joining.spelled v m c some,
       )
 
   -- the works of the store after a step that changes its stage alone
   staged-works : (s : GroupStage) (log : LogState) (turn : Option TurnState) → log.used ≡ v.log.used → AreSound new.disk.areas → (rested : AreaState) → IsRested header w.log.layout (turn_of v.job) rested new.disk.areas.status
-      → IsAtStage header w.log.layout (group_of w.log.layout v.transactions m) v.transactions.queue s turn (record new.disk.areas { status = rested }) → HasJob header w.log.layout w.log.reading m.published v.transactions.reserved v.job new.disk.areas
+      → IsAtStage header w.log.layout group v.transactions.queue s turn (record new.disk.areas { status = rested }) → HasJob header w.log.layout w.log.reading m.published v.transactions.reserved v.job new.disk.areas
       → Works header (with_parts v new (groups.at_stage s v.transactions) log turn) m
   staged-works s log turn used sound rested rests at has = record {
     log = record {
@@ -396,9 +389,9 @@ module _ (header : Header) (v new : StoreValue) (m : Machine Value) (memory : St
 
   module _ (answer : Result (Unit {0}) DeviceFault) (member extent : ℕ) (is : v.transactions.stage ≡ Storing member extent) (low : member < v.transactions.group) (stored : StoredExtent)
       (there : groups.extent_at (slice_get v.transactions.queue member) extent ≡ Some stored) (old next : Areas) (sound : AreSound old)
-      (at : IsAtStage header w.log.layout (group_of w.log.layout v.transactions m) v.transactions.queue v.transactions.stage v.turn old) (call : Writes Heap (extent_start stored.extent) stored.image answer old next) where
+      (at : IsAtStage header w.log.layout group v.transactions.queue v.transactions.stage v.turn old) (call : Writes Heap (extent_start stored.extent) stored.image answer old next) where
     abbrev all : List Extent
-    all = extents_of ((group_of w.log.layout v.transactions m).members)
+    all = extents_of group.members
 
     abbrev k : ℕ
     k = written_before v.transactions.queue member extent
@@ -406,15 +399,15 @@ module _ (header : Header) (v new : StoreValue) (m : Machine Value) (memory : St
     found : IsNext (drop k all) stored
     found = next-is v.transactions.group m.published v.transactions.queue m.queue member extent stored w.packed low there
 
-    storing : turns.IsStoring header w.log.layout (group_of w.log.layout v.transactions m) (take k all) (found.extent ∷ found.rest) old
+    storing : turns.IsStoring header w.log.layout group (take k all) (found.extent ∷ found.rest) old
     storing =
-        let there' = subst (λ (s : GroupStage). IsAtStage header w.log.layout (group_of w.log.layout v.transactions m) v.transactions.queue s v.turn old) is at in
-        subst (λ (es : List Extent). turns.IsStoring header w.log.layout (group_of w.log.layout v.transactions m) (take k all) es old) found.is there'
+        let there' = subst (λ (s : GroupStage). IsAtStage header w.log.layout group v.transactions.queue s v.turn old) is at in
+        subst (λ (es : List Extent). turns.IsStoring header w.log.layout group (take k all) es old) found.is there'
 
     some : 0 < v.transactions.group
     some = omega (arith, low)
 
-    abbrev wrote-goes : Goes header v m w answer old next
+    abbrev wrote-goes : Goes v m c answer old next
     wrote-goes =
         let bytes = slot-bytes some in record {
           stage = turns.Storing (take k all) (found.extent ∷ found.rest);
@@ -428,41 +421,41 @@ module _ (header : Header) (v new : StoreValue) (m : Machine Value) (memory : St
           some = some;
         }
 
-    wrote-at : turns.IsStoring header w.log.layout (group_of w.log.layout v.transactions m) (take k all ++ found.extent ∷ []) found.rest next
-        → IsAtStage header w.log.layout (group_of w.log.layout v.transactions m) v.transactions.queue (groups.stage_behind v.transactions.queue v.transactions.stage) v.turn next
+    wrote-at : turns.IsStoring header w.log.layout group (take k all ++ found.extent ∷ []) found.rest next
+        → IsAtStage header w.log.layout group v.transactions.queue (groups.stage_behind v.transactions.queue v.transactions.stage) v.turn next
     wrote-at on =
         let behind = behind-is v.transactions.queue member extent stored (slice_get v.transactions.queue member) refl there in
-        let then : turns.IsStoring header w.log.layout (group_of w.log.layout v.transactions m) (take (suc k) all) (drop (suc k) all) next =
-        subst (λ (es : List Extent). turns.IsStoring header w.log.layout (group_of w.log.layout v.transactions m) (take (suc k) all) es next) (sym (drop-next k all found.extent found.rest found.is))
-        (subst (λ (es : List Extent). turns.IsStoring header w.log.layout (group_of w.log.layout v.transactions m) es found.rest next) (sym (take-next k all found.extent found.rest found.is)) on) in
-        let there' : IsAtStage header w.log.layout (group_of w.log.layout v.transactions m) v.transactions.queue (Storing behind.member behind.extent) v.turn next =
-        subst (λ (n : ℕ). turns.IsStoring header w.log.layout (group_of w.log.layout v.transactions m) (take n all) (drop n all) next) (sym behind.written_is) then in
+        let then : turns.IsStoring header w.log.layout group (take (suc k) all) (drop (suc k) all) next =
+        subst (λ (es : List Extent). turns.IsStoring header w.log.layout group (take (suc k) all) es next) (sym (drop-next k all found.extent found.rest found.is))
+        (subst (λ (es : List Extent). turns.IsStoring header w.log.layout group es found.rest next) (sym (take-next k all found.extent found.rest found.is)) on) in
+        let there' : IsAtStage header w.log.layout group v.transactions.queue (Storing behind.member behind.extent) v.turn next =
+        subst (λ (n : ℕ). turns.IsStoring header w.log.layout group (take n all) (drop n all) next) (sym behind.written_is) then in
         let stage : groups.stage_behind v.transactions.queue v.transactions.stage ≡ Storing behind.member behind.extent = ap (groups.stage_behind v.transactions.queue) is ∙ behind.is in
-        subst (λ (s : GroupStage). IsAtStage header w.log.layout (group_of w.log.layout v.transactions m) v.transactions.queue s v.turn next) (sym stage) there'
+        subst (λ (s : GroupStage). IsAtStage header w.log.layout group v.transactions.queue s v.turn next) (sym stage) there'
 
   -- ---- the heap is synced
 
   module _ (answer : Result (Unit {0}) DeviceFault) (member extent : ℕ) (is : v.transactions.stage ≡ Storing member extent) (past : member ≡ v.transactions.group) (some : 0 < v.transactions.group)
-      (old next : Areas) (sound : AreSound old) (at : IsAtStage header w.log.layout (group_of w.log.layout v.transactions m) v.transactions.queue v.transactions.stage v.turn old) (call : Syncs Heap answer old next) where
+      (old next : Areas) (sound : AreSound old) (at : IsAtStage header w.log.layout group v.transactions.queue v.transactions.stage v.turn old) (call : Syncs Heap answer old next) where
     abbrev whole : List Extent
-    whole = extents_of (group_of w.log.layout v.transactions m).members
+    whole = extents_of group.members
 
     abbrev at_end : ℕ
     at_end = written_before v.transactions.queue member extent
 
     none : drop at_end whole ≡ []
     none =
-        let named = joining.numbers header v.transactions m w.log.layout w.log.reading memory machine order w.log.laid w.log.stands built w.log.built w.heap.kept w.packed some (room-left header v m order in_step slots_are w some) in
+        let named = joining.numbers v m c some in
         let many : length whole ≡ length (flat_map numbers_of (take v.transactions.group v.transactions.queue)) = sym (length-mapped (λ (e : Extent). e.number) whole) ∙ ap (λ (l : List ℕ). length l) named in
         let same : length (flat_map numbers_of (take member v.transactions.queue)) ≡ length (flat_map numbers_of (take v.transactions.group v.transactions.queue)) = ap (λ (n : ℕ). length (flat_map numbers_of (take n v.transactions.queue))) past in
         none-left at_end whole (omega (arith, many, same))
 
-    abbrev synced-goes : Goes header v m w answer old next
+    abbrev synced-goes : Goes v m c answer old next
     synced-goes =
         let bytes = slot-bytes some in
-        let there = subst (λ (s : GroupStage). IsAtStage header w.log.layout (group_of w.log.layout v.transactions m) v.transactions.queue s v.turn old) is at in record {
+        let there = subst (λ (s : GroupStage). IsAtStage header w.log.layout group v.transactions.queue s v.turn old) is at in record {
           stage = turns.Storing (take at_end whole) [];
-          at = subst (λ (es : List Extent). turns.IsStoring header w.log.layout (group_of w.log.layout v.transactions m) (take at_end whole) es old) none there;
+          at = subst (λ (es : List Extent). turns.IsStoring header w.log.layout group (take at_end whole) es old) none there;
           sound = sound;
           bytes = bytes.0;
           long = bytes.1;
@@ -479,11 +472,11 @@ module _ (header : Header) (v new : StoreValue) (m : Machine Value) (memory : St
     pub live : AreBeside e.number (live w.log.layout)
     pub others : AllByRecursion (λ (k : ℕ). k ≢ e.number) v.transactions.reserved
 
-  extent-apart : 0 < v.transactions.group → (k : ℕ) (e : Extent) (rest : List Extent) → drop k (extents_of ((group_of w.log.layout v.transactions m).members)) ≡ e ∷ rest → IsApart e
+  extent-apart : 0 < v.transactions.group → (k : ℕ) (e : Extent) (rest : List Extent) → drop k (extents_of group.members) ≡ e ∷ rest → IsApart e
   extent-apart some k e rest found =
-      let all : List Extent = extents_of ((group_of w.log.layout v.transactions m).members) in
-      let room = room-left header v m order in_step slots_are w some in
-      let named = joining.numbers header v.transactions m w.log.layout w.log.reading memory machine order w.log.laid w.log.stands built w.log.built w.heap.kept w.packed some room in
+      let all : List Extent = extents_of group.members in
+      let room = room-left v m c some in
+      let named = joining.numbers v m c some in
       let number : Extent → ℕ = λ f. f.number in
       let split : take k all ++ e ∷ rest ≡ all = ap (λ (l : List Extent). take k all ++ l) (sym found) ∙ take-append-drop k all in
       let behind : List ℕ = flat_map numbers_of (drop v.transactions.group v.transactions.queue) in
@@ -494,9 +487,9 @@ module _ (header : Header) (v new : StoreValue) (m : Machine Value) (memory : St
       ap (λ (l : List ℕ). l ++ v.transactions.reserved) numbers
       ∙ ap (λ (l : List ℕ). l ++ v.transactions.reserved) (append_assoc (map number (take k all)) (e.number ∷ map number rest) behind)
       ∙ append_assoc (map number (take k all)) (e.number ∷ (map number rest ++ behind)) v.transactions.reserved in
-      let middle = out-middle v.transactions.usages (map number (take k all)) ((map number rest ++ behind) ++ v.transactions.reserved) e.number (subst (AreOut v.transactions.usages) whole order.out) in
+      let middle = out-middle v.transactions.usages (map number (take k all)) ((map number rest ++ behind) ++ v.transactions.reserved) e.number (subst (AreOut v.transactions.usages) whole c.inside.order.out) in
       let each : AllByRecursion IsExtent (take k all ++ e ∷ rest) =
-      subst (AllByRecursion IsExtent) (sym split) (joining.group_are header v.transactions m w.log.layout w.log.reading memory machine order w.log.laid w.log.stands built w.log.built w.heap.kept w.packed some room) in
+      subst (AllByRecursion IsExtent) (sym split) (joining.group_are v m c some) in
       record {
         is = (all_of_back IsExtent (take k all) (e ∷ rest) each).0;
         live = beside-out v.transactions.usages e.number middle.0 (live w.log.layout) (live_extents_are header w.log.layout w.log.reading w.log.laid) w.heap.kept;
@@ -509,7 +502,7 @@ module _ (header : Header) (v new : StoreValue) (m : Machine Value) (memory : St
       → (image : Image) → LeavesImage new.disk.areas image → OnFront (IsImageOf header image) m
   wrote-leaves member extent is low stored there call image left =
       let some : 0 < v.transactions.group = omega (arith, low) in
-      let found : IsNext (drop (written_before v.transactions.queue member extent) (extents_of ((group_of w.log.layout v.transactions m).members))) stored = next-is v.transactions.group m.published v.transactions.queue m.queue member extent stored w.packed low there in
+      let found : IsNext (drop (written_before v.transactions.queue member extent) (extents_of group.members)) stored = next-is v.transactions.group m.published v.transactions.queue m.queue member extent stored w.packed low there in
       let k : ℕ = written_before v.transactions.queue member extent in
       let before = (left_by_write Heap (extent_start stored.extent) stored.image (Err (record {})) v.disk.areas new.disk.areas call w.sound).each image left in
       let torn : AreaState = loosened (extent_start stored.extent) (length stored.image) v.disk.areas.heap.bytes v.disk.areas.heap in
@@ -518,19 +511,19 @@ module _ (header : Header) (v new : StoreValue) (m : Machine Value) (memory : St
       subst (λ (n : ℕ). IsBeside found.extent.number v.disk.areas.heap (loosened (extent_start n) (length stored.image) v.disk.areas.heap.bytes v.disk.areas.heap)) found.number
       (subst (λ (bytes : List ℕ). IsBeside found.extent.number v.disk.areas.heap (loosened (extent_start found.extent.number) (length bytes) v.disk.areas.heap.bytes v.disk.areas.heap)) found.bytes
       (torn-beside found.extent apart.is v.disk.areas.heap (w.sound Heap))) in
-      by-job header v m order in_step slots_are built w (record v.disk.areas { heap = torn }) image v.job refl
+      by-job v m c (record v.disk.areas { heap = torn }) image v.job refl
       (job-beside-heap header w.log.layout w.log.reading m.published v.transactions.reserved v.job v.disk.areas torn found.extent.number beside apart.live apart.others w.job) before
       (λ still. goes-leaves m.gate (record {}) v.disk.areas new.disk.areas
-      (wrote-goes (Err (record {})) member extent is low stored there v.disk.areas new.disk.areas w.sound (now-at header v m w still) call) (λ no. absurd no) image left)
+      (wrote-goes (Err (record {})) member extent is low stored there v.disk.areas new.disk.areas w.sound (now-at v m c still) call) (λ no. absurd no) image left)
 
   -- what is left by a call that changed nothing
-  same-leaves : m.gate ≡ gate_of v.turn → new.disk.areas ≡ v.disk.areas → (image : Image) → LeavesImage new.disk.areas image → OnFront (IsImageOf header image) m
-  same-leaves gate same image left =
-      works-leave header v m memory machine order in_step slots_are built gate w image (subst (λ (a : Areas). LeavesImage a image) same left)
+  same-leaves : new.disk.areas ≡ v.disk.areas → (image : Image) → LeavesImage new.disk.areas image → OnFront (IsImageOf header image) m
+  same-leaves same image left =
+      works-leave v m c image (subst (λ (a : Areas). LeavesImage a image) same left)
 
   -- the store after a call of the heap that was made
   heap-works : (s : GroupStage) → AreSound new.disk.areas → (heap : AreaState) → new.disk.areas ≡ record v.disk.areas { heap = heap } → (n : ℕ) → IsBeside n v.disk.areas.heap heap → AreBeside n (live w.log.layout) → AllByRecursion (λ (k : ℕ). k ≢ n) v.transactions.reserved
-      → IsAtStage header w.log.layout (group_of w.log.layout v.transactions m) v.transactions.queue s v.turn (record new.disk.areas { status = w.group.rested }) → Works header (with_parts v new (groups.at_stage s v.transactions) v.log v.turn) m
+      → IsAtStage header w.log.layout group v.transactions.queue s v.turn (record new.disk.areas { status = w.group.rested }) → Works header (with_parts v new (groups.at_stage s v.transactions) v.log v.turn) m
   heap-works s sound heap is n beside apart others at =
       staged-works s v.log v.turn refl sound w.group.rested
       (subst (λ (a : Areas). IsRested header w.log.layout (turn_of v.job) w.group.rested a.status) (sym is) w.group.rests) at
@@ -540,11 +533,11 @@ module _ (header : Header) (v new : StoreValue) (m : Machine Value) (memory : St
   -- so after the write of the group's next extent
   heap-wrote : (member extent : ℕ) → member < v.transactions.group → (stored : StoredExtent) → groups.extent_at (slice_get v.transactions.queue member) extent ≡ Some stored
       → Writes Heap (extent_start stored.extent) stored.image (Ok tt) v.disk.areas new.disk.areas → (s : GroupStage) → AreSound new.disk.areas
-      → IsAtStage header w.log.layout (group_of w.log.layout v.transactions m) v.transactions.queue s v.turn (record new.disk.areas { status = w.group.rested }) → Works header (with_parts v new (groups.at_stage s v.transactions) v.log v.turn) m
+      → IsAtStage header w.log.layout group v.transactions.queue s v.turn (record new.disk.areas { status = w.group.rested }) → Works header (with_parts v new (groups.at_stage s v.transactions) v.log v.turn) m
   heap-wrote member extent low stored there call s sound at =
       let some : 0 < v.transactions.group = omega (arith, low) in
       let k : ℕ = written_before v.transactions.queue member extent in
-      let found : IsNext (drop k (extents_of ((group_of w.log.layout v.transactions m).members))) stored = next-is v.transactions.group m.published v.transactions.queue m.queue member extent stored w.packed low there in
+      let found : IsNext (drop k (extents_of group.members)) stored = next-is v.transactions.group m.published v.transactions.queue m.queue member extent stored w.packed low there in
       let apart = extent-apart some k found.extent found.rest found.is in
       let heap : AreaState = written (extent_start stored.extent) stored.image v.disk.areas.heap in
       let beside : IsBeside found.extent.number v.disk.areas.heap heap =
@@ -555,18 +548,18 @@ module _ (header : Header) (v new : StoreValue) (m : Machine Value) (memory : St
 
   -- and after a sync of the heap
   heap-synced : Syncs Heap (Ok tt) v.disk.areas new.disk.areas → (s : GroupStage) → AreSound new.disk.areas
-      → IsAtStage header w.log.layout (group_of w.log.layout v.transactions m) v.transactions.queue s v.turn (record new.disk.areas { status = w.group.rested }) → Works header (with_parts v new (groups.at_stage s v.transactions) v.log v.turn) m
+      → IsAtStage header w.log.layout group v.transactions.queue s v.turn (record new.disk.areas { status = w.group.rested }) → Works header (with_parts v new (groups.at_stage s v.transactions) v.log v.turn) m
   heap-synced call s sound at =
       heap-works s sound (synced v.disk.areas.heap) call.synced 0 (sync-beside v.disk.areas.heap (w.sound Heap)) (beside-none (live w.log.layout) (live_extents_are header w.log.layout w.log.reading w.log.laid))
-      (none-number v.transactions.reserved (all-numbered v.transactions.usages v.transactions.reserved (reserved-out v.transactions order).each)) at
+      (none-number v.transactions.reserved (all-numbered v.transactions.usages v.transactions.reserved (reserved-out v.transactions c.inside.order).each)) at
 
   -- ---- the slot is begun, or goes on
 
   abbrev named : Slot
-  named = (group_of w.log.layout v.transactions m).slot
+  named = group.slot
 
-  abbrev slot-goes : (answer : Result (Unit {0}) DeviceFault) (t : TurnState) → IsTurnOf header w.log.layout (group_of w.log.layout v.transactions m) t v.disk.areas → 0 < v.transactions.group
-      → IsSlotCall t.number t.body t.stage answer v.disk.areas new.disk.areas → Goes header v m w answer v.disk.areas new.disk.areas
+  abbrev slot-goes : (answer : Result (Unit {0}) DeviceFault) (t : TurnState) → IsTurnOf header w.log.layout group t v.disk.areas → 0 < v.transactions.group
+      → IsSlotCall t.number t.body t.stage answer v.disk.areas new.disk.areas → Goes v m c answer v.disk.areas new.disk.areas
   slot-goes answer t is some call = record {
     stage = turns.Turning t.stage;
     at = is.at;
@@ -579,19 +572,19 @@ module _ (header : Header) (v new : StoreValue) (m : Machine Value) (memory : St
   }
 
   -- the slot that is begun is the group's
-  begun-turn : (body : Body) → IsCommitOf (groups.entries v.transactions) body → IsTurnAt header w.log.layout named (laid_out w.log.layout (group_of w.log.layout v.transactions m)) slots.Begun v.disk.areas → 0 < v.transactions.group
-      → IsTurnOf header w.log.layout (group_of w.log.layout v.transactions m) (record { number = v.log.used; body = spelling v.log.profile (record { number = v.log.used; body = body }); stage = slots.Begun }) v.disk.areas
+  begun-turn : (body : Body) → IsCommitOf (groups.entries v.transactions) body → IsTurnAt header w.log.layout named (laid_out w.log.layout group) slots.Begun v.disk.areas → 0 < v.transactions.group
+      → IsTurnOf header w.log.layout group (record { number = v.log.used; body = spelling v.log.profile (record { number = v.log.used; body = body }); stage = slots.Begun }) v.disk.areas
   begun-turn body commit at some =
-      let room = room-left header v m order in_step slots_are w some in
+      let room = room-left v m c some in
       let number = sym w.log.used in
       let what = sym (commit-is (groups.entries v.transactions) body commit) in
       let same : Path Slot named (record { number = v.log.used; body = body }) = λ i. record { number = number i; body = what i } in
-      let bytes : spelling header.profile named ≡ spelling v.log.profile (record { number = v.log.used; body = body }) = let p = sym profile in λ i. spelling (p i) (same i) in
+      let bytes : spelling header.profile named ≡ spelling v.log.profile (record { number = v.log.used; body = body }) = let p = sym c.profile in λ i. spelling (p i) (same i) in
       record {
         number = w.log.used;
-        long = subst (λ (l : List ℕ). length l ≡ 511) bytes (joining.long header v.transactions m w.log.layout w.log.reading memory machine order w.log.laid w.log.stands built w.log.built w.heap.kept w.packed some room);
+        long = subst (λ (l : List ℕ). length l ≡ 511) bytes (joining.long v m c some);
         spelled = subst (λ (l : List ℕ). IsSpelled header.profile (length w.log.layout.slots) l named) bytes
-            (joining.spelled header v.transactions m w.log.layout w.log.reading memory machine order w.log.laid w.log.stands built w.log.built w.heap.kept w.packed some room);
+            (joining.spelled v m c some);
         at = at;
       }
 
@@ -599,11 +592,10 @@ module _ (header : Header) (v new : StoreValue) (m : Machine Value) (memory : St
 
   -- what may come next still may, behind the group
   next-product : (some : 0 < v.transactions.group) (p : Product) → MayBeNext w.log.layout w.log.reading m.published p
-      → MayBeNext (laid_out w.log.layout (group_of w.log.layout v.transactions m)) (with_group w.log.reading (turns.members_of (group_of w.log.layout v.transactions m))) (m.published ++ take m.group m.queue) p
+      → MayBeNext (laid_out w.log.layout group) (with_group w.log.reading (turns.members_of group)) (m.published ++ take m.group m.queue) p
   next-product some p next =
-      let room = room-left header v m order in_step slots_are w some in
-      let group : turns.Group = group_of w.log.layout v.transactions m in
-      let joins = joining.joins header v.transactions m w.log.layout w.log.reading memory machine order w.log.laid w.log.stands built w.log.built w.heap.kept w.packed some room in
+      let room = room-left v m c some in
+      let joins = joining.joins v m c some in
       let space = has_room header w.log.layout w.log.reading m.published (take v.transactions.group m.queue) m.floors group w.log.laid w.log.stands joins in
       let grown : last m.published ≤ last (m.published ++ take v.transactions.group m.queue) =
       (let up = last-later (last m.published) (take v.transactions.group m.queue) (rising-from_following IsValue m.published (take v.transactions.group m.queue) joins.is_group.may) in
@@ -612,22 +604,22 @@ module _ (header : Header) (v new : StoreValue) (m : Machine Value) (memory : St
       let mark : reclaimed_upto (with_group w.log.reading (turns.members_of group)) ≡ reclaimed_upto w.log.reading = reclaim_mark-append 0 w.log.reading.log (Commits (map (λ (x : Member). x.head) (turns.members_of group)) ∷ []) in
       let by-kind : (q : Product) → MayBeNext w.log.layout w.log.reading m.published q → MayBeNext (laid_out w.log.layout group) (with_group w.log.reading (turns.members_of group)) (m.published ++ take v.transactions.group m.queue) q =
       next-by joins space grown same mark in
-      subst (λ (n : ℕ). MayBeNext (laid_out w.log.layout group) (with_group w.log.reading (turns.members_of group)) (m.published ++ take n m.queue) p) memory.group (by-kind p next)
+      subst (λ (n : ℕ). MayBeNext (laid_out w.log.layout group) (with_group w.log.reading (turns.members_of group)) (m.published ++ take n m.queue) p) c.inside.memory.group (by-kind p next)
     where
-      next-by : (joins : turns.MayJoin header w.log.layout w.log.reading m.published (take v.transactions.group m.queue) (group_of w.log.layout v.transactions m)) → HasRoom w.log.reading
-          → last m.published ≤ last (m.published ++ take v.transactions.group m.queue) → archived_upto (with_group w.log.reading (turns.members_of (group_of w.log.layout v.transactions m))) ≡ archived_upto w.log.reading
-          → reclaimed_upto (with_group w.log.reading (turns.members_of (group_of w.log.layout v.transactions m))) ≡ reclaimed_upto w.log.reading → (q : Product) → MayBeNext w.log.layout w.log.reading m.published q
-          → MayBeNext (laid_out w.log.layout (group_of w.log.layout v.transactions m)) (with_group w.log.reading (turns.members_of (group_of w.log.layout v.transactions m))) (m.published ++ take v.transactions.group m.queue) q
+      next-by : (joins : turns.MayJoin header w.log.layout w.log.reading m.published (take v.transactions.group m.queue) group) → HasRoom w.log.reading
+          → last m.published ≤ last (m.published ++ take v.transactions.group m.queue) → archived_upto (with_group w.log.reading (turns.members_of group)) ≡ archived_upto w.log.reading
+          → reclaimed_upto (with_group w.log.reading (turns.members_of group)) ≡ reclaimed_upto w.log.reading → (q : Product) → MayBeNext w.log.layout w.log.reading m.published q
+          → MayBeNext (laid_out w.log.layout group) (with_group w.log.reading (turns.members_of group)) (m.published ++ take v.transactions.group m.queue) q
       next-by joins space grown same mark (OfRun run) next = record {
-        plan = archive-plan-stays w.log.reading m.published (take v.transactions.group m.queue) m.floors (turns.members_of (group_of w.log.layout v.transactions m)) w.log.stands joins.is_group space run.entry.upto run.records next.by_last next.plan;
+        plan = archive-plan-stays w.log.reading m.published (take v.transactions.group m.queue) m.floors (turns.members_of group) w.log.stands joins.is_group space run.entry.upto run.records next.by_last next.plan;
         later = omega (arith, same, next.later);
         by_last = omega (arith, grown, next.by_last);
         stored = next.stored;
-        behind = next.behind ∙ ap (row_end 0) (sym (runs_more header w.log.layout w.log.reading m.published (take v.transactions.group m.queue) m.floors (group_of w.log.layout v.transactions m) w.log.laid w.log.stands joins));
+        behind = next.behind ∙ ap (row_end 0) (sym (runs_more header w.log.layout w.log.reading m.published (take v.transactions.group m.queue) m.floors group w.log.laid w.log.stands joins));
         in_range = next.in_range;
       }
       next-by joins space grown same mark (OfAnchors a) next = record {
-        plan = reclaim-plan-stays w.log.reading m.published (take v.transactions.group m.queue) m.floors (turns.members_of (group_of w.log.layout v.transactions m)) w.log.stands joins.is_group space a.olds next.plan;
+        plan = reclaim-plan-stays w.log.reading m.published (take v.transactions.group m.queue) m.floors (turns.members_of group) w.log.stands joins.is_group space a.olds next.plan;
         upto = next.upto ∙ sym same;
         later = omega (arith, same, mark, next.later);
         chain = next.chain;
@@ -635,47 +627,46 @@ module _ (header : Header) (v new : StoreValue) (m : Machine Value) (memory : St
       }
 
   published-works : 0 < v.transactions.group → is_turning v.transactions.stage ≡ true → turn_of v.job ≡ None → (number : ℕ) → number ≡ length w.log.layout.slots → AreSound new.disk.areas → (status : AreaState) → new.disk.areas ≡ record v.disk.areas { status = status }
-      → IsTurnAt header w.log.layout named (laid_out w.log.layout (group_of w.log.layout v.transactions m)) slots.Opened new.disk.areas
+      → IsTurnAt header w.log.layout named (laid_out w.log.layout group) slots.Opened new.disk.areas
       → Works header (with_parts v new (groups.published v.transactions) (record v.log { used = number + 1; writing = false }) None) (steps.group_published m)
   published-works some turning still number last sound status is at =
-      let room = room-left header v m order in_step slots_are w some in
-      let joins = joining.joins header v.transactions m w.log.layout w.log.reading memory machine order w.log.laid w.log.stands built w.log.built w.heap.kept w.packed some room in
-      let space = has_room header w.log.layout w.log.reading m.published (take v.transactions.group m.queue) m.floors (group_of w.log.layout v.transactions m) w.log.laid w.log.stands joins in
-      let group : turns.Group = group_of w.log.layout v.transactions m in
-      let size : v.transactions.group ≡ m.group = memory.group in
+      let room = room-left v m c some in
+      let joins = joining.joins v m c some in
+      let space = has_room header w.log.layout w.log.reading m.published (take v.transactions.group m.queue) m.floors group w.log.laid w.log.stands joins in
+      let size : v.transactions.group ≡ m.group = c.inside.memory.group in
       record {
         log = record {
-          layout = laid_out w.log.layout (group_of w.log.layout v.transactions m);
-          reading = with_group w.log.reading (turns.members_of (group_of w.log.layout v.transactions m));
-          laid = joining.laid_then header v.transactions m w.log.layout w.log.reading memory machine order w.log.laid w.log.stands built w.log.built w.heap.kept w.packed some room;
-          stands = subst (λ (n : ℕ). StandsFor (with_group w.log.reading (turns.members_of (group_of w.log.layout v.transactions m))) (m.published ++ take n m.queue) m.floors) size
-              (joining.stands_then header v.transactions m w.log.layout w.log.reading memory machine order w.log.laid w.log.stands built w.log.built w.heap.kept w.packed some room);
-          built = joining.built_then header v.transactions m w.log.layout w.log.reading memory machine order w.log.laid w.log.stands built w.log.built w.heap.kept w.packed some room;
+          layout = laid_out w.log.layout group;
+          reading = with_group w.log.reading (turns.members_of group);
+          laid = joining.laid_then v m c some;
+          stands = subst (λ (n : ℕ). StandsFor (with_group w.log.reading (turns.members_of group)) (m.published ++ take n m.queue) m.floors) size
+              (joining.stands_then v m c some);
+          built = joining.built_then v m c some;
           used = let long : length (w.log.layout.slots ++ named ∷ []) ≡ length w.log.layout.slots + 1 = length-append w.log.layout.slots (named ∷ []) in omega (arith, long, last);
-          archived = w.log.archived ∙ sym (same_archived w.log.reading m.published m.floors w.log.stands (turns.members_of (group_of w.log.layout v.transactions m)) (take v.transactions.group m.queue) joins.is_group space);
-          reclaimed = w.log.reclaimed ∙ sym (reclaim_mark-append 0 w.log.reading.log (Commits (map (λ (x : Member). x.head) (turns.members_of (group_of w.log.layout v.transactions m))) ∷ []));
-          runs_end = w.log.runs_end ∙ ap (row_end 0) (sym (runs_more header w.log.layout w.log.reading m.published (take v.transactions.group m.queue) m.floors (group_of w.log.layout v.transactions m) w.log.laid w.log.stands joins));
+          archived = w.log.archived ∙ sym (same_archived w.log.reading m.published m.floors w.log.stands (turns.members_of group) (take v.transactions.group m.queue) joins.is_group space);
+          reclaimed = w.log.reclaimed ∙ sym (reclaim_mark-append 0 w.log.reading.log (Commits (map (λ (x : Member). x.head) (turns.members_of group)) ∷ []));
+          runs_end = w.log.runs_end ∙ ap (row_end 0) (sym (runs_more header w.log.layout w.log.reading m.published (take v.transactions.group m.queue) m.floors group w.log.laid w.log.stands joins));
         };
         heap = record {
-          kept = subst (AllKept (groups.published v.transactions).usages) (sym (live_more w.log.layout (group_of w.log.layout v.transactions m)))
-              (all-published v.transactions.usages (flat_map numbers_of (take v.transactions.group v.transactions.queue)) (live w.log.layout) (extents_of (group_of w.log.layout v.transactions m).members)
-              (joining.out header v.transactions m w.log.layout w.log.reading memory machine order w.log.laid w.log.stands built w.log.built w.heap.kept w.packed some room)
-              (joining.numbers header v.transactions m w.log.layout w.log.reading memory machine order w.log.laid w.log.stands built w.log.built w.heap.kept w.packed some room)
+          kept = subst (AllKept (groups.published v.transactions).usages) (sym (live_more w.log.layout group))
+              (all-published v.transactions.usages (flat_map numbers_of (take v.transactions.group v.transactions.queue)) (live w.log.layout) (extents_of group.members)
+              (joining.out v m c some)
+              (joining.numbers v m c some)
               w.heap.kept);
-          times = published-times v.transactions w.log.layout m order w.heap.times_long w.heap.kept w.heap.times;
+          times = published-times v.transactions w.log.layout m c.inside.order w.heap.times_long w.heap.kept w.heap.times;
           times_long = chains-long v.transactions.times (take v.transactions.group v.transactions.queue) ∙ w.heap.times_long;
           facts = λ key.
-              behind-group v.transactions m memory turning key
+              behind-group v.transactions m c.inside.memory turning key
               ∙ ap (λ (ws : List (TimedWrite Value)). ws ++ histories.writes_of (take v.transactions.group m.queue) key) (w.heap.facts key)
-              ∙ sym (more_facts w.log.reading m.published m.floors w.log.stands (turns.members_of (group_of w.log.layout v.transactions m)) (take v.transactions.group m.queue) joins.is_group space key);
+              ∙ sym (more_facts w.log.reading m.published m.floors w.log.stands (turns.members_of group) (take v.transactions.group m.queue) joins.is_group space key);
         };
         packed = subst (λ (n : ℕ). AllPacked (m.published ++ take n m.queue) (drop v.transactions.group v.transactions.queue) (drop n m.queue)) size (packed-rest v.transactions.group m.published v.transactions.queue m.queue w.packed);
         group = record {
           rested = new.disk.areas.status;
-          rests = rested-now header (laid_out w.log.layout (group_of w.log.layout v.transactions m)) (turn_of v.job) new.disk.areas.status still;
+          rests = rested-now header (laid_out w.log.layout group) (turn_of v.job) new.disk.areas.status still;
           at = record { status = at.status; parts = at.new_parts };
         };
-        job = job-moves header w.log.layout (laid_out w.log.layout (group_of w.log.layout v.transactions m)) w.log.reading (with_group w.log.reading (turns.members_of (group_of w.log.layout v.transactions m))) m.published (m.published ++ take m.group m.queue) v.transactions.reserved v.job new.disk.areas still (next-product some)
+        job = job-moves header w.log.layout (laid_out w.log.layout group) w.log.reading (with_group w.log.reading (turns.members_of group)) m.published (m.published ++ take m.group m.queue) v.transactions.reserved v.job new.disk.areas still (next-product some)
             (subst (λ (a : Areas). HasJob header w.log.layout w.log.reading m.published v.transactions.reserved v.job a) (sym is) (job-beside-status header w.log.layout w.log.reading m.published v.transactions.reserved v.job v.disk.areas status still w.job));
         sound = sound;
       }
@@ -683,7 +674,7 @@ module _ (header : Header) (v new : StoreValue) (m : Machine Value) (memory : St
 -- ---- the store after a step
 
 abbrev Ends : Bool → Machine Value → Result Did PumpFault → StoreValue → Type 0
-Ends tells m answer v = (after : Machine Value) × Run IsValue m (ends_in m.gate answer) after × Parts tells v after
+Ends tells m answer v = (after : Machine Value) × Run IsValue m (ends_in m.gate answer) after × Stands tells v after
 
 same-store : (v new : StoreValue) (transactions : TransactionsValue) (log : LogState) (turn : Option TurnState) → KeepsJob v new → new.transactions ≡ transactions → new.log ≡ log → new.turn ≡ turn → with_parts v new transactions log turn ≡ new
 same-store v new transactions log turn keeps a b c =
@@ -704,28 +695,39 @@ broken-order v order = record {
   slots_few = order.slots_few;
 }
 
--- a refused call, which leaves the gate so
-fails-parts : (tells : Bool) (v new : StoreValue) (m : Machine Value) → (parts : Parts tells v m) → IsMachine IsValue m → (works : m.failed ≡ false) → (gate : Gate) (log : LogState) (turn : Option TurnState) → log.profile ≡ v.log.profile → log.slots ≡ v.log.slots → log.used ≡ v.log.used
-    → ((told : IsTrue tells) (image : Image) → LeavesImage new.disk.areas image → OnFront (IsImageOf (parts.disk told).header image) (steps.gated m gate)) → Parts tells (with_parts v new (groups.broken v.transactions) log turn) (steps.broken (steps.gated m gate))
-fails-parts tells v new m parts machine works gate log turn same many used leaves = record {
-  memory = breaks v.transactions (steps.gated m gate) (regated v.transactions m gate parts.memory);
-  order = broken-order v.transactions parts.order;
-  in_step = record { slots = many ∙ parts.in_step.slots; used = used ∙ parts.in_step.used; turns = λ no. absurd cc };
-  gate = λ no. absurd cc;
-  marks = parts.marks;
-  job = parts.job;
-  disk = λ told.
-      let d = parts.disk told in
-      breaks-disk d.header v new m parts.memory machine parts.order parts.in_step d.profile d.slots d.profile_built (d.works works) gate log turn (leaves told) same many;
+-- a machine that has failed is one
+pub broken-machine : (m : Machine Value) (gate : Gate) → IsMachine IsValue m → IsMachine IsValue (steps.broken (steps.gated m gate))
+broken-machine m gate machine = record {
+  history = machine.history;
+  group_few = machine.group_few;
+  group_queued = machine.group_queued;
+  floors_reached = machine.floors_reached;
+  snapshots = machine.snapshots;
+  raising = machine.raising;
 }
 
-fails-step : (tells : Bool) (v new : StoreValue) (m : Machine Value) (why : PumpFault) → why ≡ pump.Failed → KeepsJob v new → (parts : Parts tells v m) → IsMachine IsValue m → (works : m.failed ≡ false) → (log : LogState) (turn : Option TurnState) → log.profile ≡ v.log.profile → log.slots ≡ v.log.slots → log.used ≡ v.log.used
+-- a refused call, which leaves the gate so
+fails-parts : (tells : Bool) (v new : StoreValue) (m : Machine Value) → (stands : Stands tells v m) → (works : m.failed ≡ false) → (gate : Gate) (log : LogState) (turn : Option TurnState) → log.profile ≡ v.log.profile → log.slots ≡ v.log.slots → log.used ≡ v.log.used
+    → ((told : IsTrue tells) (image : Image) → LeavesImage new.disk.areas image → OnFront (IsImageOf (stands.disk told).header image) (steps.gated m gate)) → Stands tells (with_parts v new (groups.broken v.transactions) log turn) (steps.broken (steps.gated m gate))
+fails-parts tells v new m stands works gate log turn same many used leaves =
+    let after : Machine Value = steps.broken (steps.gated m gate) in
+    goes-on-failed tells v (with_parts v new (groups.broken v.transactions) log turn) m after stands (record {
+      memory = breaks v.transactions (steps.gated m gate) (regated v.transactions m gate stands.memory);
+      machine = broken-machine m gate stands.machine;
+      order = broken-order v.transactions stands.order;
+      in_step = record { slots = many ∙ stands.in_step.slots; used = used ∙ stands.in_step.used; turns = λ no. absurd cc };
+      gate = λ no. absurd cc;
+      marks = stands.marks;
+      job = stands.job;
+    }) refl same many leaves
+
+fails-step : (tells : Bool) (v new : StoreValue) (m : Machine Value) (why : PumpFault) → why ≡ pump.Failed → KeepsJob v new → (stands : Stands tells v m) → (works : m.failed ≡ false) → (log : LogState) (turn : Option TurnState) → log.profile ≡ v.log.profile → log.slots ≡ v.log.slots → log.used ≡ v.log.used
     → new.transactions ≡ groups.broken v.transactions → new.log ≡ log → new.turn ≡ turn
-    → ((told : IsTrue tells) (image : Image) → LeavesImage new.disk.areas image → OnFront (IsImageOf (parts.disk told).header image) (steps.gated m (gate_left m.gate))) → Ends tells m (Err why) new
-fails-step tells v new m why is keeps parts machine works log turn same many used a b c leaves =
+    → ((told : IsTrue tells) (image : Image) → LeavesImage new.disk.areas image → OnFront (IsImageOf (stands.disk told).header image) (steps.gated m (gate_left m.gate))) → Ends tells m (Err why) new
+fails-step tells v new m why is keeps stands works log turn same many used a b c leaves =
     let after : Machine Value = steps.broken (steps.gated m (gate_left m.gate)) in
     subst (λ (e : PumpFault). Ends tells m (Err e) new) (sym is)
-    (after, breaks-run m works m.gate refl, subst (λ (x : StoreValue). Parts tells x after) (same-store v new (groups.broken v.transactions) log turn keeps a b c) (fails-parts tells v new m parts machine works (gate_left m.gate) log turn same many used leaves))
+    (after, breaks-run m works m.gate refl, subst (λ (x : StoreValue). Stands tells x after) (same-store v new (groups.broken v.transactions) log turn keeps a b c) (fails-parts tells v new m stands works (gate_left m.gate) log turn same many used leaves))
 
 -- where the gate is shut, a refused call leaves it so
 left-shut : (P : Machine Value → Type 0) (m : Machine Value) → m.gate ≡ Shut → P m → P (steps.gated m (gate_left m.gate))
@@ -733,10 +735,10 @@ left-shut P m shut p = subst (λ (g : Gate). P (steps.gated m g)) (shut ∙ sym 
 
 -- a call that is made, and tells nothing of the machine
 stays-step : (tells : Bool) (v new : StoreValue) (m : Machine Value) (said what : Did) → KeepsJob v new → ends_in m.gate (Ok what) ≡ [] → said ≡ what → (transactions : TransactionsValue) (log : LogState) (turn : Option TurnState) → new.transactions ≡ transactions → new.log ≡ log → new.turn ≡ turn
-    → Parts tells (with_parts v new transactions log turn) m → Ends tells m (Ok said) new
+    → Stands tells (with_parts v new transactions log turn) m → Ends tells m (Ok said) new
 stays-step tells v new m said what keeps none is transactions log turn a b c parts =
     subst (λ (d : Did). Ends tells m (Ok d) new) (sym is)
-    (m, subst (λ (es : List (Event Value)). Run IsValue m es m) (sym none) refl, subst (λ (x : StoreValue). Parts tells x m) (same-store v new transactions log turn keeps a b c) parts)
+    (m, subst (λ (es : List (Event Value)). Run IsValue m es m) (sym none) refl, subst (λ (x : StoreValue). Stands tells x m) (same-store v new transactions log turn keeps a b c) parts)
 
 -- ---- an extent
 
@@ -770,51 +772,44 @@ slot-alone slots.BodySynced number body old new call = status-alone old new _ ca
 slot-alone slots.GateWritten number body old new call = status-alone old new _ call.synced
 slot-alone slots.Opened number body old new call = absurd call
 
-wrote-step : (tells : Bool) (v new : StoreValue) (answer : Result Did PumpFault) (m : Machine Value) → Parts tells v m → IsMachine IsValue m → (works : m.failed ≡ false) → groups.due v.transactions ≡ next.WriteExtent → (IsTrue tells → AreSound new.disk.areas)
+wrote-step : (tells : Bool) (v new : StoreValue) (answer : Result Did PumpFault) (m : Machine Value) → Stands tells v m → (works : m.failed ≡ false) → groups.due v.transactions ≡ next.WriteExtent → (IsTrue tells → AreSound new.disk.areas)
     → (o : Option StoredExtent) → groups.next_extent v.transactions ≡ o → MatchOption o ⊥ (λ stored. WritesExtent tells stored v answer new) → Ends tells m answer new
-wrote-step tells v new answer m parts machine works asks sound None found takes = absurd takes
-wrote-step tells v new answer m parts machine works asks sound (Some stored) found takes =
+wrote-step tells v new answer m stands works asks sound None found takes = absurd takes
+wrote-step tells v new answer m stands works asks sound (Some stored) found takes =
     let at = storing-is v.transactions.stage v.transactions.group asks in
     let there : groups.extent_at (slice_get v.transactions.queue at.member) at.extent ≡ Some stored = subst (λ (s : GroupStage). groups.extent_of v.transactions.queue s ≡ Some stored) at.is found in
     by-answer answer at there takes
   where
     by-answer : (answer : Result Did PumpFault) (at : IsStoring v.transactions.stage v.transactions.group) → groups.extent_at (slice_get v.transactions.queue at.member) at.extent ≡ Some stored → WritesExtent tells stored v answer new → Ends tells m answer new
     by-answer (Err why) at there takes =
-        fails-step tells v new m why takes.steps.answer.0 takes.steps.job parts machine works v.log v.turn refl refl refl takes.steps.answer.1 takes.steps.log takes.steps.turn
-        (λ told image left. let d = parts.disk told in
-        left-shut (λ (x : Machine Value). OnFront (IsImageOf d.header image) x) m (gate-shut v m parts.in_step parts.memory.failed parts.gate works (ap is_turning at.is))
-        (wrote-leaves d.header v new m parts.memory machine parts.order parts.in_step d.profile d.slots d.profile_built (d.works works) at.member at.extent at.is at.low stored there (takes.call.areas told) image left))
+        fails-step tells v new m why takes.steps.answer.0 takes.steps.job stands works v.log v.turn refl refl refl takes.steps.answer.1 takes.steps.log takes.steps.turn
+        (λ told image left. let c = working tells v m stands works told in
+        left-shut (λ (x : Machine Value). OnFront (IsImageOf c.header image) x) m (gate-shut v m stands.in_step stands.memory.failed stands.gate works (ap is_turning at.is))
+        (wrote-leaves v new m c at.member at.extent at.is at.low stored there (takes.call.areas told) image left))
     by-answer (Ok said) at there takes =
         let stage = groups.stage_behind v.transactions.queue v.transactions.stage in
         let turning : is_turning stage ≡ is_turning v.transactions.stage =
         ap (λ (s : GroupStage). is_turning (groups.stage_behind v.transactions.queue s)) at.is ∙ behind-turning v.transactions.queue at.member at.extent (slice_get v.transactions.queue at.member) ∙ sym (ap is_turning at.is) in
-        let memory = restaged v.transactions m stage parts.memory (λ _. omega (arith, at.low)) (λ turns. let no : true ≡ false = sym turns ∙ turning ∙ ap is_turning at.is in absurd cc) in
-        let order = keeps-wrote v.transactions parts.order asks in
+        let memory = restaged v.transactions m stage stands.memory (λ _. omega (arith, at.low)) (λ turns. let no : true ≡ false = sym turns ∙ turning ∙ ap is_turning at.is in absurd cc) in
+        let order = keeps-wrote v.transactions stands.order asks in
         let in_step : IsInStep (with_parts v new (groups.wrote_extent v.transactions) v.log v.turn) = record {
-          slots = parts.in_step.slots;
-          used = parts.in_step.used;
-          turns = λ on. let was = parts.in_step.turns on in record { turning = turning ∙ was.turning; writing = was.writing; turn = was.turn; job = was.job };
+          slots = stands.in_step.slots;
+          used = stands.in_step.used;
+          turns = λ on. let was = stands.in_step.turns on in record { turning = turning ∙ was.turning; writing = was.writing; turn = was.turn; job = was.job };
         } in
-        stays-step tells v new m said did.WroteExtent takes.steps.job refl takes.steps.answer.0 (groups.wrote_extent v.transactions) v.log v.turn takes.steps.answer.1 takes.steps.log takes.steps.turn (record {
-          memory = memory;
-          order = order;
-          in_step = in_step;
-          gate = parts.gate;
-          marks = parts.marks;
-          job = parts.job;
-          disk = λ told.
-              let d = parts.disk told in
-              let w = d.works works in
-              let base = resting-areas d.header v m w in
-              let then : Areas = record new.disk.areas { status = w.group.rested } in
-              let call = rested-write w.group.rested (extent_start stored.extent) stored.image v.disk.areas new.disk.areas (takes.call.areas told) in
-              let sound' = resting-sound d.header v m w in
-              let goes = wrote-goes d.header v new m parts.memory machine parts.order parts.in_step d.profile d.slots d.profile_built w (Ok tt) at.member at.extent at.is at.low stored there base then sound' w.group.at call in
-              let on = goes-on d.header v new m parts.memory machine parts.order parts.in_step d.profile d.slots d.profile_built w base then goes in
-              on-disk d.header (with_parts v new (groups.wrote_extent v.transactions) v.log v.turn) m memory machine order in_step d.profile d.slots d.profile_built (parts.gate works)
-              (heap-wrote d.header v new m parts.memory machine parts.order parts.in_step d.profile d.slots d.profile_built w at.member at.extent at.low stored there (takes.call.areas told) stage (sound told)
-              (wrote-at d.header v new m parts.memory machine parts.order parts.in_step d.profile d.slots d.profile_built w (Ok tt) at.member at.extent at.is at.low stored there base then sound' w.group.at call on));
-        })
+        stays-step tells v new m said did.WroteExtent takes.steps.job refl takes.steps.answer.0 (groups.wrote_extent v.transactions) v.log v.turn takes.steps.answer.1 takes.steps.log takes.steps.turn
+        (goes-on-working tells v (with_parts v new (groups.wrote_extent v.transactions) v.log v.turn) m m stands works
+        (record { memory = memory; machine = stands.machine; order = order; in_step = in_step; gate = stands.gate; marks = stands.marks; job = stands.job }) works refl refl (λ told.
+        let c = working tells v m stands works told in
+        let w = c.works in
+        let base = resting-areas v m c in
+        let then : Areas = record new.disk.areas { status = w.group.rested } in
+        let call = rested-write w.group.rested (extent_start stored.extent) stored.image v.disk.areas new.disk.areas (takes.call.areas told) in
+        let sound' = resting-sound v m c in
+        let goes = wrote-goes v new m c (Ok tt) at.member at.extent at.is at.low stored there base then sound' w.group.at call in
+        let on = goes-on v new m c base then goes in
+        heap-wrote v new m c at.member at.extent at.low stored there (takes.call.areas told) stage (sound told)
+        (wrote-at v new m c (Ok tt) at.member at.extent at.is at.low stored there base then sound' w.group.at call on)))
 
 -- ---- the heap
 
@@ -834,43 +829,34 @@ all-stored (Storing member extent) group qs fits asks = elim (cases_lt member gr
   | inr past ↦ let within = fits.1 in record { member = member; extent = extent; is = refl; past = omega (arith, past, within); some = fits.0 }
 ]
 
-synced-step : (tells : Bool) (v new : StoreValue) (answer : Result Did PumpFault) (m : Machine Value) → Parts tells v m → IsMachine IsValue m → (works : m.failed ≡ false) → groups.due v.transactions ≡ next.SyncHeap → (IsTrue tells → AreSound new.disk.areas)
+synced-step : (tells : Bool) (v new : StoreValue) (answer : Result Did PumpFault) (m : Machine Value) → Stands tells v m → (works : m.failed ≡ false) → groups.due v.transactions ≡ next.SyncHeap → (IsTrue tells → AreSound new.disk.areas)
     → SyncsHeap tells v answer new → Ends tells m answer new
-synced-step tells v new answer m parts machine works asks sound takes =
-    by-answer answer (all-stored v.transactions.stage v.transactions.group v.transactions.queue parts.order.stage_fits asks) takes
+synced-step tells v new answer m stands works asks sound takes =
+    by-answer answer (all-stored v.transactions.stage v.transactions.group v.transactions.queue stands.order.stage_fits asks) takes
   where
     by-answer : (answer : Result Did PumpFault) → IsAllStored v.transactions.stage v.transactions.group → SyncsHeap tells v answer new → Ends tells m answer new
     by-answer (Err why) at takes =
-        fails-step tells v new m why takes.steps.answer.0 takes.steps.job parts machine works v.log v.turn refl refl refl takes.steps.answer.1 takes.steps.log takes.steps.turn
-        (λ told image left. let d = parts.disk told in
-        left-shut (λ (x : Machine Value). OnFront (IsImageOf d.header image) x) m (gate-shut v m parts.in_step parts.memory.failed parts.gate works (ap is_turning at.is))
-        (same-leaves d.header v new m parts.memory machine parts.order parts.in_step d.profile d.slots d.profile_built (d.works works) (parts.gate works) (takes.call.areas told).same image left))
+        fails-step tells v new m why takes.steps.answer.0 takes.steps.job stands works v.log v.turn refl refl refl takes.steps.answer.1 takes.steps.log takes.steps.turn
+        (λ told image left. let c = working tells v m stands works told in
+        left-shut (λ (x : Machine Value). OnFront (IsImageOf c.header image) x) m (gate-shut v m stands.in_step stands.memory.failed stands.gate works (ap is_turning at.is))
+        (same-leaves v new m c (takes.call.areas told).same image left))
     by-answer (Ok said) at takes =
-        let memory = restaged v.transactions m Stored parts.memory (λ _. at.some) (λ turns. absurd cc) in
-        let order = keeps-synced v.transactions parts.order asks in
+        let memory = restaged v.transactions m Stored stands.memory (λ _. at.some) (λ turns. absurd cc) in
+        let order = keeps-synced v.transactions stands.order asks in
         let in_step : IsInStep (with_parts v new (groups.at_stage Stored v.transactions) v.log v.turn) = record {
-          slots = parts.in_step.slots;
-          used = parts.in_step.used;
-          turns = λ on. let was = parts.in_step.turns on in record { turning = sym (ap is_turning at.is) ∙ was.turning; writing = was.writing; turn = was.turn; job = was.job };
+          slots = stands.in_step.slots;
+          used = stands.in_step.used;
+          turns = λ on. let was = stands.in_step.turns on in record { turning = sym (ap is_turning at.is) ∙ was.turning; writing = was.writing; turn = was.turn; job = was.job };
         } in
-        stays-step tells v new m said did.HeapSynced takes.steps.job refl takes.steps.answer.0 (groups.at_stage Stored v.transactions) v.log v.turn takes.steps.answer.1 takes.steps.log takes.steps.turn (record {
-          memory = memory;
-          order = order;
-          in_step = in_step;
-          gate = parts.gate;
-          marks = parts.marks;
-          job = parts.job;
-          disk = λ told.
-              let d = parts.disk told in
-              let w = d.works works in
-              let base = resting-areas d.header v m w in
-              let then : Areas = record new.disk.areas { status = w.group.rested } in
-              let goes = synced-goes d.header v new m parts.memory machine parts.order parts.in_step d.profile d.slots d.profile_built w (Ok tt) at.member at.extent at.is at.past at.some base then (resting-sound d.header v m w) w.group.at
-              (rested-sync w.group.rested v.disk.areas new.disk.areas (takes.call.areas told)) in
-              let on = goes-on d.header v new m parts.memory machine parts.order parts.in_step d.profile d.slots d.profile_built w base then goes in
-              on-disk d.header (with_parts v new (groups.at_stage Stored v.transactions) v.log v.turn) m memory machine order in_step d.profile d.slots d.profile_built (parts.gate works)
-              (heap-synced d.header v new m parts.memory machine parts.order parts.in_step d.profile d.slots d.profile_built w (takes.call.areas told) Stored (sound told) on);
-        })
+        stays-step tells v new m said did.HeapSynced takes.steps.job refl takes.steps.answer.0 (groups.at_stage Stored v.transactions) v.log v.turn takes.steps.answer.1 takes.steps.log takes.steps.turn
+        (goes-on-working tells v (with_parts v new (groups.at_stage Stored v.transactions) v.log v.turn) m m stands works
+        (record { memory = memory; machine = stands.machine; order = order; in_step = in_step; gate = stands.gate; marks = stands.marks; job = stands.job }) works refl refl (λ told.
+        let c = working tells v m stands works told in
+        let w = c.works in
+        let base = resting-areas v m c in
+        let then : Areas = record new.disk.areas { status = w.group.rested } in
+        let goes = synced-goes v new m c (Ok tt) at.member at.extent at.is at.past at.some base then (resting-sound v m c) w.group.at (rested-sync w.group.rested v.disk.areas new.disk.areas (takes.call.areas told)) in
+        heap-synced v new m c (takes.call.areas told) Stored (sound told) (goes-on v new m c base then goes)))
 
 -- ---- what memory keeps of a job while commits are published
 
@@ -898,31 +884,31 @@ abbrev IsGroupTurn : (tells : Bool) (v : StoreValue) (m : Machine Value) → (Is
 IsGroupTurn tells v m disk works t = (told : IsTrue tells) → IsTurnOf (disk told).header ((disk told).works works).log.layout (group_of ((disk told).works works).log.layout v.transactions m) t v.disk.areas
 
 -- a slot on its way: the store has the stage and the turn of it
-module _ (tells : Bool) (v new : StoreValue) (m : Machine Value) (t : TurnState) (parts : Parts tells v m) (machine : IsMachine IsValue m) (works : m.failed ≡ false) (turning : v.transactions.stage ≡ Turning) (mine-is : v.turn ≡ Some t) (number : t.number ≡ v.log.used)
-    (writing : v.log.writing ≡ true) (own : IsGroupTurn tells v m parts.disk works t) (sound : IsTrue tells → AreSound new.disk.areas) (still : turn_of v.job ≡ None) (keeps : KeepsJob v new) where
+module _ (tells : Bool) (v new : StoreValue) (m : Machine Value) (t : TurnState) (stands : Stands tells v m) (works : m.failed ≡ false) (turning : v.transactions.stage ≡ Turning) (mine-is : v.turn ≡ Some t) (number : t.number ≡ v.log.used)
+    (writing : v.log.writing ≡ true) (own : IsGroupTurn tells v m stands.disk works t) (sound : IsTrue tells → AreSound new.disk.areas) (still : turn_of v.job ≡ None) (keeps : KeepsJob v new) where
   group-some : 0 < v.transactions.group
-  group-some = subst (λ (s : GroupStage). StageFits s v.transactions.group v.transactions.queue) turning parts.order.stage_fits
+  group-some = subst (λ (s : GroupStage). StageFits s v.transactions.group v.transactions.queue) turning stands.order.stage_fits
 
   -- the next call of the slot is made
   led : (stage : SlotStage) → t.stage ≡ stage → (IsTrue tells → IsSlotCall t.number t.body t.stage (Ok tt) v.disk.areas new.disk.areas) → (told : IsTrue tells) →
-      IsTurnAt (parts.disk told).header ((parts.disk told).works works).log.layout (group_of ((parts.disk told).works works).log.layout v.transactions m).slot
-      (laid_out ((parts.disk told).works works).log.layout (group_of ((parts.disk told).works works).log.layout v.transactions m)) (slots.slot_stage_after stage) new.disk.areas
+      IsTurnAt (stands.disk told).header ((stands.disk told).works works).log.layout (group_of ((stands.disk told).works works).log.layout v.transactions m).slot
+      (laid_out ((stands.disk told).works works).log.layout (group_of ((stands.disk told).works works).log.layout v.transactions m)) (slots.slot_stage_after stage) new.disk.areas
   led stage is call told =
-      let d = parts.disk told in
-      let w = d.works works in
-      let goes = slot-goes d.header v new m parts.memory machine parts.order parts.in_step d.profile d.slots d.profile_built w (Ok tt) t (own told) group-some (call told) in
-      subst (λ (s : SlotStage). IsTurnAt d.header w.log.layout (group_of w.log.layout v.transactions m).slot (laid_out w.log.layout (group_of w.log.layout v.transactions m)) (slots.slot_stage_after s) new.disk.areas) is
-      (goes-on d.header v new m parts.memory machine parts.order parts.in_step d.profile d.slots d.profile_built w v.disk.areas new.disk.areas goes)
+      let c = working tells v m stands works told in
+      let w = c.works in
+      let goes = slot-goes v new m c (Ok tt) t (own told) group-some (call told) in
+      subst (λ (s : SlotStage). IsTurnAt c.header w.log.layout (group_in v m c).slot (laid_out w.log.layout (group_in v m c)) (slots.slot_stage_after s) new.disk.areas) is
+      (goes-on v new m c v.disk.areas new.disk.areas goes)
 
   -- no job's slot is in the writing beside it
   abbrev no-other : (n : ℕ) (turn : Option TurnState) → MatchOption (turn_of v.job) (Unit {0}) (λ u. (u.number ≡ n) × IsOnItsWay u.stage × (turn ≡ None))
   no-other n turn = subst (λ (o : Option TurnState). MatchOption o (Unit {0}) (λ u. (u.number ≡ n) × IsOnItsWay u.stage × (turn ≡ None))) (sym still) tt
 
   group-in-making : steps.IsInTheMaking m OfGroup
-  group-in-making = omega (arith, group-some, parts.memory.group)
+  group-in-making = omega (arith, group-some, stands.memory.group)
 
   gate-now : m.gate ≡ gate_at t.stage
-  gate-now = parts.gate works ∙ ap gate_of mine-is
+  gate-now = stands.gate works ∙ ap gate_of mine-is
 
   -- what the store is then
   between : (stage : SlotStage) → t.stage ≡ stage → IsOnItsWay (slots.slot_stage_after stage) → (IsTrue tells → IsSlotCall t.number t.body t.stage (Ok tt) v.disk.areas new.disk.areas) → (said what : Did)
@@ -932,75 +918,64 @@ module _ (tells : Bool) (v new : StoreValue) (m : Machine Value) (t : TurnState)
       let after : Option TurnState = Some (record t { stage = slots.slot_stage_after stage }) in
       let gate : Gate = gate_at (slots.slot_stage_after stage) in
       let to : Machine Value = steps.gated m gate in
-      let memory = regated v.transactions m gate parts.memory in
-      let machine' : IsMachine IsValue to = run-machine IsValue m to (ends_in m.gate (Ok what)) machine run in
+      let memory = regated v.transactions m gate stands.memory in
+      let machine' : IsMachine IsValue to = run-machine IsValue m to (ends_in m.gate (Ok what)) stands.machine run in
       let in_step : IsInStep (with_parts v new v.transactions v.log after) = record {
-        slots = parts.in_step.slots;
-        used = parts.in_step.used;
+        slots = stands.in_step.slots;
+        used = stands.in_step.used;
         turns = λ on. record { turning = ap is_turning turning; writing = writing; turn = (number, way); job = no-other v.log.used after };
       } in
-      let then : Parts tells (with_parts v new v.transactions v.log after) to = record {
-        memory = memory;
-        order = parts.order;
-        in_step = in_step;
-        gate = λ on. refl;
-        marks = parts.marks;
-        job = parts.job;
-        disk = λ told.
-            let d = parts.disk told in
-            let w = d.works works in
-            let mine = own told in
-            let at : IsAtStage d.header w.log.layout (group_of w.log.layout v.transactions m) v.transactions.queue Turning after new.disk.areas = record { number = mine.number; long = mine.long; spelled = mine.spelled; at = led stage is call told } in
-            on-disk d.header (with_parts v new v.transactions v.log after) to memory machine' parts.order in_step d.profile d.slots d.profile_built refl (record {
-              log = w.log;
-              heap = w.heap;
-              packed = w.packed;
-              group = record {
-                rested = new.disk.areas.status;
-                rests = rested-now d.header w.log.layout (turn_of v.job) new.disk.areas.status still;
-                at = subst (λ (s : GroupStage). IsAtStage d.header w.log.layout (group_of w.log.layout v.transactions m) v.transactions.queue s after new.disk.areas) (sym turning) at;
-              };
-              job = subst (λ (a : Areas). HasJob d.header w.log.layout w.log.reading m.published v.transactions.reserved v.job a) (sym (slot-alone t.stage t.number t.body v.disk.areas new.disk.areas (call told)))
-                  (job-beside-status d.header w.log.layout w.log.reading m.published v.transactions.reserved v.job v.disk.areas new.disk.areas.status still w.job);
-              sound = sound told;
-            });
-      } in
-      subst (λ (e : Did). Ends tells m (Ok e) new) (sym same) (to, run, subst (λ (x : StoreValue). Parts tells x to) (same-store v new v.transactions v.log after keeps a b c) then)
+      let then = goes-on-working tells v (with_parts v new v.transactions v.log after) m to stands works
+      (record { memory = memory; machine = machine'; order = stands.order; in_step = in_step; gate = λ on. refl; marks = stands.marks; job = stands.job }) works refl refl (λ told.
+      let c = working tells v m stands works told in
+      let w = c.works in
+      let mine = own told in
+      let at : IsAtStage c.header w.log.layout (group_in v m c) v.transactions.queue Turning after new.disk.areas = record { number = mine.number; long = mine.long; spelled = mine.spelled; at = led stage is call told } in record {
+        log = w.log;
+        heap = w.heap;
+        packed = w.packed;
+        group = record {
+          rested = new.disk.areas.status;
+          rests = rested-now c.header w.log.layout (turn_of v.job) new.disk.areas.status still;
+          at = subst (λ (s : GroupStage). IsAtStage c.header w.log.layout (group_in v m c) v.transactions.queue s after new.disk.areas) (sym turning) at;
+        };
+        job = subst (λ (a : Areas). HasJob c.header w.log.layout w.log.reading m.published v.transactions.reserved v.job a) (sym (slot-alone t.stage t.number t.body v.disk.areas new.disk.areas (call told)))
+            (job-beside-status c.header w.log.layout w.log.reading m.published v.transactions.reserved v.job v.disk.areas new.disk.areas.status still w.job);
+        sound = sound told;
+      }) in
+      subst (λ (e : Did). Ends tells m (Ok e) new) (sym same) (to, run, subst (λ (x : StoreValue). Stands tells x to) (same-store v new v.transactions v.log after keeps a b c) then)
 
   -- and where its gate is open
   opens : t.stage ≡ slots.GateWritten → (IsTrue tells → IsSlotCall t.number t.body t.stage (Ok tt) v.disk.areas new.disk.areas) → groups.due v.transactions ≡ next.AdvanceSlot → (said : Did) → said ≡ did.Published v.transactions.group
       → new.transactions ≡ groups.published v.transactions → new.log ≡ record v.log { used = t.number + 1; writing = false } → new.turn ≡ None → Ends tells m (Ok said) new
   opens is call asks said same a b c =
       let log : LogState = record v.log { used = t.number + 1; writing = false } in
-      let memory = publishes v.transactions m parts.memory machine (ap is_turning turning) in
-      let grown = published-later m machine in
+      let memory = publishes v.transactions m stands.memory stands.machine (ap is_turning turning) in
+      let grown = published-later m stands.machine in
       let rest : AreOut v.transactions.usages ((flat_map numbers_of (take v.transactions.group v.transactions.queue) ++ flat_map numbers_of (drop v.transactions.group v.transactions.queue)) ++ v.transactions.reserved) =
-      subst (λ (l : List ℕ). AreOut v.transactions.usages (l ++ v.transactions.reserved)) (numbers-split v.transactions.group v.transactions.queue) parts.order.out in
-      let order = keeps-published v.transactions parts.order asks
+      subst (λ (l : List ℕ). AreOut v.transactions.usages (l ++ v.transactions.reserved)) (numbers-split v.transactions.group v.transactions.queue) stands.order.out in
+      let order = keeps-published v.transactions stands.order asks
       (out-beside v.transactions.usages (flat_map numbers_of (take v.transactions.group v.transactions.queue)) (flat_map numbers_of (drop v.transactions.group v.transactions.queue)) v.transactions.reserved Kept rest) in
-      let step : steps.Step IsValue m (steps.Published v.transactions.group) (steps.group_published m) = (works, group-some, parts.memory.group, gate-now ∙ ap gate_at is, refl) in
-      let machine' : IsMachine IsValue (steps.group_published m) = run-machine IsValue m (steps.group_published m) (steps.Published v.transactions.group ∷ []) machine (steps.group_published m, step, refl) in
+      let step : steps.Step IsValue m (steps.Published v.transactions.group) (steps.group_published m) = (works, group-some, stands.memory.group, gate-now ∙ ap gate_at is, refl) in
+      let machine' : IsMachine IsValue (steps.group_published m) = run-machine IsValue m (steps.group_published m) (steps.Published v.transactions.group ∷ []) stands.machine (steps.group_published m, step, refl) in
       let in_step : IsInStep (with_parts v new (groups.published v.transactions) log None) = record {
-        slots = parts.in_step.slots;
-        used = omega (arith, number, parts.in_step.used);
+        slots = stands.in_step.slots;
+        used = omega (arith, number, stands.in_step.used);
         turns = λ on. record { turning = refl; writing = sym (ap (λ (o : Option TurnState). is_some o) still); turn = tt; job = no-other (t.number + 1) None };
       } in
-      let after : Parts tells (with_parts v new (groups.published v.transactions) log None) (steps.group_published m) = record {
+      let after = goes-on-working tells v (with_parts v new (groups.published v.transactions) log None) m (steps.group_published m) stands works (record {
         memory = memory;
+        machine = machine';
         order = order;
         in_step = in_step;
         gate = λ on. refl;
-        marks = (parts.marks.0, (let archived = parts.marks.1 in omega (arith, archived, grown)));
-        job = job-later v.job v.archived (last m.published) (last (steps.group_published m).published) v.transactions.opened v.transactions.pending v.transactions.versions (groups.published v.transactions).versions still grown parts.job;
-        disk = λ told.
-            let d = parts.disk told in
-            let w = d.works works in
-            on-disk d.header (with_parts v new (groups.published v.transactions) log None) (steps.group_published m) memory machine' order in_step d.profile d.slots d.profile_built refl
-            (published-works d.header v new m parts.memory machine parts.order parts.in_step d.profile d.slots d.profile_built w group-some (ap is_turning turning) still t.number (own told).number (sound told) new.disk.areas.status
-            (slot-alone t.stage t.number t.body v.disk.areas new.disk.areas (call told)) (led slots.GateWritten is call told));
-      } in
+        marks = (stands.marks.0, (let archived = stands.marks.1 in omega (arith, archived, grown)));
+        job = job-later v.job v.archived (last m.published) (last (steps.group_published m).published) v.transactions.opened v.transactions.pending v.transactions.versions (groups.published v.transactions).versions still grown stands.job;
+      }) works refl refl (λ told.
+      published-works v new m (working tells v m stands works told) group-some (ap is_turning turning) still t.number (own told).number (sound told) new.disk.areas.status
+      (slot-alone t.stage t.number t.body v.disk.areas new.disk.areas (call told)) (led slots.GateWritten is call told)) in
       subst (λ (e : Did). Ends tells m (Ok e) new) (sym same)
-      (steps.group_published m, (steps.group_published m, step, refl), subst (λ (x : StoreValue). Parts tells x (steps.group_published m)) (same-store v new (groups.published v.transactions) log None keeps a b c) after)
+      (steps.group_published m, (steps.group_published m, step, refl), subst (λ (x : StoreValue). Stands tells x (steps.group_published m)) (same-store v new (groups.published v.transactions) log None keeps a b c) after)
 
   turned : (stage : SlotStage) → t.stage ≡ stage → (IsTrue tells → IsSlotCall t.number t.body t.stage (Ok tt) v.disk.areas new.disk.areas) → groups.due v.transactions ≡ next.AdvanceSlot → (what : Did) → IsTurned stage t v what new → Ends tells m (Ok what) new
   turned slots.Begun is call asks what to = between slots.Begun is tt call what did.BodyWritten (ap (steps.gated m) (sym (gate-now ∙ ap gate_at is))) to.0 to.1 to.2 to.3
@@ -1014,10 +989,10 @@ module _ (tells : Bool) (v new : StoreValue) (m : Machine Value) (t : TurnState)
   slot-step : groups.due v.transactions ≡ next.AdvanceSlot → (answer : Result Did PumpFault) → TurnsSlot tells t v answer new → Ends tells m answer new
   slot-step asks (Ok what) turns = turned t.stage refl turns.call.areas asks what turns.answer
   slot-step asks (Err why) turns =
-      fails-step tells v new m why turns.answer.fault keeps parts machine works v.log None refl refl refl turns.answer.transactions turns.answer.log turns.answer.turn
-      (λ told. let d = parts.disk told in
-      goes-leaves d.header v new m parts.memory machine parts.order parts.in_step d.profile d.slots d.profile_built (d.works works) (gate_left m.gate) (record {}) v.disk.areas new.disk.areas
-      (slot-goes d.header v new m parts.memory machine parts.order parts.in_step d.profile d.slots d.profile_built (d.works works) (Err (record {})) t (own told) group-some (turns.call.areas told))
+      fails-step tells v new m why turns.answer.fault keeps stands works v.log None refl refl refl turns.answer.transactions turns.answer.log turns.answer.turn
+      (λ told. let c = working tells v m stands works told in
+      goes-leaves v new m c (gate_left m.gate) (record {}) v.disk.areas new.disk.areas
+      (slot-goes v new m c (Err (record {})) t (own told) group-some (turns.call.areas told))
       (λ may. ap gate_left gate-now ∙ left-is t.stage may))
 
 -- ---- the slot is begun
@@ -1034,39 +1009,39 @@ abbrev plainly : StoreValue → StoreValue
 plainly v = record v { transactions = groups.at_stage Turning v.transactions; log = record v.log { writing = true } }
 
 -- the group's slot is in the writing, and no call of it is made: the store is on its way to the first one
-module _ (tells : Bool) (v new : StoreValue) (m : Machine Value) (parts : Parts tells v m) (machine : IsMachine IsValue m) (works : m.failed ≡ false) (stored : v.transactions.stage ≡ Stored)
+module _ (tells : Bool) (v new : StoreValue) (m : Machine Value) (stands : Stands tells v m) (works : m.failed ≡ false) (stored : v.transactions.stage ≡ Stored)
     (fresh : mark_after v.transactions.reclaimed (take v.transactions.group v.transactions.queue) ≡ v.transactions.reclaimed)
     (sound : IsTrue tells → AreSound new.disk.areas) (body : Body) (commit : IsCommitOf (groups.entries v.transactions) body) (still : turn_of v.job ≡ None) (keeps : KeepsJob v new) where
   abbrev first : TurnState
   first = record { number = v.log.used; body = spelling v.log.profile (record { number = v.log.used; body = body }); stage = slots.Begun }
 
   some-stored : 0 < v.transactions.group
-  some-stored = subst (λ (s : GroupStage). StageFits s v.transactions.group v.transactions.queue) stored parts.order.stage_fits
+  some-stored = subst (λ (s : GroupStage). StageFits s v.transactions.group v.transactions.queue) stored stands.order.stage_fits
 
   shut : m.gate ≡ Shut
-  shut = gate-shut v m parts.in_step parts.memory.failed parts.gate works (ap is_turning stored)
+  shut = gate-shut v m stands.in_step stands.memory.failed stands.gate works (ap is_turning stored)
 
-  first-turn : (told : IsTrue tells) → IsTurnOf (parts.disk told).header ((parts.disk told).works works).log.layout (group_of ((parts.disk told).works works).log.layout v.transactions m) first v.disk.areas
+  first-turn : (told : IsTrue tells) → IsTurnOf (stands.disk told).header ((stands.disk told).works works).log.layout (group_of ((stands.disk told).works works).log.layout v.transactions m) first v.disk.areas
   first-turn told =
-      let d = parts.disk told in
-      let w = d.works works in
-      begun-turn d.header v new m parts.memory machine parts.order parts.in_step d.profile d.slots d.profile_built w body commit
-      (subst (λ (s : GroupStage). IsAtStage d.header w.log.layout (group_of w.log.layout v.transactions m) v.transactions.queue s v.turn v.disk.areas) stored (now-at d.header v m w still)) some-stored
+      let c = working tells v m stands works told in
+      let w = c.works in
+      begun-turn v new m c body commit
+      (subst (λ (s : GroupStage). IsAtStage c.header w.log.layout (group_in v m c) v.transactions.queue s v.turn v.disk.areas) stored (now-at v m c still)) some-stored
 
-  abbrev first-goes : (answer : Result (Unit {0}) DeviceFault) (told : IsTrue tells) → IsSlotCall first.number first.body slots.Begun answer v.disk.areas new.disk.areas → Goes (parts.disk told).header v m ((parts.disk told).works works) answer v.disk.areas new.disk.areas
+  abbrev first-goes : (answer : Result (Unit {0}) DeviceFault) (told : IsTrue tells) → IsSlotCall first.number first.body slots.Begun answer v.disk.areas new.disk.areas → Goes v m (working tells v m stands works told) answer v.disk.areas new.disk.areas
   first-goes answer told call =
-      let d = parts.disk told in
-      slot-goes d.header v new m parts.memory machine parts.order parts.in_step d.profile d.slots d.profile_built (d.works works) answer first (first-turn told) some-stored call
+      let c = working tells v m stands works told in
+      slot-goes v new m c answer first (first-turn told) some-stored call
 
   begun-step : groups.due v.transactions ≡ next.BeginSlot → (answer : Result Did PumpFault) → TurnsSlot tells first (plainly v) answer new → Ends tells m answer new
   begun-step asks (Ok what) to =
       let after : Option TurnState = Some (record first { stage = slots.BodyWritten }) in
       let log : LogState = record v.log { writing = true } in
-      let memory = restaged v.transactions m Turning parts.memory (λ _. some-stored) (λ _. fresh) in
-      let order = keeps-begun v.transactions parts.order asks in
+      let memory = restaged v.transactions m Turning stands.memory (λ _. some-stored) (λ _. fresh) in
+      let order = keeps-begun v.transactions stands.order asks in
       let in_step : IsInStep (with_parts v new (groups.at_stage Turning v.transactions) log after) = record {
-        slots = parts.in_step.slots;
-        used = parts.in_step.used;
+        slots = stands.in_step.slots;
+        used = stands.in_step.used;
         turns = λ on. record {
           turning = refl;
           writing = refl;
@@ -1074,84 +1049,74 @@ module _ (tells : Bool) (v new : StoreValue) (m : Machine Value) (parts : Parts 
           job = subst (λ (o : Option TurnState). MatchOption o (Unit {0}) (λ u. (u.number ≡ v.log.used) × IsOnItsWay u.stage × (after ≡ None))) (sym still) tt;
         };
       } in
-      stays-step tells v new m what did.BodyWritten keeps refl to.answer.0 (groups.at_stage Turning v.transactions) log after to.answer.1 to.answer.2 to.answer.3 (record {
-        memory = memory;
-        order = order;
-        in_step = in_step;
-        gate = λ on. shut;
-        marks = parts.marks;
-        job = parts.job;
-        disk = λ told.
-            let d = parts.disk told in
-            let w = d.works works in
-            let mine = first-turn told in
-            let on = goes-on d.header v new m parts.memory machine parts.order parts.in_step d.profile d.slots d.profile_built w v.disk.areas new.disk.areas (first-goes (Ok tt) told (to.call.areas told)) in
-            on-disk d.header (with_parts v new (groups.at_stage Turning v.transactions) log after) m memory machine order in_step d.profile d.slots d.profile_built shut
-            (staged-works d.header v new m parts.memory machine parts.order parts.in_step d.profile d.slots d.profile_built w Turning log after refl (sound told) new.disk.areas.status
-            (rested-now d.header w.log.layout (turn_of v.job) new.disk.areas.status still) (record { number = mine.number; long = mine.long; spelled = mine.spelled; at = on })
-            (subst (λ (a : Areas). HasJob d.header w.log.layout w.log.reading m.published v.transactions.reserved v.job a) (sym (slot-alone slots.Begun first.number first.body v.disk.areas new.disk.areas (to.call.areas told)))
-            (job-beside-status d.header w.log.layout w.log.reading m.published v.transactions.reserved v.job v.disk.areas new.disk.areas.status still w.job)));
-      })
+      stays-step tells v new m what did.BodyWritten keeps refl to.answer.0 (groups.at_stage Turning v.transactions) log after to.answer.1 to.answer.2 to.answer.3
+      (goes-on-working tells v (with_parts v new (groups.at_stage Turning v.transactions) log after) m m stands works
+      (record { memory = memory; machine = stands.machine; order = order; in_step = in_step; gate = λ on. shut; marks = stands.marks; job = stands.job }) works refl refl (λ told.
+      let c = working tells v m stands works told in
+      let w = c.works in
+      let mine = first-turn told in
+      let on = goes-on v new m c v.disk.areas new.disk.areas (first-goes (Ok tt) told (to.call.areas told)) in
+      staged-works v new m c Turning log after refl (sound told) new.disk.areas.status
+      (rested-now c.header w.log.layout (turn_of v.job) new.disk.areas.status still) (record { number = mine.number; long = mine.long; spelled = mine.spelled; at = on })
+      (subst (λ (a : Areas). HasJob c.header w.log.layout w.log.reading m.published v.transactions.reserved v.job a) (sym (slot-alone slots.Begun first.number first.body v.disk.areas new.disk.areas (to.call.areas told)))
+      (job-beside-status c.header w.log.layout w.log.reading m.published v.transactions.reserved v.job v.disk.areas new.disk.areas.status still w.job))))
   begun-step asks (Err why) to =
       let log : LogState = record v.log { writing = true } in
       let after : Machine Value = steps.broken (steps.gated m (gate_left m.gate)) in
-      let parts' : Parts tells (with_parts v new (groups.broken v.transactions) log None) after =
-      fails-parts tells v new m parts machine works (gate_left m.gate) log None refl refl refl
-      (λ told. let d = parts.disk told in
-      goes-leaves d.header v new m parts.memory machine parts.order parts.in_step d.profile d.slots d.profile_built (d.works works) (gate_left m.gate) (record {}) v.disk.areas new.disk.areas (first-goes (Err (record {})) told (to.call.areas told))
+      let stands' : Stands tells (with_parts v new (groups.broken v.transactions) log None) after =
+      fails-parts tells v new m stands works (gate_left m.gate) log None refl refl refl
+      (λ told. let c = working tells v m stands works told in
+      goes-leaves v new m c (gate_left m.gate) (record {}) v.disk.areas new.disk.areas (first-goes (Err (record {})) told (to.call.areas told))
       (λ no. absurd no)) in
       subst (λ (e : PumpFault). Ends tells m (Err e) new) (sym to.answer.fault) (
         after,
         breaks-run m works m.gate refl,
-        subst (λ (x : StoreValue). Parts tells x after)
+        subst (λ (x : StoreValue). Stands tells x after)
             (same-store v new (groups.at_stage Turning (groups.broken v.transactions)) log None keeps to.answer.transactions to.answer.log to.answer.turn) (record {
-              memory = restaged (groups.broken v.transactions) after Turning parts'.memory (λ _. some-stored) (λ _. fresh);
-              order = broken-order (groups.at_stage Turning v.transactions) (keeps-begun v.transactions parts.order asks);
-              in_step = record { slots = parts'.in_step.slots; used = parts'.in_step.used; turns = λ no. absurd cc };
+              memory = restaged (groups.broken v.transactions) after Turning stands'.memory (λ _. some-stored) (λ _. fresh);
+              machine = stands'.machine;
+              order = broken-order (groups.at_stage Turning v.transactions) (keeps-begun v.transactions stands.order asks);
+              in_step = record { slots = stands'.in_step.slots; used = stands'.in_step.used; turns = λ no. absurd cc };
               gate = λ no. absurd cc;
-              marks = parts'.marks;
-              job = parts'.job;
+              marks = stands'.marks;
+              job = stands'.job;
               disk = λ told.
-                  let d = parts'.disk told in record { header = d.header; profile = d.profile; slots = d.slots; profile_built = d.profile_built; leaves = d.leaves; works = λ no. absurd cc };
+                  let d = stands'.disk told in record { header = d.header; profile = d.profile; slots = d.slots; profile_built = d.profile_built; leaves = d.leaves; works = λ no. absurd cc };
             }),
       )
 
 -- ---- every step
 
 -- the store whose group leaves versions that have forgotten all that ended by the mark
-fresh-parts : (tells : Bool) (v : StoreValue) (m : Machine Value) (parts : Parts tells v m) → IsMachine IsValue m → (works : m.failed ≡ false) → v.transactions.stage ≡ Stored → 0 < v.transactions.group → Parts tells (freshly v) m
-fresh-parts tells v m parts machine works stored some =
-    let memory = freshens v.transactions m parts.memory machine in
-    let order = fresh-order v.transactions parts.order in
+fresh-parts : (tells : Bool) (v : StoreValue) (m : Machine Value) (stands : Stands tells v m) → (works : m.failed ≡ false) → v.transactions.stage ≡ Stored → 0 < v.transactions.group → Stands tells (freshly v) m
+fresh-parts tells v m stands works stored some =
     let in_step : IsInStep (freshly v) = record {
-      slots = parts.in_step.slots;
-      used = parts.in_step.used;
-      turns = λ on. let was = parts.in_step.turns on in record { turning = was.turning; writing = was.writing; turn = was.turn; job = was.job };
+      slots = stands.in_step.slots;
+      used = stands.in_step.used;
+      turns = λ on. let was = stands.in_step.turns on in record { turning = was.turning; writing = was.writing; turn = was.turn; job = was.job };
     } in
-    record {
-      memory = memory;
-      order = order;
+    goes-on-working tells v (freshly v) m m stands works (record {
+      memory = freshens v.transactions m stands.memory stands.machine;
+      machine = stands.machine;
+      order = fresh-order v.transactions stands.order;
       in_step = in_step;
-      gate = parts.gate;
-      marks = parts.marks;
-      job = parts.job;
-      disk = λ told.
-          let d = parts.disk told in
-          on-disk d.header (freshly v) m memory machine order in_step d.profile d.slots d.profile_built (parts.gate works) (fresh-works d.header v m stored (d.works works));
-    }
+      gate = stands.gate;
+      marks = stands.marks;
+      job = stands.job;
+    }) works refl refl (λ told. let c = working tells v m stands works told in fresh-works c.header v m stored c.works)
 
 -- while a group's slot is in the writing no job's is
 no-job-turn : (o turn : Option TurnState) (t : TurnState) → turn ≡ Some t → (n : ℕ) → MatchOption o (Unit {0}) (λ u. (u.number ≡ n) × IsOnItsWay u.stage × (turn ≡ None)) → o ≡ None
 no-job-turn None turn t is n apart = refl
 no-job-turn (Some u) turn t is n apart = let none : Some t ≡ None = sym is ∙ apart.2 in absurd cc
 
-advance-step : (tells : Bool) (v new : StoreValue) (m : Machine Value) → (parts : Parts tells v m) → IsMachine IsValue m → (works : m.failed ≡ false) → groups.due v.transactions ≡ next.AdvanceSlot → (IsTrue tells → AreSound new.disk.areas) → (answer : Result Did PumpFault)
+advance-step : (tells : Bool) (v new : StoreValue) (m : Machine Value) → (stands : Stands tells v m) → (works : m.failed ≡ false) → groups.due v.transactions ≡ next.AdvanceSlot → (IsTrue tells → AreSound new.disk.areas) → (answer : Result Did PumpFault)
     → MatchOption v.turn ⊥ (λ turn. TurnsSlot tells turn v answer new) → Ends tells m answer new
-advance-step tells v new m parts machine works asks sound answer takes =
+advance-step tells v new m stands works asks sound answer takes =
     by-turn v.turn refl takes
   where
     on : v.transactions.failed ≡ false
-    on = parts.memory.failed ∙ works
+    on = stands.memory.failed ∙ works
 
     is : v.transactions.stage ≡ Turning
     is = advance-is v.transactions.stage v.transactions.group asks
@@ -1159,36 +1124,36 @@ advance-step tells v new m parts machine works asks sound answer takes =
     by-turn : (o : Option TurnState) → v.turn ≡ o → MatchOption o ⊥ (λ turn. TurnsSlot tells turn v answer new) → Ends tells m answer new
     by-turn None at takes = absurd takes
     by-turn (Some t) at takes =
-        let turns = parts.in_step.turns on in
+        let turns = stands.in_step.turns on in
         let still : turn_of v.job ≡ None = no-job-turn (turn_of v.job) v.turn t at v.log.used turns.job in
         let mine : MatchOption (Some t) (Unit {0}) (λ t. (t.number ≡ v.log.used) × IsOnItsWay t.stage) = subst (λ (o : Option TurnState). MatchOption o (Unit {0}) (λ t. (t.number ≡ v.log.used) × IsOnItsWay t.stage)) at turns.turn in
-        slot-step tells v new m t parts machine works is at mine.0 (turns.writing ∙ ap (λ (o : Option TurnState). is_some o || is_some (turn_of v.job)) at)
+        slot-step tells v new m t stands works is at mine.0 (turns.writing ∙ ap (λ (o : Option TurnState). is_some o || is_some (turn_of v.job)) at)
         (λ told.
-        let d = parts.disk told in
-        let w = d.works works in
-        subst (λ (o : Option TurnState). IsAtStage d.header w.log.layout (group_of w.log.layout v.transactions m) v.transactions.queue Turning o v.disk.areas) at
-        (subst (λ (s : GroupStage). IsAtStage d.header w.log.layout (group_of w.log.layout v.transactions m) v.transactions.queue s v.turn v.disk.areas) is (now-at d.header v m w still)))
+        let c = working tells v m stands works told in
+        let w = c.works in
+        subst (λ (o : Option TurnState). IsAtStage c.header w.log.layout (group_in v m c) v.transactions.queue Turning o v.disk.areas) at
+        (subst (λ (s : GroupStage). IsAtStage c.header w.log.layout (group_in v m c) v.transactions.queue s v.turn v.disk.areas) is (now-at v m c still)))
         sound still takes.job asks answer takes
 
-step : (tells : Bool) (s : NextStep) (v new : StoreValue) (answer : Result Did PumpFault) (m : Machine Value) → Parts tells v m → IsMachine IsValue m → m.failed ≡ false → groups.due v.transactions ≡ s → (IsTrue tells → AreSound new.disk.areas)
+step : (tells : Bool) (s : NextStep) (v new : StoreValue) (answer : Result Did PumpFault) (m : Machine Value) → Stands tells v m → m.failed ≡ false → groups.due v.transactions ≡ s → (IsTrue tells → AreSound new.disk.areas)
     → TakesStep tells s v answer new → Ends tells m answer new
-step tells next.Idle v new answer m parts machine works asks sound takes =
-    subst (λ (r : Result Did PumpFault). Ends tells m r new) (sym takes.0) (m, refl, subst (λ (x : StoreValue). Parts tells x m) (sym takes.1) parts)
-step tells next.WriteExtent v new answer m parts machine works asks sound takes = wrote-step tells v new answer m parts machine works asks sound (groups.next_extent v.transactions) refl takes
-step tells next.SyncHeap v new answer m parts machine works asks sound takes = synced-step tells v new answer m parts machine works asks sound takes
-step tells next.BeginSlot v new answer m parts machine works asks sound takes = by-job-turn (turn_of v.job) refl takes
+step tells next.Idle v new answer m stands works asks sound takes =
+    subst (λ (r : Result Did PumpFault). Ends tells m r new) (sym takes.0) (m, refl, subst (λ (x : StoreValue). Stands tells x m) (sym takes.1) stands)
+step tells next.WriteExtent v new answer m stands works asks sound takes = wrote-step tells v new answer m stands works asks sound (groups.next_extent v.transactions) refl takes
+step tells next.SyncHeap v new answer m stands works asks sound takes = synced-step tells v new answer m stands works asks sound takes
+step tells next.BeginSlot v new answer m stands works asks sound takes = by-job-turn (turn_of v.job) refl takes
   where
     by-job-turn : (o : Option TurnState) → turn_of v.job ≡ o → MatchBool (is_some o) ((answer ≡ Err pump.Busy) × (new ≡ v)) (MayBeginSlot tells v answer new) → Ends tells m answer new
-    by-job-turn (Some u) at busy = subst (λ (r : Result Did PumpFault). Ends tells m r new) (sym busy.0) (m, refl, subst (λ (x : StoreValue). Parts tells x m) (sym busy.1) parts)
-    by-job-turn None still (inl short) = subst (λ (r : Result Did PumpFault). Ends tells m r new) (sym short.1) (m, refl, subst (λ (x : StoreValue). Parts tells x m) (sym short.2) parts)
+    by-job-turn (Some u) at busy = subst (λ (r : Result Did PumpFault). Ends tells m r new) (sym busy.0) (m, refl, subst (λ (x : StoreValue). Stands tells x m) (sym busy.1) stands)
+    by-job-turn None still (inl short) = subst (λ (r : Result Did PumpFault). Ends tells m r new) (sym short.1) (m, refl, subst (λ (x : StoreValue). Stands tells x m) (sym short.2) stands)
     by-job-turn None still (inr first) =
         let stored = begin-is v.transactions.stage v.transactions.group asks in
-        let some : 0 < v.transactions.group = subst (λ (s : GroupStage). StageFits s v.transactions.group v.transactions.queue) stored parts.order.stage_fits in
-        let fresh = fresh-parts tells v m parts machine works stored some in
+        let some : 0 < v.transactions.group = subst (λ (s : GroupStage). StageFits s v.transactions.group v.transactions.queue) stored stands.order.stage_fits in
+        let fresh = fresh-parts tells v m stands works stored some in
         let keeps : KeepsJob (freshly v) new = (let k = first.turns.job in record { job = k.job; archived = k.archived; runs_end = k.runs_end; archive = k.archive }) in
-        begun-step tells (freshly v) new m fresh machine works stored (fresh-marks v.transactions m parts.memory some parts.order.group_within) sound first.body
+        begun-step tells (freshly v) new m fresh works stored (fresh-marks v.transactions m stands.memory some stands.order.group_within) sound first.body
         (subst (λ (es : List Entry). IsCommitOf es first.body) (sym (fresh-entries v.transactions)) first.commit) still keeps asks answer first.turns
-step tells next.AdvanceSlot v new answer m parts machine works asks sound takes = advance-step tells v new m parts machine works asks sound answer takes
+step tells next.AdvanceSlot v new answer m stands works asks sound takes = advance-step tells v new m stands works asks sound answer takes
 
 -- what holds of the transactions, whether a group has begun or not
 grouped-has : (P : TransactionsValue → Type 0) (t : TransactionsValue) → P t → P (record t { group = min (length t.queue) 16; stage = Storing 0 0 }) → P (groups.grouped t)
@@ -1196,21 +1161,17 @@ grouped-has P t still began =
     elim ((t.group == 0) && nat_lt 0 (length t.queue)) as (λ (b : Bool). P (cond b (record t { group = min (length t.queue) 16; stage = Storing 0 0 }) t)) [ true ↦ began | false ↦ still ]
 
 -- the store whose group may have begun
-started-parts : (tells : Bool) (v : StoreValue) (m : Machine Value) (size : ℕ) → Stands tells v m → m.failed ≡ false → StandsInMemory (groups.grouped v.transactions) (record m { group = size }) → IsMachine IsValue (record m { group = size }) → Parts tells (started v) (record m { group = size })
+started-parts : (tells : Bool) (v : StoreValue) (m : Machine Value) (size : ℕ) → Stands tells v m → m.failed ≡ false → StandsInMemory (groups.grouped v.transactions) (record m { group = size }) → IsMachine IsValue (record m { group = size }) → Stands tells (started v) (record m { group = size })
 started-parts tells v m size stands works memory machine =
-    let order = keeps-grouped v.transactions stands.order in
-    let in_step = started-in_step v stands.order stands.in_step in
-    record {
+    goes-on-working tells v (started v) m (record m { group = size }) stands works (record {
       memory = memory;
-      order = order;
-      in_step = in_step;
+      machine = machine;
+      order = keeps-grouped v.transactions stands.order;
+      in_step = started-in_step v stands.order stands.in_step;
       gate = stands.gate;
       marks = (grouped-has (λ (t : TransactionsValue). t.reclaimed ≤ v.archived) v.transactions stands.marks.0 stands.marks.0, stands.marks.1);
       job = grouped-has (λ (t : TransactionsValue). KeepsJobOf v.job v.archived (last m.published) t.opened t.pending t.versions) v.transactions stands.job stands.job;
-      disk = λ told.
-          let d = stands.disk told in
-          on-disk d.header (started v) (record m { group = size }) memory machine order in_step d.profile d.slots d.profile_built (stands.gate works) (begun-works d.header v m size stands.order (d.works works) memory);
-    }
+    }) works refl refl (λ told. let c = working tells v m stands works told in begun-works c.header v m size stands.order c.works memory)
 
 pub pump-stands : (tells : Bool) (old new : StoreValue) (answer : Result Did PumpFault) (m : Machine Value) → Stands tells old m → (IsTrue tells → AreSound new.disk.areas) → Pumps tells old answer new
     → MatchBool m.failed ((answer ≡ Err pump.Failed) × Stands tells new m) ((after : Machine Value) × Run IsValue m (begins_in m ++ ends_in m.gate answer) after × Stands tells new after)
@@ -1226,21 +1187,12 @@ pump-stands tells old new answer m stands sound pumps =
         let machine : IsMachine IsValue begun.mid = run-machine IsValue m begun.mid (begins_in m ++ []) stands.machine run-mid in
         let is : begun.mid ≡ record m { group = begun.mid.group } = begun.is in
         let memory : StandsInMemory (groups.grouped old.transactions) (record m { group = begun.mid.group }) = subst (λ (x : Machine Value). StandsInMemory (groups.grouped old.transactions) x) is begun.stands in
-        let parts = subst (λ (x : Machine Value). Parts tells (started old) x) (sym is)
+        let from = subst (λ (x : Machine Value). Stands tells (started old) x) (sym is)
         (started-parts tells old m begun.mid.group stands works memory (subst (λ (x : Machine Value). IsMachine IsValue x) is machine)) in
-        let ends = step tells (groups.next_step old.transactions) (started old) new answer begun.mid parts machine (begun.works ∙ works) refl sound takes in
+        let ends = step tells (groups.next_step old.transactions) (started old) new answer begun.mid from (begun.works ∙ works) refl sound takes in
         let run : Run IsValue m (begins_in m ++ ends_in m.gate answer) ends.0 =
         subst (λ (g : Gate). Run IsValue m (begins_in m ++ ends_in g answer) ends.0) begun.gate (begun.run (ends_in begun.mid.gate answer) ends.0 ends.1) in (
           ends.0,
           run,
-          record {
-            memory = ends.2.memory;
-            machine = run-machine IsValue m ends.0 (begins_in m ++ ends_in m.gate answer) stands.machine run;
-            order = ends.2.order;
-            in_step = ends.2.in_step;
-            gate = ends.2.gate;
-            marks = ends.2.marks;
-            job = ends.2.job;
-            disk = ends.2.disk;
-          },
+          ends.2,
         )
