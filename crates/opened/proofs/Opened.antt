@@ -212,23 +212,25 @@ module _ (old : DiskState) (mark : ℕ) (disk : DiskState) (r : Recovered) (arch
 
   works : Works header (opened_on mark r archive disk) (opened h floors)
   works = record {
-    layout = image.layout;
-    reading = image.reading;
-    laid = image.laid;
-    stands = image.stands;
-    built = image.built;
-    used = is.used;
-    kept = kept-numbers r.extents (live image.layout) is.extents.kept;
-    times = opened-times header image.layout image.reading (unread image.reading) r image.laid is;
-    times_long = opened-long r;
-    heap = is.writes;
+    log = record {
+      layout = image.layout;
+      reading = image.reading;
+      laid = image.laid;
+      stands = image.stands;
+      built = image.built;
+      used = is.used;
+      archived = is.archived;
+      reclaimed = marked;
+      runs_end = ap (row_end 0) is.runs;
+    };
+    heap = record {
+      kept = kept-numbers r.extents (live image.layout) is.extents.kept;
+      times = opened-times header image.layout image.reading (unread image.reading) r image.laid is;
+      times_long = opened-long r;
+      facts = is.writes;
+    };
     packed = tt;
-    archived = is.archived;
-    reclaimed = marked;
-    runs_end = ap (row_end 0) is.runs;
-    rested = disk.areas.status;
-    rests = refl;
-    at = rests;
+    group = record { rested = disk.areas.status; rests = refl; at = rests };
     job = tt;
     sound = subst (λ (areas : Areas). AreSound areas) (sym settled) (settled-sound old.areas sound);
   }
