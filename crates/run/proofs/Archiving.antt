@@ -243,7 +243,7 @@ reclaim-says tells v v' w r stands starts = by-tests v.transactions.failed refl 
     by-tests true on b c o low e is = says (Err start.Failed) is.0 (sym stands.memory.failed ∙ on, refl)
     by-tests false on true c o low e is = says (Err start.JobBusy) is.0 refl
     by-tests false on false true o low e is = says (Err start.NothingToDo) is.0 refl
-    by-tests false on false false (Some snapshot) low e is = says (Err (start.InUse snapshot)) is.0 (in-low snapshot low, refl)
+    by-tests false on false false (Some snapshot) low e is = says (Err (start.InUse snapshot)) is.0 (in-use snapshot low, refl)
     by-tests false on false false None low true is = says (Err start.StatusFull) is.0 refl
     by-tests false on false false None low false is = begins on r is
 
