@@ -1,5 +1,5 @@
 -- The steps of a job.
-use Rattle.std.proofs.Common.{◌≡◌, ℕ, zero, suc, ◌+◌, ◌<◌, ◌≤◌, nat_le, Bool, true, false, is_some, IsTrue, List, [], ◌∷◌, Option, Some, None, Result, Ok, Err, MatchBool, MatchOption, MatchResult, slice_get, refl, sym, ap, subst, ◌∙◌, inl, inr, arith}
+use Rattle.std.proofs.Common.{◌≡◌, ℕ, zero, suc, ◌+◌, ◌≤◌, nat_le, Bool, true, false, is_some, IsTrue, List, [], ◌∷◌, Option, Some, None, Result, Ok, Err, MatchBool, MatchOption, MatchResult, slice_get, refl, sym, ap, subst, ◌∙◌, inl, inr, arith}
 use Rattle.std.specs.Prelude.{◌⊎◌}
 use Rattle.std.specs.List.{AllByRecursion, flat_map}
 use Rattle.std.proofs.lemmas.Bool.Decides.{nat_tests}
@@ -24,7 +24,7 @@ use Rattle.group.specs.declared.answers.PumpFault.TheVariants as fault
 use Rattle.transactions.specs.Order.{IsInOrder}
 use Rattle.transactions.specs.Values.{TransactionsValue}
 use Rattle.transactions.proofs.Publishing.{out-front, out-swapped}
-use Rattle.store.specs.Values.{StoreValue, IsOnItsWay, turn_of, turn_in}
+use Rattle.store.specs.Values.{StoreValue, IsOnItsWay, turn_of}
 use Rattle.store.specs.Pumps.{disk_answer}
 use Rattle.store.specs.Jobs.{PumpsJob, TakesJobStep, Stores, WritesOrSyncs, WritesRun, AnchorsOrSync, WritesAnchors, SyncsStored, BeginsJobSlot, TurnsJob, IsJobTurned, JobTurnFails, JobMoves, with_job, job_fails, first_turn, slot_taken, made_ready, piece_of, behind_piece}
 use Rattle.store.specs.declared.job.Job.{Job}
@@ -35,7 +35,7 @@ use Rattle.store.specs.declared.job.JobStage.TheVariants as stages
 use Rattle.store.specs.declared.job.JobDid.{JobDid}
 use Rattle.store.specs.declared.job.JobDid.TheVariants as did
 use Rattle.standing.proofs.Retired.{still-kept}
-use Rattle.named.specs.Named.{IsInKept, IsNamed, IsLeft, IsGivenUp, IsGivenUpIn, LeavesNamed, IsBehindRuns, WritesBehind, IsTyped}
+use Rattle.named.specs.Named.{IsInKept, IsNamed, IsLeft, IsGivenUpIn, LeavesNamed, IsBehindRuns, WritesBehind, IsTyped}
 use Rattle.named.proofs.Places.{left_by_write, left_by_sync, left_by_slot}
 use Rattle.named.proofs.Naming.{kept_same, named_by, heap_apart, leaves_named, leaves_itself, behind_by}
 
@@ -165,7 +165,7 @@ reclaimed t anchors source written stage v new what out number there is = record
     of_heap k place false late = inl (record {
       number = place.number;
       kept = kept_same _ new.transactions.usages (ap (λ (s : StoreValue). s.transactions.usages) is.2) place.number
-      (still-kept anchors.upto v.transactions.times v.transactions.usages v.transactions.reserved place.number out (grind (arith, nat_tests)) place.kept);
+          (still-kept anchors.upto v.transactions.times v.transactions.usages v.transactions.reserved place.number out (grind (arith, nat_tests)) place.kept);
       low = place.low;
       high = place.high;
     })

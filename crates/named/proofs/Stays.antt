@@ -82,23 +82,22 @@ then_stays tells v w ws area k left (inl stays) =
     inl (record { left = λ told. left_twice k (area_of v.disk.areas area) (area_of w.disk.areas area) (area_of (end_of w ws).disk.areas area) (left told) (stays.left told); named = stays.named })
 then_stays tells v w ws area k left (inr given) = inr (inr given)
 
+-- so it is of what is named still, and what the first gave up is given up
+first_stays : (tells : Bool) (v w : StoreValue) (ws : List StoreValue) (area : Area) (k : ℕ) → (IsTrue tells → IsLeft k (area_of v.disk.areas area) (area_of w.disk.areas area)) → (IsNamed w area k → StaysNamed tells w (end_of w ws) area k ⊎ IsGivenUpAmong w ws area k)
+    → IsNamed w area k ⊎ IsGivenUpIn v w area k → StaysNamed tells v (end_of w ws) area k ⊎ IsGivenUpAmong v (w ∷ ws) area k
+first_stays tells v w ws area k left rest (inl still) = then_stays tells v w ws area k left (rest still)
+first_stays tells v w ws area k left rest (inr given) = inr (inl given)
+
 pub calls_leave : (tells : Bool) (v : StoreValue) (ws : List StoreValue) → IsTyped tells v → WritesBehind v → AreCalls tells v ws
     → ((area : Area) (k : ℕ) → IsNamed v area k → StaysNamed tells v (end_of v ws) area k ⊎ IsGivenUpAmong v ws area k) × WritesBehind (end_of v ws)
 calls_leave tells v [] typed behind calls = (
   λ area k named. inl (record { left = λ told. same_left k (area_of v.disk.areas area) (area_of v.disk.areas area) refl; named = named }),
   behind,
 )
-calls_leave tells v (w ∷ ws) typed behind calls = (λ area k named. of_place area k named ((one.0).named area k named), rest.1)
-  where
-    one : LeavesNamed tells v w × WritesBehind w
-    one = call_leaves tells v w typed behind calls.0
-
-    rest : ((area : Area) (k : ℕ) → IsNamed w area k → StaysNamed tells w (end_of w ws) area k ⊎ IsGivenUpAmong w ws area k) × WritesBehind (end_of w ws)
-    rest = calls_leave tells w ws calls.1 one.1 calls.2
-
-    of_place : (area : Area) (k : ℕ) → IsNamed v area k → IsNamed w area k ⊎ IsGivenUpIn v w area k → StaysNamed tells v (end_of w ws) area k ⊎ IsGivenUpAmong v (w ∷ ws) area k
-    of_place area k named (inl still) = then_stays tells v w ws area k (λ told. (one.0).left told area k named) (rest.0 area k still)
-    of_place area k named (inr given) = inr (inl given)
+calls_leave tells v (w ∷ ws) typed behind calls =
+    let one = call_leaves tells v w typed behind calls.0 in
+    let rest = calls_leave tells w ws calls.1 one.1 calls.2 in
+    (λ area k named. first_stays tells v w ws area k (λ told. (one.0).left told area k named) (rest.0 area k) ((one.0).named area k named), rest.1)
 
 -- ---- a stop
 

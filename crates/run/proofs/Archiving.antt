@@ -20,7 +20,7 @@ use Rattle.transactions.specs.Steps as groups
 use Rattle.store.specs.Values.{StoreValue}
 use Rattle.store.specs.Calls as stores
 use Rattle.store.specs.Archives.{refusal_now, BeginsRun, StartsArchive, IsRunRefusal}
-use Rattle.store.specs.Reclaims.{below, reclaim_refusal, BeginsReclaim, StartsReclaim}
+use Rattle.store.specs.Reclaims.{below, refusal_for_use, reclaim_refusal, BeginsReclaim, StartsReclaim}
 use Rattle.transactions.specs.Reclaims.{oldest}
 use Rattle.store.specs.Jobs.{PumpsJob, TakesJobStep, Stores, WritesOrSyncs, AnchorsOrSync, BeginsJobSlot, TurnsJob, IsJobTurned, JobMoves, work_done, slot_opened, made_ready, first_turn, slot_taken}
 use Rattle.archive.specs.Pieces.{InWriting}
@@ -183,11 +183,6 @@ least-open opened snapshot is = by (least-among opened None snapshot is)
     by (inl none) = absurd cc
     by (inr there) = there
 
--- what is said by use and by room
-abbrev use-said : Option ℕ → Bool → Option StartFault
-use-said (Some snapshot) e = Some (start.InUse snapshot)
-use-said None e = cond e (Some start.StatusFull) None
-
 reclaim-leaves : (old new : StoreValue) (r : Result (Unit {0}) StartFault) → StartsReclaim old r new → Leaves old.transactions new.transactions
 reclaim-leaves old new r starts = by-refusal (reclaim_refusal old) starts
   where
@@ -215,7 +210,7 @@ reclaim-few old new r starts = by-refusal (reclaim_refusal old) starts
 
 -- what a reclaim's start says of the machine
 reclaim-says : (tells : Bool) (v v' : StoreValue) (w : World) (r : Result (Unit {0}) StartFault) → Stands tells v w.machine → StartsReclaim v r v' → Reclaims w r (same w)
-reclaim-says tells v v' w r stands starts = by-tests v.transactions.failed refl (is_some v.job) (v.archived == v.transactions.reclaimed) (below (oldest v.transactions) v.archived) refl (spare v.transactions == 0) starts
+reclaim-says tells v v' w r stands starts = by-tests v.transactions.failed refl (is_some v.job) (v.archived == v.transactions.reclaimed) starts
   where
     says : (x : Result (Unit {0}) StartFault) → r ≡ x → Reclaims w x (same w) → Reclaims w r (same w)
     says x is so = subst (λ (y : Result (Unit {0}) StartFault). Reclaims w y (same w)) (sym is) so
@@ -237,15 +232,21 @@ reclaim-says tells v v' w r stands starts = by-tests v.transactions.failed refl 
         Contains-permutation (snapshots_of v.transactions.opened) w.machine.snapshots snapshot (IsPermutation-sym w.machine.snapshots (snapshots_of v.transactions.opened) stands.memory.snapshots)
         (least-open v.transactions.opened snapshot (below-is (oldest v.transactions) v.archived snapshot is))
 
-    by-tests : (a : Bool) → v.transactions.failed ≡ a → (b c : Bool) (o : Option ℕ) → below (oldest v.transactions) v.archived ≡ o → (e : Bool)
-        → MatchOption (cond a (Some start.Failed) (cond b (Some start.JobBusy) (cond c (Some start.NothingToDo) (use-said o e)))) (BeginsReclaim v r v') (λ why. (r ≡ Err why) × (v' ≡ v))
+    by-room : v.transactions.failed ≡ false → (e : Bool) → MatchOption (cond e (Some start.StatusFull) None) (BeginsReclaim v r v') (λ why. (r ≡ Err why) × (v' ≡ v)) → Reclaims w r (same w)
+    by-room on true is = says (Err start.StatusFull) is.0 refl
+    by-room on false is = begins on r is
+
+    by-use : v.transactions.failed ≡ false → (o : Option ℕ) → below (oldest v.transactions) v.archived ≡ o → MatchOption (refusal_for_use v o) (BeginsReclaim v r v') (λ why. (r ≡ Err why) × (v' ≡ v)) → Reclaims w r (same w)
+    by-use on (Some snapshot) low is = says (Err (start.InUse snapshot)) is.0 (in-use snapshot low, refl)
+    by-use on None low is = by-room on (spare v.transactions == 0) is
+
+    by-tests : (a : Bool) → v.transactions.failed ≡ a → (b c : Bool)
+        → MatchOption (cond a (Some start.Failed) (cond b (Some start.JobBusy) (cond c (Some start.NothingToDo) (refusal_for_use v (below (oldest v.transactions) v.archived))))) (BeginsReclaim v r v') (λ why. (r ≡ Err why) × (v' ≡ v))
         → Reclaims w r (same w)
-    by-tests true on b c o low e is = says (Err start.Failed) is.0 (sym stands.memory.failed ∙ on, refl)
-    by-tests false on true c o low e is = says (Err start.JobBusy) is.0 refl
-    by-tests false on false true o low e is = says (Err start.NothingToDo) is.0 refl
-    by-tests false on false false (Some snapshot) low e is = says (Err (start.InUse snapshot)) is.0 (in-low snapshot low, refl)
-    by-tests false on false false None low true is = says (Err start.StatusFull) is.0 refl
-    by-tests false on false false None low false is = begins on r is
+    by-tests true on b c is = says (Err start.Failed) is.0 (sym stands.memory.failed ∙ on, refl)
+    by-tests false on true c is = says (Err start.JobBusy) is.0 refl
+    by-tests false on false true is = says (Err start.NothingToDo) is.0 refl
+    by-tests false on false false is = by-use on (below (oldest v.transactions) v.archived) refl is
 
 pub reclaim-goes : (tells : Bool) (v v' : StoreValue) (xs : List Held) (r : Result (Unit {0}) StartFault) → StartsReclaim v r v' → Goes tells v xs call.Reclaim (answer.Reclaim r) v' (xs ++ held.Nothing ∷ [])
 reclaim-goes tells v v' xs r starts w is = (
