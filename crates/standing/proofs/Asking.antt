@@ -46,9 +46,12 @@ module _ (tells : Bool) (v : StoreValue) (m : Machine Value) (stands : Stands te
     built = w.built;
     used = w.used;
     kept = w.kept;
+    times = w.times;
+    times_long = w.times_long;
     heap = w.heap;
     packed = w.packed;
     archived = w.archived;
+    reclaimed = w.reclaimed;
     runs_end = w.runs_end;
     rested = w.rested;
     rests = w.rests;
