@@ -18,9 +18,7 @@ ghost use Rattle.shared.specs.Shared.{BeginHappens, SubmitHappens, SeenReached, 
 use crate::cell::{PublishedCell, WriterPass};
 use crate::moment::Moment;
 use crate::naming::Opening;
-use crate::noting::{
-    count_done, is_job_move, is_move, note_archive, note_published, note_queued,
-};
+use crate::noting::{count_done, is_job_move, is_move, note_archive, note_published, note_queued};
 use crate::observer::Observer;
 use crate::shared_view::{SharedView, taken_at};
 use chains::SharedValue;

@@ -50,12 +50,7 @@ impl<L: Opening> Moment<L> {
     }
 
     /// Compares what was known with what the writer's pass knows now, which is no less.
-    pub(crate) fn compare<R: Wait>(
-        &mut self,
-        rt: &R,
-        cell: &PublishedCell,
-        writer: &mut WriterPass,
-    )
+    pub(crate) fn compare<R: Wait>(&mut self, rt: &R, cell: &PublishedCell, writer: &mut WriterPass)
         requires cell { (cell.now.table.shared.table_id ≡ L.table) × (writer.old.table_id ≡ L.table) }
         requires writes { (cell_view writer.old).writes ≡ true }
         ensures kept { self.new ≡ self.old }

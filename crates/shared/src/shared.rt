@@ -212,9 +212,7 @@ impl<D: Disk, L: Opening> SharedStore<D, L> {
         ensures says { OfSeen L.start view.old.seen (λ m. SaysAt (IsSure D.tells view.old.shown.reclaimed time) (answers.at_answer m.published m.floors key time) result) }
         ensures kept { view.new ≡ view.old }
     {
-        self.locked
-            .lock(rt)
-            .at(rt, &self.cell, view, key, time)
+        self.locked.lock(rt).at(rt, &self.cell, view, key, time)
     }
 
     /// The values of a relation at a time, as the view's moment knows them. The refusals are those of

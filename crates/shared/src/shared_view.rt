@@ -106,12 +106,7 @@ impl<L: Opening> SharedView<L> {
     }
 
     /// The archive that the writer knows has the view's runs still.
-    pub(crate) fn compare<R: Wait>(
-        &mut self,
-        rt: &R,
-        cell: &PublishedCell,
-        writer: &mut WriterPass,
-    )
+    pub(crate) fn compare<R: Wait>(&mut self, rt: &R, cell: &PublishedCell, writer: &mut WriterPass)
         requires cell { (cell.now.table.shared.table_id ≡ L.table) × (writer.old.table_id ≡ L.table) }
         requires writes { (cell_view writer.old).writes ≡ true }
         ensures kept { self.new ≡ self.old }
