@@ -1,5 +1,5 @@
 -- An archive goes on, and has what views read of it.
-use Rattle.std.proofs.Common.{◌≡◌, ℕ, ◌+◌, ◌≤◌, ◌++◌, Bool, true, IsTrue, List, [], length, refl, sym, ap, ◌∙◌, arith, append_assoc}
+use Rattle.std.proofs.Common.{◌≡◌, ℕ, ◌+◌, ◌≤◌, ◌++◌, Bool, true, IsTrue, List, [], ◌∷◌, length, refl, sym, ap, ◌∙◌, arith, append_assoc}
 use Rattle.std.specs.Prelude.{slice_range}
 use Rattle.std.proofs.lemmas.List.{append-nil}
 use Rattle.disk.specs.Parts.{HoldsPart}
@@ -44,7 +44,7 @@ archive-then a b c x y = record {
 }
 
 pub archive-first : (a : ArchiveSeen) → IsArchiveLater no_archive a
-archive-first a = record { tells = λ told. tt; more = a.runs; runs = refl; end = λ told. omega arith; bytes = λ told. up_to-none a.bytes }
+archive-first a = record { tells = λ told. refl; more = a.runs; runs = refl; end = λ told. omega arith; bytes = λ told. up_to-none a.bytes }
 
 -- that of a store whose views go on
 pub archive-on : (tells : Bool) (old new : StoreValue) → GoesOn tells old new → IsArchiveLater (archive_seen tells old) (archive_seen tells new)

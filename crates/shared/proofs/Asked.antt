@@ -20,10 +20,7 @@ use Rattle.shared.specs.Shared.{IsShared, Shows}
 use Rattle.shared.proofs.Moments.{still-reads}
 
 -- the view as it was shown, and as it was lent
-module _
-  (tells : Bool) (start : Machine Value) (brand : ℕ) (table : TableId) (v new : StoreValue) (shares : ℕ) (at : TableId) (pass : SightValue) (h : IsShared tells start brand table v shares at pass)
-  (shown : ViewValue) (asked lent : ViewMoment) (is : shown ≡ asked.shown) (same : asked ≡ lent) (s : Shows start brand pass.archive asked.shown asked.seen)
-where
+module _ (tells : Bool) (start : Machine Value) (brand : ℕ) (table : TableId) (v new : StoreValue) (shares : ℕ) (at : TableId) (pass : SightValue) (h : IsShared tells start brand table v shares at pass) (shown : ViewValue) (asked lent : ViewMoment) (is : shown ≡ asked.shown) (same : asked ≡ lent) (s : Shows start brand pass.archive asked.shown asked.seen) where
   pub at-says : (key : Key) (time : ℕ) (r : Result (Option Value) QueryFault) → stores.AnswersAtView tells v shown key time r new → OfSeen start lent.seen (λ m. SaysAt (IsSure tells lent.shown.reclaimed time) (answers.at_answer m.published m.floors key time) r)
   at-says key time r says =
       let m = s.machine in

@@ -37,7 +37,7 @@ pub start-leaves : (old new : StoreValue) (upto : ℕ) (r : Result (Unit {0}) St
 start-leaves old new upto r starts = by-refusal (refusal_now old upto) starts
   where
     begins : (r : Result (Unit {0}) StartFault) → BeginsRun old upto r new → Leaves old.transactions new.transactions
-    begins (Ok done) is = same-leaves old.transactions _ new (record { mark = refl; opened = refl; heads = refl }) is.2
+    begins (Ok done) is = same-leaves old.transactions _ new (record { mark = refl; opened = refl; heads = refl }) is.2.new_is
     begins (Err why) is = nothing-left old new is.1
 
     by-refusal : (o : Option StartFault) → MatchOption o (BeginsRun old upto r new) (λ why. (r ≡ Err why) × (new ≡ old)) → Leaves old.transactions new.transactions

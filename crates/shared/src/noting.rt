@@ -97,8 +97,7 @@ pub(crate) fn note_archive<D: Disk, R: Wait>(
     ensures seen { (cell_view writer.new).seen ≡ (cell_view writer.old).seen }
     ensures archive { (cell_view writer.new).archive ≡ archive_seen D.tells store.now }
 {
-    let _ = store;
-    go_on::<Brand, R>(rt, cell, writer);
+    go_on::<Brand, D, R>(rt, cell, writer, store);
 }
 
 // How many commits a step of a group published.
