@@ -268,6 +268,7 @@ fn commit_to_end<D: Disk, L: Opening, R: Wait + Abort>(
         note(rt, store, calls, me, &mut notes, Step::Group(*did));
     });
     assert_eq!(rt; notes.count(), COMMITTER.len());
+    assert_eq!(rt; store.reclaim_start(rt), Ok(()));
 }
 
 /// The whole example, on a store that was just opened.
