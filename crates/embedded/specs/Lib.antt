@@ -1,2 +1,3 @@
+pub mod Areas
 pub mod Engines
 pub mod Owned

@@ -1,5 +1,7 @@
 //! A store, what it gave out, and the device call that the host is to make.
-ghost use Rattle.std.specs.Prelude.{◌≡◌, is_some, IfSome};
+ghost use Rattle.std.specs.Prelude.{◌≡◌, is_some, IfSome, take, length};
+ghost use Rattle.embedded.specs.Areas.{area_number};
+ghost use Rattle.embedded.specs.declared.code.Code.{Code};
 
 use crate::asking::{self, Kept};
 use crate::code::{Call, Code, Info};
@@ -66,7 +68,9 @@ impl Drop for Engine {
     }
 }
 
-fn area_number(area: Area) -> u32 {
+fn area_number(area: Area) -> u32
+    ensures { result ≡ area_number area }
+{
     match area {
         Area::Status => 0,
         Area::Heap => 1,
@@ -83,7 +87,7 @@ fn put_published(place: &mut Option<Published>, published: Option<Published>)
 }
 
 impl Engine {
-    ghost use Rattle.embedded.specs.Engines.{is_stopped, TellsTimes, HasCalled, StandsOut, WasPublished};
+    ghost use Rattle.embedded.specs.Engines.{is_stopped, TellsTimes, HasCalled, StandsOut, WasPublished, TellsCall};
 
     pub(crate) fn new(alloc: Global, store: Kept) -> Engine
         ensures store { result.store ≡ store }
@@ -132,7 +136,9 @@ impl Engine {
     }
 
     /// The device call that the host is to make, and the bytes that it writes.
-    pub fn call(&self, call: &mut Call, out: &mut [u8]) -> Code {
+    pub fn call(&self, call: &mut Call, out: &mut [u8]) -> Code
+        ensures { TellsCall self.now result call.new out.new }
+    {
         *call = Call {
             kind: 0,
             area: 0,
@@ -214,7 +220,9 @@ impl Engine {
 }
 
 // Copies bytes out where there is room.
-fn copy_bytes(bytes: &[u8], out: &mut [u8]) -> Code {
+fn copy_bytes(bytes: &[u8], out: &mut [u8]) -> Code
+    ensures { result ≡ Code.Ok → take (length bytes.now) out.new ≡ bytes.now }
+{
     if out.len() < bytes.len() {
         return Code::Small;
     }
