@@ -1,6 +1,6 @@
 //! Values and rows, copied out.
-ghost use Rattle.std.specs.Prelude.{◌≡◌, ◌⊎◌};
-ghost use Rattle.embedded.specs.declared.code.Code.{Code};
+ghost use Rattle.std.specs.Prelude.{length};
+ghost use Rattle.embedded.specs.Queries.{IsCopied, AreTold};
 
 use crate::code::{Code, Info, Row};
 use crate::values::{copy_out, length_of};
@@ -10,7 +10,7 @@ use wire::Value;
 
 /// Copies a value out; its length is told.
 pub fn copied(value: &Value, out: &mut [u8], info: &mut Info) -> Code
-    ensures { (result ≡ Code.Ok) ⊎ (result ≡ Code.Small) }
+    ensures { IsCopied value.now result info.new out.new }
 {
     info.a = length_of(value) as u64;
     match copy_out(value, out) {
@@ -81,7 +81,9 @@ pub fn records_out(
     rows: &mut [Row],
     out: &mut [u8],
     info: &mut Info,
-) -> Code {
+) -> Code
+    ensures { AreTold (length found.now) result info.new }
+{
     let mut copying = Copying::new();
     for entry in found {
         copying.copy(row(entry.0, 0, 0), entry.1.value(), rows, out);
@@ -96,7 +98,9 @@ pub fn rows_out(
     rows: &mut [Row],
     out: &mut [u8],
     info: &mut Info,
-) -> Code {
+) -> Code
+    ensures { AreTold (length found.now) result info.new }
+{
     let mut copying = Copying::new();
     for version in found {
         let row = row(record, version.from, version.to);
@@ -111,7 +115,9 @@ pub fn scan_out(
     rows: &mut [Row],
     out: &mut [u8],
     info: &mut Info,
-) -> Code {
+) -> Code
+    ensures { AreTold (length found.now) result info.new }
+{
     let mut copying = Copying::new();
     for entry in found {
         let row = row(entry.0, entry.1.from, entry.1.to);
