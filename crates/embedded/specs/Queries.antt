@@ -1,5 +1,5 @@
 -- What the engine's queries answer.
-use Rattle.std.specs.Prelude.{◌≡◌, ◌≤◌, ◌⊎◌, ℕ, true, List, [], ◌∷◌, length, take, Result, Ok, Err, Option, Some, None, MatchOption, MatchResult}
+use Rattle.std.specs.Prelude.{◌≡◌, ◌≤◌, ◌⊎◌, ◌==◌, ℕ, Bool, true, List, [], length, take, Result, Ok, Err, Option, Some, None, MatchBool, MatchOption, MatchResult}
 use Rattle.std.specs.declared.alloc.Global.{Global}
 use Rattle.std.specs.declared.vec.Vec.{Vec}
 use Rattle.disk.specs.Calls.{fresh_on}
@@ -61,22 +61,19 @@ abbrev pub RecentScanRows : ViewValue → ℕ → ℕ → ℕ → Result (Vec (�
 RecentScanRows view relation a b answer =
     MatchResult answer (λ found. (view.reclaimed ≤ a) × AnswersBetween view a b found.items (scanned_rows relation a b view.state)) (RefusesRecentRows view a b)
 
--- over the archive that is lent; where none is, from memory alone
-abbrev pub LentAt : List ℕ → StoreValue → ViewValue → Key → ℕ → Result (Option Value) QueryFault → Type 0
-LentAt [] v view key time answer = RecentAt view key time answer
-LentAt (byte ∷ archive) v view key time answer = Over (byte ∷ archive) v (λ old new. FindsAt true old view key time answer new)
+-- none is lent
+abbrev pub is_none : List ℕ → Bool
+is_none archive = length archive == 0
 
+-- over the archive that is lent; where none is, from memory alone
 abbrev pub LentScanAt : List ℕ → StoreValue → ViewValue → ℕ → ℕ → Result (Vec (ℕ × Value) Global) QueryFault → Type 0
-LentScanAt [] v view relation time answer = RecentScanAt view relation time answer
-LentScanAt (byte ∷ archive) v view relation time answer = Over (byte ∷ archive) v (λ old new. FindsScanAt true old view relation time answer new)
+LentScanAt archive v view relation time answer = MatchBool (is_none archive) (RecentScanAt view relation time answer) (Over archive v (λ old new. FindsScanAt true old view relation time answer new))
 
 abbrev pub LentRows : List ℕ → StoreValue → ViewValue → Key → ℕ → ℕ → Result (Vec (Version Value) Global) QueryFault → Type 0
-LentRows [] v view key a b answer = RecentRows view key a b answer
-LentRows (byte ∷ archive) v view key a b answer = Over (byte ∷ archive) v (λ old new. FindsRows true old view key a b answer new)
+LentRows archive v view key a b answer = MatchBool (is_none archive) (RecentRows view key a b answer) (Over archive v (λ old new. FindsRows true old view key a b answer new))
 
 abbrev pub LentScanRows : List ℕ → StoreValue → ViewValue → ℕ → ℕ → ℕ → Result (Vec (ℕ × Version Value) Global) QueryFault → Type 0
-LentScanRows [] v view relation a b answer = RecentScanRows view relation a b answer
-LentScanRows (byte ∷ archive) v view relation a b answer = Over (byte ∷ archive) v (λ old new. FindsScanRows true old view relation a b answer new)
+LentScanRows archive v view relation a b answer = MatchBool (is_none archive) (RecentScanRows view relation a b answer) (Over archive v (λ old new. FindsScanRows true old view relation a b answer new))
 
 -- ---- codes and bytes
 
@@ -107,6 +104,14 @@ TellsValue (Err why) said info out = IsFaultCode why said info
 abbrev pub TellsRecent : ViewValue → Key → ℕ → Code → Info → List ℕ → Type 0
 TellsRecent view key time said info out = (answer : Result (Option Value) QueryFault) × RecentAt view key time answer × TellsValue answer said info out
 
+-- the store has answered, by its own contract, where it reads what is lent
+abbrev pub TellsAt : Lent → Lent → StoreValue → ViewValue → Key → ℕ → Code → Info → List ℕ → Type 0
+TellsAt before after v view key time said info out = (answer : Result (Option Value) QueryFault) × FindsAt true (over before v) view key time answer (over after v) × TellsValue answer said info out
+
+-- so it has over this archive
+abbrev pub TellsOver : List ℕ → StoreValue → ViewValue → Key → ℕ → Code → Info → List ℕ → Type 0
+TellsOver archive v view key time said info out = (before after : Lent) × IsOver archive before × TellsAt before after v view key time said info out
+
 -- how many rows were found is told
 abbrev pub AreTold : ℕ → Code → Info → Type 0
 AreTold count said info = (info.a ≡ count) × ((said ≡ code.Ok) ⊎ (said ≡ code.Small))
@@ -133,7 +138,7 @@ AsksRecent number key time e said info out =
 
 abbrev pub AsksAt : List ℕ → ℕ → Key → ℕ → Engine → Code → Info → List ℕ → Type 0
 AsksAt archive number key time e said info out =
-    MatchOption (view_under e number) (said ≡ code.Unknown) (λ view. (answer : Result (Option Value) QueryFault) × LentAt archive e.store view key time answer × TellsValue answer said info out)
+    MatchOption (view_under e number) (said ≡ code.Unknown) (λ view. MatchBool (is_none archive) (TellsRecent view key time said info out) (TellsOver archive e.store view key time said info out))
 
 abbrev pub AsksScanAt : List ℕ → ℕ → ℕ → ℕ → Engine → Code → Info → Type 0
 AsksScanAt archive number relation time e said info =

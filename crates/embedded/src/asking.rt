@@ -1,10 +1,8 @@
 //! The store's views and queries: nothing else of this crate asks for them.
-ghost use Rattle.std.specs.Prelude.{◌≡◌, true, IfOk, MatchResult};
-ghost use Rattle.std.specs.Option.{option_copied};
+ghost use Rattle.std.specs.Prelude.{true, IfOk};
 ghost use Rattle.store.specs.Values.{StoreValue};
 ghost use Rattle.store.specs.Calls.{IsViewOf, FindsAt, FindsScanAt, FindsRows, FindsScanRows};
-ghost use Rattle.timequery.specs.View.{RefusesRecent, RefusesRecentScan, RefusesRecentRows};
-ghost use Rattle.embedded.specs.Queries.{IsOver, over, IsRecentAt, IsRecentScanAt, AreRecentRows, AreRecentScanRows};
+ghost use Rattle.embedded.specs.Queries.{IsOver, over};
 
 use archive::ArchiveReader;
 use chains::SharedValue;

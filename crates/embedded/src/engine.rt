@@ -1,11 +1,11 @@
 //! A store, what it gave out, and the device call that the host is to make.
-ghost use Rattle.std.specs.Prelude.{◌≡◌, is_some, IfSome, take, length};
+ghost use Rattle.std.specs.Prelude.{◌≡◌, is_some, IfSome};
 ghost use Rattle.embedded.specs.Areas.{area_number};
-ghost use Rattle.embedded.specs.declared.code.Code.{Code};
 
 use crate::asking::{self, Kept};
 use crate::code::{Call, Code, Info};
 use crate::places::Places;
+use crate::values::copy_bytes;
 use disk::{Area, Disk};
 use relay::DeviceCall;
 use std::alloc::Global;
@@ -152,17 +152,27 @@ impl Engine {
         match disk.last() {
             None => Code::None,
             Some(DeviceCall::Sync { area }) => {
-                call.kind = 2;
-                call.area = area_number(area);
+                *call = Call {
+                    kind: 2,
+                    area: area_number(area),
+                    at: 0,
+                    len: 0,
+                };
                 Code::Ok
             }
             Some(DeviceCall::Write { area, at }) => {
-                call.kind = 1;
-                call.area = area_number(area);
-                call.at = at;
                 let bytes = disk.bytes();
-                call.len = bytes.len() as u64;
-                copy_bytes(bytes, out)
+                *call = Call {
+                    kind: 1,
+                    area: area_number(area),
+                    at,
+                    len: bytes.len() as u64,
+                };
+                if copy_bytes(bytes, out) {
+                    Code::Ok
+                } else {
+                    Code::Small
+                }
             }
         }
     }
@@ -217,15 +227,4 @@ impl Engine {
     {
         self.store.disk().made()
     }
-}
-
-// Copies bytes out where there is room.
-fn copy_bytes(bytes: &[u8], out: &mut [u8]) -> Code
-    ensures { result ≡ Code.Ok → take (length bytes.now) out.new ≡ bytes.now }
-{
-    if out.len() < bytes.len() {
-        return Code::Small;
-    }
-    out[..bytes.len()].copy_from_slice(bytes);
-    Code::Ok
 }

@@ -2,14 +2,14 @@
 ghost use Rattle.std.specs.Prelude.{◌≡◌, option_copied};
 ghost use Rattle.store.specs.Values.{StoreValue};
 ghost use Rattle.embedded.specs.Held.{view_of};
-ghost use Rattle.embedded.specs.Queries.{TellsRecent, LentScanAt, LentRows, LentScanRows};
+ghost use Rattle.embedded.specs.Queries.{TellsRecent, TellsAt, LentScanAt, LentRows, LentScanRows};
 
 use crate::asking::{self, Lent};
 use crate::code::{Code, Info, Row};
 use crate::codes::query_code;
 use crate::engine::{Engine, Published, Standing};
 use crate::places::{Held, Places};
-use crate::rows::{copied, records_out, rows_out, scan_out};
+use crate::rows::{records_out, rows_out, scan_out, value_out};
 use chains::SharedValue;
 use history::{Key, Version};
 use std::alloc::Global;
@@ -37,8 +37,24 @@ fn recent_out(view: &View, key: Key, time: u64, out: &mut [u8], info: &mut Info)
 {
     match view.recent(key, time) {
         Err(fault) => query_code(fault, info),
-        Ok(None) => Code::None,
-        Ok(Some(value)) => copied(value.value(), out, info),
+        Ok(found) => value_out(found, out, info),
+    }
+}
+
+// What is answered over the archive that is lent, copied out.
+fn lent_out(
+    lent: &mut Lent<'_>,
+    view: &View,
+    key: Key,
+    time: u64,
+    out: &mut [u8],
+    info: &mut Info,
+) -> Code
+    ensures { (v : StoreValue) → TellsAt lent.old lent.new v view.now key time result info.new out.new }
+{
+    match lent.at(view, key, time) {
+        Err(fault) => query_code(fault, info),
+        Ok(found) => value_out(found.as_ref(), out, info),
     }
 }
 
@@ -55,7 +71,8 @@ fn scan_at(
     if archive.is_empty() {
         return view.recent_scan(alloc, relation, time);
     }
-    Lent::new(alloc, archive).scan_at(view, relation, time)
+    let mut lent = Lent::new(alloc, archive);
+    lent.scan_at(view, relation, time)
 }
 
 fn between(
@@ -71,7 +88,8 @@ fn between(
     if archive.is_empty() {
         return view.recent_between(alloc, key, a, b);
     }
-    Lent::new(alloc, archive).between(view, key, a, b)
+    let mut lent = Lent::new(alloc, archive);
+    lent.between(view, key, a, b)
 }
 
 fn scan_between(
@@ -87,7 +105,8 @@ fn scan_between(
     if archive.is_empty() {
         return view.recent_scan_between(alloc, relation, a, b);
     }
-    Lent::new(alloc, archive).scan_between(view, relation, a, b)
+    let mut lent = Lent::new(alloc, archive);
+    lent.scan_between(view, relation, a, b)
 }
 
 impl Engine {
@@ -165,11 +184,8 @@ impl Engine {
         if archive.is_empty() {
             return recent_out(view, key, time, out, info);
         }
-        match Lent::new(self.alloc, archive).at(view, key, time) {
-            Err(fault) => query_code(fault, info),
-            Ok(None) => Code::None,
-            Ok(Some(value)) => copied(value.value(), out, info),
-        }
+        let mut lent = Lent::new(self.alloc, archive);
+        lent_out(&mut lent, view, key, time, out, info)
     }
 
     /// The records of a relation that have a value at a time, with their values.

@@ -3,7 +3,7 @@ use crate::code::{Code, Info, Row};
 use crate::codes::{begin_code, did_number, pump_code, submit_code, txn_code};
 use crate::engine::{Engine, Standing};
 use crate::places::Held;
-use crate::rows::{copied, records_out};
+use crate::rows::{records_out, value_out};
 use crate::values::put;
 use group::{Redeemed, Submitted, Ticket};
 use history::Key;
@@ -87,10 +87,7 @@ impl Engine {
     {
         match self.places.transaction(transaction) {
             None => Code::Unknown,
-            Some(txn) => match txn.get(key) {
-                None => Code::None,
-                Some(value) => copied(value.value(), out, info),
-            },
+            Some(txn) => value_out(txn.get(key), out, info),
         }
     }
 
