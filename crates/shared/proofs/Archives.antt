@@ -1,6 +1,5 @@
 -- An archive goes on, and has what views read of it.
-use Rattle.std.proofs.Common.{◌≡◌, ℕ, ◌+◌, ◌≤◌, ◌++◌, Bool, true, IsTrue, List, [], ◌∷◌, length, refl, sym, ap, ◌∙◌, arith, append_assoc}
-use Rattle.std.specs.Prelude.{slice_range}
+use Rattle.std.proofs.Common.{◌≡◌, ℕ, ◌+◌, ◌≤◌, ◌++◌, Bool, List, [], ◌∷◌, length, refl, sym, ap, ◌∙◌, arith, append_assoc}
 use Rattle.std.proofs.lemmas.List.{append-nil}
 use Rattle.disk.specs.Parts.{HoldsPart}
 use Rattle.archive.specs.declared.run.RunEntry.{RunEntry}
@@ -12,7 +11,7 @@ use Rattle.store.specs.Values.{StoreValue}
 use Rattle.standing.specs.Homes.{KeepsUpTo, ViewReads, GoesOn}
 use Rattle.standing.proofs.RunsKept.{up_to-same, runs-held, ends-later}
 use Rattle.standing.proofs.RunsStep.{front-more}
-use Rattle.shared.specs.Archives.{ArchiveSeen, IsArchiveLater, HoldsView, ReadsArchive, archive_seen, no_archive}
+use Rattle.shared.specs.Archives.{ArchiveSeen, IsArchiveLater, ReadsArchive, archive_seen, no_archive}
 use Rattle.shared.specs.Seen.{Known, IsMore, nothing_known}
 use Rattle.shared.proofs.Fronts.{later-same, later-then, later-nothing}
 

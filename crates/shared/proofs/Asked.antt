@@ -1,5 +1,5 @@
 -- What the store under the lock answers to a view is what the history of the view's moment says.
-use Rattle.std.proofs.Common.{◌≡◌, ℕ, Bool, Option, Result, Vec, sym, subst, ◌∙◌}
+use Rattle.std.proofs.Common.{◌≡◌, ℕ, Bool, Option, Result, Vec, subst}
 use Rattle.std.specs.declared.alloc.Global.{Global}
 use Rattle.atomic_table.specs.Seated.{TableId}
 use Rattle.history.specs.declared.key.Key.{Key}
@@ -15,7 +15,7 @@ use Rattle.standing.specs.Homes.{IsSure}
 use Rattle.standing.specs.Laws.{SaysAt, SaysScanAt, SaysBetween, SaysScanBetween}
 use Rattle.standing.proofs.Views.{at-answered, scan_at-answered, between-answered, scan_between-answered}
 use Rattle.shared.specs.Moments.{ViewMoment, OfSeen}
-use Rattle.shared.specs.Seen.{Seen, SightValue}
+use Rattle.shared.specs.Seen.{SightValue}
 use Rattle.shared.specs.Shared.{IsShared, Shows}
 use Rattle.shared.proofs.Moments.{still-reads}
 

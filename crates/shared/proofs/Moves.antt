@@ -38,7 +38,7 @@ use Rattle.transactions.proofs.Orders.{last_time-push}
 use Rattle.timequery.specs.View.{ViewValue}
 use Rattle.timequery.specs.declared.fault.QueryFault.{QueryFault}
 use Rattle.timequery.specs.declared.fault.QueryFault.TheVariants as query
-use Rattle.store.specs.Values.{StoreValue, HasRest}
+use Rattle.store.specs.Values.{StoreValue}
 use Rattle.store.specs.Calls as stores
 use Rattle.store.specs.Calls.{Finds, OrStranger}
 use Rattle.store.specs.Pumps.{Pumps}

@@ -5,11 +5,9 @@ use Rattle.std.specs.declared.alloc.AllocError.{AllocError}
 use Rattle.std.specs.declared.alloc.Global.{Global}
 use Rattle.std.specs.declared.vec.Vec.{Vec}
 use Rattle.atomic_table.specs.Seated.{TableId}
-use Rattle.history.specs.declared.time.TimedWrite.{TimedWrite}
 use Rattle.history.specs.Answers as answers
 use Rattle.history.specs.Histories.{last}
 use Rattle.history.specs.Machine.{Machine}
-use Rattle.history.specs.Time.{value_at}
 use Rattle.history.proofs.Tickets.{done-published}
 use Rattle.image.specs.Values.{Value}
 use Rattle.chains.specs.KeyWrites.{KeyWrites}

@@ -5,7 +5,7 @@ use lib.ListN.{get_elem?}
 use Rattle.history.specs.Histories.{IsHistory, last}
 use Rattle.image.specs.Values.{IsValue}
 use Rattle.shared.specs.Archives.{ArchiveSeen, no_archive}
-use Rattle.shared.specs.Seen.{Seen, Known, nothing, nothing_known, order_of, known_by, IsLater, IsMore, SightValue}
+use Rattle.shared.specs.Seen.{Seen, nothing, nothing_known, order_of, known_by, IsLater, IsMore, SightValue}
 
 -- One view, the writer's, has seen all commits, which are a history, and the word is the last published time. Each other view has seen a front of them, and knows an earlier archive.
 pub record IsPublished (words : List ℕ) (views : List SightValue) : Type 0 where
