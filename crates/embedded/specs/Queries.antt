@@ -1,5 +1,5 @@
 -- What the engine's queries answer.
-use Rattle.std.specs.Prelude.{◌≡◌, ◌≤◌, ◌⊎◌, ◌==◌, ℕ, Bool, true, List, [], length, take, Result, Ok, Err, Option, Some, None, MatchBool, MatchOption, MatchResult}
+use Rattle.std.specs.Prelude.{◌≡◌, ◌≤◌, ◌⊎◌, ◌==◌, ◌&&◌, ◌||◌, ◌-◌, nat_lt, slice_get, ℕ, Bool, true, false, List, [], length, take, Result, Ok, Err, Option, Some, None, MatchBool, MatchOption, MatchResult}
 use Rattle.std.specs.declared.alloc.Global.{Global}
 use Rattle.std.specs.declared.vec.Vec.{Vec}
 use Rattle.disk.specs.Calls.{fresh_on}
@@ -13,6 +13,7 @@ use Rattle.chains.specs.Rows.{rows_in, scanned_rows}
 use Rattle.chains.specs.Scans.{scanned}
 use Rattle.chains.specs.Writes.{Value}
 use Rattle.archive.specs.Readers.{kept_of}
+use Rattle.archive.specs.declared.run.RunEntry.{RunEntry}
 use Rattle.relay.specs.State.{slices_state}
 use Rattle.snapshot.specs.Txn.{seen_by}
 use Rattle.store.specs.Calls.{FindsAt, FindsScanAt, FindsRows, FindsScanRows}
@@ -61,19 +62,24 @@ abbrev pub RecentScanRows : ViewValue → ℕ → ℕ → ℕ → Result (Vec (�
 RecentScanRows view relation a b answer =
     MatchResult answer (λ found. (view.reclaimed ≤ a) × AnswersBetween view a b found.items (scanned_rows relation a b view.state)) (RefusesRecentRows view a b)
 
--- none is lent
-abbrev pub is_none : List ℕ → Bool
-is_none archive = length archive == 0
+-- a run begins or ends behind the first byte: runs up to it take bytes
+abbrev pub takes_bytes : Option RunEntry → Bool
+takes_bytes None = false
+takes_bytes (Some run) = nat_lt 0 run.slot.start || nat_lt 0 run.slot.len
+
+-- no byte is lent, and the view's runs have some
+abbrev pub is_none : List ℕ → ViewValue → Bool
+is_none archive view = (length archive == 0) && takes_bytes (slice_get view.runs (length view.runs - 1))
 
 -- over the archive that is lent; where none is, from memory alone
 abbrev pub LentScanAt : List ℕ → StoreValue → ViewValue → ℕ → ℕ → Result (Vec (ℕ × Value) Global) QueryFault → Type 0
-LentScanAt archive v view relation time answer = MatchBool (is_none archive) (RecentScanAt view relation time answer) (Over archive v (λ old new. FindsScanAt true old view relation time answer new))
+LentScanAt archive v view relation time answer = MatchBool (is_none archive view) (RecentScanAt view relation time answer) (Over archive v (λ old new. FindsScanAt true old view relation time answer new))
 
 abbrev pub LentRows : List ℕ → StoreValue → ViewValue → Key → ℕ → ℕ → Result (Vec (Version Value) Global) QueryFault → Type 0
-LentRows archive v view key a b answer = MatchBool (is_none archive) (RecentRows view key a b answer) (Over archive v (λ old new. FindsRows true old view key a b answer new))
+LentRows archive v view key a b answer = MatchBool (is_none archive view) (RecentRows view key a b answer) (Over archive v (λ old new. FindsRows true old view key a b answer new))
 
 abbrev pub LentScanRows : List ℕ → StoreValue → ViewValue → ℕ → ℕ → ℕ → Result (Vec (ℕ × Version Value) Global) QueryFault → Type 0
-LentScanRows archive v view relation a b answer = MatchBool (is_none archive) (RecentScanRows view relation a b answer) (Over archive v (λ old new. FindsScanRows true old view relation a b answer new))
+LentScanRows archive v view relation a b answer = MatchBool (is_none archive view) (RecentScanRows view relation a b answer) (Over archive v (λ old new. FindsScanRows true old view relation a b answer new))
 
 -- ---- codes and bytes
 
@@ -138,7 +144,7 @@ AsksRecent number key time e said info out =
 
 abbrev pub AsksAt : List ℕ → ℕ → Key → ℕ → Engine → Code → Info → List ℕ → Type 0
 AsksAt archive number key time e said info out =
-    MatchOption (view_under e number) (said ≡ code.Unknown) (λ view. MatchBool (is_none archive) (TellsRecent view key time said info out) (TellsOver archive e.store view key time said info out))
+    MatchOption (view_under e number) (said ≡ code.Unknown) (λ view. MatchBool (is_none archive view) (TellsRecent view key time said info out) (TellsOver archive e.store view key time said info out))
 
 abbrev pub AsksScanAt : List ℕ → ℕ → ℕ → ℕ → Engine → Code → Info → Type 0
 AsksScanAt archive number relation time e said info =

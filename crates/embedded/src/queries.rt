@@ -2,7 +2,7 @@
 ghost use Rattle.std.specs.Prelude.{◌≡◌, option_copied};
 ghost use Rattle.store.specs.Values.{StoreValue};
 ghost use Rattle.embedded.specs.Held.{view_of};
-ghost use Rattle.embedded.specs.Queries.{TellsRecent, TellsAt, LentScanAt, LentRows, LentScanRows};
+ghost use Rattle.embedded.specs.Queries.{is_none, takes_bytes, TellsRecent, TellsAt, LentScanAt, LentRows, LentScanRows};
 
 use crate::asking::{self, Lent};
 use crate::code::{Code, Info, Row};
@@ -10,6 +10,7 @@ use crate::codes::query_code;
 use crate::engine::{Engine, Published, Standing};
 use crate::places::{Held, Places};
 use crate::rows::{records_out, rows_out, scan_out, value_out};
+use archive::RunEntry;
 use chains::SharedValue;
 use history::{Key, Version};
 use std::alloc::Global;
@@ -28,6 +29,23 @@ fn view_of<'a>(places: &'a Places, before: &'a Option<Published>, number: u64) -
     match before {
         None => None,
         Some(published) => Some(&published.view),
+    }
+}
+
+// Whether no byte is lent of an archive that has some.
+fn is_none(archive: &[u8], view: &View) -> bool
+    ensures { result ≡ is_none archive.now view.now }
+{
+    archive.is_empty() && takes_bytes(view.runs().last())
+}
+
+// Whether runs up to this one take bytes.
+fn takes_bytes(run: Option<&RunEntry>) -> bool
+    ensures { result ≡ takes_bytes (option_copied run.entry) }
+{
+    match run {
+        None => false,
+        Some(run) => run.slot.start > 0 || run.slot.len > 0,
     }
 }
 
@@ -68,7 +86,7 @@ fn scan_at(
 ) -> Result<Vec<(u64, SharedValue)>, QueryFault>
     ensures { (v : StoreValue) → LentScanAt archive.now v view.now relation time result }
 {
-    if archive.is_empty() {
+    if is_none(archive, view) {
         return view.recent_scan(alloc, relation, time);
     }
     let mut lent = Lent::new(alloc, archive);
@@ -85,7 +103,7 @@ fn between(
 ) -> Result<Vec<Version<SharedValue>>, QueryFault>
     ensures { (v : StoreValue) → LentRows archive.now v view.now key a b result }
 {
-    if archive.is_empty() {
+    if is_none(archive, view) {
         return view.recent_between(alloc, key, a, b);
     }
     let mut lent = Lent::new(alloc, archive);
@@ -102,7 +120,7 @@ fn scan_between(
 ) -> Result<Vec<(u64, Version<SharedValue>)>, QueryFault>
     ensures { (v : StoreValue) → LentScanRows archive.now v view.now relation a b result }
 {
-    if archive.is_empty() {
+    if is_none(archive, view) {
         return view.recent_scan_between(alloc, relation, a, b);
     }
     let mut lent = Lent::new(alloc, archive);
@@ -181,7 +199,7 @@ impl Engine {
         let Some(view) = view_of(&self.places, &self.before, view) else {
             return Code::Unknown;
         };
-        if archive.is_empty() {
+        if is_none(archive, view) {
             return recent_out(view, key, time, out, info);
         }
         let mut lent = Lent::new(self.alloc, archive);

@@ -164,7 +164,7 @@ pub extern "C" fn ts_get(
     info: &mut Info,
 ) -> i32
     ensures same { OnHandle StaysSame handle.old.engine handle.new.engine }
-    ensures answers { AnswersOn (λ e said. Sees transaction (key_of relation record) e said info.new out.new) handle.old.engine result }
+    ensures answers { AnswersOn (λ e said. Sees transaction (key_of relation «record») e said info.new out.new) handle.old.engine result }
 {
     let Some(engine) = handle.take(alloc) else {
         return Code::Closed.number();
@@ -299,7 +299,7 @@ pub extern "C" fn ts_recent(
     info: &mut Info,
 ) -> i32
     ensures same { OnHandle StaysSame handle.old.engine handle.new.engine }
-    ensures answers { AnswersOn (λ e said. AsksRecent view (key_of relation record) time e said info.new out.new) handle.old.engine result }
+    ensures answers { AnswersOn (λ e said. AsksRecent view (key_of relation «record») time e said info.new out.new) handle.old.engine result }
 {
     let Some(engine) = handle.take(alloc) else {
         return Code::Closed.number();
@@ -323,7 +323,7 @@ pub extern "C" fn ts_at(
     info: &mut Info,
 ) -> i32
     ensures same { OnHandle StaysSame handle.old.engine handle.new.engine }
-    ensures answers { AnswersOn (λ e said. AsksAt archive.now view (key_of relation record) time e said info.new out.new) handle.old.engine result }
+    ensures answers { AnswersOn (λ e said. AsksAt archive.now view (key_of relation «record») time e said info.new out.new) handle.old.engine result }
 {
     let Some(engine) = handle.take(alloc) else {
         return Code::Closed.number();
@@ -373,7 +373,7 @@ pub extern "C" fn ts_between(
     info: &mut Info,
 ) -> i32
     ensures same { OnHandle StaysSame handle.old.engine handle.new.engine }
-    ensures answers { AnswersOn (λ e said. AsksRows archive.now view (key_of relation record) from upto e said info.new) handle.old.engine result }
+    ensures answers { AnswersOn (λ e said. AsksRows archive.now view (key_of relation «record») from upto e said info.new) handle.old.engine result }
 {
     let Some(engine) = handle.take(alloc) else {
         return Code::Closed.number();
