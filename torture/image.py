@@ -1,6 +1,6 @@
 """A plain reader of a store's three files, by the checks of docs/FORMAT.md, written apart from the program's."""
 
-from machine import Commit
+from machine import Commit, versions
 
 EXTENT = 8192
 BODY = EXTENT - 16
@@ -210,3 +210,74 @@ def read(status, heap, archive):
         if kind == "archived" and body[1] + body[2] > len(archive):
             raise damaged("archive", body[1])
     return history, archived, reclaimed, {key: (since, fields_of(value)) for key, (since, value) in olds}
+
+
+# ---- runs
+
+
+def run_record(data, at, end):
+    """One record of a run: its key, from, to, value and where the next one begins."""
+    if at + 27 > end or not 1 <= data[at + 26] <= 16:
+        return None
+    key, start, stop, place = (u(data, at, 2), u(data, at + 2, 8)), u(data, at + 10, 8), u(data, at + 18, 8), at + 27
+    value = []
+    for _ in range(data[at + 26]):
+        if place >= end or place + 1 + data[place] > end:
+            return None
+        value.append(bytes(data[place + 1: place + 1 + data[place]]))
+        place += 1 + data[place]
+    return key, start, stop, tuple(value), place
+
+
+def run_records(data, count, above, upto):
+    """The records of a run, or None where it breaks its form: its bytes, and the marks that its versions end between."""
+    index, at, found = len(data) - 8 * count, 0, []
+    for number in range(count):
+        one = run_record(data, at, index)
+        if one is None or u(data, index + 8 * number, 8) != at:
+            return None
+        key, start, stop, value, end = one
+        if not (start < stop and above < stop <= upto):
+            return None
+        if found and not (found[-1][0] < key or (found[-1][0] == key and found[-1][1] < start and found[-1][2] <= start)):
+            return None
+        found.append((key, start, stop, fields_of(value)))
+        at = end
+    return found if at == index else None
+
+
+def runs(found, archive):
+    """The runs that a log names, in order: the start of each and its records, or None where it breaks its form."""
+    above, all_runs = 0, []
+    for kind, body in found:
+        if kind == "archived":
+            upto, start, length, records = body
+            all_runs.append((start, run_records(archive[start: start + length], records, above, upto)))
+            above = upto
+    return all_runs
+
+
+# ---- what an image stands for
+
+
+def why_not(areas, history):
+    """Why these files don't stand for this history, both homes of its versions looked at; None where they do."""
+    plain, archived, reclaimed, olds = read(areas["status"], areas["heap"], areas["archive"])
+    if [(it.time, it.label) for it in plain] != [(it.time, it.label) for it in history]:
+        return "other times or labels"
+    for mine, its in zip(plain, history):
+        if its.time > reclaimed and mine.writes != its.writes:
+            return f"other writes at {its.time}"
+    whole = [(key, *it) for key in {key for it in history for key in it.writes} for it in versions(history, key)]
+    standing = {key: (start, fields) for key, start, stop, fields in whole if start <= reclaimed and (stop is None or stop > reclaimed)}
+    if olds != standing:
+        return f"other anchors at {reclaimed}"
+    found, _, _ = log(areas["status"], header(areas["status"]))
+    kept = []
+    for start, records in runs(found, areas["archive"]):
+        if records is None:
+            return f"a malformed run at {start}"
+        kept += records
+    if sorted(kept) != sorted(it for it in whole if it[2] is not None and it[2] <= archived):
+        return f"other versions in the runs up to {archived}"
+    return None

@@ -77,13 +77,13 @@ class Machine:
 
     def __init__(self, published=()):
         self.published = list(published)
-        self.archived = 0
+        self.archived, self.reclaimed = 0, 0
         self.forget_what_waits()
 
     def forget_what_waits(self):
         self.queue, self.group, self.names = [], 0, {}
-        # the last step of the group's slot and of the job's: none, or what was answered
-        self.turn, self.job, self.upto = None, None, None
+        # the last step of the group's slot and of the job's: none, or what was answered; and the time that the job goes up to
+        self.turn, self.job, self.upto, self.is_reclaim = None, None, None, False
 
     def with_group(self):
         return self.published + self.queue[: self.group]
@@ -195,10 +195,21 @@ class Machine:
             return None if self.turn is not None else "busy without a group's slot in the writing"
         if self.upto is None:
             return f"{said} with no job"
+        if said not in (RECLAIM_STEPS if self.is_reclaim else ARCHIVE_STEPS):
+            return f"{said} is no step of this job"
+        if said in SLOT_STEPS and self.turn is not None:
+            return "two slots in the writing"
         self.job = said
         if said == "job done":
-            self.archived, self.upto, self.job = self.upto, None, None
+            self.end_job()
         return None
+
+    def end_job(self):
+        if self.is_reclaim:
+            self.reclaimed = self.upto
+        else:
+            self.archived = self.upto
+        self.upto, self.job = None, None
 
     def archive(self, upto):
         if self.upto is not None:
@@ -207,17 +218,30 @@ class Machine:
             return ["refused: nothing to do"]
         if upto > last(self.published):
             return [f"refused: not yet {last(self.published)}"]
-        self.upto = upto
+        self.upto, self.is_reclaim = upto, False
+        return ["started"]
+
+    def reclaim(self):
+        if self.upto is not None:
+            return ["refused: job busy"]
+        if self.archived == self.reclaimed:
+            return ["refused: nothing to do"]
+        oldest = min((it.snapshot for it in self.names.values() if isinstance(it, Transaction)), default=self.archived)
+        if oldest < self.archived:
+            return [f"refused: in use {oldest}"]
+        self.upto, self.is_reclaim = self.archived, True
         return ["started"]
 
     def reopened(self):
-        """What waits is lost, but for a group or an archive whose gate is written: the files have it."""
+        """What waits is lost, but for a group or a job whose gate is written: the files have it."""
         if self.turn == "gate written":
             self.published = self.with_group()
         if self.job == "gate written":
-            self.archived = self.upto
+            self.end_job()
         self.forget_what_waits()
         return [f"last {last(self.published)} floor 0"]
 
 
 SLOT_STEPS = ("body written", "body synced", "gate written")
+ARCHIVE_STEPS = ("wrote run", "run synced", *SLOT_STEPS, "job done")
+RECLAIM_STEPS = ("wrote extent", "heap synced", *SLOT_STEPS, "job done")

@@ -239,7 +239,7 @@ class Play:
     def line(self, session, small, stops):
         chance = self.chance
         newest = machine.last(small.published)
-        kind = chance.choices(("begin", "put", "del", "get", "submit", "abort", "redeem", "pump", "archive", "job", "ask"), (5, 8, 2, 3, 6, 1, 3, 18, 2, 9, 2))[0]
+        kind = chance.choices(("begin", "put", "del", "get", "submit", "abort", "redeem", "pump", "archive", "reclaim", "job", "ask"), (5, 8, 2, 3, 6, 1, 3, 18, 2, 2, 14, 2))[0]
         key, fields, name = some_key(chance), some_fields(chance), self.name_for(kind, small)
         if kind == "begin":
             session.ask(f"begin {name}", small.begin(name))
@@ -259,6 +259,8 @@ class Play:
         elif kind == "archive":
             upto = chance.randrange(newest + 3)
             session.ask(f"archive {upto}", small.archive(upto))
+        elif kind == "reclaim":
+            session.ask("reclaim", small.reclaim())
         elif kind == "ask":
             moment = chance.randrange(newest + 3)
             session.ask(f"at {key_text(key)} {moment}", machine.at(small.published, key, moment))
@@ -276,14 +278,14 @@ class Play:
         areas = stops.left(self.chance)
         found = histories[check_left(self.program, areas, histories, where)]
         self.images += 1
-        plain, archived, _, _ = image.read(*(areas[area] for area in AREAS))
-        if plain != found:
-            raise Failure(f"{where}: the plain reader reads another history")
+        why = image.why_not(areas, found)
+        if why:
+            raise Failure(f"{where}: the plain reader finds {why}")
         if self.depth < 2 and self.chance.random() < 0.02:
             with tempfile.TemporaryDirectory(prefix="torture-") as folder:
                 write_areas(folder, areas)
                 again = Machine(found)
-                again.archived = archived
+                _, again.archived, again.reclaimed, _ = image.read(*(areas[area] for area in AREAS))
                 deeper = Play(self.program, self.chance, self.depth + 1)
                 deeper.play(folder, again, 40)
                 self.images += deeper.images

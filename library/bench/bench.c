@@ -98,13 +98,13 @@ static void queries(ts *h, uint64_t count, uint64_t records) {
     double start = seconds();
     for (uint64_t n = 0; n < count; n++) {
         CHECK(TS_OK, ts_view(h, &view));
-        CHECK(TS_OK, ts_at(h, view.a, 1, n % records, last, out, sizeof out, &info));
+        CHECK(TS_OK, ts_at(h, view.a, 1, n % records, last, (const uint8_t *)"", 0, out, sizeof out, &info));
         CHECK(TS_OK, ts_end(h, view.a));
     }
     row("point queries a second, a view each", (double)count / (seconds() - start), "/s");
     CHECK(TS_OK, ts_view(h, &view));
     start = seconds();
-    for (uint64_t n = 0; n < count; n++) CHECK(TS_OK, ts_at(h, view.a, 1, n % records, last, out, sizeof out, &info));
+    for (uint64_t n = 0; n < count; n++) CHECK(TS_OK, ts_at(h, view.a, 1, n % records, last, (const uint8_t *)"", 0, out, sizeof out, &info));
     row("point queries a second, on one view", (double)count / (seconds() - start), "/s");
     CHECK(TS_OK, ts_end(h, view.a));
     start = seconds();

@@ -30,12 +30,15 @@ int main(int argc, char **argv) {
     ask(ts_file_commit(file, txn, 9, 100, &info), "commit");
     printf("done %" PRIu64 "\n", info.a);
 
+    const uint8_t *archive;
+    size_t archive_len;
     ask(ts_view(store, &view), "view");
-    ask(ts_at(store, view.a, 1, 7, 100, value, sizeof value, &info), "at");
+    ask(ts_file_archive(file, &archive, &archive_len), "archive");
+    ask(ts_at(store, view.a, 1, 7, 100, archive, archive_len, value, sizeof value, &info), "at");
     printf("at 100: %.*s\n", value[1], (const char *)value + 2);
-    int32_t code = ts_at(store, view.a, 1, 7, 101, value, sizeof value, &info);
+    int32_t code = ts_at(store, view.a, 1, 7, 101, archive, archive_len, value, sizeof value, &info);
     printf("refused: %s %" PRIu64 "\n", ts_text(code), info.a);
-    ask(ts_between(store, view.a, 1, 7, 0, 101, rows, 8, value, sizeof value, &info), "between");
+    ask(ts_between(store, view.a, 1, 7, 0, 101, archive, archive_len, rows, 8, value, sizeof value, &info), "between");
     for (uint64_t i = 0; i < info.a; i++)
         printf("%" PRIu64 " %" PRIu64 " %.*s\n", rows[i].from, rows[i].upto, value[rows[i].at + 1],
                (const char *)value + rows[i].at + 2);

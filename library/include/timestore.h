@@ -10,7 +10,8 @@
  *
  * What the host must uphold, which nothing checks:
  *   1. Three areas of bytes that nobody else writes: status, heap and archive. Each is synced before ts_open
- *      is given its bytes, which stay as they are until ts_open returns, and are not used after it.
+ *      is given its bytes, which stay as they are until ts_open returns, and are not used after it. So do those
+ *      of the archive that a query is lent: all that was written to that area so far, from its first byte on.
  *   2. A write goes to that area and place whole, and a gap before it reads as zeros. A sync returns once
  *      what was written to that area outlasts a stop (fdatasync). They are made in the order told, each
  *      before ts_called(h, true). Of a write that was refused any part may have been made.
@@ -92,11 +93,12 @@ enum {
     TS_DAMAGED = -18,       /* a: the place of what breaks a rule, in bytes */
     TS_NOT_A_STORE = -19,
     TS_BUSY = -20,          /* one slot is in the writing at a time: pump the other one; ts_open: the handle is full */
-    TS_JOB_BUSY = -21,      /* an archive is being made */
-    TS_NOTHING_TO_DO = -22, /* all versions that ended by then are archived */
+    TS_JOB_BUSY = -21,      /* an archive or a reclaim is being made */
+    TS_NOTHING_TO_DO = -22, /* all versions that ended by then are archived; all that is archived is reclaimed */
     TS_ARCHIVE_FULL = -23,
     TS_BAD_SLOTS = -24,     /* a store has 16 to 65,536 slots */
-    TS_IN_USE = -25         /* a: the least open snapshot */
+    TS_IN_USE = -25,        /* a: the least open snapshot */
+    TS_NEEDS_ARCHIVE = -26  /* the answer needs the archive, and none was lent */
 };
 
 /* What a step did: ts_pump and ts_job_pump tell it in a; of TS_PUBLISHED, b has the commits of the group. */
@@ -107,7 +109,9 @@ enum {
     TS_BODY_WRITTEN = 3,
     TS_BODY_SYNCED = 4,
     TS_GATE_WRITTEN = 5,
-    TS_PUBLISHED = 6 /* of a job: it is done */
+    TS_PUBLISHED = 6, /* of a job: it is done */
+    TS_KEPT_WRITTEN = 7, /* of a reclaim: an extent of what stands at its mark is written */
+    TS_KEPT_SYNCED = 8
 };
 
 /* The status area of a new store; a: its length, 512 + 512 slots. The host writes it from byte 512 on,
@@ -163,27 +167,44 @@ int32_t ts_give_up(ts *h, uint64_t ticket);
 int32_t ts_view(ts *h, ts_info *info);
 int32_t ts_end(ts *h, uint64_t view);
 
+/* The value of a record at a time; a: its length. From memory alone: TS_NEEDS_ARCHIVE at a time before the
+   view's last reclaim. */
+int32_t ts_recent(ts *h, uint64_t view, uint16_t relation, uint64_t record, uint64_t time, uint8_t *out,
+                  size_t len, ts_info *info);
+
+/* The queries below are lent the archive area for the call; the store keeps nothing of it. It is read only at
+   times before the view's last reclaim. A store without a reclaim needs none: with archive_len 0 memory alone
+   answers, as in ts_recent. */
+
 /* The value of a record at a time; a: its length. */
-int32_t ts_at(ts *h, uint64_t view, uint16_t relation, uint64_t record, uint64_t time, uint8_t *out,
-              size_t len, ts_info *info);
+int32_t ts_at(ts *h, uint64_t view, uint16_t relation, uint64_t record, uint64_t time, const uint8_t *archive,
+              size_t archive_len, uint8_t *out, size_t len, ts_info *info);
 
 /* The records of a relation that have a value at a time; as ts_scan. */
-int32_t ts_scan_at(ts *h, uint64_t view, uint16_t relation, uint64_t time, ts_row *rows, size_t row_count,
-                   uint8_t *out, size_t len, ts_info *info);
+int32_t ts_scan_at(ts *h, uint64_t view, uint16_t relation, uint64_t time, const uint8_t *archive,
+                   size_t archive_len, ts_row *rows, size_t row_count, uint8_t *out, size_t len, ts_info *info);
 
 /* What stood in a record from one time up to another, by rising time; as ts_scan. */
 int32_t ts_between(ts *h, uint64_t view, uint16_t relation, uint64_t record, uint64_t from, uint64_t upto,
-                   ts_row *rows, size_t row_count, uint8_t *out, size_t len, ts_info *info);
+                   const uint8_t *archive, size_t archive_len, ts_row *rows, size_t row_count, uint8_t *out,
+                   size_t len, ts_info *info);
 
 /* The same of a relation's records, by record and then by time. */
-int32_t ts_scan_between(ts *h, uint64_t view, uint16_t relation, uint64_t from, uint64_t upto, ts_row *rows,
-                        size_t row_count, uint8_t *out, size_t len, ts_info *info);
+int32_t ts_scan_between(ts *h, uint64_t view, uint16_t relation, uint64_t from, uint64_t upto,
+                        const uint8_t *archive, size_t archive_len, ts_row *rows, size_t row_count,
+                        uint8_t *out, size_t len, ts_info *info);
 
 /* The times of the commits with a label, rising; a: how many. */
 int32_t ts_times_of(ts *h, uint64_t label, uint64_t *times, size_t count, ts_info *info);
 
-/* Begins a copy of the versions that ended by a time into the archive, and makes its next step. */
+/* Begins a copy of the versions that ended by a time into the archive. */
 int32_t ts_archive(ts *h, uint64_t upto, ts_info *info);
+
+/* Begins a reclaim: once it is done the heap and memory have only what ended after the last archive. Open
+   views keep what they have. TS_IN_USE while an open transaction reads below that. */
+int32_t ts_reclaim(ts *h, ts_info *info);
+
+/* The next step of the archive or the reclaim that is being made; a: what it did. */
 int32_t ts_job_pump(ts *h, ts_info *info);
 
 #ifdef __cplusplus

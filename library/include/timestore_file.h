@@ -32,7 +32,11 @@ ts *ts_file_store(ts_file *file);
 int32_t ts_file_pump(ts_file *file, ts_info *info);
 int32_t ts_file_job_pump(ts_file *file, ts_info *info);
 
-/* All steps of all commits that wait, and of the archive that is being made. */
+/* The archive area as it is now, mapped, to be lent to a query: at is not null, and len may be 0. It stays
+   until the next call of this function or of ts_file_close. */
+int32_t ts_file_archive(ts_file *file, const uint8_t **at, size_t *len);
+
+/* All steps of all commits that wait, and of the archive or the reclaim that is being made. */
 int32_t ts_file_flush(ts_file *file);
 int32_t ts_file_job(ts_file *file);
 

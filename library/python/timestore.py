@@ -50,8 +50,8 @@ _NAMES = {
     -8: "Conflict", -9: "HeapFull", -10: "StatusFull", -11: "ClockEnd", -12: "Missing",
     -13: "TooManyKeys", -14: "BadValue", -15: "BeforeKept", -16: "NotYet", -17: "EmptyInterval",
     -18: "Damaged", -19: "NotAStore", -20: "Busy", -21: "JobBusy", -22: "NothingToDo",
-    -23: "ArchiveFull", -24: "BadSlots", -25: "InUse", -100: "System", -101: "Locked",
-    -102: "Occupied", _IN_DOUBT: "InDoubt",
+    -23: "ArchiveFull", -24: "BadSlots", -25: "InUse", -26: "NeedsArchive", -100: "System",
+    -101: "Locked", -102: "Occupied", _IN_DOUBT: "InDoubt",
 }  # fmt: skip
 _FAULTS: dict[int, type[Refused]] = {
     code: type(name, (Refused,), {"code": code, "__module__": __name__}) for code, name in _NAMES.items()
@@ -84,6 +84,7 @@ def _prototypes() -> dict[str, list[Any]]:
     u64, u16, size, buf = ctypes.c_uint64, ctypes.c_uint16, ctypes.c_size_t, ctypes.c_void_p
     handle, info, text = ctypes.POINTER(_Handle), ctypes.POINTER(_Info), ctypes.c_char_p
     out = [buf, size, info]
+    lent = [buf, size]
     rows = [ctypes.POINTER(_Row), size, *out]
     return {
         "ts_last": [handle, info], "ts_begin": [handle, info],
@@ -92,10 +93,12 @@ def _prototypes() -> dict[str, list[Any]]:
         "ts_submit": [handle, u64, u64, u64, info], "ts_abort": [handle, u64],
         "ts_redeem": [handle, u64, info], "ts_give_up": [handle, u64],
         "ts_view": [handle, info], "ts_end": [handle, u64],
-        "ts_at": [handle, u64, u16, u64, u64, *out], "ts_scan_at": [handle, u64, u16, u64, *rows],
-        "ts_between": [handle, u64, u16, u64, u64, u64, *rows],
-        "ts_scan_between": [handle, u64, u16, u64, u64, *rows],
+        "ts_recent": [handle, u64, u16, u64, u64, *out], "ts_at": [handle, u64, u16, u64, u64, *lent, *out],
+        "ts_scan_at": [handle, u64, u16, u64, *lent, *rows],
+        "ts_between": [handle, u64, u16, u64, u64, u64, *lent, *rows],
+        "ts_scan_between": [handle, u64, u16, u64, u64, *lent, *rows],
         "ts_times_of": [handle, u64, buf, size, info], "ts_archive": [handle, u64, info],
+        "ts_reclaim": [handle, info], "ts_file_archive": [buf, ctypes.POINTER(buf), ctypes.POINTER(size)],
         "ts_file_format": [text, ctypes.c_uint32], "ts_file_open": [text, ctypes.POINTER(buf), info],
         "ts_file_pump": [buf, info], "ts_file_job_pump": [buf, info], "ts_file_flush": [buf],
         "ts_file_job": [buf], "ts_file_refuse": [buf, u64],
@@ -261,8 +264,23 @@ class Store:
         """Begins that copy, of which `job_pump` takes each step."""
         self._ask(_library.ts_archive, micros(upto))
 
+    def reclaim(self) -> None:
+        """Gives up in the heap and in memory what is archived."""
+        self.reclaim_start()
+        _ask(_library.ts_file_job(self._of_file()))
+
+    def reclaim_start(self) -> None:
+        """Begins that, of which `job_pump` takes each step."""
+        self._ask(_library.ts_reclaim)
+
+    def _archive(self) -> tuple[ctypes.c_void_p, ctypes.c_size_t]:
+        """The archive, which stays mapped until the next such call."""
+        at, size = ctypes.c_void_p(), ctypes.c_size_t()
+        _ask(_library.ts_file_archive(self._of_file(), at, size))
+        return at, size
+
     def job_pump(self) -> int:
-        """One step of the archive that is being made: what it did, 0 where there is none."""
+        """One step of the archive or the reclaim that is being made: what it did, 0 where there is none."""
         _ask(_library.ts_file_job_pump(self._of_file(), self._info))
         return self._info.a
 
@@ -270,15 +288,16 @@ class Store:
         """For tests: the device call of this number from now on, from 1, is refused."""
         _library.ts_file_refuse(self._of_file(), call)
 
-    def _read(self, function: Callable[..., int], *args: int) -> Fields | None:
+    def _read(self, function: Callable[..., int], *args: Any) -> Fields | None:
         code = self._ask(function, *args, self._value, _VALUE_MOST)
         return None if code == _NONE else _fields(self._value.raw[: self._info.a])
 
-    def _rows(self, function: Callable[..., int], *args: int) -> Iterator[Row]:
+    def _rows(self, function: Callable[..., int], *args: int, lends: bool = False) -> Iterator[Row]:
         count, room = 64, 4096
         while True:
             rows, out = (_Row * count)(), ctypes.create_string_buffer(room)
-            code = function(self._handle, *args, rows, count, out, room, self._info)
+            lent = self._archive() if lends else ()
+            code = function(self._handle, *args, *lent, rows, count, out, room, self._info)
             if code != _SMALL:
                 break
             count, room = max(self._info.a, 1), max(self._info.b, 1)
@@ -403,20 +422,27 @@ class View:
 
     def at(self, relation: int, record: int, time: Time) -> Fields | None:
         """The value of a record at a time, None where it had none."""
-        return self._store._read(_library.ts_at, self._open(), relation, record, micros(time))
+        number, lent = self._open(), self._store._archive()
+        return self._store._read(_library.ts_at, number, relation, record, micros(time), *lent)
+
+    def recent(self, relation: int, record: int, time: Time) -> Fields | None:
+        """The same from memory alone: `NeedsArchive` at a time before the view's last reclaim."""
+        return self._store._read(_library.ts_recent, self._open(), relation, record, micros(time))
 
     def scan_at(self, relation: int, time: Time) -> Iterator[tuple[int, Fields]]:
         """The records of a relation that have a value at a time, in rising order."""
-        for row in self._store._rows(_library.ts_scan_at, self._open(), relation, micros(time)):
+        for row in self._store._rows(_library.ts_scan_at, self._open(), relation, micros(time), lends=True):
             yield row.record, row.fields
 
     def between(self, relation: int, record: int, start: Time, end: Time) -> Iterator[Row]:
         """What stood in a record from one time up to another, by rising time."""
-        return self._store._rows(_library.ts_between, self._open(), relation, record, micros(start), micros(end))
+        times = micros(start), micros(end)
+        return self._store._rows(_library.ts_between, self._open(), relation, record, *times, lends=True)
 
     def scan_between(self, relation: int, start: Time, end: Time) -> Iterator[Row]:
         """The same of a relation's records, by record and then by time."""
-        return self._store._rows(_library.ts_scan_between, self._open(), relation, micros(start), micros(end))
+        times = micros(start), micros(end)
+        return self._store._rows(_library.ts_scan_between, self._open(), relation, *times, lends=True)
 
     def end(self) -> None:
         """Gives the view back."""

@@ -17,8 +17,12 @@ struct ts_file {
     int fd[AREAS];
     uint64_t made, refused;
     uint8_t bytes[TS_WRITE_MOST];
+    const uint8_t *archive; /* as it was mapped last */
+    size_t archive_len;
+    bool grown; /* the archive was written to since */
 };
 
+static const uint8_t none[1];
 static const char *const NAMES[AREAS] = {"status", "heap", "archive"};
 
 static void close_all(const int *fd) {
@@ -97,7 +101,6 @@ int32_t ts_file_format(const char *folder, uint32_t slots) {
 
 /* Syncs the files and opens the store on them, mapped. */
 static int32_t open_mapped(ts_file *file, ts_info *info) {
-    static const uint8_t none[1];
     const uint8_t *bytes[AREAS] = {none, none, none};
     size_t len[AREAS] = {0, 0, 0};
     int32_t code = TS_OK;
@@ -123,6 +126,8 @@ static int32_t open_mapped(ts_file *file, ts_info *info) {
 int32_t ts_file_open(const char *folder, ts_file **out, ts_info *info) {
     ts_file *file = calloc(1, sizeof *file);
     if (!file) return TS_NO_MEMORY;
+    file->archive = none;
+    file->grown = true;
     int32_t code = open_all(folder, 0, file->fd);
     if (code == TS_OK) {
         code = open_mapped(file, info);
@@ -135,6 +140,31 @@ int32_t ts_file_open(const char *folder, ts_file **out, ts_info *info) {
 
 ts *ts_file_store(ts_file *file) { return &file->store; }
 
+static void unmap_archive(ts_file *file) {
+    if (file->archive_len > 0) munmap((void *)(uintptr_t)file->archive, file->archive_len);
+    file->archive = none;
+    file->archive_len = 0;
+}
+
+/* Maps the archive again only where it was written to. */
+int32_t ts_file_archive(ts_file *file, const uint8_t **at, size_t *len) {
+    struct stat state;
+    if (file->grown) {
+        unmap_archive(file);
+        if (fstat(file->fd[TS_ARCHIVE], &state)) return TS_SYSTEM;
+        if (state.st_size > 0) {
+            void *map = mmap(NULL, (size_t)state.st_size, PROT_READ, MAP_SHARED, file->fd[TS_ARCHIVE], 0);
+            if (map == MAP_FAILED) return TS_SYSTEM;
+            file->archive = map;
+            file->archive_len = (size_t)state.st_size;
+        }
+        file->grown = false;
+    }
+    *at = file->archive;
+    *len = file->archive_len;
+    return TS_OK;
+}
+
 void ts_file_refuse(ts_file *file, uint64_t call) {
     file->made = 0;
     file->refused = call;
@@ -142,6 +172,7 @@ void ts_file_refuse(ts_file *file, uint64_t call) {
 
 void ts_file_close(ts_file *file) {
     ts_close(&file->store);
+    unmap_archive(file);
     close_all(file->fd);
     free(file);
 }
@@ -152,6 +183,7 @@ static int32_t make_call(ts_file *file) {
     int32_t code = ts_call(&file->store, &call, file->bytes, sizeof file->bytes);
     if (code != TS_OK) return code == TS_NONE ? TS_OK : code;
     bool made = ++file->made != file->refused;
+    if (call.area == TS_ARCHIVE) file->grown = true;
     if (made && call.kind == TS_WRITE)
         made = write_all(file->fd[call.area], file->bytes, call.len, (off_t)call.at) == 0;
     else if (made) made = fdatasync(file->fd[call.area]) == 0;

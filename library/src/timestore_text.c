@@ -33,6 +33,7 @@ const char *ts_text(int32_t code) {
     case TS_ARCHIVE_FULL: return "archive full";
     case TS_BAD_SLOTS: return "bad slots";
     case TS_IN_USE: return "in use";
+    case TS_NEEDS_ARCHIVE: return "needs disk";
     case TS_SYSTEM: return "the system refused a call";
     case TS_LOCKED: return "another process has this store open";
     case TS_OCCUPIED: return "occupied";

@@ -68,6 +68,15 @@ def test_refused_call(folder: Path) -> None:
         refuses(timestore.Locked, timestore.Store, folder)
         store.archive(before)
         refuses(timestore.NothingToDo, store.archive, before)
+        first = store.at(2, 5, store.times_of(1)[0])
+        store.reclaim()
+        refuses(timestore.NothingToDo, store.reclaim)
+        with store.view() as view:
+            refuses(timestore.NeedsArchive, view.recent, 2, 5, store.times_of(1)[0])
+            assert view.recent(2, 5, before) == (b"first",)
+            assert view.at(2, 5, store.times_of(1)[0]) == first
+            assert len(list(view.scan_at(2, store.times_of(1)[0]))) == 200
+            assert len(list(view.between(2, 5, 0, before + 1))) == 2
         store.refuse(3)
         txn = store.begin()
         txn.put(2, 5, b"lost")

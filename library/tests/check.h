@@ -24,6 +24,9 @@ static inline void holds_(int holds, const char *what, const char *file, int lin
     exit(1);
 }
 
+/* No archive is lent. */
+#define NONE (const uint8_t *)"", 0
+
 /* A value of one field that is this text. */
 static inline size_t value_of(const char *text, uint8_t *value) {
     size_t len = strlen(text);
@@ -53,7 +56,7 @@ static inline uint64_t submit_text(ts *h, uint64_t record, const char *text, uin
 static inline int has_text(ts *h, uint64_t view, uint64_t record, uint64_t time, const char *text) {
     uint8_t value[TS_VALUE_MOST], wanted[258];
     ts_info info;
-    int32_t code = ts_at(h, view, 1, record, time, value, sizeof value, &info);
+    int32_t code = ts_at(h, view, 1, record, time, NONE, value, sizeof value, &info);
     if (!text) return code == TS_NONE;
     size_t len = value_of(text, wanted);
     return code == TS_OK && info.a == len && memcmp(value, wanted, len) == 0;

@@ -165,7 +165,7 @@ class Play:
 
     def compare_files(self) -> None:
         """The plain reader finds what is published or, once its gate is written, that with the whole group."""
-        history, _ = image.read(*((self.folder / area).read_bytes() for area in ("status", "heap", "archive")))
+        history, *_ = image.read(*((self.folder / area).read_bytes() for area in ("status", "heap", "archive")))
         wanted = self.small.with_group() if self.small.turn == "gate written" else self.small.published
         assert history == wanted
         self.images += 1

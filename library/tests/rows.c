@@ -48,11 +48,11 @@ static void test_tour(ts_file *file) {
     HOLDS(now_has(h, 7, 99, NULL) && now_has(h, 7, 100, "a"));
     CHECK(TS_OK, ts_view(h, &view));
     uint8_t out[16];
-    CHECK(TS_NOT_YET, ts_at(h, view.a, 1, 7, 101, out, sizeof out, &info));
+    CHECK(TS_NOT_YET, ts_at(h, view.a, 1, 7, 101, NONE, out, sizeof out, &info));
     HOLDS(info.a == 100);
-    CHECK(TS_SMALL, ts_at(h, view.a, 1, 7, 100, out, 2, &info));
+    CHECK(TS_SMALL, ts_at(h, view.a, 1, 7, 100, NONE, out, 2, &info));
     HOLDS(info.a == 3);
-    CHECK(TS_EMPTY_INTERVAL, ts_between(h, view.a, 1, 7, 50, 50, &(ts_row){0}, 1, out, sizeof out, &info));
+    CHECK(TS_EMPTY_INTERVAL, ts_between(h, view.a, 1, 7, 50, 50, NONE, &(ts_row){0}, 1, out, sizeof out, &info));
     CHECK(TS_OK, ts_end(h, view.a));
     CHECK(TS_UNKNOWN, ts_end(h, view.a));
     CHECK(TS_OK, ts_last(h, &info));
@@ -148,18 +148,18 @@ static void test_rows(ts_file *file) {
     HOLDS(info.a == 2 && rows[0].record == 7 && rows[1].record == 9 && out[rows[0].at + 2] == 'c');
     CHECK(TS_OK, ts_file_commit(file, txn, 9, 400, &info));
     CHECK(TS_OK, ts_view(h, &view));
-    CHECK(TS_OK, ts_between(h, view.a, 1, 7, 0, 401, rows, 8, out, sizeof out, &info));
+    CHECK(TS_OK, ts_between(h, view.a, 1, 7, 0, 401, NONE, rows, 8, out, sizeof out, &info));
     HOLDS(info.a == 2 && info.b == 6);
     HOLDS(rows[0].from == 100 && rows[0].upto == 400 && out[rows[0].at + 2] == 'a');
     HOLDS(rows[1].from == 400 && rows[1].upto == 401 && out[rows[1].at + 2] == 'c');
-    CHECK(TS_SMALL, ts_between(h, view.a, 1, 7, 0, 401, rows, 1, out, sizeof out, &info));
+    CHECK(TS_SMALL, ts_between(h, view.a, 1, 7, 0, 401, NONE, rows, 1, out, sizeof out, &info));
     HOLDS(info.a == 2 && info.b == 6);
-    CHECK(TS_SMALL, ts_between(h, view.a, 1, 7, 0, 401, rows, 8, out, 5, &info));
-    CHECK(TS_OK, ts_scan_at(h, view.a, 1, 300, rows, 8, out, sizeof out, &info));
+    CHECK(TS_SMALL, ts_between(h, view.a, 1, 7, 0, 401, NONE, rows, 8, out, 5, &info));
+    CHECK(TS_OK, ts_scan_at(h, view.a, 1, 300, NONE, rows, 8, out, sizeof out, &info));
     HOLDS(info.a == 3 && rows[1].record == 8 && out[rows[1].at + 2] == 'b');
-    CHECK(TS_OK, ts_scan_at(h, view.a, 1, 400, rows, 8, out, sizeof out, &info));
+    CHECK(TS_OK, ts_scan_at(h, view.a, 1, 400, NONE, rows, 8, out, sizeof out, &info));
     HOLDS(info.a == 2 && rows[1].record == 9);
-    CHECK(TS_OK, ts_scan_between(h, view.a, 1, 150, 401, rows, 8, out, sizeof out, &info));
+    CHECK(TS_OK, ts_scan_between(h, view.a, 1, 150, 401, NONE, rows, 8, out, sizeof out, &info));
     HOLDS(info.a == 4 && rows[2].record == 8 && rows[2].from == 200 && rows[2].upto == 400);
     uint64_t times[4];
     CHECK(TS_OK, ts_times_of(h, 9, times, 4, &info));
@@ -169,7 +169,7 @@ static void test_rows(ts_file *file) {
     uint64_t later = commit_text(file, 7, "d", 9, 0);
     HOLDS(later == 401);
     HOLDS(has_text(h, view.a, 7, 400, "c"));
-    CHECK(TS_NOT_YET, ts_at(h, view.a, 1, 7, 401, out, sizeof out, &info));
+    CHECK(TS_NOT_YET, ts_at(h, view.a, 1, 7, 401, NONE, out, sizeof out, &info));
     CHECK(TS_OK, ts_end(h, view.a));
 }
 
@@ -184,6 +184,57 @@ static void test_archive(ts_file *file) {
     CHECK(TS_OK, ts_file_job(file));
     CHECK(TS_NOTHING_TO_DO, ts_archive(h, 400, &info));
     HOLDS(now_has(h, 7, 150, "a"));
+}
+
+/* A reclaim of what is archived: memory no longer has it, and the archive that is lent does. */
+static void test_reclaim(ts_file *file) {
+    ts *h = ts_file_store(file);
+    ts_info info, old, view;
+    ts_row rows[8];
+    uint8_t out[64];
+    const uint8_t *archive;
+    size_t len;
+    CHECK(TS_OK, ts_view(h, &old));
+    uint64_t open = begun(h);
+    CHECK(TS_OK, ts_reclaim(h, &info));
+    CHECK(TS_JOB_BUSY, ts_reclaim(h, &info));
+    CHECK(TS_OK, ts_abort(h, open));
+    CHECK(TS_OK, ts_file_job(file));
+    CHECK(TS_NOTHING_TO_DO, ts_reclaim(h, &info));
+    HOLDS(has_text(h, old.a, 7, 150, "a"));
+    CHECK(TS_OK, ts_view(h, &view));
+    CHECK(TS_OK, ts_recent(h, view.a, 1, 7, 400, out, sizeof out, &info));
+    HOLDS(info.a == 3 && out[2] == 'c');
+    CHECK(TS_NEEDS_ARCHIVE, ts_recent(h, view.a, 1, 7, 399, out, sizeof out, &info));
+    CHECK(TS_NEEDS_ARCHIVE, ts_at(h, view.a, 1, 7, 150, NONE, out, sizeof out, &info));
+    CHECK(TS_NEEDS_ARCHIVE, ts_between(h, view.a, 1, 7, 0, 401, NONE, rows, 8, out, sizeof out, &info));
+    CHECK(TS_OK, ts_file_archive(file, &archive, &len));
+    CHECK(TS_OK, ts_at(h, view.a, 1, 7, 150, archive, len, out, sizeof out, &info));
+    HOLDS(info.a == 3 && out[2] == 'a');
+    CHECK(TS_NONE, ts_at(h, view.a, 1, 7, 99, archive, len, out, sizeof out, &info));
+    CHECK(TS_OK, ts_between(h, view.a, 1, 7, 0, 401, archive, len, rows, 8, out, sizeof out, &info));
+    HOLDS(info.a == 2 && rows[0].from == 100 && rows[0].upto == 400 && rows[1].from == 400);
+    CHECK(TS_OK, ts_scan_at(h, view.a, 1, 300, archive, len, rows, 8, out, sizeof out, &info));
+    HOLDS(info.a == 3 && rows[1].record == 8 && out[rows[1].at + 2] == 'b');
+    CHECK(TS_OK, ts_scan_between(h, view.a, 1, 150, 401, archive, len, rows, 8, out, sizeof out, &info));
+    HOLDS(info.a == 4 && rows[2].record == 8 && rows[2].from == 200 && rows[2].upto == 400);
+    CHECK(TS_DAMAGED, ts_at(h, view.a, 1, 7, 150, archive, 8, out, sizeof out, &info));
+    CHECK(TS_OK, ts_end(h, view.a));
+    CHECK(TS_OK, ts_end(h, old.a));
+}
+
+/* After a reclaim the store opens, and answers over the archive. */
+static void test_reopened(ts_file *file) {
+    ts *h = ts_file_store(file);
+    ts_info info, view;
+    uint8_t out[64];
+    const uint8_t *archive;
+    size_t len;
+    CHECK(TS_OK, ts_view(h, &view));
+    CHECK(TS_OK, ts_file_archive(file, &archive, &len));
+    CHECK(TS_OK, ts_at(h, view.a, 1, 7, 150, archive, len, out, sizeof out, &info));
+    HOLDS(out[2] == 'a');
+    CHECK(TS_OK, ts_end(h, view.a));
 }
 
 int main(int argc, char **argv) {
@@ -202,10 +253,12 @@ int main(int argc, char **argv) {
     test_refusals(file);
     test_rows(file);
     test_archive(file);
+    test_reclaim(file);
     ts_file_close(file);
     CHECK(TS_OK, ts_file_open(argv[1], &file, &info));
     HOLDS(info.a == 401);
-    HOLDS(now_has(ts_file_store(file), 7, 150, "a") && now_has(ts_file_store(file), 7, 401, "d"));
+    HOLDS(now_has(ts_file_store(file), 7, 401, "d"));
+    test_reopened(file);
     ts_file_close(file);
     return 0;
 }

@@ -1,7 +1,7 @@
 -- What the calls of an engine do to its store.
 use Rattle.std.specs.Prelude.{◌≡◌, ◌≤◌, ◌⊎◌, ◌==◌, ℕ, Bool, true, false, List, length, take, Result, Ok, Err, Option, Some, None, MatchBool, MatchOption, IfSome}
+use Rattle.disk.specs.Areas.{Areas}
 use Rattle.disk.specs.Calls.{fresh_on}
-use Rattle.chains.specs.Writes.{Value}
 use Rattle.group.specs.Tickets.{TicketValue}
 use Rattle.group.specs.declared.answers.BeginFault.{BeginFault}
 use Rattle.group.specs.declared.answers.Did.{Did}
@@ -9,18 +9,22 @@ use Rattle.group.specs.declared.answers.PumpFault.{PumpFault}
 use Rattle.group.specs.declared.answers.Redeemed.{Redeemed}
 use Rattle.group.specs.declared.answers.Submitted.{Submitted}
 use Rattle.group.specs.declared.answers.SubmitFault.{SubmitFault}
-use Rattle.history.specs.declared.key.Key.{Key}
+use Rattle.relay.specs.Calls.{LeadsTo}
+use Rattle.relay.specs.declared.device_call.DeviceCall.{DeviceCall}
+use Rattle.relay.specs.declared.device_call.DeviceCall.TheVariants.{Write, Sync}
 use Rattle.snapshot.specs.Txn.{TxnValue}
 use Rattle.store.specs.Archives.{StartsArchive}
-use Rattle.store.specs.Calls.{Begins, Aborts, Submits, Redeems, IsTimesOf, IsViewOf, AnswersAtView, last, floor}
+use Rattle.store.specs.Calls.{Begins, Aborts, Submits, Redeems, IsTimesOf, IsViewOf, last, floor}
 use Rattle.store.specs.Jobs.{PumpsJob}
 use Rattle.store.specs.Opens.{Opens}
 use Rattle.store.specs.Pumps.{Pumps}
+use Rattle.store.specs.Reclaims.{StartsReclaim}
 use Rattle.store.specs.Values.{StoreValue}
 use Rattle.store.specs.declared.job.JobDid.{JobDid}
 use Rattle.store.specs.declared.job.StartFault.{StartFault}
-use Rattle.timequery.specs.View.{ViewValue}
-use Rattle.timequery.specs.declared.fault.QueryFault.{QueryFault}
+use Rattle.embedded.specs.Areas.{area_number}
+use Rattle.embedded.specs.Held.{view_under}
+use Rattle.embedded.specs.declared.code.Call.{Call}
 use Rattle.embedded.specs.declared.code.Code.{Code}
 use Rattle.embedded.specs.declared.code.Code.TheVariants as code
 use Rattle.embedded.specs.declared.code.Info.{Info}
@@ -108,19 +112,26 @@ PumpsJobOf old new = WhileSettled old new ((new ≡ old) ⊎ ((answer : Result J
 abbrev pub ArchivesEngine : ℕ → Engine → Engine → Type 0
 ArchivesEngine upto old new = WhileSettled old new ((answer : Result (Unit {0}) StartFault) × StartsArchive old.store upto answer new.store × (new.standing ≡ old.standing))
 
+-- the same of a reclaim
+abbrev pub ReclaimsEngine : Engine → Engine → Type 0
+ReclaimsEngine old new = WhileSettled old new ((answer : Result (Unit {0}) StartFault) × StartsReclaim old.store answer new.store × (new.standing ≡ old.standing))
+
+-- the number that is told names a view of what is published
+abbrev pub GivesView : Engine → Engine → Code → Info → Type 0
+GivesView old new said info = old.standing ≡ Settled → said ≡ code.Ok → MatchOption (view_under new info.a) ⊥ (IsViewOf old.store)
+
 -- the times of the commits with a label, where they were asked for and there was room for them
 abbrev pub TellsLabels : ℕ → Engine → Code → ℕ → List ℕ → Type 0
 TellsLabels label e result count times = result ≡ code.Ok → IsTimesOf e.store label (take count times) × (count ≤ length times)
 
--- the code of a value that was asked for
-abbrev pub IsValueCode : Result (Option Value) QueryFault → Code → Type 0
-IsValueCode (Ok None) said = said ≡ code.None
-IsValueCode (Ok (Some value)) said = (said ≡ code.Ok) ⊎ (said ≡ code.Small)
-IsValueCode (Err why) said = Unit {0}
+-- the device call as it is told
+abbrev pub IsTold : Call → DeviceCall → Type 0
+IsTold told (Write area at) = (told.kind ≡ 1) × (told.area ≡ area_number area) × (told.at ≡ at)
+IsTold told (Sync area) = (told.kind ≡ 2) × (told.area ≡ area_number area)
 
--- what one of its views is answered at a time, or it has no such view
-abbrev pub AsksAt : Key → ℕ → Engine → Code → Type 0
-AsksAt key time e said = (said ≡ code.Unknown) ⊎ ((view : ViewValue) × (answer : Result (Option Value) QueryFault) × AnswersAtView e.store view key time answer × IsValueCode answer said)
+-- a call that is told, with its bytes, has made of some areas those of the store's disk: it is the last one that the store made
+abbrev pub TellsCall : Engine → Code → Call → List ℕ → Type 0
+TellsCall e said told out = said ≡ code.Ok → ∥ ((call : DeviceCall) × (before : Areas) × IsTold told call × LeadsTo call (take told.len out) before e.store.disk.areas) ∥₁
 
 -- after a refused call a commit is done only if it was published before
 abbrev pub IsDoneBefore : Engine → Code → ℕ → Type 0

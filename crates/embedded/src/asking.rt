@@ -1,11 +1,14 @@
 //! The store's views and queries: nothing else of this crate asks for them.
-ghost use Rattle.std.specs.Prelude.{◌≡◌, IfOk};
-ghost use Rattle.store.specs.Calls.{IsViewOf, AnswersAtView, AnswersScanAt, AnswersRows, AnswersScanRows};
+ghost use Rattle.std.specs.Prelude.{true, IfOk};
+ghost use Rattle.store.specs.Values.{StoreValue};
+ghost use Rattle.store.specs.Calls.{IsViewOf, FindsAt, FindsScanAt, FindsRows, FindsScanRows};
+ghost use Rattle.embedded.specs.Queries.{IsOver, over};
 
+use archive::ArchiveReader;
 use chains::SharedValue;
 use history::{Key, Version};
-use relay::RelayDisk;
-use std::alloc::AllocError;
+use relay::{RelayDisk, SliceDisk};
+use std::alloc::{AllocError, Global};
 use store::Store;
 use timequery::{QueryFault, View};
 
@@ -18,52 +21,81 @@ pub fn view(store: &Kept) -> Result<View, AllocError>
     store.view()
 }
 
-pub fn at(
-    store: &mut Kept,
-    view: &View,
-    key: Key,
-    time: u64,
-) -> Result<Option<SharedValue>, QueryFault>
-    ensures is { AnswersAtView store.old view.now key time result }
-    ensures same { store.new ≡ store.old }
-{
-    store.at(view, key, time)
+/// The archive that a host lends for one query, and its reader, which keeps nothing of it.
+#[derive(Drop)]
+pub struct Lent<'a> {
+    alloc: Global,
+    reader: ArchiveReader,
+    disk: SliceDisk<'a>,
 }
 
-pub fn scan_at(
-    store: &mut Kept,
-    view: &View,
-    relation: u16,
-    time: u64,
-) -> Result<Vec<(u64, SharedValue)>, QueryFault>
-    ensures is { AnswersScanAt store.old view.now relation time result }
-    ensures same { store.new ≡ store.old }
-{
-    store.scan_at(view, relation, time)
-}
+impl<'a> Lent<'a> {
+    pub fn new(alloc: Global, archive: &'a [u8]) -> Lent<'a>
+        ensures { IsOver archive.now result }
+    {
+        Lent {
+            alloc,
+            reader: ArchiveReader::without_cache(alloc),
+            disk: SliceDisk::new(&[], &[], archive),
+        }
+    }
 
-pub fn between(
-    store: &mut Kept,
-    view: &View,
-    key: Key,
-    a: u64,
-    b: u64,
-) -> Result<Vec<Version<SharedValue>>, QueryFault>
-    ensures is { AnswersRows store.old view.now key a b result }
-    ensures same { store.new ≡ store.old }
-{
-    store.between(view, key, a, b)
-}
+    pub fn at(
+        &mut self,
+        view: &View,
+        key: Key,
+        time: u64,
+    ) -> Result<Option<SharedValue>, QueryFault>
+        ensures { (v : StoreValue) → FindsAt true (over self.old v) view.now key time result (over self.new v) }
+    {
+        view.value_at(self.alloc, &mut self.reader, &mut self.disk, key, time)
+    }
 
-pub fn scan_between(
-    store: &mut Kept,
-    view: &View,
-    relation: u16,
-    a: u64,
-    b: u64,
-) -> Result<Vec<(u64, Version<SharedValue>)>, QueryFault>
-    ensures is { AnswersScanRows store.old view.now relation a b result }
-    ensures same { store.new ≡ store.old }
-{
-    store.scan_between(view, relation, a, b)
+    pub fn scan_at(
+        &mut self,
+        view: &View,
+        relation: u16,
+        time: u64,
+    ) -> Result<Vec<(u64, SharedValue)>, QueryFault>
+        ensures { (v : StoreValue) → FindsScanAt true (over self.old v) view.now relation time result (over self.new v) }
+    {
+        view.values_at(
+            self.alloc,
+            &mut self.reader,
+            &mut self.disk,
+            relation,
+            time,
+        )
+    }
+
+    pub fn between(
+        &mut self,
+        view: &View,
+        key: Key,
+        a: u64,
+        b: u64,
+    ) -> Result<Vec<Version<SharedValue>>, QueryFault>
+        ensures { (v : StoreValue) → FindsRows true (over self.old v) view.now key a b result (over self.new v) }
+    {
+        view.rows_between(self.alloc, &mut self.reader, &mut self.disk, key, a, b)
+    }
+
+    pub fn scan_between(
+        &mut self,
+        view: &View,
+        relation: u16,
+        a: u64,
+        b: u64,
+    ) -> Result<Vec<(u64, Version<SharedValue>)>, QueryFault>
+        ensures { (v : StoreValue) → FindsScanRows true (over self.old v) view.now relation a b result (over self.new v) }
+    {
+        view.scan_rows_between(
+            self.alloc,
+            &mut self.reader,
+            &mut self.disk,
+            relation,
+            a,
+            b,
+        )
+    }
 }

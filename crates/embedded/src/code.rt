@@ -1,4 +1,6 @@
 //! What a host is answered.
+ghost use Rattle.std.specs.Prelude.{◌≡◌};
+ghost use Rattle.embedded.specs.Codes.{code_number};
 
 /// How a call ended. A host knows the numbers.
 #[derive(Clone, Copy, Debug, PartialEq, Eq)]
@@ -42,11 +44,15 @@ pub enum Code {
     ArchiveFull,
     BadSlots,
     InUse,
+    /// The answer needs the archive, and none was lent.
+    NeedsArchive,
 }
 
 impl Code {
     /// The number of this code: 0 and more for an answer, less than 0 for a refusal.
-    pub fn number(self) -> i32 {
+    pub fn number(self) -> i32
+        ensures { result ≡ code_number self }
+    {
         match self {
             Code::Ok => 0,
             Code::None => 1,
@@ -78,6 +84,7 @@ impl Code {
             Code::ArchiveFull => -23,
             Code::BadSlots => -24,
             Code::InUse => -25,
+            Code::NeedsArchive => -26,
         }
     }
 }

@@ -1,4 +1,6 @@
 //! The codes of a store's answers.
+ghost use Rattle.embedded.specs.Queries.{IsFaultCode};
+
 use crate::code::{Code, Info};
 use group::{BeginFault, Did, PumpFault, SubmitFault};
 use snapshot::TxnFault;
@@ -69,7 +71,9 @@ pub(crate) fn start_code(fault: StartFault, info: &mut Info) -> Code {
 }
 
 // The bound that a time breaks is told.
-pub(crate) fn query_code(fault: QueryFault, info: &mut Info) -> Code {
+pub(crate) fn query_code(fault: QueryFault, info: &mut Info) -> Code
+    ensures { IsFaultCode fault result info.new }
+{
     match fault {
         QueryFault::BeforeKept(time) => {
             info.a = time;
@@ -84,7 +88,8 @@ pub(crate) fn query_code(fault: QueryFault, info: &mut Info) -> Code {
             Code::Damaged
         }
         QueryFault::EmptyInterval => Code::EmptyInterval,
-        QueryFault::Device | QueryFault::NeedsDisk => Code::Failed,
+        QueryFault::Device => Code::Failed,
+        QueryFault::NeedsDisk => Code::NeedsArchive,
         QueryFault::NoMemory => Code::NoMemory,
         QueryFault::Stranger => Code::Stranger,
     }

@@ -1,9 +1,11 @@
 //! A store, what it gave out, and the device call that the host is to make.
 ghost use Rattle.std.specs.Prelude.{◌≡◌, is_some, IfSome};
+ghost use Rattle.embedded.specs.Areas.{area_number};
 
 use crate::asking::{self, Kept};
 use crate::code::{Call, Code, Info};
 use crate::places::Places;
+use crate::values::copy_bytes;
 use disk::{Area, Disk};
 use relay::DeviceCall;
 use std::alloc::Global;
@@ -66,7 +68,9 @@ impl Drop for Engine {
     }
 }
 
-fn area_number(area: Area) -> u32 {
+fn area_number(area: Area) -> u32
+    ensures { result ≡ area_number area }
+{
     match area {
         Area::Status => 0,
         Area::Heap => 1,
@@ -83,7 +87,7 @@ fn put_published(place: &mut Option<Published>, published: Option<Published>)
 }
 
 impl Engine {
-    ghost use Rattle.embedded.specs.Engines.{is_stopped, TellsTimes, HasCalled, StandsOut, WasPublished};
+    ghost use Rattle.embedded.specs.Engines.{is_stopped, TellsTimes, HasCalled, StandsOut, WasPublished, TellsCall};
 
     pub(crate) fn new(alloc: Global, store: Kept) -> Engine
         ensures store { result.store ≡ store }
@@ -132,7 +136,9 @@ impl Engine {
     }
 
     /// The device call that the host is to make, and the bytes that it writes.
-    pub fn call(&self, call: &mut Call, out: &mut [u8]) -> Code {
+    pub fn call(&self, call: &mut Call, out: &mut [u8]) -> Code
+        ensures { TellsCall self.now result call.new out.new }
+    {
         *call = Call {
             kind: 0,
             area: 0,
@@ -146,17 +152,27 @@ impl Engine {
         match disk.last() {
             None => Code::None,
             Some(DeviceCall::Sync { area }) => {
-                call.kind = 2;
-                call.area = area_number(area);
+                *call = Call {
+                    kind: 2,
+                    area: area_number(area),
+                    at: 0,
+                    len: 0,
+                };
                 Code::Ok
             }
             Some(DeviceCall::Write { area, at }) => {
-                call.kind = 1;
-                call.area = area_number(area);
-                call.at = at;
                 let bytes = disk.bytes();
-                call.len = bytes.len() as u64;
-                copy_bytes(bytes, out)
+                *call = Call {
+                    kind: 1,
+                    area: area_number(area),
+                    at,
+                    len: bytes.len() as u64,
+                };
+                if copy_bytes(bytes, out) {
+                    Code::Ok
+                } else {
+                    Code::Small
+                }
             }
         }
     }
@@ -211,13 +227,4 @@ impl Engine {
     {
         self.store.disk().made()
     }
-}
-
-// Copies bytes out where there is room.
-fn copy_bytes(bytes: &[u8], out: &mut [u8]) -> Code {
-    if out.len() < bytes.len() {
-        return Code::Small;
-    }
-    out[..bytes.len()].copy_from_slice(bytes);
-    Code::Ok
 }

@@ -1,10 +1,10 @@
-//! Archives.
+//! Archives and reclaims.
 use crate::code::{Code, Info};
 use crate::codes::{job_number, pump_code, start_code};
 use crate::engine::Engine;
 
 impl Engine {
-    ghost use Rattle.embedded.specs.Engines.{ArchivesEngine, PumpsJobOf};
+    ghost use Rattle.embedded.specs.Engines.{ArchivesEngine, ReclaimsEngine, PumpsJobOf};
 
     /// Begins an archive of what ended by a time.
     pub fn archive(&mut self, upto: u64, info: &mut Info) -> Code
@@ -14,6 +14,19 @@ impl Engine {
             return code;
         }
         match self.store.archive_start(upto) {
+            Ok(()) => Code::Ok,
+            Err(fault) => start_code(fault, info),
+        }
+    }
+
+    /// Begins a reclaim of what is archived.
+    pub fn reclaim(&mut self, info: &mut Info) -> Code
+        ensures { ReclaimsEngine self.old self.new }
+    {
+        if let Some(code) = self.stopped() {
+            return code;
+        }
+        match self.store.reclaim_start() {
             Ok(()) => Code::Ok,
             Err(fault) => start_code(fault, info),
         }

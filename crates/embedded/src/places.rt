@@ -1,5 +1,6 @@
 //! What a store gave out, by number.
-ghost use Rattle.std.specs.Prelude.{◌≡◌, ◌<◌, [], length};
+ghost use Rattle.std.specs.Prelude.{◌≡◌, ◌<◌, ◌/◌, ◌%◌, ◌^◌, [], IfOk, option_copied};
+ghost use Rattle.embedded.specs.Held.{held_under, transaction_in, view_in, IsKept};
 
 use group::Ticket;
 use snapshot::Txn;
@@ -46,6 +47,9 @@ pub struct Places {
 
 fn number_of(at: usize, stamp: u32) -> u64
     requires { at < 65536 }
+    ensures place { result % 65536 ≡ at }
+    ensures stamp { result / 65536 ≡ stamp }
+    ensures low { result < 2 ^ 63 }
 {
     stamp as u64 * 65_536 + at as u64
 }
@@ -59,14 +63,18 @@ impl Places {
     }
 
     /// Keeps a value under a number; where there is no place for it, it comes back.
-    pub fn keep(&mut self, held: Held) -> Result<u64, Held> {
+    pub fn keep(&mut self, held: Held) -> Result<u64, Held>
+        ensures { IfOk result (IsKept held self.new) }
+    {
         match self.free.pop() {
             Some(at) => self.keep_at(at, held),
             None => self.keep_behind(held),
         }
     }
 
-    fn keep_at(&mut self, at: usize, held: Held) -> Result<u64, Held> {
+    fn keep_at(&mut self, at: usize, held: Held) -> Result<u64, Held>
+        ensures { IfOk result (IsKept held self.new) }
+    {
         if at >= self.places.len() || at >= MAX_PLACES {
             return Err(held);
         }
@@ -75,7 +83,9 @@ impl Places {
         Ok(number_of(at, place.stamp))
     }
 
-    fn keep_behind(&mut self, held: Held) -> Result<u64, Held> {
+    fn keep_behind(&mut self, held: Held) -> Result<u64, Held>
+        ensures { IfOk result (IsKept held self.new) }
+    {
         let at = self.places.len();
         if at >= MAX_PLACES || self.places.reserve(1).is_err() {
             return Err(held);
@@ -112,28 +122,32 @@ impl Places {
         held
     }
 
-    pub fn transaction(&self, number: u64) -> Option<&Txn> {
-        let at = self.place_of(number)?;
-        match self.places.get(at) {
-            Some(
-                Place {
-                    held: Held::Transaction(txn),
-                    ..
-                },
-            ) => Some(txn),
+    // What stands under a number.
+    fn held(&self, number: u64) -> Option<&Held>
+        ensures { option_copied result ≡ held_under self.now number }
+    {
+        let place = self.places.get((number % 65_536) as usize)?;
+        if place.stamp as u64 == number / 65_536 {
+            Some(&place.held)
+        } else {
+            None
+        }
+    }
+
+    pub fn transaction(&self, number: u64) -> Option<&Txn>
+        ensures { option_copied result ≡ transaction_in (held_under self.now number) }
+    {
+        match self.held(number) {
+            Some(Held::Transaction(txn)) => Some(txn),
             _ => None,
         }
     }
 
-    pub fn view(&self, number: u64) -> Option<&View> {
-        let at = self.place_of(number)?;
-        match self.places.get(at) {
-            Some(
-                Place {
-                    held: Held::View(view),
-                    ..
-                },
-            ) => Some(view),
+    pub fn view(&self, number: u64) -> Option<&View>
+        ensures { option_copied result ≡ view_in (held_under self.now number) }
+    {
+        match self.held(number) {
+            Some(Held::View(view)) => Some(view),
             _ => None,
         }
     }
@@ -175,14 +189,8 @@ impl Places {
     }
 
     pub fn ticket(&self, number: u64) -> Option<&Ticket> {
-        let at = self.place_of(number)?;
-        match self.places.get(at) {
-            Some(
-                Place {
-                    held: Held::Ticket(ticket),
-                    ..
-                },
-            ) => Some(ticket),
+        match self.held(number) {
+            Some(Held::Ticket(ticket)) => Some(ticket),
             _ => None,
         }
     }

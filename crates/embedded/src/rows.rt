@@ -1,6 +1,6 @@
 //! Values and rows, copied out.
-ghost use Rattle.std.specs.Prelude.{◌≡◌, ◌⊎◌};
-ghost use Rattle.embedded.specs.declared.code.Code.{Code};
+ghost use Rattle.std.specs.Prelude.{◌≡◌, ◌+◌, ◌<◌, ◌^◌, length, option_copied};
+ghost use Rattle.embedded.specs.Queries.{IsCopied, IsValueTold, AreTold};
 
 use crate::code::{Code, Info, Row};
 use crate::values::{copy_out, length_of};
@@ -8,12 +8,22 @@ use chains::SharedValue;
 use history::Version;
 use wire::Value;
 
-/// Copies a value out; its length is told.
-pub fn copied(value: &Value, out: &mut [u8], info: &mut Info) -> Code
-    ensures { (result ≡ Code.Ok) ⊎ (result ≡ Code.Small) }
+/// Copies a value out; none has its own code.
+pub fn value_out(found: Option<&SharedValue>, out: &mut [u8], info: &mut Info) -> Code
+    ensures { IsValueTold (option_copied found.entry) result info.new out.new }
 {
-    info.a = length_of(value) as u64;
-    match copy_out(value, out) {
+    match found {
+        None => Code::None,
+        Some(value) => copied(value, out, info),
+    }
+}
+
+/// Copies a value out; its length is told.
+fn copied(value: &SharedValue, out: &mut [u8], info: &mut Info) -> Code
+    ensures { IsCopied value.now result info.new out.new }
+{
+    info.a = length_of(value.value()) as u64;
+    match copy_out(value.value(), out) {
         None => Code::Small,
         Some(_) => Code::Ok,
     }
@@ -28,7 +38,9 @@ struct Copying {
 }
 
 impl Copying {
-    fn new() -> Copying {
+    fn new() -> Copying
+        ensures { result.rows ≡ 0 }
+    {
         Copying {
             rows: 0,
             bytes: 0,
@@ -37,7 +49,9 @@ impl Copying {
     }
 
     // Copies one row; where one does not fit, none behind it is copied.
-    fn copy(&mut self, row: Row, value: &Value, rows: &mut [Row], out: &mut [u8]) {
+    fn copy(&mut self, row: Row, value: &Value, rows: &mut [Row], out: &mut [u8])
+        ensures { self.old.rows < 2 ^ 63 → self.new.rows ≡ self.old.rows + 1 }
+    {
         let len = length_of(value);
         if self.fits && self.rows < rows.len() && self.bytes <= out.len() {
             match copy_out(value, &mut out[self.bytes..]) {
@@ -58,7 +72,9 @@ impl Copying {
     }
 
     // How many rows there are and how many bytes they take are told.
-    fn end(self, info: &mut Info) -> Code {
+    fn end(self, info: &mut Info) -> Code
+        ensures { AreTold self.rows result info.new }
+    {
         info.a = self.rows as u64;
         info.b = self.bytes as u64;
         if self.fits { Code::Ok } else { Code::Small }
@@ -81,7 +97,9 @@ pub fn records_out(
     rows: &mut [Row],
     out: &mut [u8],
     info: &mut Info,
-) -> Code {
+) -> Code
+    ensures { AreTold (length found.now) result info.new }
+{
     let mut copying = Copying::new();
     for entry in found {
         copying.copy(row(entry.0, 0, 0), entry.1.value(), rows, out);
@@ -96,7 +114,9 @@ pub fn rows_out(
     rows: &mut [Row],
     out: &mut [u8],
     info: &mut Info,
-) -> Code {
+) -> Code
+    ensures { AreTold (length found.now) result info.new }
+{
     let mut copying = Copying::new();
     for version in found {
         let row = row(record, version.from, version.to);
@@ -111,7 +131,9 @@ pub fn scan_out(
     rows: &mut [Row],
     out: &mut [u8],
     info: &mut Info,
-) -> Code {
+) -> Code
+    ensures { AreTold (length found.now) result info.new }
+{
     let mut copying = Copying::new();
     for entry in found {
         let row = row(entry.0, entry.1.from, entry.1.to);

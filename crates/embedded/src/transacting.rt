@@ -3,14 +3,17 @@ use crate::code::{Code, Info, Row};
 use crate::codes::{begin_code, did_number, pump_code, submit_code, txn_code};
 use crate::engine::{Engine, Standing};
 use crate::places::Held;
-use crate::rows::{copied, records_out};
+use crate::rows::{records_out, value_out};
 use crate::values::put;
 use group::{Redeemed, Submitted, Ticket};
 use history::Key;
 use snapshot::Txn;
 
 impl Engine {
-    ghost use Rattle.std.specs.Prelude.{◌≤◌, IsTrue, IfSome};
+    ghost use Rattle.std.specs.Prelude.{◌≡◌, ◌≤◌, IsTrue, IfSome};
+    ghost use Rattle.embedded.specs.declared.code.Code.{Code};
+    ghost use Rattle.embedded.specs.Held.{IsKept};
+    ghost use Rattle.embedded.specs.Queries.{Sees, SeesScan};
     ghost use Rattle.embedded.specs.Engines.{BeginsEngine, SubmitsEngine, AbortsEngine, RedeemsEngine, ShowsTicket, IsDoneBefore, PumpsEngine, MayAbort, KeepsStore};
 
     /// A transaction on what is published now; its number and the time of its snapshot are told.
@@ -79,13 +82,12 @@ impl Engine {
     }
 
     /// The value that a transaction sees, and its length.
-    pub fn get(&self, transaction: u64, key: Key, out: &mut [u8], info: &mut Info) -> Code {
+    pub fn get(&self, transaction: u64, key: Key, out: &mut [u8], info: &mut Info) -> Code
+        ensures { Sees transaction key self.now result info.new out.new }
+    {
         match self.places.transaction(transaction) {
             None => Code::Unknown,
-            Some(txn) => match txn.get(key) {
-                None => Code::None,
-                Some(value) => copied(value.value(), out, info),
-            },
+            Some(txn) => value_out(txn.get(key), out, info),
         }
     }
 
@@ -97,7 +99,9 @@ impl Engine {
         rows: &mut [Row],
         out: &mut [u8],
         info: &mut Info,
-    ) -> Code {
+    ) -> Code
+        ensures { SeesScan transaction relation self.now result info.new }
+    {
         match self.places.transaction(transaction) {
             None => Code::Unknown,
             Some(txn) => match txn.scan(self.alloc, relation) {
@@ -132,7 +136,8 @@ impl Engine {
 
     // The number of what is kept is told; where there is no place for it, it is given up.
     pub(crate) fn keep(&mut self, held: Held, info: &mut Info) -> Code
-        ensures { KeepsStore self.old self.new }
+        ensures keeps { KeepsStore self.old self.new }
+        ensures kept { result ≡ Code.Ok → IsKept held self.new.places info.new.a }
     {
         match self.places.keep(held) {
             Ok(number) => {

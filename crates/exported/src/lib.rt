@@ -2,7 +2,10 @@
 #![tactic(auto)]
 
 ghost use Rattle.std.specs.Prelude.{◌≡◌, None, Some};
-ghost use Rattle.embedded.specs.Engines.{OnHandle, StaysSame, KeepsStore, MayAbort, HasCalled, OpensHandle, BeginsEngine, SubmitsEngine, RedeemsEngine, PumpsEngine, PumpsJobOf, ArchivesEngine};
+ghost use Rattle.history.specs.Key.{key_of};
+ghost use Rattle.embedded.specs.Codes.{code_number, AnswersOn};
+ghost use Rattle.embedded.specs.Engines.{OnHandle, StaysSame, KeepsStore, MayAbort, HasCalled, OpensHandle, BeginsEngine, SubmitsEngine, RedeemsEngine, PumpsEngine, PumpsJobOf, ArchivesEngine, ReclaimsEngine, TellsTimes, TellsCall, TellsLabels};
+ghost use Rattle.embedded.specs.Queries.{Sees, SeesScan, AsksRecent, AsksAt, AsksScanAt, AsksRows, AsksScanRows};
 
 use embedded::{Call, Code, Engine, Handle, Info, Row};
 use history::Key;
@@ -10,7 +13,8 @@ use std::alloc::Global;
 
 // The engine goes back into its handle.
 fn put_back(handle: &mut Handle, engine: Box<Engine>, code: Code) -> i32
-    ensures { handle.new.engine ≡ Some engine.value }
+    ensures engine { handle.new.engine ≡ Some engine.value }
+    ensures code { result ≡ code_number code }
 {
     handle.put(engine);
     code.number()
@@ -59,7 +63,8 @@ pub extern "C" fn ts_close(alloc: Global, handle: &mut Handle) -> i32
 /// The time of the last commit, and the floor.
 #[unsafe(no_mangle)]
 pub extern "C" fn ts_last(alloc: Global, handle: &mut Handle, info: &mut Info) -> i32
-    ensures { OnHandle StaysSame handle.old.engine handle.new.engine }
+    ensures same { OnHandle StaysSame handle.old.engine handle.new.engine }
+    ensures answers { AnswersOn (λ e said. TellsTimes e.standing e said info.new) handle.old.engine result }
 {
     let Some(engine) = handle.take(alloc) else {
         return Code::Closed.number();
@@ -76,7 +81,8 @@ pub extern "C" fn ts_call(
     call: &mut Call,
     out: &mut [u8],
 ) -> i32
-    ensures { OnHandle StaysSame handle.old.engine handle.new.engine }
+    ensures same { OnHandle StaysSame handle.old.engine handle.new.engine }
+    ensures answers { AnswersOn (λ e said. TellsCall e said call.new out.new) handle.old.engine result }
 {
     let Some(engine) = handle.take(alloc) else {
         return Code::Closed.number();
@@ -157,7 +163,8 @@ pub extern "C" fn ts_get(
     out: &mut [u8],
     info: &mut Info,
 ) -> i32
-    ensures { OnHandle StaysSame handle.old.engine handle.new.engine }
+    ensures same { OnHandle StaysSame handle.old.engine handle.new.engine }
+    ensures answers { AnswersOn (λ e said. Sees transaction (key_of relation «record») e said info.new out.new) handle.old.engine result }
 {
     let Some(engine) = handle.take(alloc) else {
         return Code::Closed.number();
@@ -177,7 +184,8 @@ pub extern "C" fn ts_scan(
     out: &mut [u8],
     info: &mut Info,
 ) -> i32
-    ensures { OnHandle StaysSame handle.old.engine handle.new.engine }
+    ensures same { OnHandle StaysSame handle.old.engine handle.new.engine }
+    ensures answers { AnswersOn (λ e said. SeesScan transaction relation e said info.new) handle.old.engine result }
 {
     let Some(engine) = handle.take(alloc) else {
         return Code::Closed.number();
@@ -277,10 +285,10 @@ pub extern "C" fn ts_end(alloc: Global, handle: &mut Handle, view: u64) -> i32
     put_back(handle, engine, code)
 }
 
-/// The value of a key at a time.
+/// The value of a key at a time, from memory alone.
 #[unsafe(no_mangle)]
 #[allow(clippy::too_many_arguments)]
-pub extern "C" fn ts_at(
+pub extern "C" fn ts_recent(
     alloc: Global,
     handle: &mut Handle,
     view: u64,
@@ -290,12 +298,37 @@ pub extern "C" fn ts_at(
     out: &mut [u8],
     info: &mut Info,
 ) -> i32
-    ensures { OnHandle StaysSame handle.old.engine handle.new.engine }
+    ensures same { OnHandle StaysSame handle.old.engine handle.new.engine }
+    ensures answers { AnswersOn (λ e said. AsksRecent view (key_of relation «record») time e said info.new out.new) handle.old.engine result }
 {
-    let Some(mut engine) = handle.take(alloc) else {
+    let Some(engine) = handle.take(alloc) else {
         return Code::Closed.number();
     };
-    let code = engine.at(view, Key { relation, record }, time, out, info);
+    let code = engine.recent(view, Key { relation, record }, time, out, info);
+    put_back(handle, engine, code)
+}
+
+/// The value of a key at a time. The archive is lent.
+#[unsafe(no_mangle)]
+#[allow(clippy::too_many_arguments)]
+pub extern "C" fn ts_at(
+    alloc: Global,
+    handle: &mut Handle,
+    view: u64,
+    relation: u16,
+    record: u64,
+    time: u64,
+    archive: &[u8],
+    out: &mut [u8],
+    info: &mut Info,
+) -> i32
+    ensures same { OnHandle StaysSame handle.old.engine handle.new.engine }
+    ensures answers { AnswersOn (λ e said. AsksAt archive.now view (key_of relation «record») time e said info.new out.new) handle.old.engine result }
+{
+    let Some(engine) = handle.take(alloc) else {
+        return Code::Closed.number();
+    };
+    let code = engine.at(view, Key { relation, record }, time, archive, out, info);
     put_back(handle, engine, code)
 }
 
@@ -308,16 +341,18 @@ pub extern "C" fn ts_scan_at(
     view: u64,
     relation: u16,
     time: u64,
+    archive: &[u8],
     rows: &mut [Row],
     out: &mut [u8],
     info: &mut Info,
 ) -> i32
-    ensures { OnHandle StaysSame handle.old.engine handle.new.engine }
+    ensures same { OnHandle StaysSame handle.old.engine handle.new.engine }
+    ensures answers { AnswersOn (λ e said. AsksScanAt archive.now view relation time e said info.new) handle.old.engine result }
 {
-    let Some(mut engine) = handle.take(alloc) else {
+    let Some(engine) = handle.take(alloc) else {
         return Code::Closed.number();
     };
-    let code = engine.scan_at(view, relation, time, rows, out, info);
+    let code = engine.scan_at(view, relation, time, archive, rows, out, info);
     put_back(handle, engine, code)
 }
 
@@ -332,16 +367,18 @@ pub extern "C" fn ts_between(
     record: u64,
     from: u64,
     upto: u64,
+    archive: &[u8],
     rows: &mut [Row],
     out: &mut [u8],
     info: &mut Info,
 ) -> i32
-    ensures { OnHandle StaysSame handle.old.engine handle.new.engine }
+    ensures same { OnHandle StaysSame handle.old.engine handle.new.engine }
+    ensures answers { AnswersOn (λ e said. AsksRows archive.now view (key_of relation «record») from upto e said info.new) handle.old.engine result }
 {
-    let Some(mut engine) = handle.take(alloc) else {
+    let Some(engine) = handle.take(alloc) else {
         return Code::Closed.number();
     };
-    let code = engine.between(view, Key { relation, record }, from, upto, rows, out, info);
+    let code = engine.between(view, Key { relation, record }, from, upto, archive, rows, out, info);
     put_back(handle, engine, code)
 }
 
@@ -355,16 +392,18 @@ pub extern "C" fn ts_scan_between(
     relation: u16,
     from: u64,
     upto: u64,
+    archive: &[u8],
     rows: &mut [Row],
     out: &mut [u8],
     info: &mut Info,
 ) -> i32
-    ensures { OnHandle StaysSame handle.old.engine handle.new.engine }
+    ensures same { OnHandle StaysSame handle.old.engine handle.new.engine }
+    ensures answers { AnswersOn (λ e said. AsksScanRows archive.now view relation from upto e said info.new) handle.old.engine result }
 {
-    let Some(mut engine) = handle.take(alloc) else {
+    let Some(engine) = handle.take(alloc) else {
         return Code::Closed.number();
     };
-    let code = engine.scan_between(view, relation, from, upto, rows, out, info);
+    let code = engine.scan_between(view, relation, from, upto, archive, rows, out, info);
     put_back(handle, engine, code)
 }
 
@@ -377,7 +416,8 @@ pub extern "C" fn ts_times_of(
     times: &mut [u64],
     info: &mut Info,
 ) -> i32
-    ensures { OnHandle StaysSame handle.old.engine handle.new.engine }
+    ensures same { OnHandle StaysSame handle.old.engine handle.new.engine }
+    ensures answers { AnswersOn (λ e said. TellsLabels label e said info.new.a times.new) handle.old.engine result }
 {
     let Some(engine) = handle.take(alloc) else {
         return Code::Closed.number();
@@ -395,6 +435,18 @@ pub extern "C" fn ts_archive(alloc: Global, handle: &mut Handle, upto: u64, info
         return Code::Closed.number();
     };
     let code = engine.archive(upto, info);
+    put_back(handle, engine, code)
+}
+
+/// Begins a reclaim of what is archived.
+#[unsafe(no_mangle)]
+pub extern "C" fn ts_reclaim(alloc: Global, handle: &mut Handle, info: &mut Info) -> i32
+    ensures { OnHandle ReclaimsEngine handle.old.engine handle.new.engine }
+{
+    let Some(mut engine) = handle.take(alloc) else {
+        return Code::Closed.number();
+    };
+    let code = engine.reclaim(info);
     put_back(handle, engine, code)
 }
 

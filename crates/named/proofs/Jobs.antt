@@ -1,17 +1,32 @@
 -- The steps of a job.
-use Rattle.std.proofs.Common.{◌≡◌, ℕ, ◌+◌, ◌≤◌, Bool, true, false, is_some, IsTrue, List, [], ◌∷◌, Option, Some, None, Result, Ok, Err, MatchBool, MatchOption, MatchResult, refl, sym, ap, subst, ◌∙◌, inl, inr, arith}
-use Rattle.disk.specs.Areas.{AreSound}
+use Rattle.std.proofs.Common.{◌≡◌, ℕ, zero, suc, ◌+◌, ◌≤◌, nat_le, Bool, true, false, is_some, IsTrue, List, [], ◌∷◌, Option, Some, None, Result, Ok, Err, MatchBool, MatchOption, MatchResult, slice_get, refl, sym, ap, subst, ◌∙◌, inl, inr, arith}
+use Rattle.std.specs.Prelude.{◌⊎◌}
+use Rattle.std.specs.List.{AllByRecursion, flat_map}
+use Rattle.std.proofs.lemmas.Bool.Decides.{nat_tests}
+use Rattle.disk.specs.Areas.{AreSound, area_of}
+use Rattle.disk.specs.Calls.{DiskState}
 use Rattle.disk.specs.declared.area.Area.{Area}
-use Rattle.disk.specs.declared.area.Area.TheVariants.{Status, Archive}
+use Rattle.disk.specs.declared.area.Area.TheVariants.{Status, Heap, Archive}
+use Rattle.deltas.specs.Extents.{extent_start}
+use Rattle.extents.specs.Times.{time_of}
+use Rattle.extents.specs.declared.usage.Usage.{Usage}
+use Rattle.extents.specs.Usages.{IsOut, AreOut}
+use Rattle.group.specs.Queued.{numbers_of}
+use Rattle.archive.specs.Pieces.{InWriting}
+use Rattle.vacuum.specs.Anchors.{Sourced}
+use Rattle.wire.specs.declared.slot.Anchors.{Anchors}
+use Rattle.wire.specs.declared.slot.Run.{Run}
 use Rattle.status.specs.SlotCalls.{SlotStage}
 use Rattle.status.specs.SlotCalls as slots
 use Rattle.status.specs.TurnState.{TurnState}
 use Rattle.group.specs.declared.answers.PumpFault.{PumpFault}
 use Rattle.group.specs.declared.answers.PumpFault.TheVariants as fault
-use Rattle.store.specs.Values.{StoreValue, IsOnItsWay, turn_of, turn_in}
+use Rattle.transactions.specs.Order.{IsInOrder}
+use Rattle.transactions.specs.Values.{TransactionsValue}
+use Rattle.transactions.proofs.Publishing.{out-front, out-swapped}
+use Rattle.store.specs.Values.{StoreValue, IsOnItsWay, turn_of}
 use Rattle.store.specs.Pumps.{disk_answer}
-use Rattle.store.specs.Jobs.{PumpsJob, TakesJobStep, WritesOrSyncs, WritesRun, SyncsStored, BeginsJobSlot, TurnsJob, IsJobTurned, JobTurnFails, JobMoves, with_job, job_fails, first_turn, slot_taken, piece_of, behind_piece}
-use Rattle.store.specs.Archives.{ArchiveJob, job_of}
+use Rattle.store.specs.Jobs.{PumpsJob, TakesJobStep, Stores, WritesOrSyncs, WritesRun, AnchorsOrSync, WritesAnchors, SyncsStored, BeginsJobSlot, TurnsJob, IsJobTurned, JobTurnFails, JobMoves, with_job, job_fails, first_turn, slot_taken, made_ready, piece_of, behind_piece}
 use Rattle.store.specs.declared.job.Job.{Job}
 use Rattle.store.specs.declared.job.JobWork.{JobWork}
 use Rattle.store.specs.declared.job.JobWork.TheVariants.{Archive as ArchiveWork, Reclaim}
@@ -19,17 +34,15 @@ use Rattle.store.specs.declared.job.JobStage.{JobStage}
 use Rattle.store.specs.declared.job.JobStage.TheVariants as stages
 use Rattle.store.specs.declared.job.JobDid.{JobDid}
 use Rattle.store.specs.declared.job.JobDid.TheVariants as did
-use Rattle.named.specs.Named.{IsNamed, LeavesNamed, IsBehindRuns, WritesBehind, IsTyped}
+use Rattle.standing.proofs.Retired.{still-kept}
+use Rattle.named.specs.Named.{IsInKept, IsNamed, IsLeft, IsGivenUpIn, LeavesNamed, IsBehindRuns, WritesBehind, IsTyped}
 use Rattle.named.proofs.Places.{left_by_write, left_by_sync, left_by_slot}
-use Rattle.named.proofs.Naming.{kept_same, named_by, carried, leaves_itself, behind_by}
+use Rattle.named.proofs.Naming.{kept_same, named_by, heap_apart, leaves_named, leaves_itself, behind_by}
 
--- the job writes behind the runs of the log
-abbrev IsBehind : ℕ → ArchiveJob → Type 0
-IsBehind end job = (end ≤ job.run.start) × (end ≤ job.writer.at)
-
--- the same with the next piece behind it
-abbrev behind_it : ArchiveJob → ArchiveJob
-behind_it job = record job { writer = behind_piece job.writer }
+-- what a job's step goes by: its extents are out, and its slot is the next one
+record Goes (tells : Bool) (v : StoreValue) : Type 0 where
+  out : AreOut v.transactions.usages v.transactions.reserved
+  sound : IsTrue tells → AreSound v.disk.areas
 
 -- what a step leaves
 record Ends (tells : Bool) (v new : StoreValue) : Type 0 where
@@ -37,115 +50,253 @@ record Ends (tells : Bool) (v new : StoreValue) : Type 0 where
   behind : WritesBehind new
 
 ends_same : (tells : Bool) (v new : StoreValue) → new ≡ v → WritesBehind v → Ends tells v new
-ends_same tells v new same behind = record { leaves = leaves_itself tells v new same; behind = subst WritesBehind (sym same) behind }
+ends_same tells v new same behind = record { leaves = leaves_named tells v new (leaves_itself tells v new same); behind = subst WritesBehind (sym same) behind }
 
 -- what the log names, and the job
 record Named (v new : StoreValue) : Type 0 where
-  named : (area : Area) (k : ℕ) → IsNamed v area k → IsNamed new area k
+  named : (area : Area) (k : ℕ) → IsNamed v area k → IsNamed new area k ⊎ IsGivenUpIn v new area k
   behind : WritesBehind new
 
-goes_on : (v new : StoreValue) (made : ArchiveJob) → IsBehind v.runs_end made → new ≡ with_job v (job_of made) new → Named v new
-goes_on v new made behind is = record {
-  named = named_by v new (kept_same v.transactions.usages new.transactions.usages (ap (λ (s : StoreValue). s.transactions.usages) is)) (omega (arith, ap (λ (s : StoreValue). s.log.used) is)) (omega (arith, ap (λ (s : StoreValue). s.runs_end) is));
-  behind = behind_by new (Some (job_of made)) v.runs_end (ap (λ (s : StoreValue). s.job) is) (ap (λ (s : StoreValue). s.runs_end) is) behind;
+-- a store with the same log and the same extents names the same
+same_named : (v new : StoreValue) (job : Option Job) → MatchOption job (Unit {0}) (λ j. IsBehindRuns v.runs_end j.work) → new.transactions.usages ≡ v.transactions.usages → new.log.used ≡ v.log.used → new.runs_end ≡ v.runs_end → new.job ≡ job → Named v new
+same_named v new job behind usages used runs is = record {
+  named = λ area k named. inl (named_by v new (kept_same v.transactions.usages new.transactions.usages usages) (omega (arith, used)) (omega (arith, runs)) area k named);
+  behind = behind_by new job v.runs_end is runs behind;
 }
 
-fails : (v new : StoreValue) (made : ArchiveJob) → IsBehind v.runs_end made → new ≡ job_fails v (job_of made) new → Named v new
-fails v new made behind is = record {
-  named = named_by v new (kept_same v.transactions.usages new.transactions.usages (ap (λ (s : StoreValue). s.transactions.usages) is)) (omega (arith, ap (λ (s : StoreValue). s.log.used) is)) (omega (arith, ap (λ (s : StoreValue). s.runs_end) is));
-  behind = behind_by new (Some (job_of made)) v.runs_end (ap (λ (s : StoreValue). s.job) is) (ap (λ (s : StoreValue). s.runs_end) is) behind;
-}
+goes_on : (v new : StoreValue) (made : Job) → IsBehindRuns v.runs_end made.work → new ≡ with_job v made new → Named v new
+goes_on v new made behind is =
+    same_named v new (Some made) behind (ap (λ (s : StoreValue). s.transactions.usages) is) (ap (λ (s : StoreValue). s.log.used) is) (ap (λ (s : StoreValue). s.runs_end) is) (ap (λ (s : StoreValue). s.job) is)
 
-moves : (what : JobDid) (made refused : ArchiveJob) (v : StoreValue) (result : Result JobDid PumpFault) (new : StoreValue) → IsBehind v.runs_end made → IsBehind v.runs_end refused → JobMoves what (job_of made) (job_of refused) v result new → Named v new
+fails : (v new : StoreValue) (made : Job) → IsBehindRuns v.runs_end made.work → new ≡ job_fails v made new → Named v new
+fails v new made behind is =
+    same_named v new (Some made) behind (ap (λ (s : StoreValue). s.transactions.usages) is) (ap (λ (s : StoreValue). s.log.used) is) (ap (λ (s : StoreValue). s.runs_end) is) (ap (λ (s : StoreValue). s.job) is)
+
+moves : (what : JobDid) (made refused : Job) (v : StoreValue) (result : Result JobDid PumpFault) (new : StoreValue) → IsBehindRuns v.runs_end made.work → IsBehindRuns v.runs_end refused.work → JobMoves what made refused v result new → Named v new
 moves what made refused v (Ok said) new one other is = goes_on v new made one is.1
 moves what made refused v (Err why) new one other is = fails v new refused other is.1
 
-writes : (tells : Bool) (v new : StoreValue) (job : ArchiveJob) (result : Result JobDid PumpFault) → IsBehind v.runs_end job → WritesRun tells job.run job.writer (job_of job) v result new → Ends tells v new
-writes tells v new job result behind w =
-    let later : IsBehind v.runs_end (behind_it job) = (behind.0, let at = behind.1 in omega arith) in
-    let named = moves did.WroteRun (behind_it job) (behind_it job) v result new later later w.moves in record {
+-- ---- what is written before the slot
+
+writes_run : (tells : Bool) (v new : StoreValue) (run : Run) (writer : InWriting) (stage : JobStage) (result : Result JobDid PumpFault) → IsBehindRuns v.runs_end (ArchiveWork run writer)
+    → WritesRun tells run writer (record { work = ArchiveWork run writer; stage = stage }) v result new → Ends tells v new
+writes_run tells v new run writer stage result behind w =
+    let later : IsBehindRuns v.runs_end (ArchiveWork run (behind_piece writer)) = (behind.0, let at = behind.1 in omega arith) in
+    let made : Job = record { work = ArchiveWork run (behind_piece writer); stage = stage } in
+    let named = moves did.WroteRun made made v result new later later w.moves in record {
       leaves = record {
         left = λ told area k is.
-            left_by_write Archive job.writer.at (piece_of job.writer) (disk_answer result) v.disk.areas new.disk.areas ((w.call).areas told) area k
+            left_by_write Archive writer.at (piece_of writer) (disk_answer result) v.disk.areas new.disk.areas ((w.call).areas told) area k
             (λ same. let below : IsNamed v Archive k = subst (λ (a : Area). IsNamed v a k) same is in inl (let at = behind.1 in omega arith));
         named = named.named;
       };
       behind = named.behind;
     }
 
-syncs : (tells : Bool) (v new : StoreValue) (job : ArchiveJob) (result : Result JobDid PumpFault) → (IsTrue tells → AreSound v.disk.areas) → IsBehind v.runs_end job → SyncsStored tells Archive did.RunSynced (job_of job) v result new → Ends tells v new
-syncs tells v new job result sound behind s =
-    let named = moves did.RunSynced (record job { stage = stages.Stored }) job v result new behind behind s.moves in record {
+writes_anchors : (tells : Bool) (v new : StoreValue) (anchors : Anchors) (source : Sourced) (written number : ℕ) (stage : JobStage) (result : Result JobDid PumpFault) → IsOut v.transactions.usages number
+    → WritesAnchors tells anchors source written number (record { work = Reclaim anchors source written; stage = stage }) v result new → Ends tells v new
+writes_anchors tells v new anchors source written number stage result out w =
+    let made : Job = record { work = Reclaim anchors w.behind (written + 1); stage = stage } in
+    let named = moves did.WroteExtent made made v result new tt tt w.moves in record {
       leaves = record {
-        left = λ told area k is. left_by_sync Archive (disk_answer result) v.disk.areas new.disk.areas ((s.call).areas told) (sound told) area k;
+        left = λ told area k is.
+            left_by_write Heap (extent_start number) w.image (disk_answer result) v.disk.areas new.disk.areas ((w.call).areas told) area k
+            (λ same. heap_apart v k number w.image out w.whole (subst (λ (a : Area). IsNamed v a k) same is));
         named = named.named;
       };
       behind = named.behind;
     }
 
-writes_or_syncs : (tells : Bool) (left : List ℕ) (v new : StoreValue) (job : ArchiveJob) (result : Result JobDid PumpFault) → (IsTrue tells → AreSound v.disk.areas) → IsBehind v.runs_end job → WritesOrSyncs tells left job.run job.writer (job_of job) v result new → Ends tells v new
-writes_or_syncs tells [] v new job result sound behind is = syncs tells v new job result sound behind is
-writes_or_syncs tells (b ∷ bs) v new job result sound behind is = writes tells v new job result behind is
+syncs : (tells : Bool) (area : Area) (what : JobDid) (v new : StoreValue) (job : Job) (result : Result JobDid PumpFault) → Goes tells v → IsBehindRuns v.runs_end job.work → SyncsStored tells area what job v result new → Ends tells v new
+syncs tells area what v new job result goes behind s =
+    let named = moves what (record job { stage = stages.Stored }) job v result new behind behind s.moves in record {
+      leaves = record {
+        left = λ told other k is. left_by_sync area (disk_answer result) v.disk.areas new.disk.areas ((s.call).areas told) (goes.sound told) other k;
+        named = named.named;
+      };
+      behind = named.behind;
+    }
+
+run_or_sync : (tells : Bool) (left : List ℕ) (v new : StoreValue) (run : Run) (writer : InWriting) (stage : JobStage) (result : Result JobDid PumpFault) → Goes tells v → IsBehindRuns v.runs_end (ArchiveWork run writer)
+    → WritesOrSyncs tells left run writer (record { work = ArchiveWork run writer; stage = stage }) v result new → Ends tells v new
+run_or_sync tells [] v new run writer stage result goes behind is = syncs tells Archive did.RunSynced v new (record { work = ArchiveWork run writer; stage = stage }) result goes behind is
+run_or_sync tells (b ∷ bs) v new run writer stage result goes behind is = writes_run tells v new run writer stage result behind is
+
+out_at : (us : List Usage) (ns : List ℕ) (i n : ℕ) → AllByRecursion (IsOut us) ns → slice_get ns i ≡ Some n → IsOut us n
+out_at us [] i n out found = absurd cc
+out_at us (m ∷ ms) zero n out found = let same : m ≡ n = cc in subst (IsOut us) same out.0
+out_at us (m ∷ ms) (suc i) n out found = out_at us ms i n out.1 found
+
+anchors_or_sync : (tells : Bool) (o : Option ℕ) (v new : StoreValue) (anchors : Anchors) (source : Sourced) (written : ℕ) (stage : JobStage) (result : Result JobDid PumpFault) → slice_get v.transactions.reserved written ≡ o → Goes tells v
+    → AnchorsOrSync tells o anchors source written (record { work = Reclaim anchors source written; stage = stage }) v result new → Ends tells v new
+anchors_or_sync tells None v new anchors source written stage result found goes is = syncs tells Heap did.HeapSynced v new (record { work = Reclaim anchors source written; stage = stage }) result goes tt is
+anchors_or_sync tells (Some number) v new anchors source written stage result found goes is =
+    writes_anchors tells v new anchors source written number stage result (out_at v.transactions.usages v.transactions.reserved written number (goes.out).each found) is
+
+stores : (tells : Bool) (work : JobWork) (stage : JobStage) (v new : StoreValue) (result : Result JobDid PumpFault) → Goes tells v → IsBehindRuns v.runs_end work → Stores tells work (record { work = work; stage = stage }) v result new → Ends tells v new
+stores tells (ArchiveWork run writer) stage v new result goes behind is = run_or_sync tells writer.left v new run writer stage result goes behind is
+stores tells (Reclaim anchors source written) stage v new result goes behind is = anchors_or_sync tells (slice_get v.transactions.reserved written) v new anchors source written stage result refl goes is
 
 -- ---- the slot
 
-turned : (stage : SlotStage) (t : TurnState) (job : ArchiveJob) (v new : StoreValue) (what : JobDid) → t.number ≡ v.log.used → IsBehind v.runs_end job → IsJobTurned stage t (job_of job) v what new → Named v new
-turned slots.Begun t job v new what number behind is = goes_on v new (record job { stage = stages.Turning (record t { stage = slots.BodyWritten }) }) behind is.1
-turned slots.BodyWritten t job v new what number behind is = goes_on v new (record job { stage = stages.Turning (record t { stage = slots.BodySynced }) }) behind is.1
-turned slots.BodySynced t job v new what number behind is = goes_on v new (record job { stage = stages.Turning (record t { stage = slots.GateWritten }) }) behind is.1
-turned slots.GateWritten t job v new what number behind is = record {
-  named = named_by v new (kept_same v.transactions.usages new.transactions.usages (ap (λ (s : StoreValue). s.transactions.usages) is.2)) (omega (arith, ap (λ (s : StoreValue). s.log.used) is.2, number)) (let start = behind.0 in omega (arith, ap (λ (s : StoreValue). s.runs_end) is.2));
-  behind = behind_by new None (job.run.start + job.run.len) (ap (λ (s : StoreValue). s.job) is.2) (ap (λ (s : StoreValue). s.runs_end) is.2) tt;
+-- the slot of a reclaim is open: what is not named still is given up
+reclaimed : (t : TurnState) (anchors : Anchors) (source : Sourced) (written : ℕ) (stage : JobStage) (v new : StoreValue) (what : JobDid) → AreOut v.transactions.usages v.transactions.reserved → t.number ≡ v.log.used → v.job ≡ Some (record { work = Reclaim anchors source written; stage = stage })
+    → IsJobTurned slots.GateWritten t (record { work = Reclaim anchors source written; stage = stage }) v what new → Named v new
+reclaimed t anchors source written stage v new what out number there is = record {
+  named = λ area k named. each area k named;
+  behind = behind_by new None v.runs_end (ap (λ (s : StoreValue). s.job) is.2) (ap (λ (s : StoreValue). s.runs_end) is.2) tt;
 }
-turned slots.Opened t job v new what number behind is = absurd is
+  where
+    used : new.log.used ≡ v.log.used + 1
+    used = ap (λ (s : StoreValue). s.log.used) is.2 ∙ ap (λ (n : ℕ). n + 1) number
 
-answered : (t : TurnState) (job : ArchiveJob) (v new : StoreValue) (result : Result JobDid PumpFault) → t.number ≡ v.log.used → IsBehind v.runs_end job
-    → MatchResult result (λ what. IsJobTurned t.stage t (job_of job) v what new) (λ why. JobTurnFails (job_of job) v why new) → Named v new
-answered t job v new (Ok what) number behind answer = turned t.stage t job v new what number behind answer
-answered t job v new (Err why) number behind answer = fails v new (record job { stage = stages.Stored }) behind answer.1
+    of_heap : (k : ℕ) (place : IsInKept v k) (b : Bool) → nat_le (time_of v.transactions.times place.number) anchors.upto ≡ b → IsNamed new Heap k ⊎ IsGivenUpIn v new Heap k
+    of_heap k place true early = inr (record {
+      anchors = anchors;
+      source = source;
+      written = written;
+      stage = stage;
+      job = there;
+      slot = used;
+      mark = ap (λ (s : StoreValue). s.transactions.reclaimed) is.2;
+      place = place;
+      by = grind (arith, nat_tests);
+    })
+    of_heap k place false late = inl (record {
+      number = place.number;
+      kept = kept_same _ new.transactions.usages (ap (λ (s : StoreValue). s.transactions.usages) is.2) place.number
+          (still-kept anchors.upto v.transactions.times v.transactions.usages v.transactions.reserved place.number out (grind (arith, nat_tests)) place.kept);
+      low = place.low;
+      high = place.high;
+    })
 
-turns : (tells : Bool) (v new : StoreValue) (job : ArchiveJob) (t : TurnState) (result : Result JobDid PumpFault) → (IsTrue tells → AreSound v.disk.areas) → t.number ≡ v.log.used → IsBehind v.runs_end job → TurnsJob tells (job_of job) t v result new → Ends tells v new
-turns tells v new job t result sound number behind s =
-    let named = answered t job v new result number behind s.answer in record {
+    each : (area : Area) (k : ℕ) → IsNamed v area k → IsNamed new area k ⊎ IsGivenUpIn v new area k
+    each Status k named = inl (omega (arith, named, used))
+    each Heap k named = of_heap k named (nat_le (time_of v.transactions.times named.number) anchors.upto) refl
+    each Archive k named = inl (omega (arith, named, ap (λ (s : StoreValue). s.runs_end) is.2))
+
+archived : (t : TurnState) (run : Run) (writer : InWriting) (stage : JobStage) (v new : StoreValue) (what : JobDid) → t.number ≡ v.log.used → IsBehindRuns v.runs_end (ArchiveWork run writer)
+    → IsJobTurned slots.GateWritten t (record { work = ArchiveWork run writer; stage = stage }) v what new → Named v new
+archived t run writer stage v new what number behind is = record {
+  named = λ area k named. inl (named_by v new (kept_same v.transactions.usages new.transactions.usages (ap (λ (s : StoreValue). s.transactions.usages) is.2)) (omega (arith, ap (λ (s : StoreValue). s.log.used) is.2, number))
+      (let start = behind.0 in omega (arith, ap (λ (s : StoreValue). s.runs_end) is.2)) area k named);
+  behind = behind_by new None (run.start + run.len) (ap (λ (s : StoreValue). s.job) is.2) (ap (λ (s : StoreValue). s.runs_end) is.2) tt;
+}
+
+-- a step on the way of the slot
+on_its_way : (v new : StoreValue) (job : Job) (t : TurnState) → IsBehindRuns v.runs_end job.work → new ≡ with_job v (record job { stage = stages.Turning t }) new → Named v new
+on_its_way v new job t behind is = goes_on v new (record job { stage = stages.Turning t }) behind is
+
+turned : (at : SlotStage) (t : TurnState) (work : JobWork) (stage : JobStage) (v new : StoreValue) (what : JobDid) → AreOut v.transactions.usages v.transactions.reserved → t.number ≡ v.log.used → v.job ≡ Some (record { work = work; stage = stage }) → IsBehindRuns v.runs_end work
+    → IsJobTurned at t (record { work = work; stage = stage }) v what new → Named v new
+turned slots.Begun t work stage v new what out number there behind is = on_its_way v new (record { work = work; stage = stage }) (record t { stage = slots.BodyWritten }) behind is.1
+turned slots.BodyWritten t work stage v new what out number there behind is = on_its_way v new (record { work = work; stage = stage }) (record t { stage = slots.BodySynced }) behind is.1
+turned slots.BodySynced t work stage v new what out number there behind is = on_its_way v new (record { work = work; stage = stage }) (record t { stage = slots.GateWritten }) behind is.1
+turned slots.GateWritten t (ArchiveWork run writer) stage v new what out number there behind is = archived t run writer stage v new what number behind is
+turned slots.GateWritten t (Reclaim anchors source written) stage v new what out number there behind is = reclaimed t anchors source written stage v new what out number there is
+turned slots.Opened t work stage v new what out number there behind is = absurd is
+
+answered : (t : TurnState) (work : JobWork) (stage : JobStage) (v new : StoreValue) (result : Result JobDid PumpFault) → AreOut v.transactions.usages v.transactions.reserved → t.number ≡ v.log.used → v.job ≡ Some (record { work = work; stage = stage }) → IsBehindRuns v.runs_end work
+    → MatchResult result (λ what. IsJobTurned t.stage t (record { work = work; stage = stage }) v what new) (λ why. JobTurnFails (record { work = work; stage = stage }) v why new) → Named v new
+answered t work stage v new (Ok what) out number there behind answer = turned t.stage t work stage v new what out number there behind answer
+answered t work stage v new (Err why) out number there behind answer = fails v new (record { work = work; stage = stages.Stored }) behind answer.1
+
+turns : (tells : Bool) (v new : StoreValue) (work : JobWork) (stage : JobStage) (t : TurnState) (result : Result JobDid PumpFault) → Goes tells v → t.number ≡ v.log.used → v.job ≡ Some (record { work = work; stage = stage }) → IsBehindRuns v.runs_end work
+    → TurnsJob tells (record { work = work; stage = stage }) t v result new → Ends tells v new
+turns tells v new work stage t result goes number there behind s =
+    let named = answered t work stage v new result goes.out number there behind s.answer in record {
       leaves = record {
         left = λ told area k is.
-            left_by_slot t.number t.body t.stage (disk_answer result) v.disk.areas new.disk.areas ((s.call).areas told) (sound told) area k
+            left_by_slot t.number t.body t.stage (disk_answer result) v.disk.areas new.disk.areas ((s.call).areas told) (goes.sound told) area k
             (λ same. let below : IsNamed v Status k = subst (λ (a : Area). IsNamed v a k) same is in omega (arith, below, number));
         named = named.named;
       };
       behind = named.behind;
     }
 
-begins : (tells b : Bool) (v new : StoreValue) (job : ArchiveJob) (result : Result JobDid PumpFault) → (IsTrue tells → AreSound v.disk.areas) → WritesBehind v → IsBehind v.runs_end job
-    → MatchBool b ((result ≡ Err fault.Busy) × (new ≡ v)) (BeginsJobSlot tells (job_of job) v result new) → Ends tells v new
-begins tells true v new job result sound all behind is = ends_same tells v new is.1 all
-begins tells false v new job result sound all behind (inl short) = absurd short.0
-begins tells false v new job result sound all behind (inr is) =
-    let ends = turns tells (slot_taken v) new job (first_turn v (job_of job)) result sound refl behind is in
-    record { leaves = carried tells v (slot_taken v) new (named_by v (slot_taken v) (λ n kept. kept) (omega arith) (omega arith)) refl ends.leaves; behind = ends.behind }
+-- a slot that is begun is taken from the log, and a reclaim makes what memory is to be: nothing else is changed
+record IsReady (v ready : StoreValue) : Type 0 where
+  usages : ready.transactions.usages ≡ v.transactions.usages
+  reserved : ready.transactions.reserved ≡ v.transactions.reserved
+  times : ready.transactions.times ≡ v.transactions.times
+  used : ready.log.used ≡ v.log.used
+  runs_end : ready.runs_end ≡ v.runs_end
+  job : ready.job ≡ v.job
+  disk : ready.disk ≡ v.disk
+
+is_ready : (work : JobWork) (v : StoreValue) → IsReady v (slot_taken (made_ready work v))
+is_ready (ArchiveWork run writer) v = record { usages = refl; reserved = refl; times = refl; used = refl; runs_end = refl; job = refl; disk = refl }
+is_ready (Reclaim anchors source written) v = record { usages = refl; reserved = refl; times = refl; used = refl; runs_end = refl; job = refl; disk = refl }
+
+ready_goes : (tells : Bool) (v ready : StoreValue) → IsReady v ready → Goes tells v → Goes tells ready
+ready_goes tells v ready is goes = record {
+  out = rw (is.usages, is.reserved) goes.out;
+  sound = λ told. subst (λ (d : DiskState). AreSound d.areas) (sym is.disk) (goes.sound told);
+}
+
+ready_named : (v ready : StoreValue) → IsReady v ready → (area : Area) (k : ℕ) → IsNamed v area k → IsNamed ready area k
+ready_named v ready is area k named = named_by v ready (kept_same v.transactions.usages ready.transactions.usages is.usages) (omega (arith, is.used)) (omega (arith, is.runs_end)) area k named
+
+ready_given : (v ready new : StoreValue) → IsReady v ready → (area : Area) (k : ℕ) → IsGivenUpIn ready new area k → IsGivenUpIn v new area k
+ready_given v ready new is Status k given = absurd given
+ready_given v ready new is Archive k given = absurd given
+ready_given v ready new is Heap k given = record {
+  anchors = given.anchors;
+  source = given.source;
+  written = given.written;
+  stage = given.stage;
+  job = sym is.job ∙ given.job;
+  slot = given.slot ∙ ap (λ (n : ℕ). n + 1) is.used;
+  mark = given.mark;
+  place = record { number = (given.place).number; kept = kept_same ready.transactions.usages v.transactions.usages (sym is.usages) (given.place).number (given.place).kept; low = (given.place).low; high = (given.place).high };
+  by = subst (λ (ts : List ℕ). time_of ts (given.place).number ≤ (given.anchors).upto) is.times given.by;
+}
+
+from_ready : (tells : Bool) (v ready new : StoreValue) → IsReady v ready → Ends tells ready new → Ends tells v new
+from_ready tells v ready new is ends = record {
+  leaves = record {
+    left = λ told area k named. subst (λ (d : DiskState). IsLeft k (area_of d.areas area) (area_of new.disk.areas area)) is.disk ((ends.leaves).left told area k (ready_named v ready is area k named));
+    named = λ area k named. either area k ((ends.leaves).named area k (ready_named v ready is area k named));
+  };
+  behind = ends.behind;
+}
+  where
+    either : (area : Area) (k : ℕ) → IsNamed new area k ⊎ IsGivenUpIn ready new area k → IsNamed new area k ⊎ IsGivenUpIn v new area k
+    either area k (inl still) = inl still
+    either area k (inr given) = inr (ready_given v ready new is area k given)
+
+begins : (tells b : Bool) (v new : StoreValue) (work : JobWork) (stage : JobStage) (result : Result JobDid PumpFault) → Goes tells v → WritesBehind v → v.job ≡ Some (record { work = work; stage = stage }) → IsBehindRuns v.runs_end work
+    → MatchBool b ((result ≡ Err fault.Busy) × (new ≡ v)) (BeginsJobSlot tells (record { work = work; stage = stage }) v result new) → Ends tells v new
+begins tells true v new work stage result goes all there behind is = ends_same tells v new is.1 all
+begins tells false v new work stage result goes all there behind (inl short) = ends_same tells v new short.2 all
+begins tells false v new work stage result goes all there behind (inr is) =
+    let ready : StoreValue = slot_taken (made_ready work v) in
+    let same : IsReady v ready = is_ready work v in
+    from_ready tells v ready new same
+    (turns tells ready new work stage (first_turn v (record { work = work; stage = stage })) result (ready_goes tells v ready same goes) (sym same.used) (same.job ∙ there) (subst (λ (n : ℕ). IsBehindRuns n work) (sym same.runs_end) behind) is)
 
 -- ---- every step
 
-takes : (tells : Bool) (stage : JobStage) (v new : StoreValue) (job : ArchiveJob) (result : Result JobDid PumpFault) → job.stage ≡ stage → v.job ≡ Some (job_of job) → v.transactions.failed ≡ false → IsTyped tells v → WritesBehind v → IsBehind v.runs_end job
-    → TakesJobStep tells stage (job_of job) v result new → Ends tells v new
-takes tells stages.Writing v new job result at is works typed all behind takes_it = writes_or_syncs tells job.writer.left v new job result typed.sound behind takes_it
-takes tells stages.Stored v new job result at is works typed all behind takes_it = begins tells (is_some v.turn) v new job result typed.sound all behind takes_it
-takes tells (stages.Turning t) v new job result at is works typed all behind takes_it =
-    let turn_is : turn_of v.job ≡ Some t = ap turn_of is ∙ ap turn_in at in
+takes : (tells : Bool) (stage : JobStage) (v new : StoreValue) (work : JobWork) (result : Result JobDid PumpFault) → v.job ≡ Some (record { work = work; stage = stage }) → v.transactions.failed ≡ false → IsTyped tells v → WritesBehind v → Goes tells v → IsBehindRuns v.runs_end work
+    → TakesJobStep tells stage (record { work = work; stage = stage }) v result new → Ends tells v new
+takes tells stages.Writing v new work result is works typed all goes behind takes_it = stores tells work stages.Writing v new result goes behind takes_it
+takes tells stages.Stored v new work result is works typed all goes behind takes_it = begins tells (is_some v.turn) v new work stages.Stored result goes all is behind takes_it
+takes tells (stages.Turning t) v new work result is works typed all goes behind takes_it =
+    let turn_is : turn_of v.job ≡ Some t = ap turn_of is in
     let slot : (t.number ≡ v.log.used) × IsOnItsWay t.stage × (v.turn ≡ None) =
     subst (λ (o : Option TurnState). MatchOption o (Unit {0}) (λ x. (x.number ≡ v.log.used) × IsOnItsWay x.stage × (v.turn ≡ None))) turn_is ((typed.in_step).turns works).job in
-    turns tells v new job t result typed.sound slot.0 behind takes_it
+    turns tells v new work (stages.Turning t) t result goes slot.0 is behind takes_it
+
+-- the extents of a job are out
+reserved_out : (v : TransactionsValue) → IsInOrder v → AreOut v.usages v.reserved
+reserved_out v order = out-front v.usages v.reserved (flat_map numbers_of v.queue) (out-swapped v.usages (flat_map numbers_of v.queue) v.reserved order.out)
 
 of_job : (tells : Bool) (o : Option Job) (v new : StoreValue) (result : Result JobDid PumpFault) → v.job ≡ o → v.transactions.failed ≡ false → IsTyped tells v → WritesBehind v
     → MatchOption o ((result ≡ Ok did.Idle) × (new ≡ v)) (λ job. TakesJobStep tells job.stage job v result new) → Ends tells v new
 of_job tells None v new result is works typed all takes_it = ends_same tells v new takes_it.1 all
-of_job tells (Some job) v new result is works typed all takes_it = by_work job.work job.stage is takes_it
-  where
-    by_work : (w : JobWork) (s : JobStage) → v.job ≡ Some (record { work = w; stage = s }) → TakesJobStep tells s (record { work = w; stage = s }) v result new → Ends tells v new
-    by_work (ArchiveWork run writer) s is takes_it =
-        let behind : IsBehind v.runs_end (record { run = run; writer = writer; stage = s }) = subst (λ (o : Option Job). MatchOption o (Unit {0}) (λ (j : Job). IsBehindRuns v.runs_end j.work)) is all in
-        takes tells s v new (record { run = run; writer = writer; stage = s }) result refl is works typed all behind takes_it
-    by_work (Reclaim anchors source written) s is takes_it = absurd (subst (λ (o : Option Job). MatchOption o (Unit {0}) (λ (j : Job). IsBehindRuns v.runs_end j.work)) is all)
+of_job tells (Some job) v new result is works typed all takes_it =
+    let behind : IsBehindRuns v.runs_end job.work = subst (λ (o : Option Job). MatchOption o (Unit {0}) (λ (j : Job). IsBehindRuns v.runs_end j.work)) is all in
+    takes tells job.stage v new job.work result is works typed all (record { out = reserved_out v.transactions typed.order; sound = typed.sound }) behind takes_it
 
 by_failed : (tells b : Bool) (v new : StoreValue) (result : Result JobDid PumpFault) → v.transactions.failed ≡ b → IsTyped tells v → WritesBehind v
     → MatchBool b ((result ≡ Err fault.Failed) × (new ≡ v)) (MatchOption v.job ((result ≡ Ok did.Idle) × (new ≡ v)) (λ job. TakesJobStep tells job.stage job v result new)) → Ends tells v new

@@ -1,5 +1,5 @@
 -- What stays named.
-use Rattle.std.proofs.Common.{◌≡◌, ◌≢◌, ℕ, zero, suc, ◌+◌, ◌<◌, ◌≤◌, Bool, true, false, cond, nat_lt, ◌==◌, ◌&&◌, List, [], ◌∷◌, ◌++◌, map, length, take, min, slice_get, Option, Some, refl, sym, ap, subst, inl, inr, arith, MatchOption}
+use Rattle.std.proofs.Common.{◌≡◌, ◌≢◌, ℕ, zero, suc, ◌+◌, ◌<◌, ◌≤◌, Bool, IsTrue, true, false, cond, nat_lt, ◌==◌, ◌&&◌, List, [], ◌∷◌, ◌++◌, map, length, take, min, slice_get, Option, Some, refl, sym, ap, subst, inl, inr, arith, MatchOption}
 use Rattle.std.specs.List.{AllByRecursion, flat_map}
 use Rattle.std.proofs.lemmas.Bool.{cases_order}
 use Rattle.disk.specs.Areas.{IsApart, area_of}
@@ -21,7 +21,7 @@ use Rattle.transactions.specs.declared.stage.GroupStage.TheVariants.{NoGroup, St
 use Rattle.store.specs.Values.{StoreValue, KeepsJob}
 use Rattle.store.specs.declared.job.Job.{Job}
 use Rattle.named.specs.Named.{IsInKept, IsNamed, IsLeft, LeavesNamed, IsBehindRuns, WritesBehind}
-use Rattle.named.proofs.Places.{same_left, left_twice}
+use Rattle.named.proofs.Places.{same_left}
 
 -- ---- extents
 
@@ -30,10 +30,13 @@ pub kept_taken : (us : List Usage) (ns : List ℕ) (n : ℕ) → AreLeastFree us
 kept_taken us [] n least kept = kept
 kept_taken us (m ∷ ms) n least kept = kept_taken (with_usage us m Out) ms n least.1 (used_stays us m n Out Kept (least.0).free (λ same. cc) kept)
 
--- and where others, that are out, are published
+-- and where others, that are out, are published or given back
+pub kept_beside : (us : List Usage) (ns : List ℕ) (usage : Usage) (n : ℕ) → AllByRecursion (λ m. (1 ≤ m) × (n ≢ m)) ns → IsKept us n → IsKept (with_usages us ns usage) n
+kept_beside us [] usage n others kept = kept
+kept_beside us (m ∷ ms) usage n others kept = kept_beside (with_usage us m usage) ms usage n others.1 (other_stays us m n usage Kept (others.0).0 (others.0).1 kept)
+
 pub kept_published : (us : List Usage) (ns : List ℕ) (n : ℕ) → AllByRecursion (λ m. (1 ≤ m) × (n ≢ m)) ns → IsKept us n → IsKept (with_usages us ns Kept) n
-kept_published us [] n others kept = kept
-kept_published us (m ∷ ms) n others kept = kept_published (with_usage us m Kept) ms n others.1 (other_stays us m n Kept Kept (others.0).0 (others.0).1 kept)
+kept_published us ns n others kept = kept_beside us ns Kept n others kept
 
 pub others_of : (us : List Usage) (ns : List ℕ) (n : ℕ) → AllByRecursion (IsOut us) ns → IsKept us n → AllByRecursion (λ m. (1 ≤ m) × (n ≢ m)) ns
 others_of us [] n out kept = tt
@@ -103,28 +106,31 @@ named_by old new kept used runs Archive k is = omega (arith, is, runs)
 pub kept_same : (us vs : List Usage) → vs ≡ us → (n : ℕ) → IsKept us n → IsKept vs n
 kept_same us vs same n kept = subst (λ (l : List Usage). IsKept l n) (sym same) kept
 
+-- what the log named is as it was, and all of it is named still
+pub record LeavesAll (tells : Bool) (old new : StoreValue) : Type 0 where
+  pub left : IsTrue tells → (area : Area) (k : ℕ) → IsNamed old area k → IsLeft k (area_of old.disk.areas area) (area_of new.disk.areas area)
+  pub named : (area : Area) (k : ℕ) → IsNamed old area k → IsNamed new area k
+
+-- then nothing is given up
+pub leaves_named : (tells : Bool) (old new : StoreValue) → LeavesAll tells old new → LeavesNamed tells old new
+leaves_named tells old new all = record { left = all.left; named = λ area k is. inl (all.named area k is) }
+
 -- a store in whose place another stands, which names the same and has the same disk
-pub carried : (tells : Bool) (old middle new : StoreValue) → ((area : Area) (k : ℕ) → IsNamed old area k → IsNamed middle area k) → middle.disk ≡ old.disk → LeavesNamed tells middle new → LeavesNamed tells old new
+pub carried : (tells : Bool) (old middle new : StoreValue) → ((area : Area) (k : ℕ) → IsNamed old area k → IsNamed middle area k) → middle.disk ≡ old.disk → LeavesAll tells middle new → LeavesAll tells old new
 carried tells old middle new named same leaves = record {
   left = λ told area k is. subst (λ (d : DiskState). IsLeft k (area_of d.areas area) (area_of new.disk.areas area)) same (leaves.left told area k (named area k is));
   named = λ area k is. leaves.named area k (named area k is);
 }
 
 -- a store that keeps its disk and what its log names
-pub disk_stays : (tells : Bool) (old new : StoreValue) → ((area : Area) (k : ℕ) → IsNamed old area k → IsNamed new area k) → new.disk ≡ old.disk → LeavesNamed tells old new
+pub disk_stays : (tells : Bool) (old new : StoreValue) → ((area : Area) (k : ℕ) → IsNamed old area k → IsNamed new area k) → new.disk ≡ old.disk → LeavesAll tells old new
 disk_stays tells old new named same = record {
   left = λ told area k is. same_left k (area_of old.disk.areas area) (area_of new.disk.areas area) (ap (λ (d : DiskState). area_of d.areas area) same);
   named = named;
 }
 
-pub leaves_itself : (tells : Bool) (old new : StoreValue) → new ≡ old → LeavesNamed tells old new
-leaves_itself tells old new same = subst (λ (w : StoreValue). LeavesNamed tells old w) (sym same) (disk_stays tells old old (λ area k is. is) refl)
-
-pub leaves_twice : (tells : Bool) (a b c : StoreValue) → LeavesNamed tells a b → LeavesNamed tells b c → LeavesNamed tells a c
-leaves_twice tells a b c one next = record {
-  left = λ told area k is. left_twice k (area_of a.disk.areas area) (area_of b.disk.areas area) (area_of c.disk.areas area) (one.left told area k is) (next.left told area k (one.named area k is));
-  named = λ area k is. next.named area k (one.named area k is);
-}
+pub leaves_itself : (tells : Bool) (old new : StoreValue) → new ≡ old → LeavesAll tells old new
+leaves_itself tells old new same = subst (λ (w : StoreValue). LeavesAll tells old w) (sym same) (disk_stays tells old old (λ area k is. is) refl)
 
 -- ---- jobs
 

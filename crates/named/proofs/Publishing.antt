@@ -1,5 +1,5 @@
 -- What a slot names that is open now.
-use Rattle.std.proofs.Common.{◌≡◌, ℕ, zero, suc, Bool, true, false, is_some, List, [], ◌∷◌, ◌++◌, take, drop, append_assoc, Option, Some, None, Result, Ok, Err, MatchBool, MatchOption, refl, sym, ap, subst, ◌∙◌, arith, inl, inr}
+use Rattle.std.proofs.Common.{◌≡◌, ℕ, zero, suc, Bool, true, false, is_some, List, [], ◌∷◌, ◌++◌, take, drop, append_assoc, slice_get, Option, Some, None, Result, Ok, Err, MatchBool, MatchOption, refl, sym, ap, subst, ◌∙◌, arith, inl, inr}
 use Rattle.std.specs.List.{AllByRecursion, flat_map}
 use Rattle.extents.specs.declared.usage.Usage.{Usage}
 use Rattle.extents.specs.declared.usage.Usage.TheVariants.{Out, Kept}
@@ -14,22 +14,27 @@ use Rattle.group.specs.declared.answers.Did.{Did}
 use Rattle.group.specs.declared.answers.Did.TheVariants as group
 use Rattle.group.specs.declared.answers.PumpFault.{PumpFault}
 use Rattle.group.specs.declared.answers.PumpFault.TheVariants as fault
-use Rattle.transactions.proofs.Publishing.{out-front}
+use Rattle.transactions.proofs.Publishing.{out-front, out-swapped}
+use Rattle.transactions.specs.Order.{IsInOrder}
+use Rattle.vacuum.specs.Anchors.{Sourced}
+use Rattle.wire.specs.declared.slot.Anchors.{Anchors}
 use Rattle.transactions.specs.Values.{TransactionsValue}
 use Rattle.transactions.specs.Steps.{next_step, next_extent, grouped}
 use Rattle.transactions.specs.declared.stage.NextStep.{NextStep}
 use Rattle.transactions.specs.declared.stage.NextStep.TheVariants as step
 use Rattle.store.specs.Values.{StoreValue, IsOnItsWay, turn_of, turn_in}
 use Rattle.store.specs.Pumps.{Pumps, TakesStep, WritesExtent, MayBeginSlot, TurnsSlot, IsTurned, started}
-use Rattle.store.specs.Jobs.{PumpsJob, TakesJobStep, WritesOrSyncs, BeginsJobSlot, IsJobTurned}
+use Rattle.store.specs.Jobs.{PumpsJob, TakesJobStep, WritesOrSyncs, AnchorsOrSync, BeginsJobSlot, IsJobTurned}
 use Rattle.store.specs.Archives.{ArchiveJob, job_of}
 use Rattle.store.specs.declared.job.Job.{Job}
+use Rattle.store.specs.declared.job.JobWork.TheVariants.{Reclaim}
 use Rattle.store.specs.declared.job.JobStage.{JobStage}
 use Rattle.store.specs.declared.job.JobStage.TheVariants as stages
 use Rattle.store.specs.declared.job.JobDid.{JobDid}
 use Rattle.store.specs.declared.job.JobDid.TheVariants as did
 use Rattle.named.specs.Named.{IsTyped}
-use Rattle.named.specs.Laws.{HasPublished, HasArchived}
+use Rattle.named.specs.Laws.{HasPublished, HasArchived, HasAnchored}
+use Rattle.standing.proofs.Retired.{reserved-kept}
 use Rattle.named.proofs.Naming.{kept_published, others_of, grouped_usages, grouped_queue}
 
 -- ---- a group
@@ -137,3 +142,50 @@ job_by_failed tells false v new job there works typed is =
 
 pub run_named : (tells : Bool) (old new : StoreValue) (job : ArchiveJob) → IsTyped tells old → old.job ≡ Some (job_of job) → PumpsJob tells old (Ok did.JobDone) new → HasArchived old job new
 run_named tells old new job typed there pumps = job_by_failed tells old.transactions.failed old new job there refl typed pumps
+
+-- ---- a reclaim
+
+abbrev reclaim_of : Anchors → Sourced → ℕ → JobStage → Job
+reclaim_of anchors source written stage = record { work = Reclaim anchors source written; stage = stage }
+
+reclaim_turned : (at : SlotStage) (t : TurnState) (anchors : Anchors) (source : Sourced) (written : ℕ) (stage : JobStage) (v new : StoreValue) → AreOut v.transactions.usages v.transactions.reserved → t.number ≡ v.log.used
+    → IsJobTurned at t (reclaim_of anchors source written stage) v did.JobDone new → HasAnchored v new
+reclaim_turned slots.Begun t anchors source written stage v new out number is = absurd (let wrong = is.0 in cc)
+reclaim_turned slots.BodyWritten t anchors source written stage v new out number is = absurd (let wrong = is.0 in cc)
+reclaim_turned slots.BodySynced t anchors source written stage v new out number is = absurd (let wrong = is.0 in cc)
+reclaim_turned slots.GateWritten t anchors source written stage v new out number is = record {
+  extents = subst (λ (us : List Usage). AllByRecursion (IsKept us) v.transactions.reserved) (sym (ap (λ (s : StoreValue). s.transactions.usages) is.2)) (reserved-kept anchors.upto v.transactions.times v.transactions.usages v.transactions.reserved out);
+  slots = omega (arith, ap (λ (s : StoreValue). s.log.used) is.2, number);
+}
+reclaim_turned slots.Opened t anchors source written stage v new out number is = absurd is
+
+anchors_none : (tells : Bool) (o : Option ℕ) (anchors : Anchors) (source : Sourced) (written : ℕ) (job : Job) (v new : StoreValue) → AnchorsOrSync tells o anchors source written job v (Ok did.JobDone) new → ⊥
+anchors_none tells None anchors source written job v new is = let wrong : ◌≡◌ {A = JobDid} did.JobDone did.HeapSynced = (is.moves).0 in cc
+anchors_none tells (Some number) anchors source written job v new is = let wrong : ◌≡◌ {A = JobDid} did.JobDone did.WroteExtent = (is.moves).0 in cc
+
+reclaim_begun_none : (tells : Bool) (v new : StoreValue) (anchors : Anchors) (source : Sourced) (written : ℕ) (stage : JobStage) (b : Bool)
+    → MatchBool b ((◌≡◌ {A = Result JobDid PumpFault} (Ok did.JobDone) (Err fault.Busy)) × (new ≡ v)) (BeginsJobSlot tells (reclaim_of anchors source written stage) v (Ok did.JobDone) new) → ⊥
+reclaim_begun_none tells v new anchors source written stage true is = let wrong = is.0 in cc
+reclaim_begun_none tells v new anchors source written stage false (inl short) = let wrong = short.1 in cc
+reclaim_begun_none tells v new anchors source written stage false (inr is) = let wrong : ◌≡◌ {A = JobDid} did.JobDone did.BodyWritten = is.answer.0 in cc
+
+reclaim_takes : (tells : Bool) (stage : JobStage) (v new : StoreValue) (anchors : Anchors) (source : Sourced) (written : ℕ) → AreOut v.transactions.usages v.transactions.reserved → MatchOption (turn_in stage) (Unit {0}) (λ t. t.number ≡ v.log.used)
+    → TakesJobStep tells stage (reclaim_of anchors source written stage) v (Ok did.JobDone) new → HasAnchored v new
+reclaim_takes tells stages.Writing v new anchors source written out number is = absurd (anchors_none tells (slice_get v.transactions.reserved written) anchors source written (reclaim_of anchors source written stages.Writing) v new is)
+reclaim_takes tells stages.Stored v new anchors source written out number is = absurd (reclaim_begun_none tells v new anchors source written stages.Stored (is_some v.turn) is)
+reclaim_takes tells (stages.Turning t) v new anchors source written out number is = reclaim_turned t.stage t anchors source written (stages.Turning t) v new out number is.answer
+
+job_out : (v : TransactionsValue) → IsInOrder v → AreOut v.usages v.reserved
+job_out v order = out-front v.usages v.reserved (flat_map numbers_of v.queue) (out-swapped v.usages (flat_map numbers_of v.queue) v.reserved order.out)
+
+reclaim_by_failed : (tells b : Bool) (v new : StoreValue) (anchors : Anchors) (source : Sourced) (written : ℕ) (stage : JobStage) → v.job ≡ Some (reclaim_of anchors source written stage) → v.transactions.failed ≡ b → IsTyped tells v
+    → MatchBool b ((◌≡◌ {A = Result JobDid PumpFault} (Ok did.JobDone) (Err fault.Failed)) × (new ≡ v)) (MatchOption v.job ((◌≡◌ {A = Result JobDid PumpFault} (Ok did.JobDone) (Ok did.Idle)) × (new ≡ v)) (λ j. TakesJobStep tells j.stage j v (Ok did.JobDone) new)) → HasAnchored v new
+reclaim_by_failed tells true v new anchors source written stage there failed typed is = absurd (let wrong = is.0 in cc)
+reclaim_by_failed tells false v new anchors source written stage there works typed is =
+    let number = job_number v (turn_of v.job) (((typed.in_step).turns works).job) in
+    reclaim_takes tells stage v new anchors source written (job_out v.transactions typed.order)
+    (subst (λ (o : Option Job). MatchOption (turn_of o) (Unit {0}) (λ (t : TurnState). t.number ≡ v.log.used)) there number)
+    (subst (λ (o : Option Job). MatchOption o ((◌≡◌ {A = Result JobDid PumpFault} (Ok did.JobDone) (Ok did.Idle)) × (new ≡ v)) (λ (j : Job). TakesJobStep tells j.stage j v (Ok did.JobDone) new)) there is)
+
+pub anchors_named : (tells : Bool) (old new : StoreValue) (anchors : Anchors) (source : Sourced) (written : ℕ) (stage : JobStage) → IsTyped tells old → old.job ≡ Some (reclaim_of anchors source written stage) → PumpsJob tells old (Ok did.JobDone) new → HasAnchored old new
+anchors_named tells old new anchors source written stage typed there pumps = reclaim_by_failed tells old.transactions.failed old new anchors source written stage there refl typed pumps

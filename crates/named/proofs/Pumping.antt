@@ -21,11 +21,11 @@ use Rattle.transactions.specs.declared.stage.NextStep.{NextStep}
 use Rattle.transactions.specs.declared.stage.NextStep.TheVariants as step
 use Rattle.store.specs.Values.{StoreValue, KeepsJob, IsOnItsWay, turn_of}
 use Rattle.store.specs.Pumps.{Pumps, TakesStep, WritesExtent, SyncsHeap, MayBeginSlot, TurnsSlot, IsTurned, TurnFails, Steps, started, begun, disk_answer}
-use Rattle.named.specs.Named.{IsNamed, LeavesNamed, WritesBehind, IsTyped}
+use Rattle.named.specs.Named.{IsNamed, WritesBehind, IsTyped}
 use Rattle.named.proofs.Places.{left_by_write, left_by_sync, left_by_slot}
 use Rattle.std.proofs.lemmas.List.Concat.{flat_map-cons}
 use Rattle.chains.specs.KeyWrites.{forgotten}
-use Rattle.named.proofs.Naming.{all_front, kept_published, others_of, kept_same, heap_apart, out_next, out_first, named_by, carried, leaves_itself, behind_kept, grouped_usages, grouped_queue}
+use Rattle.named.proofs.Naming.{LeavesAll, all_front, kept_published, others_of, kept_same, heap_apart, out_next, out_first, named_by, carried, leaves_itself, behind_kept, grouped_usages, grouped_queue}
 
 -- what a group's step goes by
 record Goes (tells : Bool) (v : StoreValue) : Type 0 where
@@ -35,7 +35,7 @@ record Goes (tells : Bool) (v : StoreValue) : Type 0 where
 
 -- what it leaves
 record Ends (tells : Bool) (v new : StoreValue) : Type 0 where
-  leaves : LeavesNamed tells v new
+  leaves : LeavesAll tells v new
   job : KeepsJob v new
 
 keeps_job : (v new : StoreValue) → new ≡ v → KeepsJob v new
@@ -174,6 +174,6 @@ by_failed tells false v new result works typed is =
       job = record { job = (ends.job).job; archived = (ends.job).archived; runs_end = (ends.job).runs_end; archive = (ends.job).archive };
     }
 
-pub pumped : (tells : Bool) (old new : StoreValue) (answer : Result Did PumpFault) → Pumps tells old answer new → IsTyped tells old → WritesBehind old → LeavesNamed tells old new × WritesBehind new
+pub pumped : (tells : Bool) (old new : StoreValue) (answer : Result Did PumpFault) → Pumps tells old answer new → IsTyped tells old → WritesBehind old → LeavesAll tells old new × WritesBehind new
 pumped tells old new answer pumps typed behind =
     let ends = by_failed tells old.transactions.failed old new answer refl typed pumps in (ends.leaves, behind_kept old new ends.job behind)

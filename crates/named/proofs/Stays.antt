@@ -1,6 +1,6 @@
 -- What the log names stays, call after call.
-use Rattle.std.proofs.Common.{◌≡◌, ℕ, ◌+◌, ◌<◌, Bool, IsTrue, List, [], ◌∷◌, sym, ap, subst, ◌∙◌, arith}
-use Rattle.std.specs.Prelude.{slice_index}
+use Rattle.std.proofs.Common.{◌≡◌, ℕ, ◌+◌, ◌<◌, Bool, IsTrue, List, [], ◌∷◌, refl, sym, ap, subst, ◌∙◌, inl, inr, arith}
+use Rattle.std.specs.Prelude.{◌⊎◌, slice_index}
 use Rattle.std.specs.List.{AllByRecursion}
 use Rattle.disk.specs.Areas.{Areas, Image, MayLeave, LeavesImage, IsSound, area_of, image_of, IsUntouched}
 use Rattle.disk.specs.Calls.{DiskState}
@@ -18,10 +18,11 @@ use Rattle.recovery.specs.HeapReads.{numbers_in}
 use Rattle.recovery.specs.ReadsImage.{IsOpening}
 use Rattle.store.specs.Values.{StoreValue}
 use Rattle.store.specs.Opens.{Opens}
-use Rattle.named.specs.Named.{IsNamed, IsLeft, LeavesNamed, WritesBehind, IsTyped, bytes_in}
-use Rattle.named.specs.Laws.{IsCall, Began, Aborted, Submitting, Redeeming, Pumped, Archiving, JobPumped, Asked, AreCalls, HasNamed}
-use Rattle.named.proofs.Naming.{leaves_itself, leaves_twice, behind_by}
-use Rattle.named.proofs.Calls.{began, aborted, redeemed, submitted, archiving}
+use Rattle.named.specs.Named.{IsNamed, IsLeft, IsGivenUpIn, LeavesNamed, WritesBehind, IsTyped, bytes_in}
+use Rattle.named.specs.Laws.{IsCall, Began, Aborted, Submitting, Redeeming, Pumped, Archiving, Reclaiming, JobPumped, Viewed, AskedAt, AskedScan, AskedRows, AskedScanRows, AreCalls, end_of, IsGivenUpAmong, StaysNamed, HasNamed}
+use Rattle.named.proofs.Places.{same_left, left_twice}
+use Rattle.named.proofs.Naming.{LeavesAll, leaves_named, leaves_itself, behind_by}
+use Rattle.named.proofs.Calls.{began, aborted, redeemed, submitted, archiving, reclaiming, asked}
 use Rattle.named.proofs.Pumping.{pumped}
 use Rattle.named.proofs.Jobs.{job_pumped}
 
@@ -54,24 +55,49 @@ opened_names tells disk mark v opens told =
 -- ---- calls
 
 pub call_leaves : (tells : Bool) (old new : StoreValue) → IsTyped tells old → WritesBehind old → IsCall tells old new → LeavesNamed tells old new × WritesBehind new
-call_leaves tells old new typed behind (Began answer is) = began tells old new answer is behind
-call_leaves tells old new typed behind (Aborted txn is) = aborted tells old new txn is behind
-call_leaves tells old new typed behind (Submitting txn label now answer is) = submitted tells old new txn label now answer is behind
-call_leaves tells old new typed behind (Redeeming ticket answer is) = redeemed tells old new ticket answer is behind
-call_leaves tells old new typed behind (Pumped answer is) = pumped tells old new answer is typed behind
-call_leaves tells old new typed behind (Archiving upto answer is) = archiving tells old new upto answer is behind
-call_leaves tells old new typed behind (JobPumped answer is) = job_pumped tells old new answer is typed behind
-call_leaves tells old new typed behind (Asked same) = (leaves_itself tells old new same, subst WritesBehind (sym same) behind)
+call_leaves tells old new typed behind call = by_call call
+  where
+    all : LeavesAll tells old new × WritesBehind new → LeavesNamed tells old new × WritesBehind new
+    all (leaves, after) = (leaves_named tells old new leaves, after)
 
-from_first : (tells : Bool) (u v : StoreValue) (ws : List StoreValue) → LeavesNamed tells u v → AllByRecursion (λ w. LeavesNamed tells v w × WritesBehind w) ws → AllByRecursion (λ w. LeavesNamed tells u w × WritesBehind w) ws
-from_first tells u v [] first all = tt
-from_first tells u v (w ∷ ws) first all = ((leaves_twice tells u v w first (all.0).0, (all.0).1), from_first tells u v ws first all.1)
+    by_call : IsCall tells old new → LeavesNamed tells old new × WritesBehind new
+    by_call (Began answer is) = all (began tells old new answer is behind)
+    by_call (Aborted txn is) = all (aborted tells old new txn is behind)
+    by_call (Submitting txn label now answer is) = all (submitted tells old new txn label now answer is behind)
+    by_call (Redeeming ticket answer is) = all (redeemed tells old new ticket answer is behind)
+    by_call (Pumped answer is) = all (pumped tells old new answer is typed behind)
+    by_call (Archiving upto answer is) = all (archiving tells old new upto answer is behind)
+    by_call (Reclaiming answer is) = all (reclaiming tells old new answer is typed behind)
+    by_call (JobPumped answer is) = job_pumped tells old new answer is typed behind
+    by_call (Viewed same) = all (leaves_itself tells old new same, subst WritesBehind (sym same) behind)
+    by_call (AskedAt view key time answer is) = all (asked tells old new view time _ _ _ _ answer is behind)
+    by_call (AskedScan view relation time answer is) = all (asked tells old new view time _ _ _ _ answer is behind)
+    by_call (AskedRows view key a b answer is) = all (asked tells old new view a _ _ _ _ answer is behind)
+    by_call (AskedScanRows view relation a b answer is) = all (asked tells old new view a _ _ _ _ answer is behind)
 
-pub calls_leave : (tells : Bool) (v : StoreValue) (ws : List StoreValue) → IsTyped tells v → WritesBehind v → AreCalls tells v ws → AllByRecursion (λ w. LeavesNamed tells v w × WritesBehind w) ws
-calls_leave tells v [] typed behind calls = tt
+-- what a call leaves, and those after it
+then_stays : (tells : Bool) (v w : StoreValue) (ws : List StoreValue) (area : Area) (k : ℕ) → (IsTrue tells → IsLeft k (area_of v.disk.areas area) (area_of w.disk.areas area)) → StaysNamed tells w (end_of w ws) area k ⊎ IsGivenUpAmong w ws area k
+    → StaysNamed tells v (end_of w ws) area k ⊎ IsGivenUpAmong v (w ∷ ws) area k
+then_stays tells v w ws area k left (inl stays) =
+    inl (record { left = λ told. left_twice k (area_of v.disk.areas area) (area_of w.disk.areas area) (area_of (end_of w ws).disk.areas area) (left told) (stays.left told); named = stays.named })
+then_stays tells v w ws area k left (inr given) = inr (inr given)
+
+-- so it is of what is named still, and what the first gave up is given up
+first_stays : (tells : Bool) (v w : StoreValue) (ws : List StoreValue) (area : Area) (k : ℕ) → (IsTrue tells → IsLeft k (area_of v.disk.areas area) (area_of w.disk.areas area)) → (IsNamed w area k → StaysNamed tells w (end_of w ws) area k ⊎ IsGivenUpAmong w ws area k)
+    → IsNamed w area k ⊎ IsGivenUpIn v w area k → StaysNamed tells v (end_of w ws) area k ⊎ IsGivenUpAmong v (w ∷ ws) area k
+first_stays tells v w ws area k left rest (inl still) = then_stays tells v w ws area k left (rest still)
+first_stays tells v w ws area k left rest (inr given) = inr (inl given)
+
+pub calls_leave : (tells : Bool) (v : StoreValue) (ws : List StoreValue) → IsTyped tells v → WritesBehind v → AreCalls tells v ws
+    → ((area : Area) (k : ℕ) → IsNamed v area k → StaysNamed tells v (end_of v ws) area k ⊎ IsGivenUpAmong v ws area k) × WritesBehind (end_of v ws)
+calls_leave tells v [] typed behind calls = (
+  λ area k named. inl (record { left = λ told. same_left k (area_of v.disk.areas area) (area_of v.disk.areas area) refl; named = named }),
+  behind,
+)
 calls_leave tells v (w ∷ ws) typed behind calls =
     let one = call_leaves tells v w typed behind calls.0 in
-    (one, from_first tells v w ws one.0 (calls_leave tells w ws calls.1 one.1 calls.2))
+    let rest = calls_leave tells w ws calls.1 one.1 calls.2 in
+    (λ area k named. first_stays tells v w ws area k (λ told. (one.0).left told area k named) (rest.0 area k) ((one.0).named area k named), rest.1)
 
 -- ---- a stop
 
@@ -80,11 +106,10 @@ left_of areas image Status left = left.status
 left_of areas image Heap left = left.heap
 left_of areas image Archive left = left.archive
 
-pub stop_leaves : (tells : Bool) (old new : StoreValue) (image : Image) → IsTyped tells old → LeavesNamed tells old new → IsTrue tells → LeavesImage new.disk.areas image
-    → (area : Area) (k : ℕ) → IsNamed old area k → k < (area_of old.disk.areas area).firm → IsUntouched k (k + 1) (area_of old.disk.areas area).loose
+pub stop_leaves : (tells : Bool) (old new : StoreValue) (image : Image) → IsTyped tells old → IsTrue tells → LeavesImage new.disk.areas image
+    → (area : Area) (k : ℕ) → IsLeft k (area_of old.disk.areas area) (area_of new.disk.areas area) → k < (area_of old.disk.areas area).firm → IsUntouched k (k + 1) (area_of old.disk.areas area).loose
     → slice_index (bytes_in image area) k ≡ slice_index (area_of old.disk.areas area).bytes k
-stop_leaves tells old new image typed leaves told left area k named firm untouched =
-    let is : IsLeft k (area_of old.disk.areas area) (area_of new.disk.areas area) = leaves.left told area k named in
+stop_leaves tells old new image typed told left area k is firm untouched =
     let sound : IsSound (area_of old.disk.areas area) = typed.sound told area in
     let long = sound.firm in
     (left_of new.disk.areas image area left).kept k (is.firm firm) (is.untouched untouched) ∙ is.read (omega arith)

@@ -1,10 +1,15 @@
 -- No call writes what the log names.
-use Rattle.std.specs.Prelude.{◌≡◌, ℕ, ◌+◌, ◌<◌, Bool, IsTrue, List, [], ◌∷◌, length, take, slice_index, Some, Result, Ok}
+use Rattle.std.specs.Prelude.{◌≡◌, ◌⊎◌, ℕ, ◌+◌, ◌<◌, Bool, IsTrue, List, [], ◌∷◌, length, take, slice_index, Option, Some, Result, Ok}
+use Rattle.std.specs.declared.alloc.Global.{Global}
+use Rattle.std.specs.declared.vec.Vec.{Vec}
 use Rattle.std.specs.List.{AllByRecursion, flat_map}
 use Rattle.disk.specs.Areas.{Image, LeavesImage, area_of, image_of, IsUntouched}
 use Rattle.disk.specs.Calls.{DiskState}
 use Rattle.disk.specs.declared.area.Area.{Area}
 use Rattle.extents.specs.Usages.{IsKept}
+use Rattle.history.specs.declared.key.Key.{Key}
+use Rattle.history.specs.declared.time.Version.{Version}
+use Rattle.image.specs.Values.{Value}
 use Rattle.image.specs.Reading.{Reading}
 use Rattle.snapshot.specs.Txn.{TxnValue}
 use Rattle.group.specs.Tickets.{TicketValue}
@@ -21,15 +26,22 @@ use Rattle.status.specs.Rules.{row_end, runs_of}
 use Rattle.reading.specs.Layouts.{Layout, live}
 use Rattle.recovery.specs.ReadsImage.{IsOpening}
 use Rattle.store.specs.Values.{StoreValue}
-use Rattle.store.specs.Calls.{Begins, Aborts, Submits, Redeems}
+use Rattle.timequery.specs.View.{ViewValue}
+use Rattle.timequery.specs.declared.fault.QueryFault.{QueryFault}
+use Rattle.vacuum.specs.Anchors.{Sourced}
+use Rattle.wire.specs.declared.slot.Anchors.{Anchors}
+use Rattle.store.specs.Calls.{Begins, Aborts, Submits, Redeems, AnswersAtView, AnswersScanAt, AnswersRows, AnswersScanRows}
 use Rattle.store.specs.Archives.{ArchiveJob, job_of, StartsArchive}
+use Rattle.store.specs.Reclaims.{StartsReclaim}
 use Rattle.store.specs.Pumps.{Pumps}
 use Rattle.store.specs.Jobs.{PumpsJob}
 use Rattle.store.specs.Opens.{Opens}
+use Rattle.store.specs.declared.job.JobStage.{JobStage}
+use Rattle.store.specs.declared.job.JobWork.TheVariants.{Reclaim}
 use Rattle.store.specs.declared.job.StartFault.{StartFault}
 use Rattle.store.specs.declared.job.JobDid.{JobDid}
 use Rattle.store.specs.declared.job.JobDid.TheVariants as did
-use Rattle.named.specs.Named.{IsNamed, LeavesNamed, WritesBehind, IsTyped, bytes_in}
+use Rattle.named.specs.Named.{IsNamed, IsLeft, IsGivenUpIn, LeavesNamed, WritesBehind, IsTyped, bytes_in}
 
 -- a call of an open store, by what it does
 pub data IsCall (tells : Bool) (old new : StoreValue) : Type 0 where
@@ -39,14 +51,35 @@ pub data IsCall (tells : Bool) (old new : StoreValue) : Type 0 where
   Redeeming : (ticket : TicketValue) (answer : Redeemed) → Redeems old ticket answer new → IsCall tells old new
   Pumped : (answer : Result Did PumpFault) → Pumps tells old answer new → IsCall tells old new
   Archiving : (upto : ℕ) (answer : Result (Unit {0}) StartFault) → StartsArchive old upto answer new → IsCall tells old new
+  Reclaiming : (answer : Result (Unit {0}) StartFault) → StartsReclaim old answer new → IsCall tells old new
   JobPumped : (answer : Result JobDid PumpFault) → PumpsJob tells old answer new → IsCall tells old new
-  -- a view, a query of it, or its end
-  Asked : new ≡ old → IsCall tells old new
+  -- a view, its end, or the times of a label
+  Viewed : new ≡ old → IsCall tells old new
+  -- a query of a view, which may read runs
+  AskedAt : (view : ViewValue) (key : Key) (time : ℕ) (answer : Result (Option Value) QueryFault) → AnswersAtView tells old view key time answer new → IsCall tells old new
+  AskedScan : (view : ViewValue) (relation time : ℕ) (answer : Result (Vec (ℕ × Value) Global) QueryFault) → AnswersScanAt tells old view relation time answer new → IsCall tells old new
+  AskedRows : (view : ViewValue) (key : Key) (a b : ℕ) (answer : Result (Vec (Version Value) Global) QueryFault) → AnswersRows tells old view key a b answer new → IsCall tells old new
+  AskedScanRows : (view : ViewValue) (relation a b : ℕ) (answer : Result (Vec (ℕ × Version Value) Global) QueryFault) → AnswersScanRows tells old view relation a b answer new → IsCall tells old new
 
 -- stores one after another, each by a call of the one before it
 abbrev pub AreCalls : Bool → StoreValue → List StoreValue → Type 0
 AreCalls tells v [] = Unit {0}
 AreCalls tells v (w ∷ ws) = IsCall tells v w × IsTyped tells w × AreCalls tells w ws
+
+-- the store after them
+abbrev pub end_of : StoreValue → List StoreValue → StoreValue
+end_of v [] = v
+end_of v (w ∷ ws) = end_of w ws
+
+-- a reclaim among them gave this place up
+abbrev pub IsGivenUpAmong : StoreValue → List StoreValue → Area → ℕ → Type 0
+IsGivenUpAmong v [] area k = ⊥
+IsGivenUpAmong v (w ∷ ws) area k = IsGivenUpIn v w area k ⊎ IsGivenUpAmong w ws area k
+
+-- this place is as it was, and is named
+pub record StaysNamed (tells : Bool) (old new : StoreValue) (area : Area) (k : ℕ) : Type 0 where
+  pub left : IsTrue tells → IsLeft k (area_of old.disk.areas area) (area_of new.disk.areas area)
+  pub named : IsNamed new area k
 
 -- ---- laws
 
@@ -68,14 +101,15 @@ OpenedNames = (tells : Bool) (disk : DiskState) (mark : ℕ) (v : StoreValue) �
 abbrev pub CallLeavesNamed : Type 0
 CallLeavesNamed = (tells : Bool) (old new : StoreValue) → IsTyped tells old → WritesBehind old → IsCall tells old new → LeavesNamed tells old new × WritesBehind new
 
--- so it is of calls one after another
+-- so it is of calls one after another: what the log named is as it was and is named still, but for what a reclaim among them gave up
 abbrev pub NamedStays : Type 0
-NamedStays = (tells : Bool) (v : StoreValue) (ws : List StoreValue) → IsTyped tells v → WritesBehind v → AreCalls tells v ws → AllByRecursion (λ w. LeavesNamed tells v w × WritesBehind w) ws
+NamedStays = (tells : Bool) (v : StoreValue) (ws : List StoreValue) → IsTyped tells v → WritesBehind v → AreCalls tells v ws
+    → ((area : Area) (k : ℕ) → IsNamed v area k → StaysNamed tells v (end_of v ws) area k ⊎ IsGivenUpAmong v ws area k) × WritesBehind (end_of v ws)
 
 -- and whatever a stop may then leave has there what stood on the disk
 abbrev pub StopLeavesNamed : Type 0
-StopLeavesNamed = (tells : Bool) (old new : StoreValue) (image : Image) → IsTyped tells old → LeavesNamed tells old new → IsTrue tells → LeavesImage new.disk.areas image
-    → (area : Area) (k : ℕ) → IsNamed old area k → k < (area_of old.disk.areas area).firm → IsUntouched k (k + 1) (area_of old.disk.areas area).loose
+StopLeavesNamed = (tells : Bool) (old new : StoreValue) (image : Image) → IsTyped tells old → IsTrue tells → LeavesImage new.disk.areas image
+    → (area : Area) (k : ℕ) → IsLeft k (area_of old.disk.areas area) (area_of new.disk.areas area) → k < (area_of old.disk.areas area).firm → IsUntouched k (k + 1) (area_of old.disk.areas area).loose
     → slice_index (bytes_in image area) k ≡ slice_index (area_of old.disk.areas area).bytes k
 
 -- ---- what is named more
@@ -95,3 +129,12 @@ pub record HasArchived (old : StoreValue) (job : ArchiveJob) (new : StoreValue) 
 
 abbrev pub ArchivedNamed : Type 0
 ArchivedNamed = (tells : Bool) (old new : StoreValue) (job : ArchiveJob) → IsTyped tells old → old.job ≡ Some (job_of job) → PumpsJob tells old (Ok did.JobDone) new → HasArchived old job new
+
+-- the extents of the anchors are named, by the slot that was opened
+pub record HasAnchored (old new : StoreValue) : Type 0 where
+  pub extents : AllByRecursion (IsKept new.transactions.usages) old.transactions.reserved
+  pub slots : new.log.used ≡ old.log.used + 1
+
+abbrev pub AnchorsNamed : Type 0
+AnchorsNamed = (tells : Bool) (old new : StoreValue) (anchors : Anchors) (source : Sourced) (written : ℕ) (stage : JobStage) → IsTyped tells old → old.job ≡ Some (record { work = Reclaim anchors source written; stage = stage })
+    → PumpsJob tells old (Ok did.JobDone) new → HasAnchored old new

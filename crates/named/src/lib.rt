@@ -1,7 +1,7 @@
 //! What the log names is not written: laws of every store that opened, each as a function with nothing to do.
 #![tactic(auto)]
 
-ghost use Rattle.named.specs.Laws.{OpenedWritesBehind, OpenedNames, CallLeavesNamed, NamedStays, StopLeavesNamed, PublishedNamed, ArchivedNamed};
+ghost use Rattle.named.specs.Laws.{OpenedWritesBehind, OpenedNames, CallLeavesNamed, NamedStays, StopLeavesNamed, PublishedNamed, ArchivedNamed, AnchorsNamed};
 
 /// A store that opened runs no job, and has all that the log of its image names.
 pub fn opened_names()
@@ -10,7 +10,8 @@ pub fn opened_names()
 {}
 
 /// No call of a store writes a place of the heap, of the archive or of the status area that its log
-/// names, nor gives it up. What the log then names more is named from that call on.
+/// names. None gives it up, but that the slot of a reclaim gives up the chains of the commits up to its
+/// mark and the anchors before. What the log then names more is named from that call on.
 pub fn call_leaves_named()
     ensures { CallLeavesNamed }
 {}
@@ -22,8 +23,9 @@ pub fn named_stays()
 {}
 
 /// What the slot of a group or of a job names is named from the call on that opens it: the extents of
-/// the group's commits, and the job's run.
+/// the group's commits, the run of an archive, and the extents of a reclaim's anchors.
 pub fn slots_name()
     ensures group { PublishedNamed }
     ensures job { ArchivedNamed }
+    ensures anchors { AnchorsNamed }
 {}

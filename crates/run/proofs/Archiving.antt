@@ -1,8 +1,10 @@
 -- The beginning of an archive, and the steps of a job.
-use Rattle.std.proofs.Common.{◌≡◌, ℕ, ◌+◌, ◌<◌, ◌≤◌, ◌==◌, nat_lt, nat_le, Bool, true, false, cond, List, [], ◌∷◌, ◌++◌, Some, None, Option, is_some, Result, Ok, Err, MatchBool, MatchOption, slice_get, refl, sym, ◌∙◌, ap, subst, inl, inr, arith}
+use Rattle.std.proofs.Common.{◌≡◌, ℕ, ◌+◌, ◌<◌, ◌≤◌, ◌==◌, nat_lt, nat_le, Bool, true, false, cond, List, [], ◌∷◌, ◌++◌, Some, None, Option, is_some, min, ◌⊎◌, ⊎_elim, Result, Ok, Err, MatchBool, MatchOption, slice_get, refl, sym, ◌∙◌, ap, subst, inl, inr, arith}
 use Rattle.std.specs.Prelude.{IsTrue, IfErr, Contains}
 use Rattle.std.proofs.lemmas.List.Sorted.{IsPermutation-sym, Contains-permutation}
+use Rattle.std.proofs.lemmas.Bool.{cases_lt}
 use Rattle.std.proofs.lemmas.Bool.Decides.{nat_tests}
+use Rattle.history.proofs.Members.{Contains-head, Contains-tail}
 use Rattle.disk.specs.Areas.{AreSound}
 use Rattle.history.specs.Histories.{History, last}
 use Rattle.history.specs.Machine.{Machine}
@@ -18,7 +20,7 @@ use Rattle.transactions.specs.Steps as groups
 use Rattle.store.specs.Values.{StoreValue}
 use Rattle.store.specs.Calls as stores
 use Rattle.store.specs.Archives.{refusal_now, BeginsRun, StartsArchive, IsRunRefusal}
-use Rattle.store.specs.Reclaims.{below, reclaim_refusal, BeginsReclaim, StartsReclaim}
+use Rattle.store.specs.Reclaims.{below, refusal_for_use, reclaim_refusal, BeginsReclaim, StartsReclaim}
 use Rattle.transactions.specs.Reclaims.{oldest}
 use Rattle.store.specs.Jobs.{PumpsJob, TakesJobStep, Stores, WritesOrSyncs, AnchorsOrSync, BeginsJobSlot, TurnsJob, IsJobTurned, JobMoves, work_done, slot_opened, made_ready, first_turn, slot_taken}
 use Rattle.archive.specs.Pieces.{InWriting}
@@ -36,9 +38,9 @@ use Rattle.store.specs.declared.job.StartFault.{StartFault}
 use Rattle.store.specs.declared.job.StartFault.TheVariants as start
 use Rattle.standing.specs.Laws.{job_ends_in}
 use Rattle.standing.specs.Stands.{Stands}
-use Rattle.standing.proofs.Whole.{archive-start-stands, archive-start-goes, job-pump-stands, job-pump-goes}
+use Rattle.standing.proofs.Whole.{archive-start-stands, archive-start-goes, reclaim-start-stands, reclaim-start-goes, job-pump-stands, job-pump-goes}
 use Rattle.standing.proofs.Memory.{last-is}
-use Rattle.standing.proofs.Reclaiming.{reclaim-start-stands, least-open}
+use Rattle.snapshot.specs.OpenTable.{lesser, least_with, least_open}
 use Rattle.standing.specs.Standing.{snapshots_of}
 use Rattle.run.specs.declared.calls.Call.TheVariants as call
 use Rattle.run.specs.declared.calls.Answer.TheVariants as answer
@@ -142,10 +144,44 @@ below-is (Some s) mark snapshot is = by-test (nat_lt s mark) is
     by-test true is = is
     by-test false is = absurd cc
 
--- what is said by use and by room
-abbrev use-said : Option ℕ → Bool → Option StartFault
-use-said (Some snapshot) e = Some (start.InUse snapshot)
-use-said None e = cond e (Some start.StatusFull) None
+-- the lesser of two is one of them
+lesser-one : (least : Option ℕ) (t snapshot : ℕ) → lesser least (Some t) ≡ Some snapshot → (least ≡ Some snapshot) ⊎ (t ≡ snapshot)
+lesser-one None t snapshot is = inr cc
+lesser-one (Some a) t snapshot is =
+    let same : min a t ≡ snapshot = cc in
+    ⊎_elim
+    (λ (less : a < t). let own : a ≡ snapshot = omega (arith, less, same) in inl (ap (λ (n : ℕ). Some n) own))
+    (λ (most : t ≤ a). let own : t ≡ snapshot = omega (arith, most, same) in inr own)
+    (cases_lt a t)
+
+lesser-none : (least : Option ℕ) (snapshot : ℕ) → lesser least None ≡ Some snapshot → least ≡ Some snapshot
+lesser-none None snapshot is = is
+lesser-none (Some a) snapshot is = is
+
+-- the least snapshot is that of an open transaction
+least-among : (places : List (Option ℕ)) (least : Option ℕ) (snapshot : ℕ) → least_with least places ≡ Some snapshot → (least ≡ Some snapshot) ⊎ Contains (snapshots_of places) snapshot
+least-among [] least snapshot is = inl is
+least-among (None ∷ ps) least snapshot is = by (least-among ps (lesser least None) snapshot is)
+  where
+    by : (lesser least None ≡ Some snapshot) ⊎ Contains (snapshots_of ps) snapshot → (least ≡ Some snapshot) ⊎ Contains (snapshots_of ps) snapshot
+    by (inl own) = inl (lesser-none least snapshot own)
+    by (inr more) = inr more
+least-among (Some t ∷ ps) least snapshot is = by (least-among ps (lesser least (Some t)) snapshot is)
+  where
+    own : (least ≡ Some snapshot) ⊎ (t ≡ snapshot) → (least ≡ Some snapshot) ⊎ Contains (t ∷ snapshots_of ps) snapshot
+    own (inl before) = inl before
+    own (inr this) = inr (Contains-head t (snapshots_of ps) snapshot this)
+
+    by : (lesser least (Some t) ≡ Some snapshot) ⊎ Contains (snapshots_of ps) snapshot → (least ≡ Some snapshot) ⊎ Contains (t ∷ snapshots_of ps) snapshot
+    by (inl either) = own (lesser-one least t snapshot either)
+    by (inr more) = inr (Contains-tail t (snapshots_of ps) snapshot more)
+
+least-open : (opened : List (Option ℕ)) (snapshot : ℕ) → least_open opened ≡ Some snapshot → Contains (snapshots_of opened) snapshot
+least-open opened snapshot is = by (least-among opened None snapshot is)
+  where
+    by : (◌≡◌ {A = Option ℕ} None (Some snapshot)) ⊎ Contains (snapshots_of opened) snapshot → Contains (snapshots_of opened) snapshot
+    by (inl none) = absurd cc
+    by (inr there) = there
 
 reclaim-leaves : (old new : StoreValue) (r : Result (Unit {0}) StartFault) → StartsReclaim old r new → Leaves old.transactions new.transactions
 reclaim-leaves old new r starts = by-refusal (reclaim_refusal old) starts
@@ -174,7 +210,7 @@ reclaim-few old new r starts = by-refusal (reclaim_refusal old) starts
 
 -- what a reclaim's start says of the machine
 reclaim-says : (tells : Bool) (v v' : StoreValue) (w : World) (r : Result (Unit {0}) StartFault) → Stands tells v w.machine → StartsReclaim v r v' → Reclaims w r (same w)
-reclaim-says tells v v' w r stands starts = by-tests v.transactions.failed refl (is_some v.job) (v.archived == v.transactions.reclaimed) (below (oldest v.transactions) v.archived) refl (spare v.transactions == 0) starts
+reclaim-says tells v v' w r stands starts = by-tests v.transactions.failed refl (is_some v.job) (v.archived == v.transactions.reclaimed) starts
   where
     says : (x : Result (Unit {0}) StartFault) → r ≡ x → Reclaims w x (same w) → Reclaims w r (same w)
     says x is so = subst (λ (y : Result (Unit {0}) StartFault). Reclaims w y (same w)) (sym is) so
@@ -196,15 +232,21 @@ reclaim-says tells v v' w r stands starts = by-tests v.transactions.failed refl 
         Contains-permutation (snapshots_of v.transactions.opened) w.machine.snapshots snapshot (IsPermutation-sym w.machine.snapshots (snapshots_of v.transactions.opened) stands.memory.snapshots)
         (least-open v.transactions.opened snapshot (below-is (oldest v.transactions) v.archived snapshot is))
 
-    by-tests : (a : Bool) → v.transactions.failed ≡ a → (b c : Bool) (o : Option ℕ) → below (oldest v.transactions) v.archived ≡ o → (e : Bool)
-        → MatchOption (cond a (Some start.Failed) (cond b (Some start.JobBusy) (cond c (Some start.NothingToDo) (use-said o e)))) (BeginsReclaim v r v') (λ why. (r ≡ Err why) × (v' ≡ v))
+    by-room : v.transactions.failed ≡ false → (e : Bool) → MatchOption (cond e (Some start.StatusFull) None) (BeginsReclaim v r v') (λ why. (r ≡ Err why) × (v' ≡ v)) → Reclaims w r (same w)
+    by-room on true is = says (Err start.StatusFull) is.0 refl
+    by-room on false is = begins on r is
+
+    by-use : v.transactions.failed ≡ false → (o : Option ℕ) → below (oldest v.transactions) v.archived ≡ o → MatchOption (refusal_for_use v o) (BeginsReclaim v r v') (λ why. (r ≡ Err why) × (v' ≡ v)) → Reclaims w r (same w)
+    by-use on (Some snapshot) low is = says (Err (start.InUse snapshot)) is.0 (in-use snapshot low, refl)
+    by-use on None low is = by-room on (spare v.transactions == 0) is
+
+    by-tests : (a : Bool) → v.transactions.failed ≡ a → (b c : Bool)
+        → MatchOption (cond a (Some start.Failed) (cond b (Some start.JobBusy) (cond c (Some start.NothingToDo) (refusal_for_use v (below (oldest v.transactions) v.archived))))) (BeginsReclaim v r v') (λ why. (r ≡ Err why) × (v' ≡ v))
         → Reclaims w r (same w)
-    by-tests true on b c o use e is = says (Err start.Failed) is.0 (sym stands.memory.failed ∙ on, refl)
-    by-tests false on true c o use e is = says (Err start.JobBusy) is.0 refl
-    by-tests false on false true o use e is = says (Err start.NothingToDo) is.0 refl
-    by-tests false on false false (Some snapshot) use e is = says (Err (start.InUse snapshot)) is.0 (in-use snapshot use, refl)
-    by-tests false on false false None use true is = says (Err start.StatusFull) is.0 refl
-    by-tests false on false false None use false is = begins on r is
+    by-tests true on b c is = says (Err start.Failed) is.0 (sym stands.memory.failed ∙ on, refl)
+    by-tests false on true c is = says (Err start.JobBusy) is.0 refl
+    by-tests false on false true is = says (Err start.NothingToDo) is.0 refl
+    by-tests false on false false is = by-use on (below (oldest v.transactions) v.archived) refl is
 
 pub reclaim-goes : (tells : Bool) (v v' : StoreValue) (xs : List Held) (r : Result (Unit {0}) StartFault) → StartsReclaim v r v' → Goes tells v xs call.Reclaim (answer.Reclaim r) v' (xs ++ held.Nothing ∷ [])
 reclaim-goes tells v v' xs r starts w is = (
@@ -216,6 +258,7 @@ reclaim-goes tells v v' xs r starts w is = (
     places = push_nothing v'.transactions w.machine.published xs w.places
         (move v.transactions v'.transactions w.machine.published w.machine.published xs w.places is.places
         (λ i x p at shows. stays v.transactions v'.transactions w.machine.published w.machine.published x p (pump-keeps v.transactions v'.transactions x (reclaim-leaves v v' r starts)) (goes_on-same w.machine.published) shows));
+    views = reads-plain tells v' xs w.places held.Nothing Free is.places.many tt (reads-move tells v v' xs w.places (reclaim-start-goes tells v v' r w.machine is.stands starts) is.views);
   },
 )
 

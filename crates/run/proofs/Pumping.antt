@@ -27,7 +27,6 @@ use Rattle.store.specs.Values.{StoreValue, turn_of}
 use Rattle.store.specs.Pumps.{Pumps, TakesStep, WritesExtent, MayBeginSlot, TurnsSlot, IsTurned, Steps, started, begun}
 use Rattle.standing.specs.Laws.{begins_in, ends_in}
 use Rattle.standing.specs.Stands.{Stands}
-use Rattle.standing.proofs.Pumping.{grouped-mark, never-stale}
 use Rattle.standing.proofs.Whole.{pump-stands}
 use Rattle.standing.proofs.Whole as whole
 use Rattle.run.specs.declared.calls.Call.TheVariants as call

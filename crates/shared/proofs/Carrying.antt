@@ -18,6 +18,7 @@ use Rattle.shared.specs.contracts.shared_txn.SharedTxn as SharedTxn
 use Rattle.shared.specs.contracts.shared_txn.SharedTxn.TheInside as shared_txn
 use Rattle.shared.specs.contracts.shared_view.SharedView as SharedView
 use Rattle.shared.specs.contracts.shared_view.SharedView.TheInside as shared_view
+use Rattle.shared.proofs.moment.Moment.TheSendSync as moment
 use Rattle.shared.proofs.observer.Observer.TheSendSync as observer
 use Rattle.shared.proofs.Sending.{frozen_send}
 
@@ -47,7 +48,7 @@ txn_sent = view_send txn.the_row _ _ _ _ txn_inside
 
 module _ (L : RattleType) (opening : openings.Ghosts L.Denot) (ledger : ledgers.Ghosts L.Denot) where
   shared_view_inside : IsSend (shared_view.the_row L opening ledger)
-  shared_view_inside = declared_send (shared_view.the_type L opening ledger) (search (sendable, view_sent), (search (sendable, observer.the_send), tt))
+  shared_view_inside = declared_send (shared_view.the_type L opening ledger) (search (sendable, view_sent), (search (sendable, moment.the_send), tt))
 
   pub shared_view-send : IsSend (SharedView.the_row L opening ledger)
   shared_view-send = view_send (shared_view.the_row L opening ledger) _ _ _ _ shared_view_inside

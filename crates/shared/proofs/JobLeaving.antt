@@ -8,6 +8,7 @@ use Rattle.group.specs.declared.answers.PumpFault.TheVariants as pump
 use Rattle.transactions.specs.Values.{TransactionsValue}
 use Rattle.store.specs.Values.{StoreValue}
 use Rattle.store.specs.Archives.{refusal_now, BeginsRun, StartsArchive}
+use Rattle.store.specs.Reclaims.{reclaim_refusal, BeginsReclaim, StartsReclaim}
 use Rattle.store.specs.Jobs.{PumpsJob, TakesJobStep, Stores, WritesOrSyncs, AnchorsOrSync, BeginsJobSlot, TurnsJob, IsJobTurned, JobMoves, work_done, slot_opened, made_ready, first_turn, slot_taken}
 use Rattle.archive.specs.Pieces.{InWriting}
 use Rattle.vacuum.specs.Anchors.{Sourced}
@@ -36,10 +37,21 @@ pub start-leaves : (old new : StoreValue) (upto : ℕ) (r : Result (Unit {0}) St
 start-leaves old new upto r starts = by-refusal (refusal_now old upto) starts
   where
     begins : (r : Result (Unit {0}) StartFault) → BeginsRun old upto r new → Leaves old.transactions new.transactions
-    begins (Ok done) is = same-leaves old.transactions _ new (record { mark = refl; opened = refl; heads = refl }) is.2
+    begins (Ok done) is = same-leaves old.transactions _ new (record { mark = refl; opened = refl; heads = refl }) is.2.new_is
     begins (Err why) is = nothing-left old new is.1
 
     by-refusal : (o : Option StartFault) → MatchOption o (BeginsRun old upto r new) (λ why. (r ≡ Err why) × (new ≡ old)) → Leaves old.transactions new.transactions
+    by-refusal None is = begins r is
+    by-refusal (Some why) is = nothing-left old new is.1
+
+pub reclaim-leaves : (old new : StoreValue) (r : Result (Unit {0}) StartFault) → StartsReclaim old r new → Leaves old.transactions new.transactions
+reclaim-leaves old new r starts = by-refusal (reclaim_refusal old) starts
+  where
+    begins : (r : Result (Unit {0}) StartFault) → BeginsReclaim old r new → Leaves old.transactions new.transactions
+    begins (Ok done) is = same-leaves old.transactions _ new (record { mark = refl; opened = refl; heads = refl }) is.1.new_is
+    begins (Err why) is = nothing-left old new is.1
+
+    by-refusal : (o : Option StartFault) → MatchOption o (BeginsReclaim old r new) (λ why. (r ≡ Err why) × (new ≡ old)) → Leaves old.transactions new.transactions
     by-refusal None is = begins r is
     by-refusal (Some why) is = nothing-left old new is.1
 

@@ -1,6 +1,7 @@
 pub mod Sending
 pub mod Carrying
 pub mod Fronts
+pub mod Archives
 pub mod Passes
 pub mod Leaving
 pub mod JobLeaving
@@ -11,3 +12,5 @@ pub mod Telling
 pub mod Fresh
 pub mod Committing
 pub mod Moments
+pub mod Recent
+pub mod Asked

@@ -1,75 +1,42 @@
 -- Views and transactions answer by the history of their moment.
-use Rattle.std.proofs.Common.{◌≡◌, ℕ, ◌<◌, ◌≤◌, ◌==◌, nat_lt, Bool, true, false, Bor, List, Option, Result, Ok, Err, MatchBool, MatchResult, unwrap_or, refl, sym, ap, subst, ◌∙◌, arith}
+use Rattle.std.proofs.Common.{◌≡◌, ℕ, Bool, List, Option, Result, Ok, Err, unwrap_or, sym, ap, subst, ◌∙◌}
 use Rattle.std.specs.Prelude.{OnOk, OnErr, if◌then◌else◌}
-use Rattle.std.specs.Option.{option_copied}
-use Rattle.std.proofs.lemmas.Bool.Decides.{nat_tests}
 use Rattle.history.specs.declared.key.Key.{Key}
 use Rattle.history.specs.declared.key.KeyWrite.{KeyWrite}
-use Rattle.history.specs.declared.time.TimedWrite.{TimedWrite}
 use Rattle.history.specs.Key.{write_in}
-use Rattle.history.specs.Time.{value_at}
-use Rattle.history.specs.Answers as answers
-use Rattle.history.specs.Histories.{History, last, state}
+use Rattle.history.specs.Histories.{last, state}
 use Rattle.history.specs.Machine.{Machine}
 use Rattle.history.specs.Queries.{IsScan}
 use Rattle.image.specs.Values.{Value}
-use Rattle.chains.specs.KeyWrites.{writes_of}
 use Rattle.snapshot.specs.Txn.{TxnValue, seen_by}
-use Rattle.timequery.specs.View.{ViewValue, AnswersAt, RefusesTime}
-use Rattle.timequery.specs.declared.fault.QueryFault.{QueryFault}
-use Rattle.timequery.specs.declared.fault.QueryFault.TheVariants as query
-use Rattle.standing.specs.Laws.{ViewStands, SaysAt}
-use Rattle.shared.specs.Moments.{TxnMoment, OfSeen, WorksOn, value_for, answer_copied}
-use Rattle.shared.specs.Seen.{Seen}
-use Rattle.shared.specs.Shared.{Shows, Reads, SeenReached}
+use Rattle.atomic_table.specs.Seated.{TableId}
+use Rattle.timequery.specs.View.{ViewValue}
+use Rattle.store.specs.Values.{StoreValue}
+use Rattle.standing.specs.Homes.{ViewReads}
+use Rattle.shared.specs.Archives.{ArchiveSeen, IsArchiveLater, archive_seen}
+use Rattle.shared.specs.Moments.{TxnMoment, WorksOn, value_for}
+use Rattle.shared.specs.Seen.{Seen, SightValue}
+use Rattle.shared.specs.Shared.{IsShared, Shows, Reads, SeenReached}
+use Rattle.shared.proofs.Archives.{reads-later, reads-of}
 
 -- ---- views
 
--- what the view knows of a time is what the history of its moment says
-said-at : (view : ViewValue) (h : History Value) (floors : ℕ → ℕ) (key : Key) (time : ℕ) (r : Result (Option (Bor Value)) QueryFault) → ViewStands view h floors
-    → MatchResult r (λ o. AnswersAt view time (option_copied o) (value_at (writes_of view.state key) time)) (RefusesTime view time) → SaysAt (answers.at_answer h floors key time) (answer_copied r)
-said-at view h floors key time (Ok o) stands says =
-    let floor = stands.floor_is key.relation in
-    let last_is = stands.last_is in
-    let low : nat_lt time (floors key.relation) ≡ false = let from = says.from_floor in let above : floors key.relation ≤ time = omega arith in grind (arith, nat_tests) in
-    let high : nat_lt (last h) time ≡ false = let upto = says.upto_last in let below : time ≤ last h = omega arith in grind (arith, nat_tests) in
-    rw (low, high) (ap (λ (x : Option Value). Ok x) (sym (says.is ∙ ap (λ (ws : List (TimedWrite Value)). value_at ws time) (stands.state_is key))))
-said-at view h floors key time (Err (query.BeforeKept floor)) stands says =
-    let same = stands.floor_is key.relation in
-    let low : nat_lt time (floors key.relation) ≡ true = let before = says.0 in let below : time < floors key.relation = omega arith in grind (arith, nat_tests) in
-    let named : floors key.relation ≡ floor = sym same ∙ sym says.1 in
-    rw (low, named) refl
-said-at view h floors key time (Err (query.NotYet late)) stands says =
-    let same = stands.floor_is key.relation in
-    let last_is = stands.last_is in
-    let low : nat_lt time (floors key.relation) ≡ false = let from = says.0 in let above : floors key.relation ≤ time = omega arith in grind (arith, nat_tests) in
-    let high : nat_lt (last h) time ≡ true = let after = says.1 in let above : last h < time = omega arith in grind (arith, nat_tests) in
-    let named : last h ≡ late = sym last_is ∙ sym says.2 in
-    rw (low, high, named) refl
-said-at view h floors key time (Err query.NoMemory) stands says = absurd says
-said-at view h floors key time (Err query.EmptyInterval) stands says = absurd says
-said-at view h floors key time (Err query.Device) stands says = absurd says
-said-at view h floors key time (Err (query.Damaged start)) stands says = absurd says
-said-at view h floors key time (Err query.NeedsDisk) stands says = absurd says
-said-at view h floors key time (Err query.Stranger) stands says = absurd says
+-- the view is shown by an archive that is known to be later
+pub shows-later : (start : Machine Value) (brand : ℕ) (old new : ArchiveSeen) (view : ViewValue) (seen : Seen) → IsArchiveLater old new → Shows start brand old view seen → Shows start brand new view seen
+shows-later start brand old new view seen later s = record {
+  machine = s.machine;
+  reached = s.reached;
+  seen_is = s.seen_is;
+  mark = s.mark;
+  stands = s.stands;
+  reads = reads-later old new view s.machine.published s.machine.floors later s.reads;
+}
 
-pub recent-says : (start : Machine Value) (brand : ℕ) (view : ViewValue) (seen : Seen) (key : Key) (time : ℕ) (r : Result (Option (Bor Value)) QueryFault) → Shows start brand view seen
-    → MatchResult r (λ o. AnswersAt view time (option_copied o) (value_at (writes_of view.state key) time)) (RefusesTime view time)
-    → OfSeen start seen (λ m. SaysAt (answers.at_answer m.published m.floors key time) (answer_copied r))
-recent-says start brand view seen key time r s says = (s.machine, s.reached, s.seen_is, said-at view s.machine.published s.machine.floors key time r s.stands says)
-
--- the view is the store's own
-own : (P R : Type 0) (a b : ℕ) → a ≡ b → MatchBool (a == b) P R → P
-own P R a b is says = by-test (a == b) (grind (arith, nat_tests)) says
-  where
-    by-test : (t : Bool) → t ≡ true → MatchBool t P R → P
-    by-test true mine said = said
-    by-test false mine said = absurd cc
-
--- what the store answers to a view of its own is what the history of the view's moment says
-pub own-says : {T : Type 0} (r : Result T QueryFault) (start : Machine Value) (brand : ℕ) (view : ViewValue) (seen : Seen) (Says : History Value → (ℕ → ℕ) → Type 0) → Shows start brand view seen
-    → ((h : History Value) (floors : ℕ → ℕ) → ViewStands view h floors → MatchBool (view.mark == brand) (Says h floors) (r ≡ Err query.Stranger)) → OfSeen start seen (λ m. Says m.published m.floors)
-own-says r start brand view seen Says s says = (s.machine, s.reached, s.seen_is, own (Says s.machine.published s.machine.floors) (r ≡ Err query.Stranger) view.mark brand s.mark (says s.machine.published s.machine.floors s.stands))
+-- the store has what the view reads
+pub still-reads : (tells : Bool) (start : Machine Value) (brand : ℕ) (table : TableId) (v : StoreValue) (shares : ℕ) (at : TableId) (pass : SightValue) (view : ViewValue) (seen : Seen) → IsShared tells start brand table v shares at pass → (s : Shows start brand pass.archive view seen)
+    → ViewReads tells v view s.machine.published s.machine.floors
+still-reads tells start brand table v shares at pass view seen h s =
+    reads-of tells v view s.machine.published s.machine.floors (s.mark ∙ sym h.mark) (reads-later pass.archive (archive_seen tells v) view s.machine.published s.machine.floors h.archive s.reads)
 
 -- ---- transactions
 

@@ -35,36 +35,47 @@ use Rattle.transactions.specs.Values.{TransactionsValue, is_own, over}
 use Rattle.transactions.specs.Calls as calls
 use Rattle.transactions.specs.Submits.{JoinsQueue, with_queued, SubmitsOwn, AnswersSubmit}
 use Rattle.transactions.proofs.Orders.{last_time-push}
+use Rattle.timequery.specs.View.{ViewValue}
+use Rattle.timequery.specs.declared.fault.QueryFault.{QueryFault}
+use Rattle.timequery.specs.declared.fault.QueryFault.TheVariants as query
 use Rattle.store.specs.Values.{StoreValue}
 use Rattle.store.specs.Calls as stores
+use Rattle.store.specs.Calls.{Finds, OrStranger}
 use Rattle.store.specs.Pumps.{Pumps}
 use Rattle.store.specs.Archives.{StartsArchive}
+use Rattle.store.specs.Reclaims.{StartsReclaim}
 use Rattle.store.specs.Jobs.{PumpsJob}
 use Rattle.store.specs.declared.job.JobDid.{JobDid}
 use Rattle.store.specs.declared.job.StartFault.{StartFault}
 use Rattle.standing.specs.Standing.{StandsInMemory}
+use Rattle.standing.specs.Homes.{GoesOn}
 use Rattle.standing.specs.Laws.{submission_of, event_of, begins_in, ends_in, job_ends_in}
 use Rattle.standing.specs.Stands.{Stands}
 use Rattle.standing.proofs.Memory.{last-is}
 use Rattle.standing.proofs.Submitting.{order-last}
 use Rattle.standing.proofs.Calling.{begin-stands, abort-stands, submit-stands, redeem-stands}
-use Rattle.standing.proofs.Pumping.{pump-stands}
-use Rattle.standing.proofs.Archiving.{archive-start-stands}
-use Rattle.standing.proofs.JobPumping.{job-pump-stands}
+use Rattle.standing.proofs.Whole.{pump-stands, pump-goes, job-pump-stands, job-pump-goes, archive-start-stands, archive-start-goes, reclaim-start-stands, reclaim-start-goes, rest-goes}
+use Rattle.standing.proofs.Asking.{query-stands}
+use Rattle.shared.specs.Archives.{ArchiveSeen, IsArchiveLater, archive_seen, no_archive}
 use Rattle.shared.specs.Counts.{told_count, told_after}
 use Rattle.shared.specs.Reached.{Reached, opened, stepped}
 use Rattle.shared.specs.Seen.{Seen, SightValue, seen_of, IsLater}
 use Rattle.shared.specs.Shared.{IsShared, Submits, SubmitSays, SubmitHappens, queued_seen, count_in, noted, done_in}
+use Rattle.shared.proofs.Archives.{archive-same, archive-then, archive-first, archive-on}
 use Rattle.shared.proofs.Counting.{told-push, after-push, told-redeemed, after-redeemed, after-later, none-after}
 use Rattle.shared.proofs.Fronts.{last-seen}
 use Rattle.shared.proofs.Leaving.{pump-leaves}
-use Rattle.shared.proofs.JobLeaving.{start-leaves, pumped-leaves}
+use Rattle.shared.proofs.JobLeaving.{start-leaves, reclaim-leaves, pumped-leaves}
 use Rattle.shared.proofs.Stepping.{follows, later-published, submit_seen, submit-seen, pump_seen, pump-seen, published-none, job-seen}
+
+-- what is known of an archive, by another name
+pub known : {a b c : ArchiveSeen} → b ≡ a → IsArchiveLater a c → IsArchiveLater b c
+known {a} {b} {c} is later = subst (λ (x : ArchiveSeen). IsArchiveLater x c) (sym is) later
 
 -- the same under another pass of the writer's
 pub repass : (tells : Bool) (start : Machine Value) (brand : ℕ) (table : TableId) (v : StoreValue) (shares : ℕ) (at at' : TableId) (pass pass' : SightValue) → IsShared tells start brand table v shares at pass
-    → at' ≡ at → pass'.writes ≡ true → pass'.seen ≡ pass.seen → IsShared tells start brand table v shares at' pass'
-repass tells start brand table v shares at at' pass pass' h same on seen = record {
+    → at' ≡ at → pass'.writes ≡ true → pass'.seen ≡ pass.seen → pass'.archive ≡ pass.archive → IsShared tells start brand table v shares at' pass'
+repass tells start brand table v shares at at' pass pass' h same on seen archive = record {
   state = h.state;
   stands = h.stands;
   reached = h.reached;
@@ -73,13 +84,30 @@ repass tells start brand table v shares at at' pass pass' h same on seen = recor
   none_waits = h.none_waits;
   cell = same ∙ h.cell;
   seen = seen ∙ h.seen;
+  archive = known archive h.archive;
+  writes = on;
+}
+
+-- and where it knows the archive as it is now
+pub repass-known : (tells : Bool) (start : Machine Value) (brand : ℕ) (table : TableId) (v : StoreValue) (shares : ℕ) (at at' : TableId) (pass pass' : SightValue) → IsShared tells start brand table v shares at pass
+    → at' ≡ at → pass'.writes ≡ true → pass'.seen ≡ pass.seen → pass'.archive ≡ archive_seen tells v → IsShared tells start brand table v shares at' pass'
+repass-known tells start brand table v shares at at' pass pass' h same on seen archive = record {
+  state = h.state;
+  stands = h.stands;
+  reached = h.reached;
+  mark = h.mark;
+  told = h.told;
+  none_waits = h.none_waits;
+  cell = same ∙ h.cell;
+  seen = seen ∙ h.seen;
+  archive = known archive (archive-same (archive_seen tells v));
   writes = on;
 }
 
 -- the machine's commits are as they were
 quiet : (tells : Bool) (start : Machine Value) (brand : ℕ) (table : TableId) (old new : StoreValue) (shares : ℕ) (at : TableId) (pass : SightValue) (h : IsShared tells start brand table old shares at pass) (after : Machine Value)
-    → Stands tells new after → Reached start after → seen_of after ≡ seen_of h.state → new.transactions.mark ≡ old.transactions.mark → new.transactions.heads ≡ old.transactions.heads → IsShared tells start brand table new shares at pass
-quiet tells start brand table old new shares at pass h after stands reached same mark heads = record {
+    → Stands tells new after → GoesOn tells old new → Reached start after → seen_of after ≡ seen_of h.state → new.transactions.mark ≡ old.transactions.mark → new.transactions.heads ≡ old.transactions.heads → IsShared tells start brand table new shares at pass
+quiet tells start brand table old new shares at pass h after stands goes reached same mark heads = record {
   state = after;
   stands = stands;
   reached = reached;
@@ -88,6 +116,7 @@ quiet tells start brand table old new shares at pass h after stands reached same
   none_waits = ap (λ (l : List CommitHead). told_after (last after.published) l) heads ∙ ap (λ (s : Seen). told_after (last s.published) old.transactions.heads) same ∙ h.none_waits;
   cell = h.cell;
   seen = h.seen ∙ sym same;
+  archive = archive-then pass.archive (archive_seen tells old) (archive_seen tells new) h.archive (archive-on tells old new goes);
   writes = h.writes;
 }
 
@@ -97,8 +126,8 @@ same-store tells start brand table old new shares at pass h same = subst (λ (v 
 -- ---- opening
 
 pub begins : (tells : Bool) (start : Machine Value) (brand : ℕ) (table : TableId) (v : StoreValue) (total : ℕ) (at : TableId) (pass : SightValue) → Stands tells v start → v.transactions.mark ≡ brand → told_count v.transactions.heads ≡ length start.published → start.queue ≡ []
-    → total ≡ 0 → at ≡ table → pass.seen ≡ seen_of start → pass.writes ≡ true → IsShared tells start brand table v total at pass
-begins tells start brand table v total at pass stands mark fresh empty none cell seen writes = record {
+    → total ≡ 0 → at ≡ table → pass.seen ≡ seen_of start → pass.archive ≡ no_archive → pass.writes ≡ true → IsShared tells start brand table v total at pass
+begins tells start brand table v total at pass stands mark fresh empty none cell seen archive writes = record {
   state = start;
   stands = stands;
   reached = opened;
@@ -107,6 +136,7 @@ begins tells start brand table v total at pass stands mark fresh empty none cell
   none_waits = ap (λ (t : ℕ). told_after t v.transactions.heads) (sym (order-last v.transactions start stands.memory ∙ ap (λ (h : History Value). last (start.published ++ h)) empty ∙ ap last (append-nil start.published))) ∙ none-after 0 v.transactions.heads stands.memory.rising;
   cell = cell;
   seen = seen;
+  archive = known archive (archive-first (archive_seen tells v));
   writes = writes;
 }
 
@@ -116,15 +146,18 @@ pub begin-keeps : (tells : Bool) (start : Machine Value) (brand : ℕ) (table : 
 begin-keeps tells start brand table old new shares at pass (Ok txn) h begins =
     let did = begin-stands tells old new (Ok txn) h.state h.stands begins in
     let is = begins.transactions.new_is in
-    quiet tells start brand table old new shares at pass h (begun h.state) did.1 (stepped (Began txn.snapshot) h.reached did.0) refl (ap (λ (v : TransactionsValue). v.mark) is) (ap (λ (v : TransactionsValue). v.heads) is)
+    let mark : new.transactions.mark ≡ old.transactions.mark = ap (λ (v : TransactionsValue). v.mark) is in
+    quiet tells start brand table old new shares at pass h (begun h.state) did.1 (rest-goes tells old new begins.rest mark) (stepped (Began txn.snapshot) h.reached did.0) refl mark (ap (λ (v : TransactionsValue). v.heads) is)
 begin-keeps tells start brand table old new shares at pass (Err begin.NoMemory) h begins =
     let did = begin-stands tells old new (Err begin.NoMemory) h.state h.stands begins in
     let is = begins.transactions.1 in
-    quiet tells start brand table old new shares at pass h h.state did.1 h.reached refl (ap (λ (v : TransactionsValue). v.mark) is) (ap (λ (v : TransactionsValue). v.heads) is)
+    let mark : new.transactions.mark ≡ old.transactions.mark = ap (λ (v : TransactionsValue). v.mark) is in
+    quiet tells start brand table old new shares at pass h h.state did.1 (rest-goes tells old new begins.rest mark) h.reached refl mark (ap (λ (v : TransactionsValue). v.heads) is)
 begin-keeps tells start brand table old new shares at pass (Err begin.Failed) h begins =
     let did = begin-stands tells old new (Err begin.Failed) h.state h.stands begins in
     let is = begins.transactions.1 in
-    quiet tells start brand table old new shares at pass h h.state did.1 h.reached refl (ap (λ (v : TransactionsValue). v.mark) is) (ap (λ (v : TransactionsValue). v.heads) is)
+    let mark : new.transactions.mark ≡ old.transactions.mark = ap (λ (v : TransactionsValue). v.mark) is in
+    quiet tells start brand table old new shares at pass h h.state did.1 (rest-goes tells old new begins.rest mark) h.reached refl mark (ap (λ (v : TransactionsValue). v.heads) is)
 
 over-heads : (v new : TransactionsValue) (number : ℕ) (b : Bool) → new ≡ cond b (over v number) v → (new.mark ≡ v.mark) × (new.heads ≡ v.heads)
 over-heads v new number true is = (ap (λ (x : TransactionsValue). x.mark) is, ap (λ (x : TransactionsValue). x.heads) is)
@@ -137,8 +170,8 @@ abort-keeps tells start brand table old new shares at pass txn h aborts =
   where
     by-own : new.transactions.mark ≡ old.transactions.mark → new.transactions.heads ≡ old.transactions.heads → (b : Bool)
         → MatchBool b ((after : Machine Value) × Step IsValue h.state (Aborted txn.snapshot) after × Stands tells new after) (Stands tells new h.state) → IsShared tells start brand table new shares at pass
-    by-own mark heads true did = quiet tells start brand table old new shares at pass h did.0 did.2 (stepped (Aborted txn.snapshot) h.reached did.1) (ap seen_of did.1.2) mark heads
-    by-own mark heads false did = quiet tells start brand table old new shares at pass h h.state did h.reached refl mark heads
+    by-own mark heads true did = quiet tells start brand table old new shares at pass h did.0 did.2 (rest-goes tells old new aborts.rest mark) (stepped (Aborted txn.snapshot) h.reached did.1) (ap seen_of did.1.2) mark heads
+    by-own mark heads false did = quiet tells start brand table old new shares at pass h h.state did (rest-goes tells old new aborts.rest mark) h.reached refl mark heads
 
 -- ---- submits
 
@@ -248,6 +281,7 @@ pub record SubmitLeaves (tells : Bool) (start : Machine Value) (brand : ℕ) (m 
   pub reached : Reached start after
   pub noted_is : seen_of after ≡ noted r (seen_of m) label t.writes
   pub counts : KeepsCounts old.transactions new.transactions
+  pub goes : GoesOn tells old new
   pub happens : SubmitHappens start brand t label now r (seen_of after)
 
 pub submit-leaves : (tells : Bool) (start : Machine Value) (brand : ℕ) (m : Machine Value) (old new : StoreValue) (t : TxnValue) (label now : ℕ) (r : Result Submitted SubmitFault) → Stands tells old m → Reached start m → old.transactions.mark ≡ brand → AreTxnWrites t.state t.snapshot t.writes → label < 2 ^ 64 → stores.Submits old t label now r new
@@ -265,6 +299,7 @@ submit-leaves tells start brand m old new t label now r stands reached mark are 
           reached = stepped ev reached s.step;
           noted_is = submit-seen m s.after (submission_of t label now) x s.step ∙ noted-seen x (seen_of m) c label t.writes brand t.snapshot says refl;
           counts = left-counts old.transactions new.transactions t label x s.left;
+          goes = rest-goes tells old new does.rest (left-counts old.transactions new.transactions t label x s.left).mark;
           happens = tells_so s.after (record { before = m; after = s.after; reached = reached; step = s.step; seen_is = refl; says = says });
         }
 
@@ -290,6 +325,7 @@ submit-leaves tells start brand m old new t label now r stands reached mark are 
       reached = reached;
       noted_is = refl;
       counts = counts-same old.transactions new.transactions (ap (λ (v : TransactionsValue). v.mark) s.1) (ap (λ (v : TransactionsValue). v.heads) s.1);
+      goes = rest-goes tells old new does.rest (ap (λ (v : TransactionsValue). v.mark) s.1);
       happens = (m, reached, refl);
     }) s.0
 
@@ -300,8 +336,8 @@ noted-is tells start brand m old new t label now r seen writes s same is =
     ap (λ (x : Seen). noted r x label writes) is ∙ ap (λ (ws : List (KeyWrite Value)). noted r (seen_of m) label ws) (sym same) ∙ sym s.noted_is
 
 pub submit-keeps : (tells : Bool) (start : Machine Value) (brand : ℕ) (table : TableId) (old new : StoreValue) (shares : ℕ) (at at' : TableId) (pass pass' : SightValue) (t : TxnValue) (label now : ℕ) (r : Result Submitted SubmitFault) (h : IsShared tells start brand table old shares at pass)
-    → (s : SubmitLeaves tells start brand h.state old new t label now r) → at' ≡ table → pass'.writes ≡ true → pass'.seen ≡ seen_of s.after → IsShared tells start brand table new shares at' pass'
-submit-keeps tells start brand table old new shares at at' pass pass' t label now r h s cell on seen =
+    → (s : SubmitLeaves tells start brand h.state old new t label now r) → at' ≡ table → pass'.writes ≡ true → pass'.seen ≡ seen_of s.after → pass'.archive ≡ pass.archive → IsShared tells start brand table new shares at' pass'
+submit-keeps tells start brand table old new shares at at' pass pass' t label now r h s cell on seen archive =
     let published : s.after.published ≡ h.state.published = ap (λ (x : Seen). x.published) s.noted_is ∙ noted-published r (seen_of h.state) label t.writes in
     record {
       state = s.after;
@@ -312,6 +348,7 @@ submit-keeps tells start brand table old new shares at at' pass pass' t label no
       none_waits = s.counts.after (last s.after.published) ∙ ap (λ (x : History Value). told_after (last x) old.transactions.heads) published ∙ h.none_waits;
       cell = cell;
       seen = seen;
+      archive = known archive (archive-then pass.archive (archive_seen tells old) (archive_seen tells new) h.archive (archive-on tells old new s.goes));
       writes = on;
     }
 
@@ -326,6 +363,7 @@ pub record Pumped (tells : Bool) (start : Machine Value) (m : Machine Value) (ol
   pub seen : seen_of after ≡ pump_seen r (seen_of m)
   pub mark : new.transactions.mark ≡ old.transactions.mark
   pub heads : new.transactions.heads ≡ old.transactions.heads
+  pub goes : GoesOn tells old new
 
 pub pumped : (tells : Bool) (start : Machine Value) (m : Machine Value) (old new : StoreValue) (r : Result Did PumpFault) → Reached start m → Stands tells old m → (IsTrue tells → AreSound new.disk.areas) → Pumps tells old r new → Pumped tells start m old new r
 pumped tells start m old new r reached stands sound pumps =
@@ -342,6 +380,7 @@ pumped tells start m old new r reached stands sound pumps =
       seen = subst (λ (x : Result Did PumpFault). seen_of m ≡ pump_seen x (seen_of m)) (sym did.0) (published-none (seen_of m));
       mark = mark;
       heads = heads;
+      goes = pump-goes tells old new r m stands pumps;
     }
     by-failure mark heads false is did = record {
       after = did.0;
@@ -351,12 +390,13 @@ pumped tells start m old new r reached stands sound pumps =
       seen = pump-seen m did.0 r did.1;
       mark = mark;
       heads = heads;
+      goes = pump-goes tells old new r m stands pumps;
     }
 
 -- once the pass has gone on
 pub pump-publishes : (tells : Bool) (start : Machine Value) (brand : ℕ) (table : TableId) (old new : StoreValue) (shares : ℕ) (at at' : TableId) (pass pass' : SightValue) (r : Result Did PumpFault) (h : IsShared tells start brand table old shares at pass) → Pumped tells start h.state old new r
-    → at' ≡ table → pass'.writes ≡ true → pass'.seen ≡ pump_seen r (seen_of h.state) → IsShared tells start brand table new shares at' pass'
-pump-publishes tells start brand table old new shares at at' pass pass' r h p cell on seen =
+    → at' ≡ table → pass'.writes ≡ true → pass'.seen ≡ pump_seen r (seen_of h.state) → pass'.archive ≡ pass.archive → IsShared tells start brand table new shares at' pass'
+pump-publishes tells start brand table old new shares at at' pass pass' r h p cell on seen archive =
     let later' : IsLater (seen_of h.state) (seen_of p.after) = subst (λ (s : Seen). IsLater (seen_of h.state) s) (sym p.seen) (later-published (seen_of h.state) (count_in r)) in
     let rises : last h.state.published ≤ last p.after.published = last-seen (seen_of h.state) (seen_of p.after) p.stands.machine.history later' in
     record {
@@ -368,6 +408,7 @@ pump-publishes tells start brand table old new shares at at' pass pass' r h p ce
       none_waits = ap (λ (l : List CommitHead). told_after (last p.after.published) l) p.heads ∙ after-later (last h.state.published) (last p.after.published) old.transactions.heads rises h.none_waits;
       cell = cell;
       seen = seen ∙ sym p.seen;
+      archive = known archive (archive-then pass.archive (archive_seen tells old) (archive_seen tells new) h.archive (archive-on tells old new p.goes));
       writes = on;
     }
 
@@ -375,7 +416,13 @@ pub start-keeps : (tells : Bool) (start : Machine Value) (brand : ℕ) (table : 
     → IsShared tells start brand table new shares at pass
 start-keeps tells start brand table old new shares at pass upto r h starts =
     let left = start-leaves old new upto r starts in
-    quiet tells start brand table old new shares at pass h h.state (archive-start-stands tells old new upto r h.state h.stands starts) h.reached refl left.mark left.heads
+    quiet tells start brand table old new shares at pass h h.state (archive-start-stands tells old new upto r h.state h.stands starts) (archive-start-goes tells old new upto r h.state h.stands starts) h.reached refl left.mark left.heads
+
+pub reclaim-keeps : (tells : Bool) (start : Machine Value) (brand : ℕ) (table : TableId) (old new : StoreValue) (shares : ℕ) (at : TableId) (pass : SightValue) (r : Result (Unit {0}) StartFault) → IsShared tells start brand table old shares at pass → StartsReclaim old r new
+    → IsShared tells start brand table new shares at pass
+reclaim-keeps tells start brand table old new shares at pass r h starts =
+    let left = reclaim-leaves old new r starts in
+    quiet tells start brand table old new shares at pass h h.state (reclaim-start-stands tells old new r h.state h.stands starts) (reclaim-start-goes tells old new r h.state h.stands starts) h.reached refl left.mark left.heads
 
 pub record JobPumped (tells : Bool) (start : Machine Value) (m : Machine Value) (old new : StoreValue) (r : Result JobDid PumpFault) : Type 0 where
   pub after : Machine Value
@@ -408,7 +455,25 @@ pub job-keeps : (tells : Bool) (start : Machine Value) (brand : ℕ) (table : Ta
 job-keeps tells start brand table old new shares at pass r h sound pumps =
     let p = job-pumped tells start h.state old new r h.reached h.stands sound pumps in
     let left = pumped-leaves tells old new r pumps in
-    quiet tells start brand table old new shares at pass h p.after p.stands p.reached p.seen left.mark left.heads
+    quiet tells start brand table old new shares at pass h p.after p.stands (job-pump-goes tells old new r h.state h.stands pumps) p.reached p.seen left.mark left.heads
+
+-- ---- queries
+
+-- a query leaves the transactions alone
+asked-same : {T : Type 0} (tells : Bool) (old new : StoreValue) (view : ViewValue) (from : ℕ) (Refuses : QueryFault → Type 0) (Recent : T → Type 0) (OfHistory : History Value → T → Type 0) (Exact : Result T QueryFault → Type 0) (answer : Result T QueryFault)
+    → OrStranger old view (Finds tells old view from Refuses Recent OfHistory Exact) answer new → new.transactions ≡ old.transactions
+asked-same {T} tells old new view from Refuses Recent OfHistory Exact answer says = by-own (stores.is_own old view) says
+  where
+    by-own : (b : Bool) → MatchBool b (Finds tells old view from Refuses Recent OfHistory Exact answer new) ((answer ≡ Err query.Stranger) × (new ≡ old)) → new.transactions ≡ old.transactions
+    by-own true finds = ap (λ (v : StoreValue). v.transactions) finds.asks.new_is
+    by-own false strange = ap (λ (v : StoreValue). v.transactions) strange.1
+
+pub query-keeps : {T : Type 0} (tells : Bool) (start : Machine Value) (brand : ℕ) (table : TableId) (old new : StoreValue) (shares : ℕ) (at : TableId) (pass : SightValue) (view : ViewValue) (from : ℕ) (Refuses : QueryFault → Type 0) (Recent : T → Type 0) (OfHistory : History Value → T → Type 0)
+    (Exact : Result T QueryFault → Type 0) (answer : Result T QueryFault) → IsShared tells start brand table old shares at pass → OrStranger old view (Finds tells old view from Refuses Recent OfHistory Exact) answer new → IsShared tells start brand table new shares at pass
+query-keeps tells start brand table old new shares at pass view from Refuses Recent OfHistory Exact answer h says =
+    let on = query-stands tells old new h.state view from Refuses Recent OfHistory Exact answer h.stands says in
+    let same = asked-same tells old new view from Refuses Recent OfHistory Exact answer says in
+    quiet tells start brand table old new shares at pass h h.state on.0 on.1 h.reached refl (ap (λ (v : TransactionsValue). v.mark) same) (ap (λ (v : TransactionsValue). v.heads) same)
 
 -- ---- tickets
 
@@ -445,7 +510,7 @@ redeem-keeps tells start brand table old new shares at pass k r h redeems =
   where
     same : (x : Redeemed) → done_in x ≡ 0 → new.transactions ≡ old.transactions → Stands tells new h.state → IsShared tells start brand table new (shares + done_in x) at pass
     same x none is stands = subst (λ (n : ℕ). IsShared tells start brand table new n at pass) (omega (arith, none))
-        (quiet tells start brand table old new shares at pass h h.state stands h.reached refl (ap (λ (v : TransactionsValue). v.mark) is) (ap (λ (v : TransactionsValue). v.heads) is))
+        (quiet tells start brand table old new shares at pass h h.state stands (rest-goes tells old new redeems.rest (ap (λ (v : TransactionsValue). v.mark) is)) h.reached refl (ap (λ (v : TransactionsValue). v.mark) is) (ap (λ (v : TransactionsValue). v.heads) is))
 
     by-result : (x : Redeemed) → Redeeming old.transactions k x new.transactions → Stands tells new h.state → IsShared tells start brand table new (shares + done_in x) at pass
     by-result (redeemed.Done time) left stands =
@@ -462,6 +527,7 @@ redeem-keeps tells start brand table old new shares at pass k r h redeems =
           none_waits = ap (λ (l : List CommitHead). told_after (last h.state.published) l) heads ∙ after-redeemed (last h.state.published) k.time old.transactions.heads (omega (arith, published, early)) ∙ h.none_waits;
           cell = h.cell;
           seen = h.seen;
+          archive = archive-then pass.archive (archive_seen tells old) (archive_seen tells new) h.archive (archive-on tells old new (rest-goes tells old new redeems.rest (ap (λ (v : TransactionsValue). v.mark) left.3)));
           writes = h.writes;
         }
     by-result (redeemed.Waiting back) left stands = same (redeemed.Waiting back) refl left.1 stands

@@ -5,11 +5,9 @@ use Rattle.std.specs.declared.alloc.AllocError.{AllocError}
 use Rattle.std.specs.declared.alloc.Global.{Global}
 use Rattle.std.specs.declared.vec.Vec.{Vec}
 use Rattle.atomic_table.specs.Seated.{TableId}
-use Rattle.history.specs.declared.time.TimedWrite.{TimedWrite}
 use Rattle.history.specs.Answers as answers
 use Rattle.history.specs.Histories.{last}
 use Rattle.history.specs.Machine.{Machine}
-use Rattle.history.specs.Time.{value_at}
 use Rattle.history.proofs.Tickets.{done-published}
 use Rattle.image.specs.Values.{Value}
 use Rattle.chains.specs.KeyWrites.{KeyWrites}
@@ -24,18 +22,31 @@ use Rattle.transactions.specs.Calls as calls
 use Rattle.store.specs.Values.{StoreValue}
 use Rattle.store.specs.Calls as stores
 use Rattle.standing.specs.Laws.{RedeemsAs}
-use Rattle.standing.proofs.Answering.{times-of_label, view-stands}
+use Rattle.standing.proofs.Answering.{times-of_label}
+use Rattle.standing.proofs.Views.{view-of-history}
 use Rattle.standing.proofs.Memory.{last-is, begun-sees}
 use Rattle.standing.proofs.Calling.{begin-stands, redeem-stands}
+use Rattle.shared.specs.Archives.{ArchiveSeen, ReadsArchive, archive_seen}
 use Rattle.shared.specs.Counts.{told_after, unredeemed}
 use Rattle.shared.specs.Seen.{Seen, SightValue}
 use Rattle.shared.specs.Shared.{IsShared, Shows, BeginHappens, HasCommitAt, RedeemSays, SeenReached}
+use Rattle.shared.proofs.Archives.{reads-taken}
 use Rattle.shared.proofs.Counting.{published-count}
 use Rattle.shared.proofs.Moves.{Redeeming, redeeming}
 
-pub shows : (tells : Bool) (start : Machine Value) (brand : ℕ) (table : TableId) (v : StoreValue) (shares : ℕ) (at : TableId) (pass : SightValue) (seen : Seen) (r : Result ViewValue AllocError) → IsShared tells start brand table v shares at pass → seen ≡ pass.seen → IfOk r (stores.IsViewOf v) → IfOk r (λ w. Shows start brand w seen)
-shows tells start brand table v shares at pass seen (Ok w) h same of = record { machine = h.state; reached = h.reached; seen_is = same ∙ h.seen; mark = ap (λ (x : ViewValue). x.mark) of ∙ h.mark; stands = view-stands v w h.state h.stands.memory of }
-shows tells start brand table v shares at pass seen (Err why) h same of = tt
+pub shows : (tells : Bool) (start : Machine Value) (brand : ℕ) (table : TableId) (v : StoreValue) (shares : ℕ) (at : TableId) (pass : SightValue) (archive : ArchiveSeen) (seen : Seen) (r : Result ViewValue AllocError) → IsShared tells start brand table v shares at pass → archive ≡ archive_seen tells v → seen ≡ pass.seen
+    → IfOk r (stores.IsViewOf v) → IfOk r (λ w. Shows start brand archive w seen)
+shows tells start brand table v shares at pass archive seen (Ok w) h known same of =
+    let is = view-of-history tells v w h.state h.stands of in
+    record {
+      machine = h.state;
+      reached = h.reached;
+      seen_is = same ∙ h.seen;
+      mark = ap (λ (x : ViewValue). x.mark) of ∙ h.mark;
+      stands = is.0;
+      reads = subst (λ (a : ArchiveSeen). ReadsArchive a w h.state.published h.state.floors) (sym known) (reads-taken tells v w h.state.published h.state.floors is.1);
+    }
+shows tells start brand table v shares at pass archive seen (Err why) h known same of = tt
 
 pub begin-happens : (tells : Bool) (start : Machine Value) (brand : ℕ) (table : TableId) (v new : StoreValue) (shares : ℕ) (at : TableId) (pass : SightValue) (seen : Seen) (r : Result TxnValue BeginFault) → IsShared tells start brand table v shares at pass → seen ≡ pass.seen → stores.Begins v r new → BeginHappens start brand r seen
 begin-happens tells start brand table v new shares at pass seen (Ok txn) h same begins =

@@ -3,6 +3,7 @@ use Rattle.std.specs.Prelude.{◌≡◌, ◌++◌, Bool, true, false, []}
 use Rattle.history.specs.Histories.{History}
 use Rattle.history.specs.Machine.{Machine}
 use Rattle.image.specs.Values.{Value}
+use Rattle.shared.specs.Archives.{ArchiveSeen, IsArchiveLater, no_archive}
 
 -- the published commits, and those that wait behind them
 pub record Seen : Type 0 where
@@ -27,14 +28,30 @@ pub record IsLater (old new : Seen) : Type 0 where
   pub published : IsFrontOf old.published new.published
   pub order : IsFrontOf (order_of old) (order_of new)
 
--- what a pass has seen, what it was told that another has seen, and whether it is the writer's
+-- the commits that were seen, and what is known of the archive
+pub record Known : Type 0 where
+  pub seen : Seen
+  pub archive : ArchiveSeen
+
+abbrev pub nothing_known : Known
+nothing_known = record { seen = nothing; archive = no_archive }
+
+pub record IsMore (old new : Known) : Type 0 where
+  pub seen : IsLater old.seen new.seen
+  pub archive : IsArchiveLater old.archive new.archive
+
+-- what a pass has seen and knows, what it was told that another does, and whether it is the writer's
 pub record SightValue : Type 0 where
   pub seen : Seen
-  pub heard : Seen
+  pub archive : ArchiveSeen
+  pub heard : Known
   pub writes : Bool
 
+abbrev pub known_by : SightValue → Known
+known_by v = record { seen = v.seen; archive = v.archive }
+
 abbrev pub first_sight : SightValue
-first_sight = record { seen = nothing; heard = nothing; writes = true }
+first_sight = record { seen = nothing; archive = no_archive; heard = nothing_known; writes = true }
 
 abbrev pub unmade_sight : SightValue
-unmade_sight = record { seen = nothing; heard = nothing; writes = false }
+unmade_sight = record { seen = nothing; archive = no_archive; heard = nothing_known; writes = false }

@@ -26,20 +26,22 @@ use Rattle.group.specs.declared.answers.SubmitFault.TheVariants as refused
 use Rattle.timequery.specs.View.{ViewValue}
 use Rattle.store.specs.Values.{StoreValue}
 use Rattle.store.specs.declared.job.JobDid.{JobDid}
-use Rattle.standing.specs.Laws.{submission_of, event_of, begins_in, ends_in, job_ends_in, ViewStands}
+use Rattle.standing.specs.Homes.{ViewStands}
+use Rattle.standing.specs.Laws.{submission_of, event_of, begins_in, ends_in, job_ends_in}
 use Rattle.standing.specs.Stands.{Stands}
 use Rattle.shared.specs.declared.change.Change.{Change}
 use Rattle.shared.specs.declared.change.Change.TheVariants as change
 use Rattle.shared.specs.declared.committed.Committed.{Committed}
 use Rattle.shared.specs.declared.committed.Committed.TheVariants as committed
 use Rattle.shared.specs.declared.committed.CommitFault.{CommitFault}
+use Rattle.shared.specs.Archives.{ArchiveSeen, IsArchiveLater, ReadsArchive, archive_seen}
 use Rattle.shared.specs.Counts.{told_count, told_after}
 use Rattle.shared.specs.Reached.{Reached}
 use Rattle.shared.specs.Seen.{Seen, SightValue, seen_of, order_of, IsFrontOf}
 
 -- ---- the value under the lock
 
--- The store stands for a state that steps of the machine lead to. The commits for which Done was answered since opening are those in the shares, and none of them waits. The pass is the cell's writer, and has seen all commits.
+-- The store stands for a state that steps of the machine lead to. The commits for which Done was answered since opening are those in the shares, and none of them waits. The pass is the cell's writer, and has seen all commits; what it knows of the archive is there still.
 pub record IsShared (tells : Bool) (start : Machine Value) (brand : ℕ) (table : TableId) (store : StoreValue) (shares : ℕ) (at : TableId) (pass : SightValue) : Type 0 where
   pub state : Machine Value
   pub stands : Stands tells store state
@@ -49,6 +51,7 @@ pub record IsShared (tells : Bool) (start : Machine Value) (brand : ℕ) (table 
   pub none_waits : told_after (last state.published) store.transactions.heads ≡ 0
   pub cell : at ≡ table
   pub seen : pass.seen ≡ seen_of state
+  pub archive : IsArchiveLater pass.archive (archive_seen tells store)
   pub writes : pass.writes ≡ true
 
 -- ---- what was seen
@@ -87,13 +90,14 @@ HasCommitAt h time = (c : Commit Value) × Contains h c × (c.time ≡ time)
 
 -- ---- views and transactions
 
--- the view stands for the published history that was seen
-pub record Shows (start : Machine Value) (brand : ℕ) (view : ViewValue) (seen : Seen) : Type 0 where
+-- the view stands for the published history that was seen, and this archive has its runs
+pub record Shows (start : Machine Value) (brand : ℕ) (archive : ArchiveSeen) (view : ViewValue) (seen : Seen) : Type 0 where
   pub machine : Machine Value
   pub reached : Reached start machine
   pub seen_is : seen ≡ seen_of machine
   pub mark : view.mark ≡ brand
   pub stands : ViewStands view machine.published machine.floors
+  pub reads : ReadsArchive archive view machine.published machine.floors
 
 -- the transaction reads the published history that was seen
 pub record Reads (start : Machine Value) (brand : ℕ) (txn : TxnValue) (seen : Seen) : Type 0 where

@@ -1,23 +1,26 @@
 //! The value under the lock.
-ghost use Rattle.std.specs.Prelude.{ℕ, ◌≡◌, ◌+◌, ◌<◌, ◌==◌, [], true, length, List, IfOk, Err, MatchBool};
+ghost use Rattle.std.specs.Prelude.{◌≡◌, ◌+◌, ◌<◌, [], true, length, List, IfOk};
 ghost use Rattle.crossbeam_utils.specs.Seq.{cell_view};
 ghost use Rattle.history.specs.declared.key.KeyWrite.{KeyWrite};
 ghost use Rattle.history.specs.Answers as answers;
-ghost use Rattle.history.specs.Histories.{History};
 ghost use Rattle.history.specs.Machine.{Machine};
 ghost use Rattle.image.specs.Values.{Value};
-ghost use Rattle.timequery.specs.declared.fault.QueryFault.TheVariants as query;
-ghost use Rattle.standing.specs.Laws.{ViewStands, SaysAt, SaysScanAt, SaysBetween, SaysScanBetween};
+ghost use Rattle.standing.specs.Homes.{IsSure};
+ghost use Rattle.standing.specs.Laws.{SaysAt, SaysScanAt, SaysBetween, SaysScanBetween};
 ghost use Rattle.standing.specs.Stands.{Stands};
+ghost use Rattle.shared.specs.Archives.{no_archive};
 ghost use Rattle.shared.specs.Counts.{told_count, unredeemed};
+ghost use Rattle.shared.specs.Moments.{OfSeen};
 ghost use Rattle.shared.specs.Reached.{Reached};
 ghost use Rattle.shared.specs.Seen.{IsLater, seen_of};
-ghost use Rattle.shared.specs.Shared.{Shows, BeginHappens, SubmitHappens, SeenReached, PumpHappens, JobHappens, RedeemSays, done_in};
+ghost use Rattle.shared.specs.Shared.{BeginHappens, SubmitHappens, SeenReached, PumpHappens, JobHappens, RedeemSays, done_in};
 
 use crate::cell::{PublishedCell, WriterPass};
+use crate::moment::Moment;
 use crate::naming::Opening;
-use crate::noting::{count_done, is_job_move, is_move, note_published, note_queued};
+use crate::noting::{count_done, is_job_move, is_move, note_archive, note_published, note_queued};
 use crate::observer::Observer;
+use crate::shared_view::{SharedView, taken_at};
 use chains::SharedValue;
 use disk::Disk;
 use history::{Key, Version};
@@ -27,7 +30,7 @@ use std::sync::Wait;
 use std::sync::ledger::{Book, Share};
 use store::{
     BeginFault, Did, JobDid, PumpFault, QueryFault, Redeemed, StartFault, Store, SubmitFault,
-    Submitted, Ticket, Txn, View,
+    Submitted, Ticket, Txn,
 };
 
 /// A store that stands for a state that steps of the machine lead to from the opening one, the book
@@ -62,7 +65,7 @@ impl<D: Disk, L: Opening> Locked<D, L> {
         requires queue { L.start.queue ≡ [] }
         requires book { book.total ≡ 0 }
         requires cell { writer.table_id ≡ L.table }
-        requires writer { ((cell_view writer).seen ≡ seen_of L.start) × ((cell_view writer).writes ≡ true) }
+        requires writer { ((cell_view writer).seen ≡ seen_of L.start) × ((cell_view writer).archive ≡ no_archive) × ((cell_view writer).writes ≡ true) }
         ensures { result ≡ store }
     {
         Locked {
@@ -79,13 +82,15 @@ impl<D: Disk, L: Opening> Locked<D, L> {
         rt: &R,
         cell: &PublishedCell,
         me: &mut Observer<L>,
-    ) -> Result<View, AllocError>
+    ) -> Result<SharedView<L>, AllocError>
         requires { cell.now.table.shared.table_id ≡ L.table }
-        ensures shows { IfOk result (λ v. Shows L.start L.mark v me.new) }
+        ensures moment { IfOk result (λ v. v.seen ≡ me.new) }
         ensures later { IsLater me.old me.new }
     {
         me.meet(rt, cell, &mut self.writer);
-        self.store.view()
+        note_archive(rt, cell, &mut self.writer, &self.store);
+        let moment = Moment::told_by(cell, &mut self.writer);
+        taken_at(self.store.view(), moment)
     }
 
     pub(crate) fn begin<R: Wait>(
@@ -106,6 +111,7 @@ impl<D: Disk, L: Opening> Locked<D, L> {
         // A transaction's writes are in range.
         let _count = txn.writes().len();
         self.store.abort(txn);
+        self.moves = self.moves.wrapping_add(1);
     }
 
     pub(crate) fn submit<R: Wait>(
@@ -143,6 +149,10 @@ impl<D: Disk, L: Opening> Locked<D, L> {
         self.store.archive_start(upto)
     }
 
+    pub(crate) fn reclaim_start(&mut self) -> Result<(), StartFault> {
+        self.store.reclaim_start()
+    }
+
     pub(crate) fn job_pump(&mut self) -> Result<JobDid, PumpFault>
         ensures { JobHappens L.start result }
     {
@@ -175,50 +185,70 @@ impl<D: Disk, L: Opening> Locked<D, L> {
         redeemed
     }
 
-    pub(crate) fn at(
+    pub(crate) fn at<R: Wait>(
         &mut self,
-        view: &View,
+        rt: &R,
+        cell: &PublishedCell,
+        view: &mut SharedView<L>,
         key: Key,
         time: u64,
     ) -> Result<Option<SharedValue>, QueryFault>
-        ensures { (h : History Value) (floors : ℕ → ℕ) → ViewStands view.now h floors → MatchBool (view.now.mark == L.mark) (SaysAt (answers.at_answer h floors key time) result) (result ≡ Err query.Stranger) }
+        requires { cell.now.table.shared.table_id ≡ L.table }
+        ensures says { OfSeen L.start view.old.seen (λ m. SaysAt (IsSure D.tells view.old.shown.reclaimed time) (answers.at_answer m.published m.floors key time) result) }
+        ensures kept { view.new ≡ view.old }
     {
-        self.store.at(view, key, time)
+        view.compare(rt, cell, &mut self.writer);
+        self.store.at(view.shown(), key, time)
     }
 
-    pub(crate) fn scan_at(
+    pub(crate) fn scan_at<R: Wait>(
         &mut self,
-        view: &View,
+        rt: &R,
+        cell: &PublishedCell,
+        view: &mut SharedView<L>,
         relation: u16,
         time: u64,
     ) -> Result<Vec<(u64, SharedValue)>, QueryFault>
-        ensures { (h : History Value) (floors : ℕ → ℕ) → ViewStands view.now h floors → MatchBool (view.now.mark == L.mark) (SaysScanAt h floors relation time result) (result ≡ Err query.Stranger) }
+        requires { cell.now.table.shared.table_id ≡ L.table }
+        ensures says { OfSeen L.start view.old.seen (λ m. SaysScanAt (IsSure D.tells view.old.shown.reclaimed time) m.published m.floors relation time result) }
+        ensures kept { view.new ≡ view.old }
     {
-        self.store.scan_at(view, relation, time)
+        view.compare(rt, cell, &mut self.writer);
+        self.store.scan_at(view.shown(), relation, time)
     }
 
-    pub(crate) fn between(
+    pub(crate) fn between<R: Wait>(
         &mut self,
-        view: &View,
+        rt: &R,
+        cell: &PublishedCell,
+        view: &mut SharedView<L>,
         key: Key,
         a: u64,
         b: u64,
     ) -> Result<Vec<Version<SharedValue>>, QueryFault>
-        ensures { (h : History Value) (floors : ℕ → ℕ) → ViewStands view.now h floors → MatchBool (view.now.mark == L.mark) (SaysBetween h floors key a b result) (result ≡ Err query.Stranger) }
+        requires { cell.now.table.shared.table_id ≡ L.table }
+        ensures says { OfSeen L.start view.old.seen (λ m. SaysBetween (IsSure D.tells view.old.shown.reclaimed a) m.published m.floors key a b result) }
+        ensures kept { view.new ≡ view.old }
     {
-        self.store.between(view, key, a, b)
+        view.compare(rt, cell, &mut self.writer);
+        self.store.between(view.shown(), key, a, b)
     }
 
-    pub(crate) fn scan_between(
+    pub(crate) fn scan_between<R: Wait>(
         &mut self,
-        view: &View,
+        rt: &R,
+        cell: &PublishedCell,
+        view: &mut SharedView<L>,
         relation: u16,
         a: u64,
         b: u64,
     ) -> Result<Vec<(u64, Version<SharedValue>)>, QueryFault>
-        ensures { (h : History Value) (floors : ℕ → ℕ) → ViewStands view.now h floors → MatchBool (view.now.mark == L.mark) (SaysScanBetween h floors relation a b result) (result ≡ Err query.Stranger) }
+        requires { cell.now.table.shared.table_id ≡ L.table }
+        ensures says { OfSeen L.start view.old.seen (λ m. SaysScanBetween (IsSure D.tells view.old.shown.reclaimed a) m.published m.floors relation a b result) }
+        ensures kept { view.new ≡ view.old }
     {
-        self.store.scan_between(view, relation, a, b)
+        view.compare(rt, cell, &mut self.writer);
+        self.store.scan_between(view.shown(), relation, a, b)
     }
 
     pub(crate) fn times_of<R: Wait>(
@@ -237,8 +267,8 @@ impl<D: Disk, L: Opening> Locked<D, L> {
         self.store.times_of(label)
     }
 
-    pub(crate) fn end(&mut self, view: View) {
-        self.store.end(view);
+    pub(crate) fn end(&mut self, view: SharedView<L>) {
+        self.store.end(view.spend());
     }
 
     /// The store. With every part of the ledger in one share, all its commits since opening are
@@ -258,8 +288,8 @@ impl<D: Disk, L: Opening> Locked<D, L> {
         store
     }
 
-    /// How often something happened that a caller may wait for: a commit was queued, commits were
-    /// published, a job was done, the store failed or was told to stop.
+    /// How often something happened that a caller may wait for: a commit was queued, a transaction
+    /// ended, commits were published, a job was done, the store failed or was told to stop.
     pub(crate) fn moves(&self) -> u64 {
         self.moves
     }

@@ -4,13 +4,16 @@ ghost use Rattle.crossbeam_utils.specs.Seq.{cell_view};
 ghost use Rattle.history.specs.declared.key.KeyWrite.{KeyWrite};
 ghost use Rattle.history.specs.Histories.{IsHistory, last};
 ghost use Rattle.image.specs.Values.{Value, IsValue};
+ghost use Rattle.shared.specs.Archives.{IsArchiveLater, archive_seen};
 ghost use Rattle.shared.specs.Seen.{order_of};
 ghost use Rattle.shared.specs.Shared.{published_seen, queued_seen, count_in, noted, done_in};
 
 use crate::cell::{PublishedCell, WriterPass};
-use crate::observer::{publish_next, queue_next};
+use crate::observer::{go_on, publish_next, queue_next};
+use disk::Disk;
+use std::marker::Brand;
 use std::sync::Wait;
-use store::{Did, JobDid, PumpFault, Redeemed, SubmitFault, Submitted};
+use store::{Did, JobDid, PumpFault, Redeemed, Store, SubmitFault, Submitted};
 
 // A commit of this time and label is queued.
 fn queue_commit<R: Wait>(
@@ -27,6 +30,7 @@ fn queue_commit<R: Wait>(
     ensures cell { writer.new.table_id ≡ writer.old.table_id }
     ensures writes { (cell_view writer.new).writes ≡ true }
     ensures seen { (cell_view writer.new).seen ≡ queued_seen (cell_view writer.old).seen (record { time = time; label = label; writes = writes }) }
+    ensures archive { (cell_view writer.new).archive ≡ (cell_view writer.old).archive }
 {
     queue_next(rt, cell, writer, time, label);
 }
@@ -46,6 +50,7 @@ pub(crate) fn note_queued<R: Wait>(
     ensures cell { writer.new.table_id ≡ writer.old.table_id }
     ensures writes { (cell_view writer.new).writes ≡ true }
     ensures seen { (cell_view writer.new).seen ≡ noted submitted.now (cell_view writer.old).seen label writes }
+    ensures archive { (cell_view writer.new).archive ≡ (cell_view writer.old).archive }
 {
     match submitted {
         Ok(Submitted::Queued(ticket)) => queue_commit(rt, cell, writer, ticket.time(), label),
@@ -69,11 +74,30 @@ pub(crate) fn note_published<R: Wait>(
     ensures cell { writer.new.table_id ≡ writer.old.table_id }
     ensures writes { (cell_view writer.new).writes ≡ true }
     ensures seen { (cell_view writer.new).seen ≡ published_seen (cell_view writer.old).seen (count_in did.now) }
+    ensures archive { (cell_view writer.new).archive ≡ (cell_view writer.old).archive }
 {
     let count = published_in(did);
     if count > 0 {
         publish_next(rt, cell, writer, time, count);
     }
+}
+
+/// The writer's pass knows the archive of the store as it is now.
+pub(crate) fn note_archive<D: Disk, R: Wait>(
+    rt: &R,
+    cell: &PublishedCell,
+    writer: &mut WriterPass,
+    store: &Store<D>,
+)
+    requires cell { writer.old.table_id ≡ cell.now.table.shared.table_id }
+    requires writes { (cell_view writer.old).writes ≡ true }
+    requires later { IsArchiveLater (cell_view writer.old).archive (archive_seen D.tells store.now) }
+    ensures cell { writer.new.table_id ≡ writer.old.table_id }
+    ensures writes { (cell_view writer.new).writes ≡ true }
+    ensures seen { (cell_view writer.new).seen ≡ (cell_view writer.old).seen }
+    ensures archive { (cell_view writer.new).archive ≡ archive_seen D.tells store.now }
+{
+    go_on::<Brand, D, R>(rt, cell, writer, store);
 }
 
 // How many commits a step of a group published.

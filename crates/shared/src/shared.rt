@@ -5,6 +5,7 @@ ghost use Rattle.history.specs.Histories.{last};
 ghost use Rattle.history.specs.Machine.{Machine};
 ghost use Rattle.image.specs.Values.{Value};
 ghost use Rattle.snapshot.specs.Txn.{at_snapshot};
+ghost use Rattle.standing.specs.Homes.{IsSure};
 ghost use Rattle.standing.specs.Laws.{SaysAt, SaysScanAt, SaysBetween, SaysScanBetween};
 ghost use Rattle.standing.specs.Stands.{Stands};
 ghost use Rattle.shared.specs.Counts.{unredeemed};
@@ -32,13 +33,6 @@ use store::{
     BeginFault, Did, JobDid, PumpFault, QueryFault, Redeemed, StartFault, Store, SubmitFault,
     Submitted, Ticket, Txn, TxnFault,
 };
-
-/// What `run_vacuum` was answered.
-#[derive(Clone, Copy, Debug, PartialEq, Eq)]
-pub enum Vacuumed {
-    Start(Result<(), StartFault>),
-    Job(Result<JobDid, PumpFault>),
-}
 
 /// A store under a lock, and beside it the cell of its published time. One holding of the lock makes
 /// at most one call of the store.
@@ -84,11 +78,7 @@ impl<D: Disk, L: Opening> SharedStore<D, L> {
         ensures moment { IfOk result (λ v. v.seen ≡ me.new) }
         ensures later { IsLater me.old me.new }
     {
-        let taken = self.locked.lock(rt).view(rt, &self.cell, me);
-        match taken {
-            Ok(view) => Ok(SharedView::of(view, me.another(&self.cell))),
-            Err(AllocError) => Err(AllocError),
-        }
+        self.locked.lock(rt).view(rt, &self.cell, me)
     }
 
     /// A transaction on all that is published. Its own reads and writes take no lock.
@@ -105,7 +95,7 @@ impl<D: Disk, L: Opening> SharedStore<D, L> {
 
     /// Gives the transaction's snapshot up.
     pub fn abort<R: Wait>(&self, rt: &R, txn: SharedTxn<L>) {
-        self.locked.lock(rt).abort(txn.spend());
+        self.abort_txn(rt, txn.spend());
     }
 
     /// Ends a transaction: its writes are queued as a commit, or it is refused.
@@ -128,6 +118,11 @@ impl<D: Disk, L: Opening> SharedStore<D, L> {
         ensures later { IsLater me.old me.new }
     {
         self.locked.lock(rt).begin(rt, &self.cell, me)
+    }
+
+    fn abort_txn<R: Wait>(&self, rt: &R, txn: Txn) {
+        self.locked.lock(rt).abort(txn);
+        self.moved.notify_all();
     }
 
     fn submit_txn<R: Wait>(
@@ -161,9 +156,17 @@ impl<D: Disk, L: Opening> SharedStore<D, L> {
         did
     }
 
+    /// Begins an archive of the versions that ended by `upto`, in microseconds since 1970.
     pub fn archive_start<R: Wait>(&self, rt: &R, upto: u64) -> Result<(), StartFault> {
         self.locked.lock(rt).archive_start(upto)
     }
+
+    /// Begins a reclaim: the heap and memory are to hold only what ended after the archive mark.
+    pub fn reclaim_start<R: Wait>(&self, rt: &R) -> Result<(), StartFault> {
+        self.locked.lock(rt).reclaim_start()
+    }
+
+    /// One step of the job that runs.
 
     pub fn job_pump<R: Wait>(&self, rt: &R) -> Result<JobDid, PumpFault>
         ensures { JobHappens L.start result }
@@ -196,62 +199,73 @@ impl<D: Disk, L: Opening> SharedStore<D, L> {
             .redeem(rt, &self.cell, ticket, share, me)
     }
 
-    /// The value of a key at a time, as the view's moment knows it.
+    /// The value of a key at a time, as the view's moment knows it: from memory, and below the reclaim
+    /// mark of that moment from the archive too, which is read under the lock. `BeforeKept` comes first,
+    /// then `NotYet`; `Device`, `NoMemory` and `Damaged` where they are met.
     pub fn at<R: Wait>(
         &self,
         rt: &R,
-        view: &SharedView<L>,
+        view: &mut SharedView<L>,
         key: Key,
         time: u64,
     ) -> Result<Option<SharedValue>, QueryFault>
-        ensures { OfSeen L.start view.now.seen (λ m. SaysAt (answers.at_answer m.published m.floors key time) result) }
+        ensures says { OfSeen L.start view.old.seen (λ m. SaysAt (IsSure D.tells view.old.shown.reclaimed time) (answers.at_answer m.published m.floors key time) result) }
+        ensures kept { view.new ≡ view.old }
     {
-        let shown = view.shown();
-        self.locked.lock(rt).at(shown, key, time)
+        self.locked.lock(rt).at(rt, &self.cell, view, key, time)
     }
 
-    /// The values of a relation at a time, as the view's moment knows them.
+    /// The values of a relation at a time, as the view's moment knows them. The refusals are those of
+    /// `at`.
     pub fn scan_at<R: Wait>(
         &self,
         rt: &R,
-        view: &SharedView<L>,
+        view: &mut SharedView<L>,
         relation: u16,
         time: u64,
     ) -> Result<Vec<(u64, SharedValue)>, QueryFault>
-        ensures { OfSeen L.start view.now.seen (λ m. SaysScanAt m.published m.floors relation time result) }
+        ensures says { OfSeen L.start view.old.seen (λ m. SaysScanAt (IsSure D.tells view.old.shown.reclaimed time) m.published m.floors relation time result) }
+        ensures kept { view.new ≡ view.old }
     {
-        let shown = view.shown();
-        self.locked.lock(rt).scan_at(shown, relation, time)
+        self.locked
+            .lock(rt)
+            .scan_at(rt, &self.cell, view, relation, time)
     }
 
-    /// The rows of a key from `a` up to `b`, as the view's moment knows them.
+    /// The rows of a key from `a` up to `b`, as the view's moment knows them. The refusals are those of
+    /// `at`, and `EmptyInterval` after `NotYet`.
     pub fn between<R: Wait>(
         &self,
         rt: &R,
-        view: &SharedView<L>,
+        view: &mut SharedView<L>,
         key: Key,
         a: u64,
         b: u64,
     ) -> Result<Vec<Version<SharedValue>>, QueryFault>
-        ensures { OfSeen L.start view.now.seen (λ m. SaysBetween m.published m.floors key a b result) }
+        ensures says { OfSeen L.start view.old.seen (λ m. SaysBetween (IsSure D.tells view.old.shown.reclaimed a) m.published m.floors key a b result) }
+        ensures kept { view.new ≡ view.old }
     {
-        let shown = view.shown();
-        self.locked.lock(rt).between(shown, key, a, b)
+        self.locked
+            .lock(rt)
+            .between(rt, &self.cell, view, key, a, b)
     }
 
-    /// The rows of a relation from `a` up to `b`, as the view's moment knows them.
+    /// The rows of a relation from `a` up to `b`, as the view's moment knows them. The refusals are those
+    /// of `between`.
     pub fn scan_between<R: Wait>(
         &self,
         rt: &R,
-        view: &SharedView<L>,
+        view: &mut SharedView<L>,
         relation: u16,
         a: u64,
         b: u64,
     ) -> Result<Vec<(u64, Version<SharedValue>)>, QueryFault>
-        ensures { OfSeen L.start view.now.seen (λ m. SaysScanBetween m.published m.floors relation a b result) }
+        ensures says { OfSeen L.start view.old.seen (λ m. SaysScanBetween (IsSure D.tells view.old.shown.reclaimed a) m.published m.floors relation a b result) }
+        ensures kept { view.new ≡ view.old }
     {
-        let shown = view.shown();
-        self.locked.lock(rt).scan_between(shown, relation, a, b)
+        self.locked
+            .lock(rt)
+            .scan_between(rt, &self.cell, view, relation, a, b)
     }
 
     /// The times of the published commits with a label, rising, in microseconds since 1970.
@@ -270,7 +284,7 @@ impl<D: Disk, L: Opening> SharedStore<D, L> {
 
     /// Ends a view.
     pub fn end<R: Wait>(&self, rt: &R, view: SharedView<L>) {
-        self.locked.lock(rt).end(view.spend());
+        self.locked.lock(rt).end(view);
     }
 
     /// Commits these changes, and waits until they are published. With Done the caller has seen the
@@ -297,7 +311,7 @@ impl<D: Disk, L: Opening> SharedStore<D, L> {
         match apply(self.alloc, &mut txn, changes) {
             Ok(()) => {}
             Err(fault) => {
-                self.locked.lock(rt).abort(txn);
+                self.abort_txn(rt, txn);
                 return Err(CommitFault::Txn(fault));
             }
         }
@@ -340,7 +354,13 @@ impl<D: Disk, L: Opening> SharedStore<D, L> {
         unreachable!()
     }
 
-    fn wait_past<R: Wait>(&self, rt: &R, moves: u64) {
+    // The moves so far, and whether the loops are to end.
+    pub(crate) fn signals<R: Wait>(&self, rt: &R) -> (u64, bool) {
+        self.locked.lock(rt).signals()
+    }
+
+    // Sleeps until something else than these moves happened.
+    pub(crate) fn wait_past<R: Wait>(&self, rt: &R, moves: u64) {
         self.moved
             .wait_while(rt, self.locked.lock(rt), |locked| locked.moves() == moves);
     }
@@ -355,7 +375,7 @@ impl<D: Disk, L: Opening> SharedStore<D, L> {
         requires { F.IsAlwaysCallable pause }
     {
         for _ in rt.forever() {
-            let (moves, stopping) = self.locked.lock(rt).signals();
+            let (moves, stopping) = self.signals(rt);
             let did = self.pump(rt);
             pause(rt, &did);
             if is_over(stopping, &did) {
@@ -363,40 +383,6 @@ impl<D: Disk, L: Opening> SharedStore<D, L> {
             }
             if has_to_wait(&did) {
                 self.wait_past(rt, moves);
-            }
-        }
-        unreachable!()
-    }
-
-    /// Archives all that has ended, again and again, until it is told to stop and its job is done, or
-    /// the store has failed. After each answer, with the lock given up, it calls `pause`. Where there
-    /// is nothing to do it sleeps.
-    pub fn run_vacuum<R: Wait, F: FnMut(&R, &Vacuumed)>(
-        &self,
-        rt: &R,
-        me: &mut Observer<L>,
-        mut pause: F,
-    )
-        requires { F.IsAlwaysCallable pause }
-    {
-        let mut runs = false;
-        for _ in rt.forever() {
-            let (moves, stopping) = self.locked.lock(rt).signals();
-            if stopping && !runs {
-                return;
-            }
-            let answer = if runs {
-                Vacuumed::Job(self.job_pump(rt))
-            } else {
-                let last = self.last_published(rt, me);
-                Vacuumed::Start(self.archive_start(rt, last))
-            };
-            pause(rt, &answer);
-            match after_vacuum(&answer) {
-                Vacuuming::Over => return,
-                Vacuuming::Waits => self.wait_past(rt, moves),
-                Vacuuming::Runs => runs = true,
-                Vacuuming::Idles => runs = false,
             }
         }
         unreachable!()
@@ -450,32 +436,4 @@ fn is_over(stopping: bool, did: &Result<Did, PumpFault>) -> bool {
 // Whether nothing can be done before something else happens.
 fn has_to_wait(did: &Result<Did, PumpFault>) -> bool {
     matches!(did, Ok(Did::Idle) | Err(PumpFault::Busy))
-}
-
-// How a vacuum goes on.
-enum Vacuuming {
-    // It ends.
-    Over,
-    // Nothing can be done before something else happens.
-    Waits,
-    // Its job goes on.
-    Runs,
-    // No job runs.
-    Idles,
-}
-
-// How a vacuum goes on after this answer.
-fn after_vacuum(answer: &Vacuumed) -> Vacuuming {
-    match answer {
-        Vacuumed::Job(Err(PumpFault::Failed)) => Vacuuming::Over,
-        Vacuumed::Job(Err(PumpFault::Busy)) => Vacuuming::Waits,
-        Vacuumed::Job(Ok(JobDid::JobDone) | Ok(JobDid::Idle)) => Vacuuming::Idles,
-        Vacuumed::Job(_) => Vacuuming::Runs,
-        Vacuumed::Start(Ok(())) => Vacuuming::Runs,
-        Vacuumed::Start(Err(StartFault::JobBusy) | Err(StartFault::NothingToDo)) => {
-            Vacuuming::Waits
-        }
-        Vacuumed::Start(Err(StartFault::NoMemory)) => Vacuuming::Idles,
-        Vacuumed::Start(Err(_)) => Vacuuming::Over,
-    }
 }

@@ -194,14 +194,14 @@ pub fn read<D: Disk, L: Opening, R: Wait>(
     key: Key,
     time: u64,
 ) -> Result<Option<SharedValue>, QueryFault>
-    ensures says { ReadSays L.start key time result me.new }
+    ensures says { ReadSays D.tells L.start key time result me.new }
     ensures later { IsLater me.old me.new }
 {
-    let view = match store.view(rt, me) {
+    let mut view = match store.view(rt, me) {
         Ok(view) => view,
         Err(_) => return Err(QueryFault::NoMemory),
     };
-    let answer = store.at(rt, &view, key, time);
+    let answer = store.at(rt, &mut view, key, time);
     store.end(rt, view);
     answer
 }
@@ -254,7 +254,7 @@ fn call_all<D: Disk + Send, L: Opening + Send + Sync, R: Threads + Wait + Sync>(
     }
 }
 
-// Publishes and archives, until told to end.
+// Publishes, archives and reclaims, until told to end.
 fn keep_up<D: Disk + Send, L: Opening + Send + Sync, R: Threads + Wait + Sync>(
     rt: &R,
     store: &SharedStore<D, L>,
@@ -263,11 +263,11 @@ fn keep_up<D: Disk + Send, L: Opening + Send + Sync, R: Threads + Wait + Sync>(
     join(
         rt,
         move || store.run_committer(rt, |_, _| thread::yield_now()),
-        move || archive_on(rt, store, me),
+        move || vacuum_on(rt, store, me),
     );
 }
 
-fn archive_on<D: Disk, L: Opening, R: Wait>(rt: &R, store: &SharedStore<D, L>, me: Observer<L>) {
+fn vacuum_on<D: Disk, L: Opening, R: Wait>(rt: &R, store: &SharedStore<D, L>, me: Observer<L>) {
     let mut me = me;
     store.run_vacuum(rt, &mut me, |_, _| thread::yield_now());
 }

@@ -196,15 +196,13 @@ fn archived_slots_keep_their_rules(rt: HostRuntime) -> Result<(), Fail> {
     Ok(())
 }
 
-/// A reclaim up to a time that needs no anchors.
-const fn reclaimed(upto: u64) -> Anchors {
-    Anchors {
-        upto,
-        first: 0,
-        extents: 0,
-        records: 0,
-    }
-}
+/// A reclaim that needs no anchors, up to the mark of the first run.
+const RECLAIM: Anchors = Anchors {
+    upto: 60,
+    first: 0,
+    extents: 0,
+    records: 0,
+};
 
 /// Reclaims behind these runs, and what is read.
 #[derive(Clone, Copy)]
@@ -219,37 +217,49 @@ const RECLAIMS: [Reclaims; 6] = [
     Reclaims {
         what: "up to the archive mark",
         runs: &[FIRST_RUN],
-        reclaims: &[reclaimed(60)],
+        reclaims: &[RECLAIM],
         want: Ok(3),
     },
     Reclaims {
         what: "up to the mark of the last of two runs",
         runs: &[FIRST_RUN, SECOND_RUN],
-        reclaims: &[reclaimed(100)],
+        reclaims: &[Anchors {
+            upto: 100,
+            ..RECLAIM
+        }],
         want: Ok(4),
     },
     Reclaims {
         what: "short of the archive mark",
         runs: &[FIRST_RUN],
-        reclaims: &[reclaimed(59)],
+        reclaims: &[Anchors {
+            upto: 59,
+            ..RECLAIM
+        }],
         want: Err(LogFault::Damaged(2)),
     },
     Reclaims {
         what: "past the archive mark",
         runs: &[FIRST_RUN],
-        reclaims: &[reclaimed(61)],
+        reclaims: &[Anchors {
+            upto: 61,
+            ..RECLAIM
+        }],
         want: Err(LogFault::Damaged(2)),
     },
     Reclaims {
         what: "nothing is archived",
         runs: &[],
-        reclaims: &[reclaimed(100)],
+        reclaims: &[Anchors {
+            upto: 100,
+            ..RECLAIM
+        }],
         want: Err(LogFault::Damaged(1)),
     },
     Reclaims {
         what: "twice without an archive between",
         runs: &[FIRST_RUN],
-        reclaims: &[reclaimed(60), reclaimed(60)],
+        reclaims: &[RECLAIM, RECLAIM],
         want: Err(LogFault::Damaged(3)),
     },
 ];

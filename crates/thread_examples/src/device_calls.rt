@@ -189,7 +189,7 @@ fn commit_beside_pumps<D: Disk + Send, L: Opening + Send + Sync, R: Threads + Wa
 fn shows<D: Disk, L: Opening, R: Wait + Abort>(
     rt: &R,
     store: &SharedStore<D, L>,
-    view: &SharedView<L>,
+    view: &mut SharedView<L>,
     record: u64,
     wanted: (u64, &str),
 ) {
@@ -205,13 +205,13 @@ fn ask_view<D: Disk, L: Opening, R: Wait + Abort>(
     store: &SharedStore<D, L>,
     me: &mut Observer<L>,
 ) {
-    let Ok(view) = store.view(rt, me) else {
+    let Ok(mut view) = store.view(rt, me) else {
         panic!(rt; "no view");
     };
-    shows(rt, store, &view, 7, (133, "d"));
-    shows(rt, store, &view, 7, (132, "c"));
-    shows(rt, store, &view, 13, (133, "e"));
-    let Ok(rows) = store.between(rt, &view, key_of(7), 132, 134) else {
+    shows(rt, store, &mut view, 7, (133, "d"));
+    shows(rt, store, &mut view, 7, (132, "c"));
+    shows(rt, store, &mut view, 13, (133, "e"));
+    let Ok(rows) = store.between(rt, &mut view, key_of(7), 132, 134) else {
         panic!(rt; "no rows");
     };
     assert_eq!(rt; rows.len(), 2);
@@ -268,6 +268,7 @@ fn commit_to_end<D: Disk, L: Opening, R: Wait + Abort>(
         note(rt, store, calls, me, &mut notes, Step::Group(*did));
     });
     assert_eq!(rt; notes.count(), COMMITTER.len());
+    assert_eq!(rt; store.reclaim_start(rt), Ok(()));
 }
 
 /// The whole example, on a store that was just opened.

@@ -10,6 +10,8 @@ mod moved_view;
 #[cfg(test)]
 mod noted;
 #[cfg(test)]
+mod vacuumed;
+#[cfg(test)]
 mod view_memory;
 #[cfg(test)]
 mod workers;

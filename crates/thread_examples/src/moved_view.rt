@@ -57,7 +57,7 @@ fn watch<L: Opening, R: Wait + Abort>(
     carried
 }
 
-/// A hundred commits of the key, each published before the next, and then an archive of all that ended.
+/// A hundred commits of the key, each published before the next, and then a vacuum of all that ended.
 fn change<D: Disk, L: Opening, R: Wait + Abort>(
     rt: &R,
     alloc: Global,
@@ -72,12 +72,15 @@ fn change<D: Disk, L: Opening, R: Wait + Abort>(
     }
     let last = store.last_published(rt, &mut me);
     assert_eq!(rt; store.archive_start(rt, last), Ok(()));
-    archive_to_end(rt, store);
+    pump_job(rt, store);
+    assert_eq!(rt; store.reclaim_start(rt), Ok(()));
+    pump_job(rt, store);
     done.store(true, Ordering::SeqCst);
     me
 }
 
-fn archive_to_end<D: Disk, L: Opening, R: Wait + Abort>(rt: &R, store: &SharedStore<D, L>) {
+/// Takes steps of the job until it is done.
+fn pump_job<D: Disk, L: Opening, R: Wait + Abort>(rt: &R, store: &SharedStore<D, L>) {
     for _ in 0..100 {
         if store.job_pump(rt) == Ok(JobDid::JobDone) {
             return;

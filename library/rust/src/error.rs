@@ -58,6 +58,8 @@ pub enum Error {
     BadSlots,
     /// A transaction reads below the mark; the least snapshot is named.
     InUse(u64),
+    /// The answer needs the archive.
+    NeedsArchive,
     /// Another process has the store open.
     Locked,
     /// A store, or something else, stands there.
@@ -94,6 +96,7 @@ impl Error {
             -23 => Error::ArchiveFull,
             -24 => Error::BadSlots,
             -25 => Error::InUse(info.a),
+            -26 => Error::NeedsArchive,
             -100 => Error::System(io::Error::last_os_error()),
             -101 => Error::Locked,
             -102 => Error::Occupied,

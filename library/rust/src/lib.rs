@@ -147,6 +147,22 @@ impl Store {
         Ok(())
     }
 
+    /// Gives up in the heap and in memory what is archived.
+    pub fn reclaim(&self) -> Result<()> {
+        self.ask(|h, info| unsafe { raw::ts_reclaim(h, info) })?;
+        // SAFETY: the file is open.
+        asked(unsafe { raw::ts_file_job(self.file) }, Info::default())?;
+        Ok(())
+    }
+
+    // The archive, which stays mapped until the next such call.
+    fn archive_area(&self) -> Result<(*const u8, usize)> {
+        let (mut at, mut len) = (std::ptr::null(), 0);
+        // SAFETY: the file is open.
+        asked(unsafe { raw::ts_file_archive(self.file, &mut at, &mut len) }, Info::default())?;
+        Ok((at, len))
+    }
+
     /// The times of the commits with a label, rising.
     pub fn times_of(&self, label: u64) -> Result<Vec<u64>> {
         let mut times = vec![0; 16];
@@ -310,30 +326,39 @@ pub struct View<'a> {
 }
 
 impl View<'_> {
+    /// The value of a record at a time, from memory alone.
+    pub fn recent(&self, relation: u16, record: u64, time: u64) -> Result<Option<Fields>> {
+        self.store.read(|h, out, len, info| unsafe { raw::ts_recent(h, self.number, relation, record, time, out, len, info) })
+    }
+
     /// The value of a record at a time.
     pub fn at(&self, relation: u16, record: u64, time: u64) -> Result<Option<Fields>> {
-        self.store.read(|h, out, len, info| unsafe { raw::ts_at(h, self.number, relation, record, time, out, len, info) })
+        let archive = self.store.archive_area()?;
+        self.store.read(|h, out, len, info| unsafe { raw::ts_at(h, self.number, relation, record, time, archive.0, archive.1, out, len, info) })
     }
 
     /// The records of a relation that have a value at a time, in rising order.
     pub fn scan_at(&self, relation: u16, time: u64) -> Result<Vec<(u64, Fields)>> {
+        let archive = self.store.archive_area()?;
         let rows = self.store.rows(|h, rows, out, info| unsafe {
-            raw::ts_scan_at(h, self.number, relation, time, rows.as_mut_ptr(), rows.len(), out.as_mut_ptr(), out.len(), info)
+            raw::ts_scan_at(h, self.number, relation, time, archive.0, archive.1, rows.as_mut_ptr(), rows.len(), out.as_mut_ptr(), out.len(), info)
         })?;
         Ok(rows.into_iter().map(|row| (row.record, row.fields)).collect())
     }
 
     /// What stood in a record from one time up to another, by rising time.
     pub fn between(&self, relation: u16, record: u64, from: u64, upto: u64) -> Result<Vec<Row>> {
+        let archive = self.store.archive_area()?;
         self.store.rows(|h, rows, out, info| unsafe {
-            raw::ts_between(h, self.number, relation, record, from, upto, rows.as_mut_ptr(), rows.len(), out.as_mut_ptr(), out.len(), info)
+            raw::ts_between(h, self.number, relation, record, from, upto, archive.0, archive.1, rows.as_mut_ptr(), rows.len(), out.as_mut_ptr(), out.len(), info)
         })
     }
 
     /// The same of a relation's records, by record and then by time.
     pub fn scan_between(&self, relation: u16, from: u64, upto: u64) -> Result<Vec<Row>> {
+        let archive = self.store.archive_area()?;
         self.store.rows(|h, rows, out, info| unsafe {
-            raw::ts_scan_between(h, self.number, relation, from, upto, rows.as_mut_ptr(), rows.len(), out.as_mut_ptr(), out.len(), info)
+            raw::ts_scan_between(h, self.number, relation, from, upto, archive.0, archive.1, rows.as_mut_ptr(), rows.len(), out.as_mut_ptr(), out.len(), info)
         })
     }
 }

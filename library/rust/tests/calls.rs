@@ -51,6 +51,14 @@ fn a_refused_call_leaves_what_was_published() {
     txn.put(1, 7, &[b"kept"]).unwrap();
     assert_eq!(txn.commit(1, 10).unwrap(), Some(10));
     store.archive(10).unwrap();
+    store.reclaim().unwrap();
+    assert!(matches!(store.reclaim(), Err(Error::NothingToDo)));
+    {
+        let view = store.view().unwrap();
+        assert!(matches!(view.recent(1, 7, 9), Err(Error::NeedsArchive)));
+        assert_eq!(view.recent(1, 7, 10).unwrap(), Some(vec![b"kept".to_vec()]));
+        assert_eq!(view.at(1, 7, 9).unwrap(), None);
+    }
     store.refuse(6);
     let mut txn = store.begin().unwrap();
     txn.put(1, 7, &[b"lost"]).unwrap();

@@ -1,4 +1,4 @@
-use Rattle.named.proofs.Publishing.{group_named, run_named}
+use Rattle.named.proofs.Publishing.{group_named, run_named, anchors_named}
 use Rattle.named.proofs.slots_name.Goals as goal
 
 pub returns-clause-group : goal.returns-clause-group
@@ -6,3 +6,6 @@ returns-clause-group c = group_named
 
 pub returns-clause-job : goal.returns-clause-job
 returns-clause-job c = run_named
+
+pub returns-clause-anchors : goal.returns-clause-anchors
+returns-clause-anchors c = anchors_named

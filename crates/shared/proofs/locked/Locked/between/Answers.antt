@@ -1,9 +1,11 @@
-use Rattle.std.proofs.Common.{ℕ, ◌≡◌, ◌==◌, Err, MatchBool, subst}
-use Rattle.timequery.specs.declared.fault.QueryFault.TheVariants as query
-use Rattle.standing.specs.Laws.{SaysBetween}
-use Rattle.standing.proofs.Queries.{between-answered}
+use Rattle.shared.proofs.Asked.{between-says}
+use Rattle.shared.proofs.Moves.{repass, query-keeps}
 use Rattle.shared.proofs.locked.Locked.between.Goals as goal
 
-pub returns : goal.returns
-returns g c =
-    λ h floors stands. subst (λ (n : ℕ). MatchBool (c.args.view.now.mark == n) (SaysBetween h floors c.args.key c.args.a c.args.b c.between.result) (c.between.result ≡ Err query.Stranger)) c.self.invariant.mark (between-answered c.self.inside.store c.args.view.now h floors _ _ _ _ stands c.between.ensures.is)
+pub invariant_of-self : goal.invariant_of-self
+invariant_of-self g c =
+    let w = c.compare.ensures.writer in
+    query-keeps _ _ _ _ _ _ _ _ _ _ _ _ _ _ _ _ (repass _ _ _ _ _ _ _ _ _ _ c.self.invariant w.0 w.1 w.2 w.3) c.between.ensures
+
+pub returns-clause-says : goal.returns-clause-says
+returns-clause-says g c = between-says _ _ _ _ _ _ _ _ _ c.self.invariant _ _ _ c.shown.ensures c.compare.ensures.kept c.compare.ensures.shows c.args.key c.args.a c.args.b c.between.result c.between.ensures

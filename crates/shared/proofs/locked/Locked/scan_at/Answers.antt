@@ -1,9 +1,11 @@
-use Rattle.std.proofs.Common.{ℕ, ◌≡◌, ◌==◌, Err, MatchBool, subst}
-use Rattle.timequery.specs.declared.fault.QueryFault.TheVariants as query
-use Rattle.standing.specs.Laws.{SaysScanAt}
-use Rattle.standing.proofs.Queries.{scan_at-answered}
+use Rattle.shared.proofs.Asked.{scan_at-says}
+use Rattle.shared.proofs.Moves.{repass, query-keeps}
 use Rattle.shared.proofs.locked.Locked.scan_at.Goals as goal
 
-pub returns : goal.returns
-returns g c =
-    λ h floors stands. subst (λ (n : ℕ). MatchBool (c.args.view.now.mark == n) (SaysScanAt h floors c.args.relation c.args.time c.scan_at.result) (c.scan_at.result ≡ Err query.Stranger)) c.self.invariant.mark (scan_at-answered c.self.inside.store c.args.view.now h floors _ _ _ stands c.scan_at.ensures.is)
+pub invariant_of-self : goal.invariant_of-self
+invariant_of-self g c =
+    let w = c.compare.ensures.writer in
+    query-keeps _ _ _ _ _ _ _ _ _ _ _ _ _ _ _ _ (repass _ _ _ _ _ _ _ _ _ _ c.self.invariant w.0 w.1 w.2 w.3) c.scan_at.ensures
+
+pub returns-clause-says : goal.returns-clause-says
+returns-clause-says g c = scan_at-says _ _ _ _ _ _ _ _ _ c.self.invariant _ _ _ c.shown.ensures c.compare.ensures.kept c.compare.ensures.shows c.args.relation c.args.time c.scan_at.result c.scan_at.ensures

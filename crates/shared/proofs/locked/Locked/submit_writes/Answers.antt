@@ -30,7 +30,7 @@ invariant_of-self g c =
     let is = noted-is _ _ _ _ _ _ _ _ _ _ _ _ s c.requires.1.1.1.1 h.seen in
     let w = c.meet.ensures.writer in
     let n = c.note_queued.ensures in
-    submit-keeps _ _ _ _ _ _ _ _ _ _ _ _ _ _ _ h s (w.0 ∙ n.cell ∙ h.cell) w.1 (w.2 ∙ n.seen ∙ is)
+    submit-keeps _ _ _ _ _ _ _ _ _ _ _ _ _ _ _ h s (w.0 ∙ n.cell ∙ h.cell) w.1 (w.2 ∙ n.seen ∙ is) (w.3 ∙ n.archive)
 
 pub returns-clause-happens : goal.returns-clause-happens
 returns-clause-happens g c =

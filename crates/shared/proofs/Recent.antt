@@ -1,0 +1,217 @@
+-- What a view answers from memory alone is what the history of its moment says.
+use Rattle.std.proofs.Common.{◌≡◌, ℕ, ◌+◌, ◌^◌, ◌<◌, ◌≤◌, min, nat_lt, nat_le, true, false, Bor, List, [], Option, Some, None, Result, Ok, Err, Vec, MatchResult, refl, arith, ap, sym, subst, ◌∙◌}
+use Rattle.std.specs.declared.alloc.Global.{Global}
+use Rattle.std.specs.Option.{option_copied}
+use Rattle.std.proofs.lemmas.Bool.Decides.{nat_tests}
+use Rattle.history.specs.declared.key.Key.{Key}
+use Rattle.history.specs.declared.time.Version.{Version}
+use Rattle.history.specs.Key.{key_of}
+use Rattle.history.specs.Time.{value_at}
+use Rattle.history.specs.Queries.{IsScanAt, IsScanBetween, IsScanOfRows}
+use Rattle.history.specs.Histories.{History, HasRisingTimes, last, state, between}
+use Rattle.history.specs.Answers as answers
+use Rattle.history.specs.Machine.{Machine}
+use Rattle.history.proofs.Histories.{rising-from_following, last_after-range}
+use Rattle.image.specs.Values.{Value, IsValue}
+use Rattle.chains.specs.KeyWrites.{writes_of}
+use Rattle.chains.specs.Rows.{rows_in, scanned_rows}
+use Rattle.chains.specs.Scans.{scanned}
+use Rattle.chains.proofs.Shown.{scan_is}
+use Rattle.chains.proofs.ShownRows.{scan_of_rows}
+use Rattle.scans.proofs.Written.{numbers_of, state-written, between-written}
+use Rattle.scans.proofs.Made.{scan-made, scan_of_rows-made}
+use Rattle.timequery.specs.View.{ViewValue, AnswersAt, AnswersBetween, RefusesRecent, RefusesRecentScan, RefusesRecentRows}
+use Rattle.timequery.specs.declared.fault.QueryFault.{QueryFault}
+use Rattle.timequery.specs.declared.fault.QueryFault.TheVariants as query
+use Rattle.standing.specs.Homes.{ViewStands}
+use Rattle.standing.specs.Views.{SaysRecent}
+use Rattle.standing.proofs.Held.{state-held, rows-held}
+use Rattle.standing.proofs.Queries.{recent-answered}
+use Rattle.shared.specs.Archives.{ArchiveSeen}
+use Rattle.shared.specs.Moments.{ViewMoment, OfSeen, answer_copied}
+use Rattle.shared.specs.Recent.{Recalls, RecallsScan, RecallsBetween, RecallsScanBetween}
+use Rattle.shared.specs.Seen.{Seen}
+use Rattle.shared.specs.Shared.{Shows}
+
+-- ---- what the history answers
+
+scan-there : (h : History Value) (relation time : ℕ) → (found : List (ℕ × Value)) × IsScanAt h relation time found
+scan-there h relation time = scan-made (state h time) relation (numbers_of h) (λ number value is. state-written h time (key_of relation number) value is)
+
+rows-there : (h : History Value) (relation a b : ℕ) → (found : List (ℕ × Version Value)) × IsScanBetween h relation a b found
+rows-there h relation a b = scan_of_rows-made (λ key. between h key a b) relation (numbers_of h) (λ number some. between-written h (key_of relation number) a b some)
+
+-- ---- what memory has from the reclaim mark on is the history's
+
+rises : (view : ViewValue) (h : History Value) (floors : ℕ → ℕ) → ViewStands view h floors → HasRisingTimes 0 h
+rises view h floors stands = rising-from_following IsValue [] h stands.history
+
+scan-same : (view : ViewValue) (h : History Value) (floors : ℕ → ℕ) (relation time : ℕ) → ViewStands view h floors → view.floor ≤ time → time ≤ view.last → view.reclaimed ≤ time → IsScanAt h relation time (scanned relation time view.state)
+scan-same view h floors relation time stands from upto recent =
+    let is = scan_is view.state relation time stands.memory.ordered in
+    let up = rises view h floors stands in
+    let range : last h < 2 ^ 63 = last_after-range 0 h (omega arith) up in
+    let floor = stands.floor_is relation in
+    let newest = stands.last_is in
+    record {
+      rising = is.rising;
+      each = λ number value.
+          let same : value_at (writes_of view.state (key_of relation number)) time ≡ state h time (key_of relation number) = state-held stands.memory up (key_of relation number) time (omega arith) recent (omega arith) in
+          ((λ there. sym same ∙ (is.each number value).0 there), (λ says. (is.each number value).1 (same ∙ says)));
+    }
+
+rows-same : (view : ViewValue) (h : History Value) (floors : ℕ → ℕ) (key : Key) (a b : ℕ) → ViewStands view h floors → view.floor ≤ a → view.reclaimed ≤ a → rows_in view.state a b key ≡ between h key a b
+rows-same view h floors key a b stands from recent = let floor = stands.floor_is key.relation in rows-held stands.memory (rises view h floors stands) key a b (omega arith) recent
+
+scan_rows-same : (view : ViewValue) (h : History Value) (floors : ℕ → ℕ) (relation a b : ℕ) → ViewStands view h floors → view.floor ≤ a → view.reclaimed ≤ a → IsScanBetween h relation a b (scanned_rows relation a b view.state)
+scan_rows-same view h floors relation a b stands from recent =
+    let same : Path (Key → List (Version Value)) (rows_in view.state a b) (λ key. between h key a b) = λ i key. rows-same view h floors key a b stands from recent i in
+    subst (λ (of : Key → List (Version Value)). IsScanOfRows of relation (scanned_rows relation a b view.state)) same (scan_of_rows view.state relation a b stands.memory.ordered)
+
+-- ---- what is refused is what the history refuses
+
+time-kept : (view : ViewValue) (h : History Value) (floors : ℕ → ℕ) (relation time : ℕ) → ViewStands view h floors → view.floor ≤ time → time ≤ view.last → answers.time_refusal (last h) (floors relation) time ≡ None
+time-kept view h floors relation time stands from upto =
+    let floor = stands.floor_is relation in
+    let last_is = stands.last_is in
+    let low : nat_lt time (floors relation) ≡ false = let above : floors relation ≤ time = omega arith in grind (arith, nat_tests) in
+    let high : nat_lt (last h) time ≡ false = let below : time ≤ last h = omega arith in grind (arith, nat_tests) in
+    rw (low, high) refl
+
+time-refused : {T X : Type 0} (held : T → X) (Found : X → Type 0) (view : ViewValue) (h : History Value) (floors : ℕ → ℕ) (relation time : ℕ) (fault : QueryFault) → ViewStands view h floors → (found : X) × Found found
+    → RefusesRecentScan view time fault → Recalls view time held (answers.IsScanAnswer (answers.time_refusal (last h) (floors relation) time) Found) (Err fault)
+time-refused held Found view h floors relation time (query.BeforeKept floor) stands some says =
+    let same = stands.floor_is relation in
+    let low : nat_lt time (floors relation) ≡ true = let before = says.0 in let below : time < floors relation = omega arith in grind (arith, nat_tests) in
+    let named : floors relation ≡ floor = sym same ∙ sym says.1 in
+    rw (low, named) refl
+time-refused held Found view h floors relation time (query.NotYet late) stands some says =
+    let same = stands.floor_is relation in
+    let last_is = stands.last_is in
+    let low : nat_lt time (floors relation) ≡ false = let from = says.0 in let above : floors relation ≤ time = omega arith in grind (arith, nat_tests) in
+    let high : nat_lt (last h) time ≡ true = let after = says.1 in let above : last h < time = omega arith in grind (arith, nat_tests) in
+    let named : last h ≡ late = sym last_is ∙ sym says.2 in
+    rw (low, high, named) refl
+time-refused held Found view h floors relation time query.NoMemory stands some says = (some.0, (time-kept view h floors relation time stands says.0 says.1, some.1))
+time-refused held Found view h floors relation time query.NeedsDisk stands some says = (says.2, (some.0, (time-kept view h floors relation time stands says.0 says.1, some.1)))
+time-refused held Found view h floors relation time query.Device stands some says = absurd says
+time-refused held Found view h floors relation time (query.Damaged start) stands some says = absurd says
+time-refused held Found view h floors relation time query.EmptyInterval stands some says = absurd says
+time-refused held Found view h floors relation time query.Stranger stands some says = absurd says
+
+interval-kept : (newest floor a b : ℕ) → floor ≤ min a b → b ≤ newest + 1 → a < b → answers.interval_refusal newest floor a b ≡ None
+interval-kept newest floor a b from upto some =
+    let low : nat_lt (min a b) floor ≡ false = grind (arith, nat_tests) in
+    let high : nat_lt (newest + 1) b ≡ false = grind (arith, nat_tests) in
+    let full : nat_le b a ≡ false = grind (arith, nat_tests) in
+    rw (low, high, full) refl
+
+interval-before : (newest floor a b : ℕ) → min a b < floor → answers.interval_refusal newest floor a b ≡ Some (answers.BeforeKept floor)
+interval-before newest floor a b before =
+    let low : nat_lt (min a b) floor ≡ true = grind (arith, nat_tests) in
+    rw low refl
+
+interval-late : (newest floor a b : ℕ) → floor ≤ min a b → newest + 1 < b → answers.interval_refusal newest floor a b ≡ Some (answers.NotYet newest)
+interval-late newest floor a b from late =
+    let low : nat_lt (min a b) floor ≡ false = grind (arith, nat_tests) in
+    let high : nat_lt (newest + 1) b ≡ true = grind (arith, nat_tests) in
+    rw (low, high) refl
+
+interval-empty : (newest floor a b : ℕ) → floor ≤ min a b → b ≤ newest + 1 → b ≤ a → answers.interval_refusal newest floor a b ≡ Some answers.EmptyInterval
+interval-empty newest floor a b from upto none =
+    let low : nat_lt (min a b) floor ≡ false = grind (arith, nat_tests) in
+    let high : nat_lt (newest + 1) b ≡ false = grind (arith, nat_tests) in
+    let full : nat_le b a ≡ true = grind (arith, nat_tests) in
+    rw (low, high, full) refl
+
+-- the same of a view's bounds
+rows-kept : (view : ViewValue) (h : History Value) (floors : ℕ → ℕ) (relation a b : ℕ) → ViewStands view h floors → view.floor ≤ min a b → b ≤ view.last + 1 → a < b → answers.interval_refusal (last h) (floors relation) a b ≡ None
+rows-kept view h floors relation a b stands from upto some =
+    let floor = stands.floor_is relation in
+    let last_is = stands.last_is in
+    interval-kept (last h) (floors relation) a b (omega arith) (omega arith) some
+
+rows-refused : {T X : Type 0} (held : T → X) (Is : Result X answers.QueryRefusal → Type 0) (view : ViewValue) (h : History Value) (floors : ℕ → ℕ) (relation a b : ℕ) (fault : QueryFault) → ViewStands view h floors
+    → ((why : answers.QueryRefusal) → answers.interval_refusal (last h) (floors relation) a b ≡ Some why → Is (Err why)) → (answers.interval_refusal (last h) (floors relation) a b ≡ None → (found : X) × Is (Ok found)) → RefusesRecentRows view a b fault → Recalls view a held Is (Err fault)
+rows-refused held Is view h floors relation a b (query.BeforeKept named) stands refused kept says =
+    let before = says.0 in
+    let floor = stands.floor_is relation in
+    refused (answers.BeforeKept named) (interval-before (last h) (floors relation) a b (omega arith) ∙ ap (λ (n : ℕ). Some (answers.BeforeKept n)) (sym floor ∙ sym says.1))
+rows-refused held Is view h floors relation a b (query.NotYet named) stands refused kept says =
+    let from = says.0 in
+    let late = says.1 in
+    let floor = stands.floor_is relation in
+    let last_is = stands.last_is in
+    refused (answers.NotYet named) (interval-late (last h) (floors relation) a b (omega arith) (omega arith) ∙ ap (λ (n : ℕ). Some (answers.NotYet n)) (sym last_is ∙ sym says.2))
+rows-refused held Is view h floors relation a b query.EmptyInterval stands refused kept says =
+    let from = says.0 in
+    let upto = says.1 in
+    let floor = stands.floor_is relation in
+    let last_is = stands.last_is in
+    refused answers.EmptyInterval (interval-empty (last h) (floors relation) a b (omega arith) (omega arith) says.2)
+rows-refused held Is view h floors relation a b query.NoMemory stands refused kept says = kept (rows-kept view h floors relation a b stands says.0.from_floor says.0.upto_last says.0.not_empty)
+rows-refused held Is view h floors relation a b query.NeedsDisk stands refused kept says = (says.1, kept (rows-kept view h floors relation a b stands says.0.from_floor says.0.upto_last says.0.not_empty))
+rows-refused held Is view h floors relation a b query.Device stands refused kept says = absurd says
+rows-refused held Is view h floors relation a b (query.Damaged start) stands refused kept says = absurd says
+rows-refused held Is view h floors relation a b query.Stranger stands refused kept says = absurd says
+
+-- ---- the answers
+
+copied : (view : ViewValue) (key : Key) (time : ℕ) (r : Result (Option (Bor Value)) QueryFault) → MatchResult r (λ o. (view.reclaimed ≤ time) × AnswersAt view time (option_copied o) (value_at (writes_of view.state key) time)) (RefusesRecent view time)
+    → MatchResult (answer_copied r) (λ o. (view.reclaimed ≤ time) × AnswersAt view time o (value_at (writes_of view.state key) time)) (RefusesRecent view time)
+copied view key time (Ok o) says = says
+copied view key time (Err why) says = says
+
+scan-recalled : (view : ViewValue) (h : History Value) (floors : ℕ → ℕ) (relation time : ℕ) (r : Result (Vec (ℕ × Value) Global) QueryFault) → ViewStands view h floors
+    → MatchResult r (λ found. (view.reclaimed ≤ time) × AnswersAt view time found.items (scanned relation time view.state)) (RefusesRecentScan view time) → RecallsScan view h floors relation time r
+scan-recalled view h floors relation time (Ok found) stands says =
+    let a = says.1 in
+    (time-kept view h floors relation time stands a.from_floor a.upto_last, subst (IsScanAt h relation time) (sym a.is) (scan-same view h floors relation time stands a.from_floor a.upto_last says.0))
+scan-recalled view h floors relation time (Err fault) stands says = time-refused (λ (found : Vec (ℕ × Value) Global). found.items) (IsScanAt h relation time) view h floors relation time fault stands (scan-there h relation time) says
+
+between-recalled : (view : ViewValue) (h : History Value) (floors : ℕ → ℕ) (key : Key) (a b : ℕ) (r : Result (Vec (Version Value) Global) QueryFault) → ViewStands view h floors
+    → MatchResult r (λ rows. (view.reclaimed ≤ a) × AnswersBetween view a b rows.items (rows_in view.state a b key)) (RefusesRecentRows view a b) → RecallsBetween view h floors key a b r
+between-recalled view h floors key a b (Ok found) stands says =
+    let kept = says.1.kept in
+    let from = kept.from_floor in
+    let some = kept.not_empty in
+    ap (λ (r : Option answers.QueryRefusal). answers.unless_refused r (between h key a b)) (rows-kept view h floors key.relation a b stands kept.from_floor kept.upto_last kept.not_empty)
+    ∙ ap (λ (x : List (Version Value)). Ok x) (sym (says.1.is ∙ rows-same view h floors key a b stands (omega arith) says.0))
+between-recalled view h floors key a b (Err fault) stands says =
+    rows-refused (λ (rows : Vec (Version Value) Global). rows.items) (λ said. answers.between_answer h floors key a b ≡ said) view h floors key.relation a b fault stands
+    (λ why is. ap (λ (r : Option answers.QueryRefusal). answers.unless_refused r (between h key a b)) is) (λ none. (between h key a b, ap (λ (r : Option answers.QueryRefusal). answers.unless_refused r (between h key a b)) none)) says
+
+scan_between-recalled : (view : ViewValue) (h : History Value) (floors : ℕ → ℕ) (relation a b : ℕ) (r : Result (Vec (ℕ × Version Value) Global) QueryFault) → ViewStands view h floors
+    → MatchResult r (λ rows. (view.reclaimed ≤ a) × AnswersBetween view a b rows.items (scanned_rows relation a b view.state)) (RefusesRecentRows view a b) → RecallsScanBetween view h floors relation a b r
+scan_between-recalled view h floors relation a b (Ok found) stands says =
+    let kept = says.1.kept in
+    let from = kept.from_floor in
+    let some = kept.not_empty in
+    (rows-kept view h floors relation a b stands kept.from_floor kept.upto_last kept.not_empty, subst (IsScanBetween h relation a b) (sym says.1.is) (scan_rows-same view h floors relation a b stands (omega arith) says.0))
+scan_between-recalled view h floors relation a b (Err fault) stands says =
+    rows-refused (λ (rows : Vec (ℕ × Version Value) Global). rows.items) (answers.IsScanBetweenAnswer h floors relation a b) view h floors relation a b fault stands
+    (λ why is. is) (λ none. ((rows-there h relation a b).0, (none, (rows-there h relation a b).1))) says
+
+-- ---- by a view of a shared store
+
+module _ (start : Machine Value) (brand : ℕ) (archive : ArchiveSeen) (view : ViewValue) (seen : Seen) (v : ViewMoment) (is : record { shown = view; seen = seen } ≡ v) (s : Shows start brand archive view seen) where
+  pub recent-says : (key : Key) (time : ℕ) (r : Result (Option (Bor Value)) QueryFault) → MatchResult r (λ o. (view.reclaimed ≤ time) × AnswersAt view time (option_copied o) (value_at (writes_of view.state key) time)) (RefusesRecent view time)
+      → OfSeen start v.seen (λ m. SaysRecent v.shown time (answers.at_answer m.published m.floors key time) (answer_copied r))
+  recent-says key time r says =
+      subst (λ (x : ViewMoment). OfSeen start x.seen (λ m. SaysRecent x.shown time (answers.at_answer m.published m.floors key time) (answer_copied r))) is
+      (s.machine, s.reached, s.seen_is, recent-answered view s.machine.published s.machine.floors key time (answer_copied r) s.stands (copied view key time r says))
+
+  pub scan-says : (relation time : ℕ) (r : Result (Vec (ℕ × Value) Global) QueryFault) → MatchResult r (λ found. (view.reclaimed ≤ time) × AnswersAt view time found.items (scanned relation time view.state)) (RefusesRecentScan view time)
+      → OfSeen start v.seen (λ m. RecallsScan v.shown m.published m.floors relation time r)
+  scan-says relation time r says =
+      subst (λ (x : ViewMoment). OfSeen start x.seen (λ m. RecallsScan x.shown m.published m.floors relation time r)) is (s.machine, s.reached, s.seen_is, scan-recalled view s.machine.published s.machine.floors relation time r s.stands says)
+
+  pub between-says : (key : Key) (a b : ℕ) (r : Result (Vec (Version Value) Global) QueryFault) → MatchResult r (λ rows. (view.reclaimed ≤ a) × AnswersBetween view a b rows.items (rows_in view.state a b key)) (RefusesRecentRows view a b)
+      → OfSeen start v.seen (λ m. RecallsBetween v.shown m.published m.floors key a b r)
+  between-says key a b r says =
+      subst (λ (x : ViewMoment). OfSeen start x.seen (λ m. RecallsBetween x.shown m.published m.floors key a b r)) is (s.machine, s.reached, s.seen_is, between-recalled view s.machine.published s.machine.floors key a b r s.stands says)
+
+  pub scan_between-says : (relation a b : ℕ) (r : Result (Vec (ℕ × Version Value) Global) QueryFault) → MatchResult r (λ rows. (view.reclaimed ≤ a) × AnswersBetween view a b rows.items (scanned_rows relation a b view.state)) (RefusesRecentRows view a b)
+      → OfSeen start v.seen (λ m. RecallsScanBetween v.shown m.published m.floors relation a b r)
+  scan_between-says relation a b r says =
+      subst (λ (x : ViewMoment). OfSeen start x.seen (λ m. RecallsScanBetween x.shown m.published m.floors relation a b r)) is (s.machine, s.reached, s.seen_is, scan_between-recalled view s.machine.published s.machine.floors relation a b r s.stands says)

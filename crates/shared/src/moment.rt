@@ -1,0 +1,64 @@
+//! What was known of a store at one moment.
+ghost use Rattle.std.specs.Prelude.{◌≡◌, true, false};
+ghost use Rattle.crossbeam_utils.specs.Seq.{cell_view};
+ghost use Rattle.shared.specs.Seen.{Known, IsMore, known_by};
+
+use crate::cell::{Confirm, Hear, PublishedCell, Tell, WriterPass};
+use crate::naming::Opening;
+use std::marker::{Model, PhantomData};
+use std::sync::Wait;
+
+/// A pass that stays at its moment. To a contract it is the commits and the archive that were known.
+#[derive(Drop)]
+pub struct Moment<L: Opening> {
+    pass: WriterPass,
+    of: PhantomData<L>,
+}
+
+impl<L: Opening> Model for Moment<L> {
+    ghost use Rattle.std.specs.Prelude.{◌≡◌, false};
+    ghost use Rattle.crossbeam_utils.specs.Seq.{cell_view};
+    ghost use Rattle.shared.specs.Seen.{Known, known_by};
+
+    ghost Value = { Known };
+
+    ghost view = { λ m. known_by (cell_view m.pass) };
+
+    ghost invariant = { λ m. (m.pass.table_id ≡ L.table) × ((cell_view m.pass).writes ≡ false) };
+}
+
+impl<L: Opening> Moment<L> {
+    fn of(pass: WriterPass) -> Moment<L>
+        requires cell { pass.table_id ≡ L.table }
+        requires reads { (cell_view pass).writes ≡ false }
+        ensures { result ≡ known_by (cell_view pass) }
+    {
+        Moment {
+            pass,
+            of: PhantomData,
+        }
+    }
+
+    /// What the writer's pass knows now.
+    pub(crate) fn told_by(cell: &PublishedCell, writer: &mut WriterPass) -> Moment<L>
+        requires { (cell.now.table.shared.table_id ≡ L.table) × (writer.old.table_id ≡ L.table) }
+        ensures known { result ≡ known_by (cell_view writer.old) }
+        ensures writer { (writer.new.table_id ≡ writer.old.table_id) × (cell_view writer.new ≡ cell_view writer.old) }
+    {
+        let pass = cell.split_pass::<Tell>(writer);
+        Moment::of(pass)
+    }
+
+    /// Compares what was known with what the writer's pass knows now, which is no less.
+    pub(crate) fn compare<R: Wait>(&mut self, rt: &R, cell: &PublishedCell, writer: &mut WriterPass)
+        requires cell { (cell.now.table.shared.table_id ≡ L.table) × (writer.old.table_id ≡ L.table) }
+        requires writes { (cell_view writer.old).writes ≡ true }
+        ensures kept { self.new ≡ self.old }
+        ensures more { IsMore self.old (known_by (cell_view writer.old)) }
+        ensures writer { (writer.new.table_id ≡ writer.old.table_id) × ((cell_view writer.new).writes ≡ true) × ((cell_view writer.new).seen ≡ (cell_view writer.old).seen) × ((cell_view writer.new).archive ≡ (cell_view writer.old).archive) }
+    {
+        let mine = cell.split_pass::<Tell>(&mut self.pass);
+        cell.join_pass::<Hear>(writer, mine);
+        cell.load_as::<Confirm, R>(rt, writer);
+    }
+}
