@@ -325,11 +325,12 @@ class Case:
         if said is None or kind in ("input", "output"):
             return self.ended(said, number == 0)
         refusal = "refused: no memory" if kind == "growth" else "refused: failed" if kind in ("write", "sync") else "refused: device"
-        if number == 0 or line == "reopen":
-            if said == [refusal] or said == ["refused: device"] and kind == "sync":
-                if self.talk.ask("times 0") is None:
-                    return self.not_opened()
-                raise Failure(f"{line}: refused, and the script goes on") if line == "reopen" else Failure("a refused opening goes on")
+        if (number == 0 or line == "reopen") and said in ([refusal], ["refused: device"]):
+            # a refused opening, after which nothing is answered, or the first line's own refusal
+            if self.talk.ask("times 0") is None:
+                return self.not_opened()
+            if line == "reopen":
+                raise Failure("the script goes on after a refused reopen")
         if said != [refusal]:
             raise Failure(f"{line}: answered {said}, and not {refusal}")
         if kind in ("write", "sync"):

@@ -59,13 +59,7 @@ impl<'a> Lent<'a> {
     ) -> Result<Vec<(u64, SharedValue)>, QueryFault>
         ensures { (v : StoreValue) → FindsScanAt true (over self.old v) view.now relation time result (over self.new v) }
     {
-        view.values_at(
-            self.alloc,
-            &mut self.reader,
-            &mut self.disk,
-            relation,
-            time,
-        )
+        view.values_at(self.alloc, &mut self.reader, &mut self.disk, relation, time)
     }
 
     pub fn between(
@@ -89,13 +83,6 @@ impl<'a> Lent<'a> {
     ) -> Result<Vec<(u64, Version<SharedValue>)>, QueryFault>
         ensures { (v : StoreValue) → FindsScanRows true (over self.old v) view.now relation a b result (over self.new v) }
     {
-        view.scan_rows_between(
-            self.alloc,
-            &mut self.reader,
-            &mut self.disk,
-            relation,
-            a,
-            b,
-        )
+        view.scan_rows_between(self.alloc, &mut self.reader, &mut self.disk, relation, a, b)
     }
 }

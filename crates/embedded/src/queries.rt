@@ -166,14 +166,7 @@ impl Engine {
     }
 
     /// The value of a key at a time, and its length, from memory alone.
-    pub fn recent(
-        &self,
-        view: u64,
-        key: Key,
-        time: u64,
-        out: &mut [u8],
-        info: &mut Info,
-    ) -> Code
+    pub fn recent(&self, view: u64, key: Key, time: u64, out: &mut [u8], info: &mut Info) -> Code
         ensures { AsksRecent view key time self.now result info.new out.new }
     {
         let Some(view) = view_of(&self.places, &self.before, view) else {

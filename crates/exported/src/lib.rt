@@ -378,7 +378,16 @@ pub extern "C" fn ts_between(
     let Some(engine) = handle.take(alloc) else {
         return Code::Closed.number();
     };
-    let code = engine.between(view, Key { relation, record }, from, upto, archive, rows, out, info);
+    let code = engine.between(
+        view,
+        Key { relation, record },
+        from,
+        upto,
+        archive,
+        rows,
+        out,
+        info,
+    );
     put_back(handle, engine, code)
 }
 

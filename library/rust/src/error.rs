@@ -129,6 +129,7 @@ impl Error {
             Error::ArchiveFull => -23,
             Error::BadSlots => -24,
             Error::InUse(_) => -25,
+            Error::NeedsArchive => -26,
             Error::System(_) => -100,
             Error::Locked => -101,
             Error::Occupied => -102,
