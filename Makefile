@@ -6,7 +6,7 @@ STORE = crates/store_bench/out/store_bench
 # The most processor minutes that the gate may take. It is to stay under 330 on a machine at rest; four checks side by side on four cores take a third more, and a slower machine more than that.
 BUDGET = 560
 
-.PHONY: demo test more-edits build try examples bench trials torture rates lib install library-test library-bench
+.PHONY: demo test more-edits build try examples bench trials torture hostile rates lib install library-test library-bench
 
 test:
 	@command -v rt >/dev/null || { echo "the Rattle kit's command rt is not on PATH" >&2; exit 1; }
@@ -45,6 +45,12 @@ trials: build
 # `make torture MINUTES=10 SEED=1`
 torture: build
 	torture/torture.py $(PROGRAM) --minutes $(or $(MINUTES),10) --seed $(or $(SEED),1)
+
+# Each call of the system refused in turn; each check of opening broken, and pairs of them; each byte of a small store; kills, full disks, folders without rights.
+hostile: build
+	torture/refusals.py $(PROGRAM)
+	torture/forged.py $(PROGRAM)
+	torture/files.py $(PROGRAM)
 
 # Lines a second; and, where valgrind is there, instructions a line, which do not depend on what else the machine does.
 rates: build

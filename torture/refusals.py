@@ -31,7 +31,7 @@ from torture import AREAS, Failure, check_left, format_store, questions, read_ar
 HERE = os.path.dirname(os.path.abspath(__file__))
 CLASSES = ("growth", "input", "output", "read", "length", "write", "sync", "open", "lock")
 # how a call of a class goes wrong
-HOWS = {"growth": ("before",), "input": ("before", "short", "interrupted"), "output": ("before", "part", "short", "interrupted"), "read": ("before", "short", "interrupted"),
+HOWS = {"growth": ("before",), "input": ("before", "short", "interrupted"), "output": ("before", "short", "interrupted"), "read": ("before", "short", "interrupted"),
         "length": ("before",), "write": ("before", "part", "made", "short", "interrupted"), "sync": ("before", "made"), "open": ("before",), "lock": ("before",)}
 # nothing is refused: the program asks again for the rest
 HARMLESS = ("short", "interrupted")
