@@ -65,6 +65,15 @@ fn skip_fields(count: u8, bytes: &[u8]) -> Option<&[u8]>
     Some(rest)
 }
 
+// The bytes that fields take, each with its length.
+fn bytes_of(parts: &[&[u8]]) -> usize {
+    let mut bytes = 0usize;
+    for part in parts {
+        bytes = bytes.saturating_add(part.len()).saturating_add(1);
+    }
+    bytes
+}
+
 fn are_same(a: &[u8], b: &[u8]) -> bool
     ensures { IsTrue result ↔ (a.now ≡ b.now) }
 {
@@ -113,6 +122,16 @@ impl Fields {
         }
     }
 
+    // No field yet, and memory for so many bytes.
+    fn with_room(alloc: Global, bytes: usize) -> Result<Fields, AllocError>
+        ensures { IfOk result (λ fields. fields ≡ []) }
+    {
+        Ok(Fields {
+            count: 0,
+            spelled: Vec::with_capacity(alloc, bytes)?,
+        })
+    }
+
     /// These fields, and one more; none where there are 16, or it has more than 255 bytes.
     pub fn with(self, field: &[u8]) -> Result<Option<Fields>, AllocError>
         ensures { IfOk result (λ o. MatchOption o ((16 ≤ length self) ⊎ (256 ≤ length field.now)) (λ fields. fields ≡ self ++ field.now ∷ [])) }
@@ -143,7 +162,7 @@ impl Fields {
         requires short { AreShort (map (λ part. part.now) parts.now) }
         ensures { IfOk result (λ fields. fields ≡ map (λ part. part.now) parts.now) }
     {
-        let mut fields = Fields::none(alloc);
+        let mut fields = Fields::with_room(alloc, bytes_of(parts))?;
         let mut rest = parts;
         while let [part, after @ ..] = rest {
             fields = fields.with_one(part)?;
