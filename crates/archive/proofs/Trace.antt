@@ -14,10 +14,11 @@ use Rattle.archive.specs.declared.head.Placed.{Placed}
 use Rattle.archive.specs.declared.wanted.Wanted.{Wanted}
 use Rattle.archive.specs.declared.fault.ArchiveFault.{ArchiveFault}
 use Rattle.archive.specs.declared.fault.ArchiveFault.TheVariants.{Device, NoMemory, Damaged}
-use Rattle.archive.specs.Answers.{precedes, is_wanted}
-use Rattle.archive.specs.Searches.{IsFaultOf}
+use Rattle.archive.specs.Answers.{precedes, follows, is_wanted}
+use Rattle.archive.specs.Searches.{is_before, may_follow, IsFaultOf}
 use Rattle.archive.specs.Damages.{placed_at, IsHeadSound, IsHeadBroken, IsValueBroken, IfDamaged}
 use Rattle.archive.specs.Traces.{nth_head, last_of, high_of, IsSearched, IsFoundIn, IsFindBroken, NoneBefore, IsFindDamaged, HasPart, GivesRow, last_walked, IsWalk, joined, IsWalked, IsWalkBroken, AtNext, AtItsValue, AreWalked, IsOfRuns, IsDamagedRun}
+use Rattle.archive.proofs.Walking.{out_behind}
 
 -- what a fault tells of a run that is damaged
 pub map_damaged : {P Q : ℕ → Type 0} (fault : ArchiveFault) → ((start : ℕ) → P start → Q start) → IfDamaged P fault → IfDamaged Q fault
@@ -81,8 +82,29 @@ module _ (area : List ℕ) (runs : List RunEntry) (key : Key) (time i : ℕ) (ru
 
 -- ---- the walk over the records of a run
 
+begun : (area : List ℕ) (run : RunEntry) (n : ℕ) {last : Option Placed} → IsHeadSound area run last n → (nth_head area run n).from < (nth_head area run n).to
+begun area run n sound = let range = sound.in_range in grind (arith, nat_tests)
+
+-- the next of one that is wanted doesn't precede
+next_not_before : (w : Wanted) (p q : Placed) → q.number ≡ p.number + 1 → q.head.from < q.head.to → IsTrue (may_follow p q) → IsTrue (is_wanted w p.head) → precedes w.first w.a q.head ≡ false
+next_not_before w p q next stands behind wanted =
+    let before : is_before p.head q.head ≡ true = grind (arith, nat_tests) in
+    let not_before : precedes w.first w.a p.head ≡ false = grind (arith, nat_tests) in
+    grind (arith, nat_tests)
+
 module _ {R : Type 0} where
   module _ (shown : ℕ → Version Value → R) (area : List ℕ) (w : Wanted) (run : RunEntry) (old : List R) where
+    -- a walk meets none that precedes: so one that isn't wanted is behind those that are
+    walk_behind : (read : List ℕ) (first : ℕ) (parts : List (List R)) → IsSearched area run w.first w.a read first → IsWalk shown area w run read first parts
+        → IsHeadSound area run (last_walked area run read first parts) (first + length parts) → is_wanted w (nth_head area run (first + length parts)) ≡ false
+        → IsTrue (follows w.last w.b (nth_head area run (first + length parts)))
+    walk_behind read first [] searched walk sound out =
+        out_behind w (nth_head area run (first + 0)) (first_fails area run w.first w.a read (first + 0) (omega (arith, searched.high)) sound.few) out
+    walk_behind read first (row ∷ rows) searched walk sound out =
+        let n = first + length (row ∷ rows) in
+        let next : n ≡ first + length rows + 1 = omega arith in
+        out_behind w (nth_head area run n) (next_not_before w (placed_at area run (first + length rows)) (placed_at area run n) next (begun area run n sound) sound.follows walk.1) out
+
     -- rows that a walk has given so far, behind those of before it
     pub record IsWalking (last : Option Placed) (number : ℕ) (rows : List R) : Type 0 where
       pub read : List ℕ
@@ -162,7 +184,7 @@ module _ {R : Type 0} where
             searched = way.searched;
             parts = way.parts;
             walk = way.walk;
-            end = inr (sound, subst (λ (p : Placed). is_wanted w p.head ≡ false) place out);
+            end = inr (sound, walk_behind way.read way.first way.parts way.searched way.walk sound (subst (λ (p : Placed). is_wanted w p.head ≡ false) place out));
             are = refl;
           },
           way.are,

@@ -117,7 +117,7 @@ one_key w head one wanted stands =
 follows_later : (key : Key) (time : ℕ) (r s : ArchiveRecord) → IsBefore r s → r.version.from < r.version.to → follows key time (head_of r) ≡ true → follows key time (head_of s) ≡ true
 follows_later key time r s before stands holds = grind (arith, nat_tests)
 
-out_behind : (w : Wanted) (head : Head) → precedes w.first w.a head ≡ false → is_wanted w head ≡ false → follows w.last w.b head ≡ true
+pub out_behind : (w : Wanted) (head : Head) → precedes w.first w.a head ≡ false → is_wanted w head ≡ false → follows w.last w.b head ≡ true
 out_behind w head not_before out = by_test (precedes w.first w.a head) (follows w.last w.b head) not_before out where
   by_test : (p f : Bool) → p ≡ false → (not p && not f) ≡ false → f ≡ true
   by_test true f is out = cc

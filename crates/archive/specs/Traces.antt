@@ -1,6 +1,6 @@
 -- What a query has read of a run, whatever its bytes are.
 -- Lists of what was read have what was read last at their front.
-use Rattle.std.specs.Prelude.{◌≡◌, ◌≢◌, ◌⊎◌, ℕ, ◌+◌, ◌<◌, ◌≤◌, IsTrue, false, if◌then◌else◌, List, [], ◌∷◌, ◌++◌, length, slice_get, Option, Some, None, max, min}
+use Rattle.std.specs.Prelude.{◌≡◌, ◌≢◌, ◌⊎◌, ℕ, ◌+◌, ◌<◌, ◌≤◌, IsTrue, if◌then◌else◌, List, [], ◌∷◌, ◌++◌, length, slice_get, Option, Some, None, max, min}
 use Rattle.history.specs.declared.key.Key.{Key}
 use Rattle.history.specs.declared.time.Version.{Version}
 use Rattle.history.specs.Versions.{cut}
@@ -9,7 +9,7 @@ use Rattle.archive.specs.declared.run.RunEntry.{RunEntry}
 use Rattle.archive.specs.declared.head.Head.{Head}
 use Rattle.archive.specs.declared.head.Placed.{Placed}
 use Rattle.archive.specs.declared.wanted.Wanted.{Wanted}
-use Rattle.archive.specs.Answers.{precedes, of_key, of_relation, is_wanted, alone, with_record}
+use Rattle.archive.specs.Answers.{precedes, follows, of_key, of_relation, is_wanted, alone, with_record}
 use Rattle.archive.specs.Damages.{entry_at, head_standing, placed_at, IsHeadSound, IsHeadBroken, IsValueAt, IsValueBroken}
 
 -- the head of the n-th record as it stands
@@ -139,7 +139,7 @@ abbrev pub joined : {R : Type 0} → List (List R) → List R
 joined [] = []
 joined (part ∷ parts) = joined parts ++ part
 
--- The rows of one run: a search, and then a walk over the records from the first that doesn't precede to one that isn't wanted.
+-- The rows of one run: a search, and then a walk over the records from the first that doesn't precede to one behind those that are wanted.
 pub record IsWalked {R : Type 0} (shown : ℕ → Version Value → R) (area : List ℕ) (w : Wanted) (run : RunEntry) (rows : List R) : Type 0 where
   pub read : List ℕ
   pub first : ℕ
@@ -147,7 +147,7 @@ pub record IsWalked {R : Type 0} (shown : ℕ → Version Value → R) (area : L
   pub parts : List (List R)
   pub walk : IsWalk shown area w run read first parts
   pub end : (run.slot.records ≡ first + length parts)
-      ⊎ (IsHeadSound area run (last_walked area run read first parts) (first + length parts) × (is_wanted w (nth_head area run (first + length parts)) ≡ false))
+      ⊎ (IsHeadSound area run (last_walked area run read first parts) (first + length parts) × IsTrue (follows w.last w.b (nth_head area run (first + length parts))))
   pub are : rows ≡ joined parts
 
 -- what was met that breaks a rule

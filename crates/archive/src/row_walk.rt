@@ -31,7 +31,6 @@ impl ArchiveReader {
         ensures looks { LooksInto run.now D.tells (D.state disk.old) (D.state disk.new) (kept_of self.old) (kept_of self.new) result }
         ensures heads { self.new.heads ≡ self.old.heads }
         ensures count { OnOk result (HasPart wanted.now placed.now.head → length rows.new.items ≡ length rows.old.items + 1) }
-        ensures less { OnOk result (length rows.old.items ≤ length rows.new.items) }
         ensures only { (records : List ArchiveRecord) (r : ArchiveRecord) → Reads D.tells (kept_of self.old) (D.state disk.old) run.now records
             → IsPlaced records r placed.now → Answers result (λ _. rows.new.items ≡ rows.old.items ++ row_of R.shown wanted.now r) }
         ensures exact { IsTrue D.tells → IsRight (kept_of self.old) (archive_of (D.state disk.old))
