@@ -32,6 +32,7 @@ class Shown:
     wanted: list[str]
     # where a call of the system is refused: the words of refuse.c
     environment: dict[str, str]
+    words: str = "run DIR"
 
     def script(self, title: str) -> str:
         """A script of its own: `sh SCRIPT PROGRAM` shows where the program's answers differ."""
@@ -42,9 +43,9 @@ class Shown:
         for name, lines in (("script", self.lines), ("wanted", self.wanted)):
             rows += [f"cat > \"$dir/{name}\" <<'END'", *lines, "END"]
         # fed line by line, as the test did: so it asks for memory at the same places
-        words = "".join(f"{name}={value} " for name, value in self.environment.items() if name.startswith("REFUSE_") and name != "REFUSE_COUNTS")
-        words = f'env {words}LD_PRELOAD="$2" ' if words else ""
-        rows.append(f'while IFS= read -r line; do printf "%s\\n" "$line"; sleep 0.01; done < "$dir/script" | {words}"$1" run "$dir/store" | diff - "$dir/wanted"')
+        prefix = "".join(f"{name}={value} " for name, value in self.environment.items() if name.startswith("REFUSE_") and name != "REFUSE_COUNTS")
+        prefix = f'env {prefix}LD_PRELOAD="$2" ' if prefix else ""
+        rows.append(f'while IFS= read -r line; do printf "%s\\n" "$line"; sleep 0.01; done < "$dir/script" | {prefix}"$1" {self.words.replace("DIR", chr(34) + "$dir/store" + chr(34))} | diff - "$dir/wanted"')
         return "\n".join(rows) + "\n"
 
 
@@ -58,7 +59,7 @@ class Failure(Exception):
 
 def report(title: str, why: Failure) -> None:
     """Prints a failure, and leaves the script that shows it."""
-    print(f"FAILED: {title}: {why}", flush=True)
+    print(f"FAILED: {title}: {str(why)[:600]}", flush=True)
     if why.shown:
         fd, place = tempfile.mkstemp(prefix="torture-", suffix=".sh", dir="/tmp")
         with os.fdopen(fd, "w", encoding="utf-8") as it:
