@@ -406,7 +406,8 @@ class Refusals:
     def script(self, name: str, script: list[str]) -> None:
         start, folder = self.formatted(), os.path.join(self.folder, "store")
         nothing = self.wrong()
-        Case(self.program, folder, start, nothing).play(script)
+        if not self.guard(f"script {name}", nothing, lambda: Case(self.program, folder, start, nothing).play(script)) or self.bad:
+            return
         counts = nothing.counts()
         self.say_counts(f"script {name}", counts)
         for what in cases_of(counts, self.every):
@@ -434,7 +435,9 @@ class Refusals:
         nothing = self.wrong()
         status, usual = self.do(words, folder, nothing)
         if status:
-            raise Failure(f"{words} answers {usual}")
+            report(f"command {name}", Failure(f"answers {usual} with status {status}"))
+            self.bad += 1
+            return
         counts = nothing.counts()
         self.say_counts(f"command {name}", counts)
         for what in cases_of(counts, self.every):
@@ -515,7 +518,8 @@ class Refusals:
     def say(self) -> None:
         rows: dict[tuple[str, str, str], list[str]] = {}
         for (name, kind, how, outcome), count in self.tried.items():
-            rows.setdefault((name, kind, how), []).append(f"{count} {outcome}")
+            if kind:
+                rows.setdefault((name, kind, how), []).append(f"{count} {outcome}")
         for (name, kind, how), outcomes in rows.items():
             print(f"{name}, {kind} {how}: " + ", ".join(outcomes))
 

@@ -13,7 +13,7 @@ from program import AREAS, Areas, Failure, Shown, run, write_areas
 KINDS = ("begin", "put", "del", "get", "submit", "abort", "redeem", "flush", "finish", "pump", "archive", "reclaim", "job", "ask", "reopen")
 # how often each is drawn: where each step is one of a script's lines, and where a line takes all of them
 BY_STEPS = (8, 12, 3, 2, 10, 1, 3, 4, 1, 18, 4, 4, 16, 2, 0)
-BY_LINES = (6, 9, 2, 3, 7, 1, 3, 6, 3, 3, 3, 3, 3, 4, 1)
+BY_LINES = (6, 9, 2, 2, 8, 1, 3, 8, 6, 2, 5, 6, 2, 8, 1)
 ASKED = ("at", "between", "scan", "times")
 # of a longer history only so many moments are asked for, evenly; its intervals are asked for whole
 MOMENTS_MOST = 60
@@ -66,6 +66,13 @@ def some_line(chance: random.Random, small: Machine, weights: Sequence[int]) -> 
     if kind == "archive":
         return f"archive {chance.choice((newest, chance.randrange(newest + 3)))}"
     return question(chance, newest) if kind == "ask" else kind
+
+
+def a_vacuum(chance: random.Random, small: Machine) -> list[str]:
+    """Lines that archive and reclaim, no transaction being open, and ask below the mark."""
+    opened = [name for name, it in small.names.items() if isinstance(it, Transaction)]
+    newest = machine.last(small.published)
+    return [*(f"abort {name}" for name in opened), f"archive {newest}", "finish", "reclaim", "finish", *(question(chance, newest) for _ in range(4))]
 
 
 # ---- what is left of a store

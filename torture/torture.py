@@ -32,7 +32,7 @@ import machine
 import refusals
 from machine import Commit, Machine
 from program import AREAS, Areas, Failure, Session, format_store, read_areas, report, use_memory
-from scripts import BY_LINES, check_left, key_text, questions, some_fields, some_key, some_line
+from scripts import BY_LINES, a_vacuum, check_left, key_text, questions, some_fields, some_key, some_line
 from stops import Play
 
 FAILURES_MOST = 5
@@ -214,6 +214,8 @@ def drawn(chance: random.Random, case: refusals.Case, count: int, opened: Counte
     opened.update(case.wrong.counts())
     for _ in range(count):
         yield some_line(chance, case.small, BY_LINES)
+        if chance.random() < 0.06:
+            yield from a_vacuum(chance, case.small)
 
 
 def refused_case(program: str, chance: random.Random, folder: str) -> Counter:
