@@ -2,23 +2,28 @@
 """Files that no store left: each check of opening broken by a byte, and pairs of them; every byte of a small store's log, extents
 and runs set to other values; each file cut at every length.
 
-    forged.py PROGRAM [--every N] [--only KIND]
+    forged.py PROGRAM [--every N] [--only KIND] [--jobs N] [--table]
 
-What is to be answered is computed by a plain reader of the format (image.py), which shares nothing with the program: that the
-files open, and then every record at every time; or which check is the first to fail. KIND: table, pairs, bytes, runs, cuts.
-The status is 1 where an answer is another one; the change is printed.
+What is to be answered is computed by a plain reader of the format (image.py, homes.py), which shares nothing with the program: that
+the files open, and then every record at every time; or which check is the first to fail. KIND: table, pairs, log, extents, runs, cuts.
+The status is 1 where an answer is another one; the change is printed. --table prints the checks, their changes and answers.
 """
+from __future__ import annotations
+
 import argparse
 import os
-import subprocess
 import sys
 import tempfile
 import time
 from collections import Counter
+from collections.abc import Iterator
+from concurrent.futures import ProcessPoolExecutor
 
 import image
 import machine
-from torture import AREAS, Failure, format_store, read_areas, run, write_areas
+from homes import Files
+from machine import Key
+from program import AREAS, Areas, Failure, Shown, format_store, read_areas, report, run, use_memory, write_areas
 
 # two commits in a slot, a delta, a deletion, two extents of one chain, anchors and two runs
 LARGE = " ".join(["cd" * 255] * 16)
@@ -60,156 +65,68 @@ submit g 6 0
 flush
 """.splitlines()
 
+# an area, a place in it, and what is written there; None: the area is cut off there
+Change = tuple[str, int, "bytes | None"]
+VALUES = (0x00, 0x37, 0xC7, 0xFF)
 
-def commits(script):
-    """The history of the script, by its lines alone."""
+
+def history_of(script: list[str]) -> list[machine.Commit]:
+    """The commits of a script, by its lines alone."""
     small = machine.Machine()
     for line in script:
-        word, *rest = line.split(" ")
-        if word == "put":
-            small.put(rest[0], (int(rest[1]), int(rest[2])), " ".join(rest[3:]))
-        elif word == "del":
-            small.delete(rest[0], (int(rest[1]), int(rest[2])))
-        elif word == "submit":
-            small.submit(rest[0], int(rest[1]), int(rest[2]))
-        elif word == "begin":
-            small.begin(rest[0])
-        elif word == "flush":
-            small.published, small.queue = small.published + small.queue, []
+        small.answer(line)
     return small.published
 
 
-# ---- what files say, by the plain reader
-
-
-def kept(areas):
-    """The last time, the times and labels, and the versions of the files, each (key, from, to or None, fields), and the runs
-    that break their form (their starts). Refused where they don't open."""
-    history, archived, reclaimed, olds = image.read(*(bytes(areas[area]) for area in AREAS))
-    found, _, _ = image.log(areas["status"], image.header(areas["status"]))
-    standing = {key: it for key, it in olds.items()}
-    versions = []
-    for commit in history:
-        for key, fields in sorted((commit.writes or {}).items()):
-            if key in standing:
-                since, before = standing.pop(key)
-                versions.append((key, since, commit.time, before))
-            if fields is not None:
-                standing[key] = (commit.time, fields)
-    versions += [(key, since, None, fields) for key, (since, fields) in standing.items()]
-    broken, marks, past = [], [body[0] for kind, body in found if kind == "archived"], []
-    for (start, records), upto in zip(image.runs(found, areas["archive"]), marks):
-        if records is None:
-            broken.append((start, upto))
-        past += records or []
-    # one version in two homes is one version
-    return machine.last(history), [(it.time, it.label) for it in history], sorted({*versions, *past}, key=lambda it: (it[0], it[1], it[2] or 1 << 63)), broken, reclaimed, archived
-
-
-def at(newest, versions, key, moment):
-    if moment > newest:
-        return [f"refused: not yet {newest}"]
-    for one, start, stop, fields in versions:
-        if one == key and start <= moment and (stop is None or moment < stop):
-            return [f"value {fields}"]
-    return ["none"]
-
-
-def between(newest, versions, key, a, b):
-    rows = [(max(a, start), b if stop is None else min(b, stop), fields) for one, start, stop, fields in versions if one == key]
-    rows = [f"{low} {high} {fields}" for low, high, fields in rows if low < high]
-    return rows + [f"rows {len(rows)}"]
-
-
-def scan(newest, versions, relation, moment):
-    rows = [(key[1], at(newest, versions, key, moment)[0]) for key in sorted({it[0] for it in versions if it[0][0] == relation})]
-    rows = [f"{record} {said.removeprefix('value ')}" for record, said in rows if said != "none"]
-    return rows + [f"rows {len(rows)}"]
-
-
-def asked(newest, named, versions, keys):
-    """Lines that ask for all that files say, with their answers."""
-    moments = sorted({0, newest, *(it for _, start, stop, _ in versions for it in (start, start - 1, stop or newest) if 0 <= it <= newest)})
-    keys = sorted({*keys, *(it[0] for it in versions)})
-    lines = [(f"times {label}", machine.times([machine.Commit(time, label, {}) for time, label in named], label)) for label in sorted({label for _, label in named})]
-    for key in keys:
-        lines += [(f"at {key[0]} {key[1]} {moment}", at(newest, versions, key, moment)) for moment in moments]
-        lines.append((f"between {key[0]} {key[1]} 0 {newest + 1}", between(newest, versions, key, 0, newest + 1)))
-    for relation in sorted({key[0] for key in keys}):
-        lines += [(f"scan {relation} {moment}", scan(newest, versions, relation, moment)) for moment in moments]
-    return lines
-
-
-class Talk:
-    """Answers of a script, taken line by line of the questions."""
-
-    def __init__(self, said):
-        self.said, self.place = said, 0
-
-    def next(self, line):
-        start = self.place
-        while self.place < len(self.said):
-            self.place += 1
-            if not line.startswith(("between", "scan")) or self.said[self.place - 1].startswith(("rows ", "refused: ")):
-                break
-        return self.said[start:self.place]
-
-
-def check(program, areas, what, keys):
+def check(program: str, areas: Areas, what: str, keys: list[Key]) -> str:
     """Opens the files and asks; says how they were answered."""
+    try:
+        files = Files(areas)
+        lines = files.questions(keys)
+        wanted = [[f"last {files.newest} floor 0"], *(files.answer(line) for line in lines)]
+        status, outcome = 0, "opens" if files.is_sound() else "opens, a run is damaged"
+    except image.Refused as why:
+        lines, wanted, status = [], [[f"refused: {why}"]], 1
+        outcome = str(why) if str(why) == "not a store" else str(why).rsplit(" ", 1)[0]
+    lines = ["reopen", *lines]
+    flat = [it for said in wanted for it in said]
     with tempfile.TemporaryDirectory(prefix="forged-") as folder:
         write_areas(folder, areas)
-        try:
-            newest, named, versions, broken, reclaimed, archived = kept(areas)
-        except image.Refused as why:
-            status, said = run(program, folder, ["reopen"])
-            if (status, said) != (1, [f"refused: {why}"]):
-                raise Failure(f"{what}: answers {said} with status {status}, and not refused: {why}") from None
-            if read_areas(folder) != {area: bytes(areas[area]) for area in AREAS}:
-                raise Failure(f"{what}: a refused opening has changed a file") from None
-            return str(why) if str(why) == "not a store" else str(why).rsplit(" ", 1)[0]
-        questions = asked(newest, named, versions, keys)
-        status, said = run(program, folder, ["reopen"] + [line for line, _ in questions])
-        if status or said[:1] != [f"last {newest} floor 0"]:
-            raise Failure(f"{what}: answers {said[:1]} with status {status}, and opens with last {newest}")
-        talk, refusals = Talk(said[1:]), [f"refused: damaged archive {start}" for start, _ in broken]
-        for line, wanted in questions:
-            given = talk.next(line)
-            if given != wanted and not (broken and allowed(line, given, refusals, reclaimed)):
-                raise Failure(f"{what}: {line}: answers {given}, and not {wanted}")
-        return "opens, a run is damaged" if broken else "opens"
-
-
-def allowed(line, given, refusals, reclaimed):
-    """Where a run breaks its form: the refusal that names it, or what its other records say, at times before the reclaim mark alone."""
-    moment = int(line.split(" ")[3 if line.startswith(("at", "between")) else 2])
-    return moment < reclaimed and (given[-1:] and (given[-1] in refusals or not given[-1].startswith("refused: ")))
+        found = run(program, folder, lines)
+        if found != (status, flat):
+            differs = next(((a, b) for a, b in zip(found[1] + ["nothing"], flat + ["nothing"]) if a != b), ("as it should", "that"))
+            why = f"{what}: answers {differs[0]} with status {found[0]}, and not {differs[1]} with status {status}"
+            raise Failure(why, Shown(areas, lines, flat, {}))
+        if read_areas(folder) != areas:
+            raise Failure(f"{what}: opening and questions have changed a file")
+    return outcome
 
 
 # ---- the checks of opening
 
-def word(number, size):
+
+def word(number: int, size: int) -> bytes:
     return number.to_bytes(size, "little")
 
 
-def slot(number, place):
+def slot(number: int, place: int) -> int:
     return 512 + 512 * number + place
 
 
-def heap_at(number, place):
+def heap_at(number: int, place: int) -> int:
     return (number - 1) * image.EXTENT + place
 
 
 class Small:
     """The store of the script, and where its parts lie."""
 
-    def __init__(self, program, folder):
+    def __init__(self, program: str, folder: str) -> None:
         format_store(program, folder, 16)
         status, said = run(program, folder, SCRIPT)
         if status or any(it.startswith("refused") for it in said):
             raise Failure(f"the script answers {said}")
         self.areas = read_areas(folder)
-        self.history = commits(SCRIPT)
+        self.history = history_of(SCRIPT)
         why = image.why_not(self.areas, self.history)
         if why:
             raise Failure(f"the plain reader finds {why}")
@@ -217,177 +134,110 @@ class Small:
         self.found, _, _ = image.log(self.areas["status"], 16)
         self.kinds = [kind for kind, _ in self.found]
 
-    def body(self, kind, which=-1):
+    def body(self, kind: str, which: int = -1) -> tuple[int, tuple]:
         number = [at for at, it in enumerate(self.kinds) if it == kind][which]
         return number, self.found[number][1]
 
-    def changed(self, changes):
+    def changed(self, changes: list[Change]) -> Areas:
         areas = {area: bytearray(self.areas[area]) for area in AREAS}
         for area, place, data in changes:
             if data is None:
                 del areas[area][place:]
             else:
                 areas[area][place:place + len(data)] = data
-        return areas
+        return {area: bytes(data) for area, data in areas.items()}
 
 
-def table(small):
-    """Each check of opening in its order: a name, the changes that break it, the answer."""
-    first, last = 0, len(small.found) - 1
-    archived, run_body = small.body("archived")
-    reclaimed, anchors = small.body("reclaimed")
-    late, members = small.body("commit")
-    large, gone = members
+# a name, the change that breaks the check, the answer (None: as the plain reader says)
+Check = tuple[str, Change, "str | None"]
+
+
+def header_checks() -> list[Check]:
+    changes: list[tuple[str, int, bytes | None]] = [
+        ("an empty file", 0, None), ("a file of 511 bytes", 511, None), ("the first word", 0, b"n"), ("the first word's last byte", 7, b"2"), ("the profile", 8, b"\2"),
+        ("15 slots", 12, word(15, 4)), ("65,537 slots", 12, word(65537, 4)), ("more slots than the file has", 12, word(17, 4)),
+        ("a byte of the header's rest", 16, b"\1"), ("the header's last byte", 511, b"\1"), ("a slot cut off", 512 + 16 * 512 - 1, None),
+    ]
+    return [(f"header: {name}", ("status", place, data), "not a store") for name, place, data in changes]
+
+
+def slot_checks(small: Small) -> list[Check]:
+    """The form of a slot, and the log's rules."""
+    last, (archived, run), (reclaimed, anchors) = len(small.found) - 1, small.body("archived"), small.body("reclaimed")
+    changes = [(0, name, place, data) for name, place, data in [
+        ("kind 0", 1, b"\0"), ("kind 5", 1, b"\5"), ("no members", 2, b"\0"), ("17 members", 2, b"\x11"), ("byte 3", 3, b"\1"), ("another number", 4, b"\1"),
+        ("time 0", 16, word(0, 8)), ("time 2^63", 16, word(1 << 63, 8)), ("first extent 0", 24, word(0, 4)), ("first extent 65,537", 24, word(65537, 4)),
+        ("no extents", 28, word(0, 4)), ("more extents than records", 28, word(3, 4)), ("no records", 32, word(0, 4)), ("1,025 records", 32, word(1025, 4)),
+        ("a byte behind the members", 36, b"\1"), ("the last byte", 511, b"\1")]]
+    changes += [(1, "a commit's time not later", 16, word(100, 8)), (1, "a member's time not later", 44, word(110, 8))]
+    changes += [(archived, f"an archive {name}", place, data) for name, place, data in [
+        ("with a member", 2, b"\1"), ("up to 0", 8, word(0, 8)), ("not later", 8, word(111, 8)), ("past the last commit", 8, word(131, 8)), ("that starts elsewhere", 16, word(run[1] + 1, 8)),
+        ("too short for its records", 24, word(36 * run[3] - 1, 8)), ("too long for its records", 24, word(4131 * run[3] + 1, 8)), ("without records", 32, word(0, 8)),
+        ("with a byte behind it", 40, b"\1")]]
+    changes += [(reclaimed, f"a reclaim {name}", place, data) for name, place, data in [
+        ("with a member", 2, b"\1"), ("up to another time", 8, word(110, 8)), ("without a first extent", 16, word(0, 4)), ("without extents", 20, word(0, 4)),
+        ("with more extents than records", 20, word(anchors[3] + 1, 4)), ("without records", 24, word(0, 4)), ("with a byte behind it", 28, b"\1")]]
+    changes += [(last + 1, "the gate behind the log opened", 0, b"\xc7"), (last + 1, "a floor, which is not built", 0, b"\xc7\4\0\0" + word(last + 1, 4) + word(100, 8))]
+    rows: list[Check] = [(f"slot {number}: {name}", ("status", slot(number, place), data), f"damaged status {number}") for number, name, place, data in changes]
+    return rows + [("a gate two behind the log opened", ("status", slot(last + 2, 0), b"\xc7"), None), ("the last gate closed", ("status", slot(last, 0), b"\x37"), None)]
+
+
+def extent_checks(small: Small, name: str, number: int) -> list[Check]:
+    """The form of an extent of anchors or of a commit."""
+    heap, at = small.areas["heap"], heap_at(number, 0)
+    used, other = image.u(heap, at + 8, 4), 1 if name == "anchors" else 4
+    changes = [
+        ("own number", 0, word(number + 1, 4)), ("a next extent", 4, word(number, 4)), ("nothing used", 8, word(0, 4)), ("8,177 bytes used", 8, word(8177, 4)),
+        ("one byte less used", 8, word(used - 1, 4)), ("one byte more used", 8, word(used + 1, 4)), ("byte 12", 12, b"\1"), ("a byte behind what is used", 16 + used, b"\1"),
+        ("the last byte", 8191, b"\1"), ("a record of kind 0", 16, b"\0"), (f"a record of kind {other}", 16, bytes([other])), ("keys not rising", 17, word(65535, 2)),
+    ]
+    if name == "anchors":
+        changes += [("from 0", 27, word(0, 8)), ("from behind the mark", 27, word(112, 8)), ("without fields", 35, b"\0")]
+    return [(f"{name}: {what}", ("heap", at + place, data), f"damaged heap {number}") for what, place, data in changes]
+
+
+def record_checks(small: Small, number: int) -> list[Check]:
+    """The rules of deltas, anchors and packing: the second record of this extent is a delta of 15 bytes, behind an anchor of 14."""
+    heap, at = small.areas["heap"], heap_at(number, 0)
+    used, delta, anchor = image.u(heap, at + 8, 4), 16 + 14, b"\1" + heap[at + 31: at + 41] + bytes.fromhex("03016401670169")
+    spelled = word(used + 3, 4) + heap[at + 12: at + delta] + anchor
+    large = small.body("commit")[1][0][2]
+    lone = word(14, 4) + bytes(4) + bytes.fromhex("0103000100000000000000" "010161")
+    changes = [
+        (number, "a delta's mask past its fields", delta + 11, word(12, 2)), (number, "a delta without a change", delta + 14, b"\x66"), (number, "a delta of another key", delta + 3, b"\2"),
+        (number, "an anchor where a delta is shorter", 8, spelled), (large, "records not packed", 8, lone + bytes(image.EXTENT - 8 - len(lone))),
+    ]
+    return [(f"records: {name}", ("heap", heap_at(one, place), data), f"damaged heap {one}") for one, name, place, data in changes]
+
+
+def chain_checks(small: Small) -> list[Check]:
+    """The chains: anchors first, then the commits behind the mark in their order."""
+    heap, anchor = small.areas["heap"], small.body("reclaimed")[1][1]
+    late, (large, gone) = small.body("commit")
     one, (single,) = small.body("commit", -2)
-    extent, second, anchor = large[2], image.u(small.areas["heap"], heap_at(large[2], 4), 4), anchors[1]
-    alone = single[2]
-    used = image.u(small.areas["heap"], heap_at(alone, 8), 4)
-    status, heap = "status", "heap"
-
-    def at_slot(number, place, data):
-        return status, slot(number, place), data
-
-    damaged = lambda area, place: f"damaged {area} {place}"
-    in_log = [
-        ("kind 0", at_slot(first, 1, b"\0")), ("kind 5", at_slot(first, 1, b"\5")), ("no members", at_slot(first, 2, b"\0")), ("17 members", at_slot(first, 2, b"\x11")),
-        ("another number", at_slot(first, 4, b"\1")), ("time 0", at_slot(first, 16, word(0, 8))), ("time 2^63", at_slot(first, 16, word(1 << 63, 8))),
-        ("first extent 0", at_slot(first, 24, word(0, 4))), ("first extent 65,537", at_slot(first, 24, word(65537, 4))), ("no extents", at_slot(first, 28, word(0, 4))),
-        ("more extents than records", at_slot(first, 28, word(3, 4))), ("no records", at_slot(first, 32, word(0, 4))), ("1,025 records", at_slot(first, 32, word(1025, 4))),
-        ("byte 3", at_slot(first, 3, b"\1")), ("a byte behind the members", at_slot(first, 36, b"\1")), ("the last byte", at_slot(first, 511, b"\1")),
+    alone, extent = single[2], large[2]
+    second = image.u(heap, heap_at(extent, 4), 4)
+    return extent_checks(small, "anchors", anchor) + extent_checks(small, "a commit", alone) + record_checks(small, alone) + [
+        ("one record more in the slot", ("status", slot(one, 32), word(single[4] + 1, 4)), f"damaged heap {alone}"),
+        ("a chain in an extent of another", ("status", slot(one, 24), word(anchor, 4)), f"damaged heap {anchor}"),
+        ("a chain past the file", ("status", slot(one, 24), word(65536, 4)), "damaged heap 65536"),
+        ("a chain of one extent less", ("status", slot(late, 28), word(1, 4)), f"damaged heap {extent}"),
+        ("a next extent that is another's", ("heap", heap_at(extent, 4), word(alone, 4)), f"damaged heap {extent}"),
+        ("the second extent's own number", ("heap", heap_at(second, 0), word(0, 4)), f"damaged heap {extent}"),
+        ("a deletion of what is not there", ("heap", heap_at(gone[2], 19), word(9, 8)), f"damaged heap {gone[2]}"),
+        ("the heap cut in its last extent", ("heap", len(heap) - 1, None), None),
+        ("the heap cut to nothing", ("heap", 0, None), f"damaged heap {anchor}"),
     ]
-    rows = [
-        ("an empty file", (status, 0, None), "not a store"), ("a file of 511 bytes", (status, 511, None), "not a store"), ("the first word", (status, 0, b"n"), "not a store"),
-        ("the profile", (status, 8, b"\2"), "not a store"), ("15 slots", (status, 12, word(15, 4)), "not a store"), ("65,537 slots", (status, 12, word(65537, 4)), "not a store"),
-        ("more slots than the file has", (status, 12, word(17, 4)), "not a store"), ("a byte of the header's rest", (status, 16, b"\1"), "not a store"), ("the header's last byte", (status, 511, b"\1"), "not a store"),
-        ("a slot cut off", (status, 512 + 16 * 512 - 1, None), "not a store"),
-    ]
-    rows += [(f"slot {first}: {name}", change, damaged(status, first)) for name, change in in_log]
-    rows += [
-        ("a commit's time not later", at_slot(1, 16, word(100, 8)), damaged(status, 1)), ("a member's time not later", at_slot(1, 44, word(110, 8)), damaged(status, 1)),
-        ("an archive with a member", at_slot(archived, 2, b"\1"), damaged(status, archived)), ("an archive up to 0", at_slot(archived, 8, word(0, 8)), damaged(status, archived)),
-        ("an archive not later", at_slot(archived, 8, word(111, 8)), damaged(status, archived)), ("an archive past the last commit", at_slot(archived, 8, word(131, 8)), damaged(status, archived)),
-        ("a run that starts elsewhere", at_slot(archived, 16, word(run_body[1] + 1, 8)), damaged(status, archived)), ("a run too short for its records", at_slot(archived, 24, word(36 * run_body[3] - 1, 8)), damaged(status, archived)),
-        ("a run too long for its records", at_slot(archived, 24, word(4131 * run_body[3] + 1, 8)), damaged(status, archived)), ("a run without records", at_slot(archived, 32, word(0, 8)), damaged(status, archived)),
-        ("a byte behind an archive", at_slot(archived, 40, b"\1"), damaged(status, archived)),
-        ("a reclaim with a member", at_slot(reclaimed, 2, b"\1"), damaged(status, reclaimed)), ("a reclaim up to another time", at_slot(reclaimed, 8, word(110, 8)), damaged(status, reclaimed)),
-        ("anchors without a first extent", at_slot(reclaimed, 16, word(0, 4)), damaged(status, reclaimed)), ("anchors without extents", at_slot(reclaimed, 20, word(0, 4)), damaged(status, reclaimed)),
-        ("anchors with more extents than records", at_slot(reclaimed, 20, word(anchors[3] + 1, 4)), damaged(status, reclaimed)), ("anchors without records", at_slot(reclaimed, 24, word(0, 4)), damaged(status, reclaimed)),
-        ("a byte behind a reclaim", at_slot(reclaimed, 28, b"\1"), damaged(status, reclaimed)),
-        ("a slot behind the log opened", at_slot(last + 1, 0, b"\xc7"), damaged(status, last + 1)), ("a floor, which is not built", (status, slot(last + 1, 0), b"\xc7\4\0\0" + word(last + 1, 4) + word(100, 8)), damaged(status, last + 1)),
-        ("a slot two behind the log opened", at_slot(last + 2, 0, b"\xc7"), None), ("the last gate closed", at_slot(last, 0, b"\x37"), None),
-    ]
-    # the anchors come first, then the commits behind the mark in their order
-    for name, number in (("anchors", anchor), ("a commit", alone)):
-        own = image.u(small.areas["heap"], heap_at(number, 8), 4)
-        first_kind, other_kind = (b"\4", b"\1") if name == "anchors" else (small.areas["heap"][heap_at(number, 16):][:1], b"\4")
-        rows += [
-            (f"{name}: own number", (heap, heap_at(number, 0), word(number + 1, 4)), damaged(heap, number)), (f"{name}: a next extent", (heap, heap_at(number, 4), word(number, 4)), damaged(heap, number)),
-            (f"{name}: nothing used", (heap, heap_at(number, 8), word(0, 4)), damaged(heap, number)), (f"{name}: 8,177 bytes used", (heap, heap_at(number, 8), word(8177, 4)), damaged(heap, number)),
-            (f"{name}: one byte less used", (heap, heap_at(number, 8), word(own - 1, 4)), damaged(heap, number)), (f"{name}: one byte more used", (heap, heap_at(number, 8), word(own + 1, 4)), damaged(heap, number)),
-            (f"{name}: byte 12", (heap, heap_at(number, 12), b"\1"), damaged(heap, number)), (f"{name}: a byte behind what is used", (heap, heap_at(number, 16 + own), b"\1"), damaged(heap, number)),
-            (f"{name}: the last byte", (heap, heap_at(number, 8191), b"\1"), damaged(heap, number)), (f"{name}: a record of kind {other_kind[0]}", (heap, heap_at(number, 16), other_kind), damaged(heap, number)),
-            (f"{name}: a record of kind 0", (heap, heap_at(number, 16), b"\0"), damaged(heap, number)), (f"{name}: keys not rising", (heap, heap_at(number, 17), word(65535, 2)), damaged(heap, number)),
-        ]
-    rows += [
-        ("anchors from 0", (heap, heap_at(anchor, 27), word(0, 8)), damaged(heap, anchor)), ("anchors from behind the mark", (heap, heap_at(anchor, 27), word(112, 8)), damaged(heap, anchor)),
-        ("anchors without fields", (heap, heap_at(anchor, 35), b"\0"), damaged(heap, anchor)), ("one record more in the slot", at_slot(one, 32, word(single[4] + 1, 4)), damaged(heap, alone)),
-        ("a chain in an extent of another", at_slot(one, 24, word(anchor, 4)), damaged(heap, anchor)), ("a chain past the file", at_slot(one, 24, word(65536, 4)), damaged(heap, 65536)),
-        ("a chain of one extent less", at_slot(late, 28, word(1, 4)), damaged(heap, extent)), ("a next extent that is another's", (heap, heap_at(extent, 4), word(alone, 4)), damaged(heap, extent)),
-        ("the second extent's own number", (heap, heap_at(second, 0), word(0, 4)), damaged(heap, extent)), ("a deletion of what is not there", (heap, heap_at(gone[2], 19), word(9, 8)), damaged(heap, gone[2])),
-        ("the heap cut in its last extent", (heap, len(small.areas[heap]) - 1, None), None), ("the heap cut to nothing", (heap, 0, None), damaged(heap, anchor)),
-        ("the archive cut in its last run", ("archive", run_body[1] + run_body[2] - 1, None), damaged("archive", run_body[1])), ("the archive cut to nothing", ("archive", 0, None), None),
-    ]
-    return rows
 
 
-class Forged:
-    def __init__(self, program, small, every):
-        self.program, self.small, self.every = program, small, every
-        self.tried, self.bad, self.count = Counter(), 0, 0
-
-    def one(self, kind, what, changes, answer=None):
-        areas = self.small.changed(changes)
-        try:
-            said = self.answer_of(areas, what, answer)
-        except Failure as why:
-            print(f"FAILED: {why}", flush=True)
-            self.bad += 1
-            said = "FAILED"
-        self.tried[kind, said] += 1
-
-    def answer_of(self, areas, what, answer):
-        if answer is not None:
-            try:
-                kept(areas)
-                found = "opens"
-            except image.Refused as why:
-                found = str(why)
-            if found != answer:
-                raise Failure(f"{what}: the plain reader says {found}, and the table {answer}")
-        return check(self.program, areas, what, self.small.keys)
-
-    def table(self):
-        for name, change, answer in table(self.small):
-            self.one("table", name, [change], answer)
-
-    def pairs(self):
-        """Two checks broken: the first one is named, as the plain reader has it."""
-        rows, number = table(self.small), 0
-        for place, (name, change, _) in enumerate(rows):
-            for other, also, _ in rows[place + 1:]:
-                number += 1
-                if number % (3 * self.every) == 0 and not overlap(change, also):
-                    # a cut comes last: what it leaves is changed before
-                    self.one("pairs", f"{name} and {other}", sorted((change, also), key=lambda it: it[2] is None))
-
-    def places(self):
-        """The bytes of the header and of the slots of the log and one behind it."""
-        return [("status", place) for place in range(512 + 512 * (len(self.small.found) + 2))]
-
-    def live(self):
-        """The bytes of the live extents, and of their rests each 64th."""
-        _, _, reclaimed, _ = image.read(*(self.small.areas[area] for area in AREAS))
-        heads, numbers = [self.small.body("reclaimed")[1][1:3]], []
-        heads += [(it[2], it[3]) for kind, body in self.small.found if kind == "commit" for it in body if it[1] > reclaimed]
-        for number, extents in heads:
-            for _ in range(extents):
-                numbers.append(number)
-                number = image.u(self.small.areas["heap"], heap_at(number, 4), 4)
-        used = {it: 16 + image.u(self.small.areas["heap"], heap_at(it, 8), 4) for it in numbers}
-        return [("heap", heap_at(it, place)) for it in numbers for place in range(image.EXTENT) if place < min(used[it] + 2, 128) or place % 64 == 63]
-
-    def bytes(self, kind, places):
-        for number, (area, place) in enumerate(places):
-            if number % self.every:
-                continue
-            now = self.small.areas[area][place]
-            for value in sorted({0x00, 0x37, 0xC7, 0xFF, now ^ 0xFF} - {now}):
-                self.one(kind, f"{area} {place} := {value:02x}", [(area, place, bytes([value]))])
-
-    def cuts(self):
-        for area in AREAS:
-            size = len(self.small.areas[area])
-            for length in range(size):
-                fine = area == "archive" or length < 2048 or length % 64 in (0, 1, 63) and area == "status" or length % image.EXTENT in (0, 1, 15, 16, 17, image.EXTENT - 1)
-                if fine and length % self.every == 0:
-                    self.one(f"cuts of {area}", f"{area} cut to {length}", [(area, length, None)])
-
-    def go(self, only):
-        kinds = {"table": self.table, "pairs": self.pairs, "bytes": lambda: (self.bytes("bytes of the log", self.places()), self.bytes("bytes of live extents", self.live())),
-                 "runs": lambda: self.bytes("bytes of runs", [("archive", it) for it in range(len(self.small.areas["archive"]))]), "cuts": self.cuts}
-        for kind, it in kinds.items():
-            if only in (None, kind):
-                it()
-
-    def say(self):
-        rows = {}
-        for (kind, said), count in self.tried.items():
-            rows.setdefault(kind, []).append(f"{count} {said}")
-        for kind, said in rows.items():
-            print(f"{kind}: " + ", ".join(said))
+def table(small: Small) -> list[Check]:
+    """Each check of opening in its order."""
+    _, run = small.body("archived")
+    cuts: list[Check] = [("the archive cut in its last run", ("archive", run[1] + run[2] - 1, None), f"damaged archive {run[1]}"), ("the archive cut to nothing", ("archive", 0, None), "damaged archive 0")]
+    return header_checks() + slot_checks(small) + chain_checks(small) + cuts
 
 
-def overlap(a, b):
+def overlap(a: Change, b: Change) -> bool:
     """Whether two changes have a byte in common, or one cuts off the other's."""
     if a[0] != b[0]:
         return False
@@ -395,20 +245,161 @@ def overlap(a, b):
     return a[1] < ends[1] and b[1] < ends[0]
 
 
-def main():
+# ---- the images
+
+# its kind, what it is, the changes, the answer if the table says it
+Forgery = tuple[str, str, list[Change], "str | None"]
+
+
+def tabled(small: Small) -> Iterator[Forgery]:
+    for name, change, answer in table(small):
+        yield "table", name, [change], answer
+
+
+def pairs(small: Small) -> Iterator[Forgery]:
+    """Two checks broken: the first one is named, as the plain reader has it."""
+    rows = table(small)
+    for place, (name, change, _) in enumerate(rows):
+        for other, also, _ in rows[place + 1:]:
+            if not overlap(change, also):
+                # a cut comes last: what it leaves is changed before
+                yield "pairs", f"{name} and {other}", sorted((change, also), key=lambda it: it[2] is None), None
+
+
+def bytes_of(small: Small, kind: str, area: str, places: list[int]) -> Iterator[Forgery]:
+    """Each of these bytes set to each of the values, and to its complement."""
+    for place in places:
+        now = small.areas[area][place]
+        for value in sorted({*VALUES, now ^ 0xFF} - {now}):
+            yield kind, f"{area} {place} := {value:02x}", [(area, place, bytes([value]))], None
+
+
+def live_extents(small: Small) -> list[int]:
+    _, _, reclaimed, _ = image.read(*(small.areas[area] for area in AREAS))
+    heads, numbers = [small.body("reclaimed")[1][1:3]], []
+    heads += [(it[2], it[3]) for kind, body in small.found if kind == "commit" for it in body if it[1] > reclaimed]
+    for number, extents in heads:
+        for _ in range(extents):
+            numbers.append(number)
+            number = image.u(small.areas["heap"], heap_at(number, 4), 4)
+    return numbers
+
+
+def in_extents(small: Small, every: int) -> list[int]:
+    """The bytes of the live extents: the front and what is used, and of the zeros behind it one of so many."""
+    places = []
+    for number in live_extents(small):
+        used = 16 + image.u(small.areas["heap"], heap_at(number, 8), 4)
+        places += [heap_at(number, place) for place in range(image.EXTENT) if place < min(used + 2, 160) or place % every == every - 1]
+    return places
+
+
+def cuts(small: Small) -> Iterator[Forgery]:
+    for area in AREAS:
+        for length in range(len(small.areas[area])):
+            yield f"cuts of {area}", f"{area} cut to {length}", [(area, length, None)], None
+
+
+KINDS = ("table", "pairs", "log", "extents", "runs", "cuts")
+
+
+def forgeries(small: Small, kind: str, every: int, zeros: int) -> Iterator[Forgery]:
+    """Those of a kind, or one of so many."""
+    found = {"table": lambda: tabled(small), "pairs": lambda: pairs(small), "cuts": lambda: cuts(small),
+             "log": lambda: bytes_of(small, "bytes of the log", "status", list(range(len(small.areas["status"])))),
+             "extents": lambda: bytes_of(small, "bytes of live extents", "heap", in_extents(small, zeros)),
+             "runs": lambda: bytes_of(small, "bytes of runs", "archive", list(range(len(small.areas["archive"]))))}[kind]()
+    for number, it in enumerate(found):
+        if kind == "table" or number % every == 0:
+            yield it
+
+
+def why_refused(areas: Areas) -> str:
+    try:
+        image.read(*(areas[area] for area in AREAS))
+    except image.Refused as why:
+        return str(why)
+    return "nothing"
+
+
+class Trier:
+    """Tries images in a process of its own."""
+
+    program: str
+    small: Small
+
+    @classmethod
+    def begin(cls, program: str, small: Small) -> None:
+        use_memory()
+        cls.program, cls.small = program, small
+
+    @classmethod
+    def one(cls, forgery: Forgery) -> tuple[str, str, Failure | None]:
+        kind, what, changes, answer = forgery
+        try:
+            areas = cls.small.changed(changes)
+            said = check(cls.program, areas, what, cls.small.keys)
+            if answer is not None and why_refused(areas) != answer:
+                raise Failure(f"{what}: the plain reader says {why_refused(areas)}, and the table {answer}")
+            return kind, said, None
+        except Failure as why:
+            return kind, "FAILED", why
+
+
+def print_table(small: Small) -> None:
+    for name, (area, place, data), _ in table(small):
+        change = f"{area} cut to {place} bytes" if data is None else f"{area} {place} := {data[:24].hex()}" + (" .." if len(data) > 24 else "")
+        try:
+            answer = f"opens, last {Files(small.changed([(area, place, data)])).newest}"
+        except image.Refused as why:
+            answer = str(why)
+        print(f"{name}: {change}: {answer}")
+
+
+def try_all(program: str, small: Small, given: argparse.Namespace) -> tuple[Counter, int]:
+    tried: Counter = Counter()
+    bad = 0
+    kinds = [given.only] if given.only else KINDS
+    with ProcessPoolExecutor(given.jobs, initializer=Trier.begin, initargs=(program, small)) as pool:
+        images = [it for kind in kinds for it in forgeries(small, kind, given.every, given.zeros)]
+        for kind, said, why in pool.map(Trier.one, images, chunksize=32):
+            tried[kind, said] += 1
+            if why:
+                bad += 1
+                if bad <= 20:
+                    report("a forged image", why)
+    return tried, bad
+
+
+def say(tried: Counter) -> None:
+    rows: dict[str, list[str]] = {}
+    for (kind, said), count in tried.items():
+        rows.setdefault(kind, []).append(f"{count} {said}")
+    for kind, found in rows.items():
+        print(f"{kind}: " + ", ".join(found))
+
+
+def main() -> int:
     words = argparse.ArgumentParser(description=__doc__, formatter_class=argparse.RawDescriptionHelpFormatter)
     words.add_argument("program")
     words.add_argument("--every", type=int, default=1, help="of pairs, bytes and cuts one of so many (1)")
-    words.add_argument("--only", choices=("table", "pairs", "bytes", "runs", "cuts"))
+    words.add_argument("--zeros", type=int, default=64, help="of the zeros of an extent one of so many (64)")
+    words.add_argument("--only", choices=KINDS)
+    words.add_argument("--jobs", type=int, default=2, help="images tried at once (2)")
+    words.add_argument("--table", action="store_true", help="print the table of checks")
     given = words.parse_args()
+    use_memory()
     program, began = os.path.abspath(given.program), time.time()
     with tempfile.TemporaryDirectory(prefix="forged-store-") as folder:
-        forged = Forged(program, Small(program, folder), given.every)
-    forged.go(given.only)
-    forged.say()
-    count, seconds = sum(forged.tried.values()), time.time() - began
-    print(f"{count} images in {seconds:.0f} s, {count / seconds:.0f} a second; {forged.bad} failed")
-    return 1 if forged.bad else 0
+        small = Small(program, folder)
+    if given.table:
+        print_table(small)
+        return 0
+    tried, bad = try_all(program, small, given)
+    say(tried)
+    count, seconds = sum(tried.values()), time.time() - began
+    print(f"{count} images in {seconds:.0f} s, {count / seconds:.0f} a second; {bad} failed")
+    return 1 if bad else 0
 
 
 if __name__ == "__main__":

@@ -1,141 +1,175 @@
 """A plain reader of a store's three files, by the checks of docs/FORMAT.md, written apart from the program's."""
+from __future__ import annotations
 
-from machine import Commit, versions
+from collections.abc import Callable
+from typing import Any
+
+from machine import Commit, Fields, History, Key, versions
 
 EXTENT = 8192
 BODY = EXTENT - 16
 TOP = 1 << 63
+SLOT = 512
+
+Value = tuple[bytes, ...]
+# of a commit slot the members (label, time, first extent, extents, records); of an archive upto, start, length, records;
+# of a reclaim upto, first extent, extents, records
+Slot = tuple[str, Any]
+# a record's key, what it says of it, and where the next one begins
+Read = tuple[Key, Any, int]
+RunRecord = tuple[Key, int, int, Fields]
 
 
 class Refused(Exception):
     """What opening answers."""
 
 
-def u(data, at, size):
+def u(data: bytes, at: int, size: int) -> int:
     return int.from_bytes(data[at: at + size], "little")
 
 
-def damaged(area, place):
+def damaged(area: str, place: int) -> Refused:
     return Refused(f"damaged {area} {place}")
 
 
-def header(status):
+def header(status: bytes) -> int:
+    """The number of slots."""
     if len(status) < 512 or status[:8] != b"NOOVER01" or u(status, 8, 4) != 1 or any(status[16:512]):
         raise Refused("not a store")
     slots = u(status, 12, 4)
-    if not 16 <= slots <= 65536 or len(status) < 512 + slots * 512:
+    if not 16 <= slots <= 65536 or len(status) < 512 + slots * SLOT:
         raise Refused("not a store")
     return slots
 
 
-def log(status, slots):
-    """The open slots before the first closed gate: the members of each, or the numbers of an archive or of a reclaim."""
-    found, newest, archived, reclaimed, end = [], 0, 0, 0, 0
+# ---- the log
+
+
+def commit_slot(slot: bytes) -> tuple[list[tuple[int, ...]], int] | None:
+    """The members of a slot and where its body ends, or None where it breaks its form."""
+    if not 1 <= slot[2] <= 16:
+        return None
+    members, before = [], 0
+    for place in range(slot[2]):
+        at = 8 + 28 * place
+        label, time, first, extents, records = u(slot, at, 8), u(slot, at + 8, 8), u(slot, at + 16, 4), u(slot, at + 20, 4), u(slot, at + 24, 4)
+        if not (before < time < TOP and 1 <= first <= 65536 and 1 <= records <= 1024 and 1 <= extents <= records):
+            return None
+        members.append((label, time, first, extents, records))
+        before = time
+    return members, 8 + 28 * slot[2]
+
+
+def archived_slot(slot: bytes) -> tuple[tuple[int, ...], int] | None:
+    upto, start, length, records = u(slot, 8, 8), u(slot, 16, 8), u(slot, 24, 8), u(slot, 32, 8)
+    if slot[2] or not 1 <= upto < TOP or not 36 * records <= length <= 4131 * records or start + length >= TOP:
+        return None
+    return (upto, start, length, records), 40
+
+
+def reclaimed_slot(slot: bytes) -> tuple[tuple[int, ...], int] | None:
+    upto, first, extents, records = u(slot, 8, 8), u(slot, 16, 4), u(slot, 20, 4), u(slot, 24, 4)
+    if slot[2] or not 1 <= upto < TOP:
+        return None
+    if (first or extents or records) and not (1 <= first <= 65536 and 1 <= extents <= 65536 and extents <= records):
+        return None
+    return (upto, first, extents, records), 28
+
+
+# kind 4, a floor, is of the format, and no version of the program builds it yet
+KINDS: dict[int, tuple[str, Callable[[bytes], Any]]] = {1: ("commit", commit_slot), 2: ("archived", archived_slot), 3: ("reclaimed", reclaimed_slot)}
+
+
+def form(slot: bytes, number: int) -> Slot | None:
+    """What a slot says, or None where it breaks its form."""
+    kind, reader = KINDS.get(slot[1], ("", None))
+    read = reader(slot) if reader else None
+    if read is None or u(slot, 4, 4) != number or slot[3] != 0 or any(slot[read[1]:]):
+        return None
+    return kind, read[0]
+
+
+def log(status: bytes, slots: int) -> tuple[list[Slot], int, int]:
+    """The open slots before the first closed gate, and the marks of the archive and of the reclaims."""
+    found: list[Slot] = []
+    newest, archived, reclaimed, end = 0, 0, 0, 0
     for number in range(slots):
-        slot = status[512 + 512 * number: 1024 + 512 * number]
-        if slot[0] != 0xC7:
+        at = 512 + SLOT * number
+        if status[at] != 0xC7:
             break
-        bad = damaged("status", number)
-        kind, count, body = slot[1], slot[2], 8
-        if u(slot, 4, 4) != number or slot[3] != 0:
-            raise bad
-        if kind == 1:
-            if not 1 <= count <= 16:
-                raise bad
-            members, before = [], 0
-            for place in range(count):
-                at = 8 + 28 * place
-                label, time, first, extents, records = u(slot, at, 8), u(slot, at + 8, 8), u(slot, at + 16, 4), u(slot, at + 20, 4), u(slot, at + 24, 4)
-                if not (before < time < TOP and 1 <= first <= 65536 and 1 <= records <= 1024 and 1 <= extents <= records):
-                    raise bad
-                members.append((label, time, first, extents, records))
-                before = time
-            if members[0][1] <= newest:
-                raise bad
-            newest, body = before, 8 + 28 * count
-            found.append(("commit", members))
-        elif kind == 2:
-            upto, start, length, records = u(slot, 8, 8), u(slot, 16, 8), u(slot, 24, 8), u(slot, 32, 8)
-            if count or not 1 <= upto < TOP or not 36 * records <= length <= 4131 * records or start + length >= TOP:
-                raise bad
-            if not archived < upto <= newest or start != end:
-                raise bad
-            archived, end, body = upto, start + length, 40
-            found.append(("archived", (upto, start, length, records)))
-        elif kind == 3:
-            upto, first, extents, records = u(slot, 8, 8), u(slot, 16, 4), u(slot, 20, 4), u(slot, 24, 4)
-            if count or not 1 <= upto < TOP:
-                raise bad
-            if (first or extents or records) and not (1 <= first <= 65536 and 1 <= extents <= 65536 and extents <= records):
-                raise bad
-            if upto != archived or upto <= reclaimed:
-                raise bad
-            reclaimed, body = upto, 28
-            found.append(("reclaimed", (upto, first, extents, records)))
+        said = form(status[at: at + SLOT], number)
+        if said is None:
+            raise damaged("status", number)
+        kind, body = said
+        if kind == "commit":
+            keeps, newest = body[0][1] > newest, body[-1][1]
+        elif kind == "archived":
+            keeps = archived < body[0] <= newest and body[1] == end
+            archived, end = body[0], body[1] + body[2]
         else:
-            # kind 4 is of the format, and no version of the program builds it yet
-            raise bad
-        if any(slot[body:]):
-            raise bad
+            keeps = body[0] == archived and body[0] > reclaimed
+            reclaimed = body[0]
+        if not keeps:
+            raise damaged("status", number)
+        found.append(said)
     return found, archived, reclaimed
 
 
-def anchor(data, at, mark):
+# ---- the heap
+
+
+def take_fields(data: bytes, at: int, count: int) -> tuple[list[bytes], int] | None:
+    """So many fields, and where they end; None where they don't fit."""
+    fields = []
+    for _ in range(count):
+        if at >= len(data) or at + 1 + data[at] > len(data):
+            return None
+        fields.append(bytes(data[at + 1: at + 1 + data[at]]))
+        at += 1 + data[at]
+    return fields, at
+
+
+def anchor(data: bytes, at: int, mark: int) -> Read | None:
     """One record of the anchors' chain: the key, its time and value, and where the next one begins."""
     if at + 20 > len(data) or data[at] != 4:
         return None
-    key, since, count, place = (u(data, at + 1, 2), u(data, at + 3, 8)), u(data, at + 11, 8), data[at + 19], at + 20
-    if not 1 <= since <= mark or not 1 <= count <= 16:
+    key, since, count = (u(data, at + 1, 2), u(data, at + 3, 8)), u(data, at + 11, 8), data[at + 19]
+    taken = take_fields(data, at + 20, count)
+    if taken is None or not 1 <= since <= mark or not 1 <= count <= 16:
         return None
-    value = []
-    for _ in range(count):
-        if place >= len(data) or place + 1 + data[place] > len(data):
-            return None
-        value.append(bytes(data[place + 1: place + 1 + data[place]]))
-        place += 1 + data[place]
-    return key, (since, tuple(value)), place
+    return key, (since, tuple(taken[0])), taken[1]
 
 
-def record(data, at, before):
+def record(data: bytes, at: int, before: dict[Key, Value | None]) -> Read | None:
     """One record of a chain, over the key's value before it: the key, its value (None: gone) and where the next one begins."""
     if at + 11 > len(data):
         return None
-    kind, key = data[at], (u(data, at + 1, 2), u(data, at + 3, 8))
-    place, old = at + 11, before.get((u(data, at + 1, 2), u(data, at + 3, 8)))
+    kind, key, place = data[at], (u(data, at + 1, 2), u(data, at + 3, 8)), at + 11
+    old = before.get(key)
     if kind == 3:
         return (key, None, place) if old is not None else None
     if kind == 1:
-        if place >= len(data) or not 1 <= data[place] <= 16:
+        taken = take_fields(data, place + 1, data[place]) if place < len(data) and 1 <= data[place] <= 16 else None
+        if taken is None or old is not None and is_delta(old, tuple(taken[0])):
             return None
-        count, place = data[place], place + 1
-        value = []
-        for _ in range(count):
-            if place >= len(data) or place + 1 + data[place] > len(data):
-                return None
-            value.append(bytes(data[place + 1: place + 1 + data[place]]))
-            place += 1 + data[place]
-        value = tuple(value)
-        return None if old is not None and is_delta(old, value) else (key, value, place)
-    if kind == 2:
-        if old is None or place + 2 > len(data):
-            return None
-        mask, place, value = u(data, place, 2), place + 2, list(old)
-        if mask >> len(old):
-            return None
-        for at_field in range(len(old)):
-            if mask >> at_field & 1:
-                if place >= len(data) or place + 1 + data[place] > len(data):
-                    return None
-                value[at_field] = bytes(data[place + 1: place + 1 + data[place]])
-                place += 1 + data[place]
-                if value[at_field] == old[at_field]:
-                    return None
-        value = tuple(value)
-        return (key, value, place) if is_delta(old, value) else None
-    return None
+        return key, tuple(taken[0]), taken[1]
+    return delta(data, key, place, old) if kind == 2 and old is not None else None
 
 
-def is_delta(old, new):
+def delta(data: bytes, key: Key, at: int, old: Value) -> Read | None:
+    """A record that says which fields of the value before it change, and to what; only where that is shorter than the whole."""
+    mask = u(data, at, 2)
+    taken = take_fields(data, at + 2, mask.bit_count()) if at + 2 <= len(data) and not mask >> len(old) else None
+    if taken is None:
+        return None
+    fields = iter(taken[0])
+    value = tuple(next(fields) if mask >> it & 1 else old[it] for it in range(len(old)))
+    if any(mask >> it & 1 and value[it] == old[it] for it in range(len(old))):
+        return None
+    return (key, value, taken[1]) if is_delta(old, value) else None
+
+
+def is_delta(old: Value, new: Value) -> bool:
     """Whether a value is stored as what it changes of the one before."""
     if len(old) != len(new):
         return False
@@ -143,7 +177,7 @@ def is_delta(old, new):
     return 13 + changed < 12 + sum(1 + len(it) for it in new)
 
 
-def chain(heap, first, extents, records, read, taken):
+def chain(heap: bytes, first: int, extents: int, records: int, read: Callable[[bytes, int], Read | None], taken: set[int]) -> list[tuple[Key, Any]] | None:
     """What is read of each key of a chain, or None where a check fails."""
     writes, number, previous, room = [], first, None, None
     for place in range(extents):
@@ -174,16 +208,16 @@ def chain(heap, first, extents, records, read, taken):
     return writes if len(writes) == records else None
 
 
-def fields_of(value):
+def fields_of(value: Value | None) -> Fields:
     return None if value is None else " ".join(it.hex() or "-" for it in value)
 
 
-def anchors_of(found):
+def anchors_of(found: list[Slot]) -> tuple[int, ...]:
     """Those of the last reclaim: its mark, first extent, extents and records."""
     return ([(0, 0, 0, 0)] + [body for kind, body in found if kind == "reclaimed"])[-1]
 
 
-def read(status, heap, archive):
+def read(status: bytes, heap: bytes, archive: bytes) -> tuple[list[Commit], int, int, dict[Key, tuple[int, Fields]]]:
     """The history that the files stand for, its marks and its anchors; Refused where they don't open.
 
     Of the commits up to the reclaim mark there are the times and labels alone (their writes are None);
@@ -215,21 +249,17 @@ def read(status, heap, archive):
 # ---- runs
 
 
-def run_record(data, at, end):
+def run_record(data: bytes, at: int, end: int) -> tuple[Key, int, int, Value, int] | None:
     """One record of a run: its key, from, to, value and where the next one begins."""
     if at + 27 > end or not 1 <= data[at + 26] <= 16:
         return None
-    key, start, stop, place = (u(data, at, 2), u(data, at + 2, 8)), u(data, at + 10, 8), u(data, at + 18, 8), at + 27
-    value = []
-    for _ in range(data[at + 26]):
-        if place >= end or place + 1 + data[place] > end:
-            return None
-        value.append(bytes(data[place + 1: place + 1 + data[place]]))
-        place += 1 + data[place]
-    return key, start, stop, tuple(value), place
+    taken = take_fields(data[:end], at + 27, data[at + 26])
+    if taken is None:
+        return None
+    return (u(data, at, 2), u(data, at + 2, 8)), u(data, at + 10, 8), u(data, at + 18, 8), tuple(taken[0]), taken[1]
 
 
-def run_records(data, count, above, upto):
+def run_records(data: bytes, count: int, above: int, upto: int) -> list[RunRecord] | None:
     """The records of a run, or None where it breaks its form: its bytes, and the marks that its versions end between."""
     index, at, found = len(data) - 8 * count, 0, []
     for number in range(count):
@@ -246,7 +276,7 @@ def run_records(data, count, above, upto):
     return found if at == index else None
 
 
-def runs(found, archive):
+def runs(found: list[Slot], archive: bytes) -> list[tuple[int, list[RunRecord] | None]]:
     """The runs that a log names, in order: the start of each and its records, or None where it breaks its form."""
     above, all_runs = 0, []
     for kind, body in found:
@@ -260,7 +290,7 @@ def runs(found, archive):
 # ---- what an image stands for
 
 
-def why_not(areas, history):
+def why_not(areas: dict[str, bytes], history: History) -> str | None:
     """Why these files don't stand for this history, both homes of its versions looked at; None where they do."""
     plain, archived, reclaimed, olds = read(areas["status"], areas["heap"], areas["archive"])
     if [(it.time, it.label) for it in plain] != [(it.time, it.label) for it in history]:

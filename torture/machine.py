@@ -1,25 +1,39 @@
 """The small machine: what a store answers, by its write sets alone. It knows nothing of files."""
+from __future__ import annotations
 
+from collections.abc import Sequence
 from dataclasses import dataclass, field
+from typing import TypeVar
 
 GROUP_MOST = 16
+NAMES_MOST = 64
+
+# relation, record
+Key = tuple[int, int]
+# the fields as they are written in a script, or None where the record is gone
+Fields = str | None
+Found = TypeVar("Found")
 
 
 @dataclass(frozen=True)
 class Commit:
     time: int
     label: int
-    # by key (relation, record): the fields as they are written in a script, or None where the record is gone
-    writes: dict
+    writes: dict[Key, Fields]
 
 
 @dataclass
 class Transaction:
     snapshot: int
-    writes: dict = field(default_factory=dict)
+    writes: dict[Key, Fields] = field(default_factory=dict)
 
 
-def versions(history, key):
+History = Sequence[Commit]
+# from, up to (None: it still stands), fields
+Version = tuple[int, int | None, str]
+
+
+def versions(history: History, key: Key) -> list[Version]:
     """The versions of a key, oldest first: from, up to (None: it still stands), fields."""
     found = []
     for commit in history:
@@ -31,11 +45,11 @@ def versions(history, key):
     return found
 
 
-def last(history):
+def last(history: History) -> int:
     return history[-1].time if history else 0
 
 
-def at(history, key, time):
+def at(history: History, key: Key, time: int) -> list[str]:
     """The line that answers a query at a time."""
     if time > last(history):
         return [f"refused: not yet {last(history)}"]
@@ -45,7 +59,7 @@ def at(history, key, time):
     return ["none"]
 
 
-def between(history, key, a, b):
+def between(history: History, key: Key, a: int, b: int) -> list[str]:
     newest = last(history)
     if b > newest + 1:
         return [f"refused: not yet {newest}"]
@@ -59,7 +73,7 @@ def between(history, key, a, b):
     return rows + [f"rows {len(rows)}"]
 
 
-def scan(history, relation, time):
+def scan(history: History, relation: int, time: int) -> list[str]:
     if time > last(history):
         return [f"refused: not yet {last(history)}"]
     keys = sorted({key for commit in history for key in commit.writes if key[0] == relation})
@@ -68,46 +82,52 @@ def scan(history, relation, time):
     return rows + [f"rows {len(rows)}"]
 
 
-def times(history, label):
+def times(history: History, label: int) -> list[str]:
     return [" ".join(["times", *(str(it.time) for it in history if it.label == label)])]
 
 
 class Machine:
     """A store without its disk: what is published, what waits, the open transactions, and how far a group and a job are."""
 
-    def __init__(self, published=()):
+    def __init__(self, published: History = ()) -> None:
         self.published = list(published)
         self.archived, self.reclaimed = 0, 0
         self.forget_what_waits()
 
-    def forget_what_waits(self):
-        self.queue, self.group, self.names = [], 0, {}
+    def forget_what_waits(self) -> None:
+        self.queue: list[Commit] = []
+        self.group = 0
+        # a transaction that is open, or the time of a ticket
+        self.names: dict[str, Transaction | int] = {}
         # the last step of the group's slot and of the job's: none, or what was answered; and the time that the job goes up to
-        self.turn, self.job, self.upto, self.is_reclaim = None, None, None, False
+        self.turn: str | None = None
+        self.job: str | None = None
+        self.upto: int | None = None
+        self.is_reclaim = False
 
-    def with_group(self):
+    def with_group(self) -> list[Commit]:
         return self.published + self.queue[: self.group]
 
     # ---- transactions
 
-    def begin(self, name):
-        if name in self.names or len(self.names) >= 64:
+    def begin(self, name: str) -> list[str]:
+        if name in self.names or len(self.names) >= NAMES_MOST:
             return ["refused: name"]
         self.names[name] = Transaction(last(self.published))
         return [f"snapshot {last(self.published)}"]
 
-    def own(self, name, kind):
+    def own(self, name: str, kind: type[Found]) -> Found | None:
         found = self.names.get(name)
         return found if isinstance(found, kind) else None
 
-    def put(self, name, key, fields):
+    def put(self, name: str, key: Key, fields: str) -> list[str]:
         txn = self.own(name, Transaction)
         if txn is None:
             return ["refused: name"]
         txn.writes[key] = fields
         return ["ok"]
 
-    def delete(self, name, key):
+    def delete(self, name: str, key: Key) -> list[str]:
         txn = self.own(name, Transaction)
         if txn is None:
             return ["refused: name"]
@@ -120,18 +140,18 @@ class Machine:
             txn.writes[key] = None
         return ["ok"]
 
-    def seen(self, snapshot, key):
+    def seen(self, snapshot: int, key: Key) -> Fields:
         said = at([it for it in self.published if it.time <= snapshot], key, min(snapshot, last(self.published)))[0]
         return said.removeprefix("value ") if said.startswith("value ") else None
 
-    def get(self, name, key):
+    def get(self, name: str, key: Key) -> list[str]:
         txn = self.own(name, Transaction)
         if txn is None:
             return ["refused: name"]
         fields = txn.writes[key] if key in txn.writes else self.seen(txn.snapshot, key)
         return ["none"] if fields is None else [f"value {fields}"]
 
-    def submit(self, name, label, now):
+    def submit(self, name: str, label: int, now: int) -> list[str]:
         txn = self.own(name, Transaction)
         if txn is None:
             return ["refused: name"]
@@ -147,13 +167,13 @@ class Machine:
         self.names[name] = time
         return ["queued"]
 
-    def abort(self, name):
+    def abort(self, name: str) -> list[str]:
         if self.own(name, Transaction) is None:
             return ["refused: name"]
         del self.names[name]
         return ["ok"]
 
-    def redeem(self, name):
+    def redeem(self, name: str) -> list[str]:
         time = self.own(name, int)
         if time is None:
             return ["refused: name"]
@@ -164,7 +184,7 @@ class Machine:
 
     # ---- steps: the answers are the store's, and here they are followed
 
-    def pumped(self, said):
+    def pumped(self, said: str) -> str | None:
         """Follows one step of a group; returns why it may not be answered so, or None."""
         if said == "idle":
             return None if not self.queue else "idle with a commit that waits"
@@ -187,7 +207,7 @@ class Machine:
             return f"{said} is no step of a group of {self.group}"
         return None
 
-    def jobbed(self, said):
+    def jobbed(self, said: str) -> str | None:
         """Follows one step of a job."""
         if said == "idle":
             return None if self.upto is None else "idle with a job that runs"
@@ -204,14 +224,14 @@ class Machine:
             self.end_job()
         return None
 
-    def end_job(self):
+    def end_job(self) -> None:
         if self.is_reclaim:
             self.reclaimed = self.upto
         else:
             self.archived = self.upto
         self.upto, self.job = None, None
 
-    def archive(self, upto):
+    def archive(self, upto: int) -> list[str]:
         if self.upto is not None:
             return ["refused: job busy"]
         if upto <= self.archived:
@@ -221,7 +241,7 @@ class Machine:
         self.upto, self.is_reclaim = upto, False
         return ["started"]
 
-    def reclaim(self):
+    def reclaim(self) -> list[str]:
         if self.upto is not None:
             return ["refused: job busy"]
         if self.archived == self.reclaimed:
@@ -232,7 +252,7 @@ class Machine:
         self.upto, self.is_reclaim = self.archived, True
         return ["started"]
 
-    def reopened(self):
+    def reopened(self) -> list[str]:
         """What waits is lost, but for a group or a job whose gate is written: the files have it."""
         if self.turn == "gate written":
             self.published = self.with_group()
@@ -240,6 +260,70 @@ class Machine:
             self.end_job()
         self.forget_what_waits()
         return [f"last {last(self.published)} floor 0"]
+
+
+    # ---- whole lines
+
+    def flush(self) -> list[str]:
+        """Pumps to the end: all that waits is published, but where a job's slot is in the writing."""
+        if self.queue and self.job in SLOT_STEPS:
+            self.group = self.group or min(GROUP_MOST, len(self.queue))
+            return ["refused: busy"]
+        self.published, self.queue, self.group, self.turn = self.published + self.queue, [], 0, None
+        return ["idle"]
+
+    def finish(self) -> list[str]:
+        """Makes the job to its end, but where a group's slot is in the writing."""
+        if self.upto is not None and self.turn is not None:
+            return ["refused: busy"]
+        if self.upto is not None:
+            self.end_job()
+        return ["idle"]
+
+    def vacuum(self, upto: int) -> list[str]:
+        """The command, on a store that no one has open: what it says."""
+        said = self.archive(upto)
+        if said != ["started"]:
+            return said
+        keys = {key for it in self.published for key in it.writes}
+        whole = [it for key in keys for it in versions(self.published, key)]
+        gone = sum(stop is not None and self.archived < stop <= upto for _, stop, _ in whole)
+        stand = sum(start <= upto and (stop is None or stop > upto) for start, stop, _ in whole)
+        self.end_job()
+        self.reclaim()
+        self.end_job()
+        return [f"archived {gone}", f"reclaimed {stand}"]
+
+    def answer(self, line: str) -> list[str] | None:
+        """What a line answers; None for a step, whose answer is the store's to say, and is followed."""
+        word, *rest = line.split(" ")
+        if word in ("begin", "abort", "redeem"):
+            return getattr(self, word)(rest[0])
+        if word == "put":
+            return self.put(rest[0], (int(rest[1]), int(rest[2])), " ".join(rest[3:]))
+        if word in ("del", "get"):
+            return (self.delete if word == "del" else self.get)(rest[0], (int(rest[1]), int(rest[2])))
+        if word == "submit":
+            return self.submit(rest[0], int(rest[1]), int(rest[2]))
+        if word == "archive":
+            return self.archive(int(rest[0]))
+        if word in ("reclaim", "flush", "finish"):
+            return getattr(self, word)()
+        if word == "reopen":
+            return self.reopened()
+        return self.asked(word, [int(it) for it in rest])
+
+    def asked(self, word: str, numbers: list[int]) -> list[str] | None:
+        """What a question answers."""
+        if word == "at":
+            return at(self.published, (numbers[0], numbers[1]), numbers[2])
+        if word == "between":
+            return between(self.published, (numbers[0], numbers[1]), numbers[2], numbers[3])
+        if word == "scan":
+            return scan(self.published, *numbers)
+        if word == "times":
+            return times(self.published, *numbers)
+        return None
 
 
 SLOT_STEPS = ("body written", "body synced", "gate written")

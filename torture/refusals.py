@@ -9,11 +9,12 @@ compared with the small machine's (machine.py): at the call that went wrong the 
 same line again as where nothing is refused; after a refused write or sync `failed`, every ticket that was not published in
 doubt, and queries as before. Then the store is opened again: a front of the commits with each that was answered done.
 
-With --every N one call of N is refused, for a short run. The status is 1 where a case fails; its script is printed.
+With --every N one call of N is refused, for a short run. The status is 1 where a case fails; the script that shows it is named.
 """
+from __future__ import annotations
+
 import argparse
 import copy
-import mmap
 import os
 import shutil
 import struct
@@ -22,19 +23,25 @@ import sys
 import tempfile
 import time
 from collections import Counter
+from collections.abc import Callable, Iterable, Iterator
 
 import image
 import machine
-from machine import Machine, Transaction
-from torture import AREAS, Failure, check_left, format_store, questions, read_areas, run, write_areas
+from machine import Commit, Machine, Transaction
+from program import AREAS, PATIENCE, Areas, Failure, Session, format_store, read_areas, report, run, use_memory, write_areas
+from scripts import check_left, questions
 
 HERE = os.path.dirname(os.path.abspath(__file__))
 CLASSES = ("growth", "input", "output", "read", "length", "write", "sync", "open", "lock")
+MOVES = ("before", "short", "interrupted")
 # how a call of a class goes wrong
-HOWS = {"growth": ("before",), "input": ("before", "short", "interrupted"), "output": ("before", "short", "interrupted"), "read": ("before", "short", "interrupted"),
-        "length": ("before",), "write": ("before", "part", "made", "short", "interrupted"), "sync": ("before", "made"), "open": ("before",), "lock": ("before",)}
+HOWS = {"growth": ("before",), "input": MOVES, "output": MOVES, "read": MOVES, "length": ("before",), "write": ("before", "part", "made", "short", "interrupted"),
+        "sync": ("before", "made"), "open": ("before",), "lock": ("before",)}
 # nothing is refused: the program asks again for the rest
 HARMLESS = ("short", "interrupted")
+# a refused growth may pass here alone: in the cache of the archive's blocks, and where room for a list of known length is asked ahead
+PASSES = ("at", "between", "scan", "times", "reopen")
+LATEST = (1 << 63) - 1
 
 EXAMPLE = """begin t
 put t 1 7 61
@@ -160,269 +167,216 @@ SCRIPTS = {"example": EXAMPLE, "wide": WIDE}
 COMMANDS = {"at": "at {} 1 7 100", "between": "between {} 1 7 100 131", "dump": "dump {}", "vacuum": "vacuum {} 120", "format": "format {} --slots 16"}
 
 
+# no call goes wrong
+NONE = ("", 0, "before")
+What = tuple[str, int, str]
+
+
 class Wrong:
     """What is to go wrong, and the counts of the calls."""
 
-    def __init__(self, library, folder, kind="", at=0, how="before"):
-        self.kind, self.at, self.how = kind, at, how
+    def __init__(self, library: str, folder: str, what: What = NONE) -> None:
+        self.kind, self.at, self.how = what
         self.place = os.path.join(folder, "counts")
         with open(self.place, "wb") as it:
             it.write(bytes(4096))
-        self.environment = {"LD_PRELOAD": library, "REFUSE_COUNTS": self.place, "REFUSE_CLASS": kind, "REFUSE_AT": str(at), "REFUSE_HOW": how}
+        self.environment = {"LD_PRELOAD": library, "REFUSE_COUNTS": self.place, "REFUSE_CLASS": self.kind, "REFUSE_AT": str(self.at), "REFUSE_HOW": self.how}
 
-    def words(self):
+    def words(self) -> tuple[int, ...]:
         with open(self.place, "rb") as it:
             return struct.unpack(f"<{len(CLASSES) + 1}Q", it.read(8 * (len(CLASSES) + 1)))
 
-    def counts(self):
+    def counts(self) -> dict[str, int]:
         return dict(zip(CLASSES, self.words()))
 
-    def came(self):
+    def came(self) -> bool:
         return self.words()[-1] == 1
 
-    def __str__(self):
+    def __str__(self) -> str:
         return f"{self.kind} {self.at} {self.how}"
-
-
-class Talk:
-    """The program with a script that is fed line by line."""
-
-    def __init__(self, program, folder, wrong):
-        self.script = []
-        self.process = subprocess.Popen([program, "run", folder], stdin=subprocess.PIPE, stdout=subprocess.PIPE, stderr=subprocess.DEVNULL, text=True, env=wrong.environment)
-
-    def ask(self, line):
-        """The lines of the answer; None where the program has ended instead."""
-        self.script.append(line)
-        try:
-            self.process.stdin.write(line + "\n")
-            self.process.stdin.flush()
-        except BrokenPipeError:
-            pass
-        said = []
-        while True:
-            one = self.process.stdout.readline()
-            if not one:
-                return said or None
-            said.append(one.rstrip("\n"))
-            if not line.startswith(("between", "scan")) or said[-1].startswith(("rows ", "refused: ")):
-                return said
-
-    def end(self):
-        """Ends the script: the status, and what is still said."""
-        try:
-            self.process.stdin.close()
-        except BrokenPipeError:
-            pass
-        said = self.process.stdout.read()
-        return self.process.wait(), said
-
-    def kill(self):
-        self.process.kill()
-        self.process.wait()
-        self.process.stdout.close()
-
-
-def numbers(words):
-    return tuple(int(it) for it in words)
-
-
-def answer_of(small, line):
-    """What the machine answers to a line; steps are taken to their end, but for pump and job, whose answers are followed (None)."""
-    word, *rest = line.split(" ")
-    if word in ("begin", "abort", "redeem"):
-        return getattr(small, word)(rest[0])
-    if word == "put":
-        return small.put(rest[0], numbers(rest[1:3]), " ".join(rest[3:]))
-    if word in ("del", "get"):
-        return (small.delete if word == "del" else small.get)(rest[0], numbers(rest[1:]))
-    if word == "submit":
-        return small.submit(rest[0], *numbers(rest[1:]))
-    if word == "at":
-        return machine.at(small.published, numbers(rest[:2]), int(rest[2]))
-    if word == "between":
-        return machine.between(small.published, numbers(rest[:2]), *numbers(rest[2:]))
-    if word == "scan":
-        return machine.scan(small.published, *numbers(rest))
-    if word == "times":
-        return machine.times(small.published, int(rest[0]))
-    if word == "archive":
-        return small.archive(int(rest[0]))
-    if word == "reclaim":
-        return small.reclaim()
-    if word == "reopen":
-        return small.reopened()
-    if word == "flush":
-        small.published, small.queue, small.group, small.turn = small.published + small.queue, [], 0, None
-        return ["idle"]
-    if word == "finish":
-        small.end_job()
-        return ["idle"]
-    return None
 
 
 class Case:
     """A script with one call that goes wrong."""
 
-    def __init__(self, program, library, script, start, wrong, folder):
-        self.program, self.script, self.wrong, self.folder = program, script, wrong, folder
-        self.small, self.done, self.fronts = Machine(), [], [[]]
+    def __init__(self, program: str, folder: str, start: Areas, wrong: Wrong) -> None:
+        self.program, self.wrong, self.folder = program, wrong, folder
+        self.small, self.order, self.least = Machine(), [], 0
+        self.done: list[int] = []
         write_areas(folder, start)
-        self.talk = Talk(program, folder, wrong)
+        self.session = Session(program, folder, wrong.environment)
 
-    def play(self):
+    def play(self, script: Iterable[str]) -> str:
         """Runs the script; says how it went."""
         try:
-            how = self.lines()
-            self.look()
-            return how
+            how = self.lines(script)
         except Failure as why:
-            raise Failure(f"{self.wrong}: {why}\n  in this script:\n    " + "\n    ".join(it[:100] for it in self.talk.script)) from None
+            raise Failure(f"{self.wrong}: {why}", why.shown) from None
         finally:
-            self.talk.kill()
+            self.session.kill()
+        self.look()
+        return how
 
-    def tell(self, line):
+    def failure(self, why: str, said: list[str] | None = None, wanted: list[str] | None = None) -> Failure:
+        return self.session.failure(why, said, wanted)
+
+    def tell(self, line: str) -> tuple[list[str] | None, list[str] | None, Machine]:
         """Feeds a line: what is said, what the machine says, and the machine before it."""
         before = copy.deepcopy(self.small)
-        wanted = answer_of(self.small, line)
-        said = self.talk.ask(line)
+        wanted = self.small.answer(line)
+        said = self.session.ask(line)
         if wanted is None and said is not None and not said[0].startswith(("refused: no memory", "refused: device", "refused: failed")):
             why = (self.small.pumped if line == "pump" else self.small.jobbed)(said[0])
             if why:
-                raise Failure(f"{line}: {why}")
+                raise self.failure(f"{line}: {why}", said, [f"another step: {why}"])
             wanted = said
-        self.note()
+        if said is not None and line.startswith("redeem") and said[0].startswith("done"):
+            self.done.append(int(said[0].split(" ")[1]))
         return said, wanted, before
 
-    def note(self):
-        if self.small.published != self.fronts[-1]:
-            self.fronts.append(list(self.small.published))
+    def may_be_left(self, before: Machine) -> None:
+        """A stop now leaves what was published before the line, what is published now, or a front between."""
+        self.least = len(before.published)
+        after = self.small.with_group() if self.small.turn == "gate written" else self.small.published
+        first = before.with_group() if before.turn == "gate written" else before.published
+        self.order = max(first, after, key=len)
 
-    def lines(self):
-        outcome = "no change"
-        for number, line in enumerate(self.script):
+    def lines(self, script: Iterable[str]) -> str:
+        outcome, before = "no change", self.small
+        for number, line in enumerate(script):
+            is_due = not self.wrong.came()
             said, wanted, before = self.tell(line)
+            self.may_be_left(before)
             if said == wanted:
-                if line.startswith("redeem") and said[0].startswith("done"):
-                    self.done.append(int(said[0].split(" ")[1]))
+                if is_due and self.wrong.came() and self.wrong.how not in HARMLESS and not self.may_pass(number, line):
+                    raise self.failure(f"{line}: answered {said}, and nothing is refused", said, ["a refusal"])
                 continue
             if outcome != "no change" or not self.wrong.came() or self.wrong.how in HARMLESS:
-                raise Failure(f"{line}: answered {said}, and not {wanted}")
+                raise self.failure(f"{line}: answered {said}, and not {wanted}", said, wanted)
             outcome = self.went_wrong(number, line, said, wanted, before)
             if outcome in ("ended", "not opened", "failed"):
                 return outcome
-        status, rest = self.talk.end()
+        return self.at_the_end(outcome)
+
+    def may_pass(self, number: int, line: str) -> bool:
+        """Whether the refused call may change nothing here: a growth in a cache or ahead of need; a read of the input behind this line's
+        answer; a write of the answer, which is gathered and written again as the program ends."""
+        if self.wrong.kind == "growth":
+            return number == 0 or line.split(" ")[0] in PASSES
+        return self.wrong.kind in ("input", "output")
+
+    def at_the_end(self, outcome: str) -> str:
+        status, rest = self.session.end()
         if status and self.wrong.came() and self.wrong.kind in ("input", "output", "growth"):
             return "ended"
-        if status or rest:
-            raise Failure(f"the script ends with status {status}, and says {rest}")
+        must_end = self.wrong.kind in ("input", "output") and self.wrong.how not in HARMLESS
+        if status or rest or must_end:
+            raise self.failure(f"the script ends with status {status}, and says {rest!r}")
         if self.wrong.at and not self.wrong.came():
-            raise Failure("the call that was to go wrong never came")
+            raise self.failure("the call that was to go wrong never came")
+        self.may_be_left(self.small)
         return outcome
 
-    def went_wrong(self, number, line, said, wanted, before):
+    def went_wrong(self, number: int, line: str, said: list[str] | None, wanted: list[str] | None, before: Machine) -> str:
         kind = self.wrong.kind
         if said is None or kind in ("input", "output"):
             return self.ended(said, number == 0)
         refusal = "refused: no memory" if kind == "growth" else "refused: failed" if kind in ("write", "sync") else "refused: device"
-        if (number == 0 or line == "reopen") and said in ([refusal], ["refused: device"]):
-            # a refused opening, after which nothing is answered, or the first line's own refusal
-            if self.talk.ask("times 0") is None:
-                return self.not_opened()
-            if line == "reopen":
-                raise Failure("the script goes on after a refused reopen")
-        if said != [refusal]:
-            raise Failure(f"{line}: answered {said}, and not {refusal}")
+        opening = "refused: no memory" if kind == "growth" else "refused: device"
+        if (number == 0 or line == "reopen") and said == [opening] and self.session.ask("times 0") is None:
+            # a refused opening, after which nothing is answered
+            return self.not_opened(before)
+        if said != [refusal] or line == "reopen":
+            raise self.failure(f"{line}: answered {said}, and not {refusal}", said, [refusal])
         if kind in ("write", "sync"):
-            self.small = self.after_failed(line, before)
-            self.failed()
+            self.failed(before)
             return "failed"
+        if number == 0 and self.session.lines[-1] == "times 0":
+            self.session.said.append("times")
         self.again(line, wanted, before)
         return "refused"
 
-    def ended(self, said, is_first):
+    def ended(self, said: list[str] | None, is_first: bool) -> str:
         """The input or the output is refused, or there is no memory for either or for the program's words: it ends."""
-        status, _ = self.talk.end()
+        status, _ = self.session.end()
         # want of memory while the words are read is told on standard error, with the status of a usage fault
         if not (status == 1 or status == 2 and is_first and said is None) or self.wrong.kind not in ("growth", "input", "output"):
-            raise Failure(f"ends with {said} and status {status}")
+            raise self.failure(f"ends with {said} and status {status}")
         return "ended"
 
-    def not_opened(self):
-        status, rest = self.talk.end()
+    def not_opened(self, before: Machine) -> str:
+        status, rest = self.session.end()
         if status != 1 or rest:
-            raise Failure(f"a refused opening ends with status {status}, and says {rest}")
+            raise self.failure(f"a refused opening ends with status {status}, and says {rest!r}")
         return "not opened"
 
-    def again(self, line, wanted, before):
+    def again(self, line: str, wanted: list[str] | None, before: Machine) -> None:
         """The same line again answers as where nothing was refused; a submit has ended its transaction."""
         word, *rest = line.split(" ")
+        if word == "submit":
+            self.submit_anew(line, rest[0], before)
+            return
         if word in ("pump", "job"):
             self.small = before
             said, wanted, _ = self.tell(line)
-        elif word == "submit":
-            self.small = before
-            del self.small.names[rest[0]]
-            first = max(at for at, it in enumerate(self.script) if it == f"begin {rest[0]}")
-            for one in [it for it in self.script[first:self.script.index(line)] if it.split(" ")[0] in ("begin", "put", "del") and it.split(" ")[1] == rest[0]] + [line]:
-                said, wanted, _ = self.tell(one)
-                if said != wanted:
-                    raise Failure(f"after a refused submit {one}: answered {said}, and not {wanted}")
         else:
-            said = self.talk.ask(line)
+            said = self.session.ask(line)
         if said != wanted:
-            raise Failure(f"{line} again: answered {said}, and not {wanted}")
+            raise self.failure(f"{line} again: answered {said}, and not {wanted}", said, wanted)
 
-    def after_failed(self, line, before):
-        """The machine where a step of a line failed: what was published before stands, the rest waits for good."""
-        self.fronts = [it for it in self.fronts if len(it) <= len(before.published)]
-        if before.queue:
-            self.fronts.append(before.published + before.queue)
-        return before
+    def submit_anew(self, line: str, name: str, before: Machine) -> None:
+        """After a refused submit: the transaction from its beginning."""
+        self.small = before
+        del self.small.names[name]
+        lines = self.session.lines[:-1]
+        first = max(at for at, it in enumerate(lines) if it == f"begin {name}")
+        own = [it for it in lines[first:] if it.split(" ")[0] in ("begin", "put", "del") and it.split(" ")[1] == name]
+        for one in [*own, line]:
+            said, wanted, _ = self.tell(one)
+            if said != wanted:
+                raise self.failure(f"after a refused submit {one}: answered {said}, and not {wanted}", said, wanted)
+        self.may_be_left(self.small)
 
-    def failed(self):
+    # ---- after a refused write or sync
+
+    def failed(self, before: Machine) -> None:
         """The store writes nothing more, each ticket that is not published is in doubt, and it reads on."""
-        small = self.small
+        self.small = small = before
+        self.publish_groups()
         for line in ("begin zz", "pump", "job", "flush", "finish", "archive 1", "reclaim"):
-            self.expect(line, ["refused: failed"])
+            self.session.expect(line, ["refused: failed"], "after failed, ")
         for name, what in list(small.names.items()):
             if isinstance(what, Transaction):
-                self.expect(f"get {name} 1 7", small.get(name, (1, 7)))
-                self.expect(f"submit {name} 1 0", ["refused: failed"])
+                self.session.expect(f"get {name} 1 7", small.get(name, (1, 7)), "after failed, ")
+                self.session.expect(f"submit {name} 1 0", ["refused: failed"], "after failed, ")
             else:
                 published = what <= machine.last(small.published)
-                self.expect(f"redeem {name}", [f"done {what}"] if published else ["in doubt"])
+                self.session.expect(f"redeem {name}", [f"done {what}" if published else "in doubt"], "after failed, ")
                 self.done += [what] * published
-        lines, (answers,) = questions([small.published])
-        said = [one for line in lines[1:] for one in self.talk.ask(line) or ["nothing"]]
-        if said != answers[1:]:
-            first = next((a, b) for a, b in zip(said + [None], answers[1:] + [None]) if a != b)
-            raise Failure(f"a failed store answers {first[0]}, and not {first[1]}")
-        status, rest = self.talk.end()
-        if status or rest:
-            raise Failure(f"a failed store ends with status {status}, and says {rest}")
+        lines, _ = questions(small.published)
+        for line in lines[1:]:
+            self.session.expect(line, small.answer(line) or [], "after failed, ")
+        self.session.end_well()
 
-    def expect(self, line, wanted):
-        said = self.talk.ask(line)
-        if said != wanted:
-            raise Failure(f"after failed, {line}: answered {said}, and not {wanted}")
+    def publish_groups(self) -> None:
+        """A line of several groups may have published the first ones: how many is asked."""
+        small = self.small
+        said = self.session.ask(f"at 1 1 {LATEST}")
+        group = small.group or machine.GROUP_MOST
+        while small.queue and said != [f"refused: not yet {machine.last(small.published)}"]:
+            small.published, small.queue, group = small.published + small.queue[:group], small.queue[group:], machine.GROUP_MOST
+        if said != [f"refused: not yet {machine.last(small.published)}"]:
+            raise self.failure(f"after failed, the last commit is {said}", said, ["that of a whole group"])
+        self.least, self.order = len(small.published), small.published + small.queue[:group]
 
-    def look(self):
+    def look(self) -> None:
         """The store is opened again: a front of the commits, with each that was done."""
-        fronts = list(self.fronts)
-        if self.small.queue and self.small.published + self.small.queue not in fronts:
-            fronts.append(self.small.published + self.small.queue)
-        fronts = fronts[::-1]
-        areas = read_areas(self.folder)
-        found = fronts[check_left(self.program, areas, fronts, "opened again")]
-        if [it for it in self.done if it > machine.last(found)]:
-            raise Failure(f"opened again with last {machine.last(found)}, and {self.done} were done")
-        why = image.why_not(areas, found)
-        if why:
-            raise Failure(f"opened again: the plain reader finds {why}")
+        found = check_left(self.program, read_areas(self.folder), self.order, self.least, f"{self.wrong}: opened again")
+        if [it for it in self.done if it > machine.last(self.order[:found])]:
+            raise Failure(f"opened again with {found} commits, and {self.done} were done")
 
 
-def cases_of(counts, every):
+def cases_of(counts: dict[str, int], every: int) -> Iterator[What]:
     for kind in CLASSES:
         for how in HOWS[kind]:
             for at in range(1, counts[kind] + 1, every if counts[kind] > every else 1):
@@ -430,42 +384,41 @@ def cases_of(counts, every):
 
 
 class Refusals:
-    def __init__(self, program, library, folder, every):
+    def __init__(self, program: str, library: str, folder: str, every: int) -> None:
         self.program, self.library, self.folder, self.every = program, library, folder, every
-        self.tried, self.bad = Counter(), 0
+        self.tried: Counter = Counter()
+        self.bad, self.complaint = 0, ""
 
-    def wrong(self, *what):
-        return Wrong(self.library, self.folder, *what)
+    def wrong(self, what: What = NONE) -> Wrong:
+        return Wrong(self.library, self.folder, what)
 
-    def note(self, name, kind, how, outcome):
-        self.tried[name, kind, how, outcome] += 1
-
-    def guard(self, name, what, case):
+    def guard(self, name: str, what: Wrong, case: Callable[[], str]) -> bool:
         """Runs one case; whether to go on."""
         try:
             outcome = case()
         except Failure as why:
-            print(f"FAILED: {name}: {why}", flush=True)
+            report(name, why)
             self.bad += 1
             outcome = "FAILED"
-        self.note(name, what.kind, what.how, outcome)
+        self.tried[name, what.kind, what.how, outcome] += 1
         return self.bad < 20
 
-    def script(self, name, script):
+    def script(self, name: str, script: list[str]) -> None:
         start, folder = self.formatted(), os.path.join(self.folder, "store")
         nothing = self.wrong()
-        Case(self.program, self.library, script, start, nothing, folder).play()
+        if not self.guard(f"script {name}", nothing, lambda: Case(self.program, folder, start, nothing).play(script)) or self.bad:
+            return
         counts = nothing.counts()
         self.say_counts(f"script {name}", counts)
         for what in cases_of(counts, self.every):
-            wrong = self.wrong(*what)
-            if not self.guard(f"script {name}", wrong, lambda: Case(self.program, self.library, script, start, wrong, folder).play()):
+            wrong = self.wrong(what)
+            if not self.guard(f"script {name}", wrong, lambda: Case(self.program, folder, start, wrong).play(script)):
                 return
 
-    def say_counts(self, name, counts):
+    def say_counts(self, name: str, counts: dict[str, int]) -> None:
         print(f"{name}: " + ", ".join(f"{count} of {kind}" for kind, count in counts.items()), flush=True)
 
-    def formatted(self):
+    def formatted(self) -> Areas:
         folder = os.path.join(self.folder, "formatted")
         os.makedirs(folder, exist_ok=True)
         if not os.path.exists(os.path.join(folder, "status")):
@@ -474,7 +427,7 @@ class Refusals:
 
     # ---- commands
 
-    def command(self, name, words):
+    def command(self, name: str, words: str) -> None:
         """A command with each of its calls refused; then the same again."""
         folder = os.path.join(self.folder, "store")
         start, history = self.stored()
@@ -482,38 +435,40 @@ class Refusals:
         nothing = self.wrong()
         status, usual = self.do(words, folder, nothing)
         if status:
-            raise Failure(f"{words} answers {usual}")
+            report(f"command {name}", Failure(f"answers {usual} with status {status}"))
+            self.bad += 1
+            return
         counts = nothing.counts()
         self.say_counts(f"command {name}", counts)
         for what in cases_of(counts, self.every):
-            wrong = self.wrong(*what)
+            wrong = self.wrong(what)
             self.begin(name, folder, start)
             if not self.guard(f"command {name}", wrong, lambda: self.one_command(name, words, folder, wrong, usual, history)):
                 return
 
-    def begin(self, name, folder, start):
+    def begin(self, name: str, folder: str, start: Areas) -> None:
         shutil.rmtree(folder, ignore_errors=True)
         if name == "format":
             os.makedirs(folder)
         else:
             write_areas(folder, start)
 
-    def stored(self):
+    def stored(self) -> tuple[Areas, list[Commit]]:
         folder = os.path.join(self.folder, "stored")
         if not os.path.exists(folder):
             write_areas(folder, self.formatted())
             run(self.program, folder, BEFORE)
         small = Machine()
         for line in BEFORE:
-            answer_of(small, line)
+            small.answer(line)
         return read_areas(folder), small.published
 
-    def do(self, words, folder, wrong):
-        done = subprocess.run([self.program, *words.format(folder).split(" ")], stdout=subprocess.PIPE, stderr=subprocess.PIPE, text=True, env=wrong.environment, timeout=60)
+    def do(self, words: str, folder: str, wrong: Wrong) -> tuple[int, list[str]]:
+        done = subprocess.run([self.program, *words.format(folder).split(" ")], stdout=subprocess.PIPE, stderr=subprocess.PIPE, text=True, env=wrong.environment, timeout=PATIENCE)
         self.complaint = done.stderr
         return done.returncode, done.stdout.splitlines()
 
-    def one_command(self, name, words, folder, wrong, usual, history):
+    def one_command(self, name: str, words: str, folder: str, wrong: Wrong, usual: list[str], history: list[Commit]) -> str:
         status, said = self.do(words, folder, wrong)
         if not wrong.came():
             raise Failure(f"{words} {wrong}: the call never came")
@@ -523,16 +478,12 @@ class Refusals:
             outcome = "no change"
         else:
             outcome = self.refused(name, wrong, status, said, usual)
-            self.same_again(name, words, folder, usual, history)
+            self.same_again(name, words, folder, usual)
         if name != "format":
-            areas = read_areas(folder)
-            check_left(self.program, areas, [history], f"after {words} {wrong}")
-            why = image.why_not(areas, history)
-            if why:
-                raise Failure(f"after {words} {wrong}: the plain reader finds {why}")
+            check_left(self.program, read_areas(folder), history, len(history), f"after {words} {wrong}")
         return outcome
 
-    def refused(self, name, wrong, status, said, usual):
+    def refused(self, name: str, wrong: Wrong, status: int, said: list[str], usual: list[str]) -> str:
         kind = wrong.kind
         if status != 1 and not (status == 2 and kind == "growth" and not said):
             raise Failure(f"{name} {wrong}: answers {said} with status {status}")
@@ -545,7 +496,7 @@ class Refusals:
             return "ended"
         return said[-1]
 
-    def same_again(self, name, words, folder, usual, history):
+    def same_again(self, name: str, words: str, folder: str, usual: list[str]) -> None:
         nothing = self.wrong()
         status, said = self.do(words, folder, nothing)
         if (status, said) == (0, usual):
@@ -564,26 +515,28 @@ class Refusals:
             return
         raise Failure(f"{words} again answers {said} with status {status}")
 
-    def say(self):
-        rows = {}
+    def say(self) -> None:
+        rows: dict[tuple[str, str, str], list[str]] = {}
         for (name, kind, how, outcome), count in self.tried.items():
-            rows.setdefault((name, kind, how), []).append(f"{count} {outcome}")
+            if kind:
+                rows.setdefault((name, kind, how), []).append(f"{count} {outcome}")
         for (name, kind, how), outcomes in rows.items():
             print(f"{name}, {kind} {how}: " + ", ".join(outcomes))
 
 
-def library_for(folder):
+def library_for(folder: str) -> str:
     place = os.path.join(folder, "refuse.so")
     subprocess.run([os.environ.get("CC", "cc"), "-O1", "-shared", "-fPIC", "-o", place, os.path.join(HERE, "refuse.c")], check=True)
     return place
 
 
-def main():
+def main() -> int:
     words = argparse.ArgumentParser(description=__doc__, formatter_class=argparse.RawDescriptionHelpFormatter)
     words.add_argument("program")
     words.add_argument("--only", choices=[*SCRIPTS, *COMMANDS])
     words.add_argument("--every", type=int, default=1, help="refuse one call of so many (1)")
     given = words.parse_args()
+    use_memory()
     began = time.time()
     with tempfile.TemporaryDirectory(prefix="refusals-") as folder:
         all_of = Refusals(os.path.abspath(given.program), library_for(folder), folder, given.every)

@@ -1,0 +1,181 @@
+"""The program on real files: the areas of a store, scripts and their answers; a case that failed, as a script that can be run."""
+from __future__ import annotations
+
+import base64
+import gzip
+import os
+import signal
+import subprocess
+import tempfile
+from collections.abc import Callable, Iterable
+from dataclasses import dataclass
+
+AREAS = ("status", "heap", "archive")
+Areas = dict[str, bytes]
+# a run of the program that takes longer is a failure, in seconds
+PATIENCE = 60
+MEMORY = "/dev/shm"
+
+
+def use_memory() -> None:
+    """Lets the stores of the tests lie in memory, if there is a file system for that: a sync then costs nothing."""
+    if "TMPDIR" not in os.environ and os.access(MEMORY, os.W_OK):
+        tempfile.tempdir = MEMORY
+
+
+@dataclass
+class Shown:
+    """Files, and the lines that a run on them was given, with what they should have been answered."""
+
+    areas: Areas
+    lines: list[str]
+    wanted: list[str]
+    # where a call of the system is refused: the words of refuse.c
+    environment: dict[str, str]
+    words: str = "run DIR"
+
+    def script(self, title: str) -> str:
+        """A script of its own: `sh SCRIPT PROGRAM` shows where the program's answers differ."""
+        rows = ["#!/bin/sh", f"# {title}", "# usage: sh THIS PROGRAM" + (" REFUSE.SO (made of torture/refuse.c)" if self.environment else ""), 'dir=$(mktemp -d) && mkdir "$dir/store" || exit 2']
+        for area in AREAS:
+            text = base64.b64encode(gzip.compress(self.areas[area], mtime=0)).decode()
+            rows.append(f"echo {text} | base64 -d | gzip -d > \"$dir/store/{area}\"")
+        for name, lines in (("script", self.lines), ("wanted", self.wanted)):
+            rows += [f"cat > \"$dir/{name}\" <<'END'", *lines, "END"]
+        # fed line by line, as the test did: so it asks for memory at the same places
+        prefix = "".join(f"{name}={value} " for name, value in self.environment.items() if name.startswith("REFUSE_") and name != "REFUSE_COUNTS")
+        prefix = f'env {prefix}LD_PRELOAD="$2" ' if prefix else ""
+        rows.append(f'while IFS= read -r line; do printf "%s\\n" "$line"; sleep 0.01; done < "$dir/script" | {prefix}"$1" {self.words.replace("DIR", chr(34) + "$dir/store" + chr(34))} | diff - "$dir/wanted"')
+        return "\n".join(rows) + "\n"
+
+
+class Failure(Exception):
+    """What the program may not do, with what shows it, if a script alone does."""
+
+    def __init__(self, why: str, shown: Shown | None = None) -> None:
+        super().__init__(why)
+        self.shown = shown
+
+
+def report(title: str, why: Failure) -> None:
+    """Prints a failure, and leaves the script that shows it."""
+    print(f"FAILED: {title}: {str(why)[:600]}", flush=True)
+    if why.shown:
+        fd, place = tempfile.mkstemp(prefix="torture-", suffix=".sh", dir="/tmp")
+        with os.fdopen(fd, "w", encoding="utf-8") as it:
+            it.write(why.shown.script(f"{title}: {str(why)[:200]}".replace("\n", " ")))
+        print(f"  to see it: sh {place} PROGRAM", flush=True)
+
+
+def read_areas(folder: str) -> Areas:
+    found = {}
+    for area in AREAS:
+        with open(os.path.join(folder, area), "rb") as it:
+            found[area] = it.read()
+    return found
+
+
+def write_areas(folder: str, areas: Areas) -> None:
+    os.makedirs(folder, exist_ok=True)
+    for area in AREAS:
+        with open(os.path.join(folder, area), "wb") as it:
+            it.write(areas[area])
+
+
+def run(program: str, folder: str, lines: Iterable[str]) -> tuple[int, list[str]]:
+    """The status and the answers of a script."""
+    given = "".join(f"{it}\n" for it in lines)
+    done = subprocess.run([program, "run", folder], input=given, stdout=subprocess.PIPE, stderr=subprocess.DEVNULL, text=True, timeout=PATIENCE)
+    return done.returncode, done.stdout.splitlines()
+
+
+def command(program: str, *words: str) -> tuple[int, list[str]]:
+    """The status and the lines of a command."""
+    done = subprocess.run([program, *words], stdin=subprocess.DEVNULL, stdout=subprocess.PIPE, stderr=subprocess.DEVNULL, text=True, timeout=PATIENCE)
+    return done.returncode, done.stdout.splitlines()
+
+
+def format_store(program: str, folder: str, slots: int) -> None:
+    said = command(program, "format", folder, "--slots", str(slots))
+    if said != (0, [f"formatted {slots}"]):
+        raise Failure(f"format answers {said}")
+
+
+def has_rows(line: str) -> bool:
+    """Whether the answer of a line may have many lines."""
+    return line.startswith(("between", "scan"))
+
+
+def is_whole(line: str, said: list[str]) -> bool:
+    """Whether these lines are the whole answer of a line."""
+    return bool(said) and (not has_rows(line) or said[-1].startswith(("rows ", "refused: ")))
+
+
+class Session:
+    """The program with a script that is fed line by line."""
+
+    def __init__(self, program: str, folder: str, environment: dict[str, str] | None = None, before: Callable[[], object] | None = None) -> None:
+        self.folder, self.start, self.environment = folder, read_areas(folder), environment or {}
+        self.lines: list[str] = []
+        self.said: list[str] = []
+        self.process = subprocess.Popen([program, "run", folder], stdin=subprocess.PIPE, stdout=subprocess.PIPE, stderr=subprocess.DEVNULL, text=True,
+                                        env=environment, preexec_fn=before, restore_signals=before is None)
+
+    def ask(self, line: str) -> list[str] | None:
+        """The lines of the answer; None where the program has ended instead."""
+        self.lines.append(line)
+        try:
+            self.process.stdin.write(line + "\n")
+            self.process.stdin.flush()
+        except BrokenPipeError:
+            pass
+        said: list[str] = []
+        while not is_whole(line, said):
+            one = self.process.stdout.readline()
+            if not one:
+                break
+            said.append(one.rstrip("\n"))
+        self.said += said
+        return said or None
+
+    def failure(self, why: str, said: list[str] | None, wanted: list[str] | None) -> Failure:
+        before = self.said[: len(self.said) - len(said or [])]
+        return Failure(why, Shown(self.start, self.lines, before + (wanted or []), self.environment))
+
+    def expect(self, line: str, wanted: list[str], where: str = "") -> None:
+        """Feeds a line whose answer is known."""
+        said = self.ask(line)
+        if said != wanted:
+            raise self.failure(f"{where}{line}: answered {said}, and not {wanted}", said, wanted)
+
+    def step(self, line: str, follow: Callable[[str], str | None]) -> str:
+        """Feeds a step of a group or of a job, and returns the answer."""
+        said = self.ask(line)
+        why = follow(said[0]) if said else "no answer"
+        if why:
+            raise self.failure(f"{line}: {why}", said, [f"another step: {why}"])
+        return said[0]
+
+    def end(self) -> tuple[int, str]:
+        """Ends the script: the status, and what is still said."""
+        try:
+            self.process.stdin.close()
+        except BrokenPipeError:
+            pass
+        said = self.process.stdout.read()
+        return self.process.wait(), said
+
+    def end_well(self) -> None:
+        status, said = self.end()
+        if status or said:
+            raise self.failure(f"the script ends with status {status}, and says {said!r}", None, [])
+
+    def kill(self) -> None:
+        if self.process.poll() is None:
+            self.process.send_signal(signal.SIGKILL)
+        self.process.wait()
+        for it in (self.process.stdin, self.process.stdout):
+            try:
+                it.close()
+            except BrokenPipeError:
+                pass
