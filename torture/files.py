@@ -36,8 +36,9 @@ from torture import write_on
 # what a run may take more than another by chance, in KiB
 SLACK = 256
 SHORT = 10_000
-# as these, root tries what rights keep others from
-NOBODY = {"user": "nobody", "group": "nogroup", "extra_groups": []}
+# as the user nobody root tries what rights keep others from
+NOBODY_ID = 65534
+NOBODY = {"user": NOBODY_ID, "group": NOBODY_ID, "extra_groups": []}
 COMMANDS = {"at": "at DIR 1 7 100", "between": "between DIR 1 7 0 101", "vacuum": "vacuum DIR 100", "run": "run DIR", "dump": "dump DIR"}
 SCRIPT = ["begin t", "put t 1 7 61", "submit t 1 100", "flush"]
 
@@ -57,7 +58,7 @@ class Files:
         subprocess.run([self.program, "run", folder], input="".join(f"{it}\n" for it in SCRIPT), stdout=subprocess.DEVNULL, text=True, check=True)
         if os.getuid() == 0:
             for path in (folder, *(os.path.join(folder, area) for area in AREAS)):
-                shutil.chown(path, "nobody", "nogroup")
+                os.chown(path, NOBODY_ID, NOBODY_ID)
         return folder
 
     def tells(self, words: str, folder: str, wanted: str, where: str) -> None:

@@ -19,7 +19,7 @@ MEMORY = "/dev/shm"
 
 def use_memory() -> None:
     """Lets the stores of the tests lie in memory, if there is a file system for that: a sync then costs nothing."""
-    if "TMPDIR" not in os.environ and os.access(MEMORY, os.W_OK):
+    if "TMPDIR" not in os.environ and os.access(MEMORY, os.W_OK) and not os.statvfs(MEMORY).f_flag & os.ST_NOEXEC:
         tempfile.tempdir = MEMORY
 
 

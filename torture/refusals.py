@@ -9,7 +9,7 @@ compared with the small machine's (machine.py): at the call that went wrong the 
 same line again as where nothing is refused; after a refused write or sync `failed`, every ticket that was not published in
 doubt, and queries as before. Then the store is opened again: a front of the commits with each that was answered done.
 
-With --every N one call of N is refused, for a short run. The status is 1 where a case fails; the script that shows it is named.
+With --every N one growth of N is refused, and each call of the files in one way, for a short run. The status is 1 where a case fails; the script that shows it is named.
 """
 from __future__ import annotations
 
@@ -33,6 +33,7 @@ from scripts import check_left, questions
 
 HERE = os.path.dirname(os.path.abspath(__file__))
 CLASSES = ("growth", "input", "output", "read", "length", "write", "sync", "open", "lock")
+ON_FILES = ("read", "length", "write", "sync", "open", "lock")
 MOVES = ("before", "short", "interrupted")
 # how a call of a class goes wrong
 HOWS = {"growth": ("before",), "input": MOVES, "output": MOVES, "read": MOVES, "length": ("before",), "write": ("before", "part", "made", "short", "interrupted"),
@@ -377,9 +378,11 @@ class Case:
 
 
 def cases_of(counts: dict[str, int], every: int) -> Iterator[What]:
+    """Each call, or one of so many; of the files' calls each is refused in any case."""
     for kind in CLASSES:
         for how in HOWS[kind]:
-            for at in range(1, counts[kind] + 1, every if counts[kind] > every else 1):
+            each = kind in ON_FILES and how == "before" or counts[kind] <= every
+            for at in range(1, counts[kind] + 1, 1 if each else every):
                 yield kind, at, how
 
 
@@ -524,6 +527,10 @@ class Refusals:
             print(f"{name}, {kind} {how}: " + ", ".join(outcomes))
 
 
+def has_compiler() -> bool:
+    return shutil.which(os.environ.get("CC", "cc")) is not None
+
+
 def library_for(folder: str) -> str:
     place = os.path.join(folder, "refuse.so")
     subprocess.run([os.environ.get("CC", "cc"), "-O1", "-shared", "-fPIC", "-o", place, os.path.join(HERE, "refuse.c")], check=True)
@@ -534,9 +541,12 @@ def main() -> int:
     words = argparse.ArgumentParser(description=__doc__, formatter_class=argparse.RawDescriptionHelpFormatter)
     words.add_argument("program")
     words.add_argument("--only", choices=[*SCRIPTS, *COMMANDS])
-    words.add_argument("--every", type=int, default=1, help="refuse one call of so many (1)")
+    words.add_argument("--every", type=int, default=1, help="of the growths and of the other ways one of so many (1)")
     given = words.parse_args()
     use_memory()
+    if not has_compiler():
+        print("no C compiler: refused calls are left out")
+        return 0
     began = time.time()
     with tempfile.TemporaryDirectory(prefix="refusals-") as folder:
         all_of = Refusals(os.path.abspath(given.program), library_for(folder), folder, given.every)
@@ -546,7 +556,8 @@ def main() -> int:
         for name, line in COMMANDS.items():
             if given.only in (None, name):
                 all_of.command(name, line)
-        all_of.say()
+        if given.every == 1:
+            all_of.say()
     count, seconds = sum(all_of.tried.values()), time.time() - began
     print(f"{count} calls went wrong in {seconds:.0f} s, {count / seconds:.0f} a second; {all_of.bad} failed")
     return 1 if all_of.bad else 0

@@ -258,9 +258,7 @@ def one_case(program: str, kind: str, seed: int) -> Counter | None:
 
 def say(tried: dict[str, Counter], cases: Counter, seconds: float) -> None:
     for kind, found in tried.items():
-        if cases[kind]:
-            what = ", ".join(f"{count} {name}" for name, count in sorted(found.items()) if count)
-            print(f"{kind}: {cases[kind]} cases: {what}")
+        print(f"{kind}: {cases[kind]} cases: " + ", ".join(f"{count} {name}" for name, count in sorted(found.items()) if count))
     images = sum(it["images"] for it in tried.values())
     print(f"{sum(cases.values())} cases and {images} images in {seconds:.0f} s: {sum(cases.values()) / seconds:.1f} cases and {images / seconds:.0f} images a second")
 
@@ -274,9 +272,10 @@ def main() -> int:
     given = words.parse_args()
     use_memory()
     program, began, seed = os.path.abspath(given.program), time.time(), given.seed
-    tried, cases, failed = {kind: Counter() for kind in KINDS}, Counter(), 0
+    kinds = [given.only] if given.only else [it for it in KINDS if it != "refused" or refusals.has_compiler()]
+    tried, cases, failed = {kind: Counter() for kind in kinds}, Counter(), 0
     while time.time() < began + 60 * given.minutes and failed < FAILURES_MOST:
-        for kind in [given.only] if given.only else KINDS:
+        for kind in kinds:
             found = one_case(program, kind, seed)
             failed += found is None
             cases[kind] += 1
