@@ -1,5 +1,5 @@
 -- A floor begins: it is one that may be raised, and may come next in the log. Or it is refused as the machine says.
-use Rattle.std.proofs.Common.{◌≡◌, ℕ, ◌<◌, ◌≤◌, ◌^◌, ◌==◌, min, nat_le, nat_lt, Bool, true, false, cond, List, [], ◌∷◌, length, Option, None, Some, is_some, ◌||◌, Result, Ok, Err, MatchOption, refl, arith, ap, sym, subst, ◌∙◌, ⊎_elim, inl, inr}
+use Rattle.std.proofs.Common.{◌≡◌, ℕ, ◌+◌, ◌<◌, ◌≤◌, ◌^◌, ◌==◌, min, nat_le, nat_lt, Bool, true, false, cond, List, [], ◌∷◌, length, Option, None, Some, is_some, ◌||◌, Result, Ok, Err, MatchOption, refl, arith, ap, sym, subst, ◌∙◌, ⊎_elim, inl, inr}
 use Rattle.std.specs.Prelude.{◌⊎◌, Contains, IsPermutation, IsTrue}
 use Rattle.std.specs.List.{AllByRecursion}
 use Rattle.std.proofs.lemmas.Bool.Decides.{nat_tests}
@@ -57,7 +57,7 @@ none-there (Some x) nothing = absurd cc
 not-in-use : (v : StoreValue) (o : Option ℕ) → refusal_for_use v o ≡ None → (o ≡ None) × (0 < spare v.transactions)
 not-in-use v (Some snapshot) is = absurd cc
 not-in-use v None is =
-    elim (spare v.transactions == 0) as (λ (b : Bool). (spare v.transactions == 0) ≡ b → Path (Option StartFault) (cond b (Some fault.StatusFull) None) None → (None ≡ None) × (0 < spare v.transactions)) [
+    elim (spare v.transactions == 0) as (λ (b : Bool). (spare v.transactions == 0) ≡ b → Path (Option StartFault) (cond b (Some fault.StatusFull) None) None → Path (Option ℕ) None None × (0 < spare v.transactions)) [
       | true ↦ λ test no. absurd cc
       | false ↦ λ test no. (refl, grind (arith, nat_tests))
     ] refl is
@@ -229,7 +229,7 @@ started-memory v m r stands = record {
 
 -- where commits are built a floor is one of every relation
 every-relation : (profile : ℕ) → IsTrue (is_built profile 1) → IsScopeOf profile None
-every-relation profile built = (let one : profile ≡ 1 = grind (arith, nat_tests) in subst (λ (n : ℕ). IsScopeOf n None) (sym one) tt)
+every-relation profile built = (let one : profile ≡ 1 = grind (arith, nat_tests) in subst (λ (n : ℕ). IsScopeOf n None) (sym one) refl)
 
 module _ (header : Header) (v : StoreValue) (floor : ℕ) (m : Machine Value) (memory : StandsInMemory v.transactions m) (may : MayBegin v floor) (profile_built : IsTrue (is_built header.profile 1)) (w : Works header v m) where
   next : IsNextFloor w.log.reading m.published floor

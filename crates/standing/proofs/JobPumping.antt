@@ -1,6 +1,7 @@
 -- Each step of a job keeps what the store stands for, in memory and on its disk.
-use Rattle.std.proofs.Common.{◌≡◌, ◌≢◌, slice_get, ℕ, zero, suc, ◌+◌, ◌<◌, ◌≤◌, ◌==◌, nat_lt, Bool, true, false, List, [], ◌∷◌, ◌++◌, length, take, drop, map, filter, Option, None, Some, is_some, ◌||◌, Result, Ok, Err, MatchBool, MatchOption, refl, arith, ap, sym, subst, ◌∙◌, inl, inr, length-append, append_assoc}
+use Rattle.std.proofs.Common.{◌≡◌, ◌≢◌, slice_get, ℕ, zero, suc, ◌+◌, ◌<◌, ◌≤◌, ◌==◌, nat_lt, Bool, true, false, cond, unwrap_or, List, [], ◌∷◌, ◌++◌, length, take, drop, map, filter, Option, None, Some, is_some, ◌||◌, Result, Ok, Err, MatchBool, MatchOption, refl, arith, ap, sym, subst, ◌∙◌, inl, inr, length-append, append_assoc}
 use Rattle.std.specs.Prelude.{IsTrue, IsSome}
+use Rattle.std.proofs.lemmas.Bool.Decides.{nat_tests}
 use Rattle.std.specs.List.{AllByRecursion, flat_map}
 use Rattle.std.proofs.lemmas.List.{append-nil, map-append, take-append-drop, length-replicate}
 use Rattle.std.proofs.lemmas.Grind.{flat_map-append}
@@ -28,6 +29,7 @@ use Rattle.disk.specs.Calls.{DiskState, Writes, Syncs}
 use Rattle.disk.specs.Parts.{HoldsPart, KeepsPart, IsLoosened}
 use Rattle.disk.proofs.Stops.{left_by_write}
 use Rattle.disk.proofs.Parts.{synced_part, kept_by_sync}
+use Rattle.wire.specs.Numbers.{u16_bytes}
 use Rattle.wire.specs.Spelling.{IsSpelled, InRange, spelling, front_of, fields_of, u32_bytes, u64_bytes}
 use Rattle.wire.specs.declared.slot.Anchors.{Anchors}
 use Rattle.wire.specs.declared.slot.Run.{Run as WireRun}
@@ -193,7 +195,7 @@ stays tells new to m said nothing is parts =
     (m, subst (λ (es : List (Event Value)). Run IsValue m es m) (sym nothing) refl, subst (λ (x : StoreValue). Stands tells x m) (sym is) parts)
 
 -- a refused call leaves the gate so
-job_gate_left : Gate → Gate
+abbrev job_gate_left : Gate → Gate
 job_gate_left Shut = Shut
 job_gate_left (Due OfGroup) = Due OfGroup
 job_gate_left (Due OfFloor) = MayBeOpen OfFloor
@@ -252,7 +254,7 @@ begun-shut (FloorWork floor) = refl
 -- ---- what the machine does in the calls of the slot
 
 -- what is answered where the slot was at this stage
-said_at : SlotStage → JobDid
+abbrev said_at : SlotStage → JobDid
 said_at slots.Begun = did.BodyWritten
 said_at slots.BodyWritten = did.BodySynced
 said_at slots.BodySynced = did.GateWritten
@@ -273,7 +275,7 @@ gate-run m (Reclaim anchors source written) s works way raises gate = by-floor m
 gate-run m (FloorWork floor) slots.Begun works way raises gate = by-floor m (steps.gated m Shut) did.BodyWritten (Some (record { scope = None; floor = floor })) raises (none-told m Shut gate)
 gate-run m (FloorWork floor) slots.BodyWritten works way raises gate =
     by-floor m (steps.gated m (Due OfFloor)) did.BodySynced (Some (record { scope = None; floor = floor })) raises
-    (steps.gated m (Due OfFloor), (works, subst (λ (o : Option Raising). IsSome o) (sym raises) tt, gate, refl), refl)
+    (steps.gated m (Due OfFloor), (works, subst (λ (o : Option Raising). IsSome o) (sym raises) refl, gate, refl), refl)
 gate-run m (FloorWork floor) slots.BodySynced works way raises gate =
     by-floor m (steps.gated m (MayBeOpen OfFloor)) did.GateWritten (Some (record { scope = None; floor = floor })) raises (steps.gated m (MayBeOpen OfFloor), (works, gate, refl), refl)
 gate-run m (FloorWork floor) slots.GateWritten works way raises gate = absurd way
@@ -719,10 +721,11 @@ module _ (tells : Bool) (v new : StoreValue) (m : Machine Value) (stands : Stand
 -- ---- the slot of what the job makes
 
 slot-front : (profile number : ℕ) (p : Product) → length (front_of profile (slot_naming number p)) ≤ 39
-unfolding front_of fields_of u32_bytes u64_bytes
+unfolding front_of fields_of u16_bytes u32_bytes u64_bytes
 slot-front profile number (OfRun run) = omega arith
 slot-front profile number (OfAnchors a) = omega arith
-slot-front profile number (OfFloor floor) = omega arith
+slot-front profile number (OfFloor floor) =
+    elim (profile == 3) as (λ (b : Bool). length (4 ∷ 0 ∷ 0 ∷ (u32_bytes number ++ (u64_bytes floor ++ cond b (u16_bytes (unwrap_or None 0)) []))) ≤ 39) [ true ↦ omega arith | false ↦ omega arith ]
 
 slot-long : (profile number : ℕ) (p : Product) → length (spelling profile (slot_naming number p)) ≡ 511
 unfolding spelling
@@ -730,7 +733,7 @@ slot-long profile number p = let front = slot-front profile number p in simp (le
 
 -- where commits are built a floor is one of every relation
 no-scope : (profile : ℕ) → IsTrue (is_built profile 1) → profile ≢ 3
-no-scope profile built is = absurd (subst (λ (n : ℕ). IsTrue (is_built n 1)) is built)
+no-scope profile built is = (let one : profile ≡ 1 = grind (arith, nat_tests) in omega (arith, is, one))
 
 slot-in-range : (layout : Layout) (reading : Reading) (h : History Value) (profile : ℕ) (p : Product) → IsTrue (is_built profile 1) → MayBeNext layout reading h p → InRange profile (body_of p)
 slot-in-range layout reading h profile (OfRun run) built next = next.in_range
@@ -1076,7 +1079,7 @@ module _ (v : StoreValue) (m : Machine Value) (memory : StandsInMemory v.transac
   memory-done (ArchiveWork run writer) t raises machine keeps = memory
   memory-done (FloorWork floor) t raises machine keeps =
       let may : MayRaise m (record { scope = None; floor = floor }) = subst (λ (o : Option Raising). MatchOption o (Unit {0}) (MayRaise m)) raises machine.raising in
-      raises-memory v.transactions m floor memory (λ relation. (let above = may.rises relation tt in omega (arith, above)))
+      raises-memory v.transactions m floor memory (λ relation. (let above = may.rises relation refl in omega (arith, above)))
   memory-done (Reclaim anchors source written) t raises machine keeps =
       let is = keeps.is in let low = marks.0 in let high = marks.1 in
       reclaims v.transactions m anchors.upto memory (keeps.made refl) (omega (arith, is, low)) (omega (arith, is, high)) keeps.recent still
@@ -1115,6 +1118,10 @@ module _ (tells : Bool) (v new : StoreValue) (m : Machine Value) (stands : Stand
   kept-now : Keeps v m j.work j.stage
   kept-now = kept-so tells v new m stands works sound j is
 
+  -- the floor that it is to raise is the one in the making
+  raises-now : m.raising ≡ raising_by j.work
+  raises-now = stands.raises ∙ ap raising_of is
+
   -- the gate of the slot at a stage
   abbrev gate_on : SlotStage → Gate
   gate_on stage = gate_for j.work stage
@@ -1148,9 +1155,6 @@ module _ (tells : Bool) (v new : StoreValue) (m : Machine Value) (stands : Stand
         marks = stands.marks;
         job = keeps;
       }) works profile many (λ told. gated-works (stands.disk told).header _ m gate (works-so told))
-
-  raises-now : m.raising ≡ raising_by j.work
-  raises-now = stands.raises ∙ ap raising_of is
 
   -- ---- the first call
 

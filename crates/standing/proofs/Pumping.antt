@@ -230,13 +230,6 @@ by-job : (v : StoreValue) (m : Machine Value) (c : Working v m) (areas : Areas) 
 by-job v m c areas image None is has left other = other (ap turn_of is)
 by-job v m c areas image (Some j) is has left other = by-stage j.stage refl has.at
   where
-    by-stage : (s : JobStage) → j.stage ≡ s → IsAtJob c.header c.works.log.layout j.work has.product s areas → OnFront (IsImageOf c.header image) m
-    by-stage job.Writing at _ = other (ap turn_of is ∙ ap turn_in at)
-    by-stage job.Stored at _ = other (ap turn_of is ∙ ap turn_in at)
-    by-stage (job.Turning t) at turn =
-        product-leaves c.header m c.works.log.layout c.works.log.reading c.works.log.laid c.works.log.stands c.profile_built c.works.log.built (job-room v m c (ap lent_to is)) has.product has.next
-        (job-free v m c j.work has.product has.made has.next) t.stage areas image (λ may. stood t at may) turn.at left
-
     stood : (t : TurnState) → j.stage ≡ job.Turning t → joining.MayOpen t.stage → MayStand has.product m
     stood t at may =
         let turning : turn_in j.stage ≡ Some t = ap turn_in at in
@@ -245,6 +238,13 @@ by-job v m c areas image (Some j) is has left other = by-stage j.stage refl has.
         let gate = gate-in-turn v m j t c.inside.gate c.on alone is at in
         may-stand m v.transactions.reserved j.work has.product has.made (c.inside.raises ∙ ap raising_of is)
         (λ floor of. gate ∙ ap (λ (work : JobWork). gate_for work t.stage) of ∙ open-is OfFloor t.stage may)
+
+    by-stage : (s : JobStage) → j.stage ≡ s → IsAtJob c.header c.works.log.layout j.work has.product s areas → OnFront (IsImageOf c.header image) m
+    by-stage job.Writing at _ = other (ap turn_of is ∙ ap turn_in at)
+    by-stage job.Stored at _ = other (ap turn_of is ∙ ap turn_in at)
+    by-stage (job.Turning t) at turn =
+        product-leaves c.header m c.works.log.layout c.works.log.reading c.works.log.laid c.works.log.stands c.profile_built c.works.log.built (job-room v m c (ap lent_to is)) has.product has.next
+        (job-free v m c j.work has.product has.made has.next) t.stage areas image (λ may. stood t at may) turn.at left
 
 pub works-leave : (v : StoreValue) (m : Machine Value) (c : Working v m) (image : Image) → LeavesImage v.disk.areas image → OnFront (IsImageOf c.header image) m
 works-leave v m c image left =

@@ -1,5 +1,5 @@
 -- What a store's disk stands for: what a stop may leave, and how the commits that wait are stored.
-use Rattle.std.specs.Prelude.{ℕ, ◌≡◌, ◌<◌, ◌≤◌, ◌+◌, ◌++◌, IsTrue, false, List, [], ◌∷◌, length, map, take, drop, Option, None, Some, MatchOption}
+use Rattle.std.specs.Prelude.{ℕ, ◌≡◌, ◌<◌, ◌≤◌, ◌+◌, ◌^◌, ◌++◌, IsTrue, false, List, [], ◌∷◌, length, map, take, drop, Option, None, Some, MatchOption}
 use Rattle.std.specs.List.{AllByRecursion, flat_map}
 use Rattle.disk.specs.Areas.{AreaState, Areas, Image, AreSound, IsSound, LeavesImage}
 use Rattle.disk.specs.Parts.{HoldsPart}

@@ -1,5 +1,5 @@
 -- The beginning of a reclaim.
-use Rattle.std.specs.Prelude.{ℕ, ◌≡◌, ◌+◌, ◌≤◌, ◌==◌, true, nat_lt, is_some, List, length, map, Option, Some, None, Result, Ok, Err, MatchOption, if◌then◌else◌}
+use Rattle.std.specs.Prelude.{ℕ, ◌≡◌, ◌≤◌, ◌==◌, true, nat_lt, is_some, List, length, map, Option, Some, None, Result, Ok, Err, MatchOption, if◌then◌else◌}
 use Rattle.deltas.specs.declared.«record».Record.{Record}
 use Rattle.deltas.specs.Chains.{first_number}
 use Rattle.deltas.specs.Packing.{bodies}

@@ -33,7 +33,9 @@ pub enum JobWork {
         written: usize,
     },
     /// Nothing: its slot alone names the floor, in microseconds since 1970.
-    Floor { floor: u64 },
+    Floor {
+        floor: u64,
+    },
 }
 
 /// A job that runs: an archive, a reclaim or a floor.

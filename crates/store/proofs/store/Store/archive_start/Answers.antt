@@ -1,6 +1,4 @@
-use Rattle.std.proofs.Common.{◌≡◌, ℕ, ◌+◌, ◌<◌, ◌^◌, max, List, length, Option, None, Some, Ok, refl, sym, ◌∙◌, ap, subst, arith}
-use Rattle.image.specs.Reading.{ArchiveRecord}
-use Rattle.wire.specs.declared.slot.Run.{Run}
+use Rattle.std.proofs.Common.{◌≡◌, ◌+◌, ◌<◌, ◌^◌, max, length, None, Some, Ok, refl, sym, ◌∙◌, ap, subst, arith}
 use Rattle.archive.specs.Pieces.{InWriting}
 use Rattle.archive.specs.Runs.{run_bytes}
 use Rattle.vacuum.specs.Archives.{records_of, run_of, unwritten}
