@@ -113,12 +113,16 @@ group_of layout v m = record { members = members_of m.published (take v.group v.
 abbrev pub written_before : List QueuedValue → ℕ → ℕ → ℕ
 written_before qs member extent = length (flat_map numbers_of (take member qs)) + extent
 
--- the slot in the writing is the group's
-pub record IsTurnOf (header : Header) (layout : Layout) (group : Group) (t : TurnState) (areas : Areas) : Type 0 where
+-- The slot in the writing is this one, the next of the log; what stands where once it is open is laid out so.
+pub record IsTurn (header : Header) (layout : Layout) (slot : Slot) (after : Layout) (t : TurnState) (areas : Areas) : Type 0 where
   pub number : t.number ≡ length layout.slots
   pub long : length t.body ≡ 511
-  pub spelled : IsSpelled header.profile (length layout.slots) t.body group.slot
-  pub at : IsTurnAt header layout group.slot (laid_out layout group) t.stage areas
+  pub spelled : IsSpelled header.profile (length layout.slots) t.body slot
+  pub at : IsTurnAt header layout slot after t.stage areas
+
+-- it is the group's
+abbrev pub IsTurnOf : Header → Layout → Group → TurnState → Areas → Type 0
+IsTurnOf header layout group t areas = IsTurn header layout group.slot (laid_out layout group) t areas
 
 -- the areas at a stage of the group
 abbrev pub IsAtStage : Header → Layout → Group → List QueuedValue → GroupStage → Option TurnState → Areas → Type 0
@@ -233,11 +237,8 @@ KeepsProduct (OfAnchors a) areas = KeepsExtents a.extents areas.heap
 KeepsProduct (OfFloor floor) areas = Unit {0}
 
 -- the slot in the writing is the one that names it
-pub record IsTurnFor (header : Header) (layout : Layout) (p : Product) (t : TurnState) (areas : Areas) : Type 0 where
-  pub number : t.number ≡ length layout.slots
-  pub long : length t.body ≡ 511
-  pub spelled : IsSpelled header.profile (length layout.slots) t.body (slot_naming (length layout.slots) p)
-  pub at : IsTurnAt header layout (slot_naming (length layout.slots) p) (laid_with layout p) t.stage areas
+abbrev pub IsTurnFor : Header → Layout → Product → TurnState → Areas → Type 0
+IsTurnFor header layout p t areas = IsTurn header layout (slot_naming (length layout.slots) p) (laid_with layout p) t areas
 
 -- the areas at a stage of the job
 abbrev pub IsAtJob : Header → Layout → JobWork → Product → JobStage → Areas → Type 0
