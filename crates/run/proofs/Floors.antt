@@ -247,8 +247,7 @@ view-floors w (Err why) next does = same-floors w next does
 
 -- the floor that a call begins, if it does, is no later
 abbrev pub AllowsTime : ℕ → Call → Answer → Type 0
-AllowsTime time (call.Floor floor) (answer.Floor (Ok u)) = floor ≤ time
-AllowsTime time c a = Unit {0}
+AllowsTime time c a = (floor : ℕ) → c ≡ call.Floor floor → a ≡ answer.Floor (Ok tt) → floor ≤ time
 
 abbrev pub KeepsTimes : World → Call → Answer → World → Type 0
 KeepsTimes w c a next = (relation time : ℕ) → AllowsTime time c a → IsKeptTime w.machine relation time → IsKeptTime next.machine relation time
@@ -257,7 +256,7 @@ unraised : (w : World) (c : Call) (a : Answer) (next : World) → SameFloors w.m
 unraised w c a next is = λ relation time allows kept. held w.machine next.machine relation time is kept
 
 floor-times : (w : World) (floor : ℕ) (said : Result (Unit {0}) StartFault) (next : World) → Raises w floor said next → KeepsTimes w (call.Floor floor) (answer.Floor said) next
-floor-times w floor (Ok u) next does = λ relation time allows kept. subst (λ (x : World). IsKeptTime x.machine relation time) (sym does.1) (kept.0, λ covered. allows)
+floor-times w floor (Ok u) next does = λ relation time allows kept. subst (λ (x : World). IsKeptTime x.machine relation time) (sym does.1) (kept.0, λ covered. allows floor refl refl)
 floor-times w floor (Err start.NothingToDo) next does = unraised w _ _ next (same-floors w next does.1)
 floor-times w floor (Err (start.NotYet time)) next does = unraised w _ _ next (same-floors w next does.1)
 floor-times w floor (Err (start.InUse snapshot)) next does = unraised w _ _ next (same-floors w next does.1)

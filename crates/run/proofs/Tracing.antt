@@ -39,7 +39,7 @@ use Rattle.run.proofs.Lists.{length-set, place-set_same, place-push_old}
 use Rattle.run.proofs.Survival.{moment-leaves}
 use Rattle.run.proofs.Commits.{commit-one}
 use Rattle.standing.proofs.RunsKept.{run-later}
-use Rattle.run.proofs.Floors.{AllowsTime, call-times}
+use Rattle.run.proofs.Floors.{call-times}
 use Rattle.run.proofs.Passing.{QueuesAt, Gives, IsGiven, WasRunning, passes}
 
 -- ---- lists
@@ -182,16 +182,10 @@ floors-rise tells t p q relation low =
 -- the call after a moment keeps a time where the floor that it begins is no later
 next-times : {tells : Bool} (t : Trace tells) (n relation time : ℕ) → ((floor : ℕ) → IsCall t n (call.Floor floor) (answer.Floor (Ok tt)) → floor ≤ time) → IsKeptTime (machine_at t n) relation time → IsKeptTime (machine_at t (suc n)) relation time
 next-times {tells} t n relation time low kept = elim (next-call t n) as (λ o. IsKeptTime (machine_at t (suc n)) relation time) [
-  | inl next ↦ call-times tells (moment_at t n).world next.asked next.said (moment_at t (suc n)).world (calls-link tells t n next.asked next.said next.is).does relation time (allows next.asked next.said next.is) kept
+  | inl next ↦ call-times tells (moment_at t n).world next.asked next.said (moment_at t (suc n)).world (calls-link tells t n next.asked next.said next.is).does relation time
+      (λ floor asked said. low floor (next.is.0 ∙ ap (λ (c : Call). Some c) asked, next.is.1 ∙ ap (λ (a : Answer). Some a) said)) kept
   | inr past ↦ subst (λ (m : Moment). IsKeptTime m.world.machine relation time) (sym (past-end tells t.calls t.answers t.start t.end t.promises.chain n past)) kept
 ]
-  where
-    allows : (c : Call) (a : Answer) → IsCall t n c a → AllowsTime time c a
-    allows (call.Floor floor) (answer.Floor (Ok u)) is = low floor is
-    allows c a is = by-call c a
-      where
-        by-call : (c : Call) (a : Answer) → AllowsTime time c a
-        by-call c a = ?
 
 times-on : {tells : Bool} (t : Trace tells) (p d relation time : ℕ) → ((i floor : ℕ) → p ≤ i → i < on p d → IsCall t i (call.Floor floor) (answer.Floor (Ok tt)) → floor ≤ time) → IsKeptTime (machine_at t p) relation time → IsKeptTime (machine_at t (on p d)) relation time
 times-on t p zero relation time low kept = kept
