@@ -1,6 +1,6 @@
 //! Floors of a store, call by call.
 use crate::job_steps::{
-    SLOT_STEPS, archive, archive_and_reclaim, four_commits, holds, is_row, no_commits, pump_to,
+    SLOT_STEPS, archive, archive_and_reclaim, delete_and_put, four_commits, holds, is_row, no_commits, pump_to,
     queue, reads, take_steps, two_commits, view_of,
 };
 use crate::published::SEVEN;
@@ -85,12 +85,11 @@ fn a_transaction_below_the_floor_bars_it(rt: HostRuntime) -> Result<(), Fail> {
         Ok(txn) => txn,
         Err(fault) => panic!(&rt; "{fault:?}"),
     };
-    queue(&rt, alloc, &mut store, None, 120);
-    pump_to(&rt, &mut store, Did::Idle);
+    delete_and_put(&rt, alloc, &mut store);
     refuses(&rt, &mut store, &[
         (111, StartFault::InUse(110)),
         (120, StartFault::InUse(110)),
-        (121, StartFault::NotYet(120)),
+        (131, StartFault::NotYet(130)),
     ]);
     raise_floor(&rt, &mut store, 110);
     store.abort(reader);
