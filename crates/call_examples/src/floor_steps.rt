@@ -1,7 +1,7 @@
 //! Floors of a store, call by call.
 use crate::job_steps::{
-    SLOT_STEPS, archive, archive_and_reclaim, four_commits, holds, is_row, no_commits, pump_to,
-    queue, reads, take_steps, two_commits, view_of,
+    SLOT_STEPS, archive, archive_and_reclaim, delete_and_put, four_commits, holds, is_row,
+    no_commits, pump_to, queue, reads, take_steps, two_commits, view_of,
 };
 use crate::published::SEVEN;
 use disk::{Area, Disk, Fault, FaultDisk, MemDisk};
@@ -35,7 +35,12 @@ fn a_floor_bars_what_stood_before_it(rt: HostRuntime) -> Result<(), Fail> {
     raise_floor(&rt, &mut store, 120);
     let after = view_of(&rt, &store);
     for time in [0, 105, 119] {
-        assert!(&rt; matches!(store.at(&after, SEVEN, time), Err(QueryFault::BeforeKept(120))));
+        assert!(&rt;
+            matches!(
+                store.at(&after, SEVEN, time),
+                Err(QueryFault::BeforeKept(120))
+            )
+        );
     }
     assert!(&rt; reads(&mut store, &after, 120, None));
     assert!(&rt; reads(&mut store, &after, 130, Some(b"c")));
@@ -52,27 +57,36 @@ fn a_floor_bars_what_stood_before_it(rt: HostRuntime) -> Result<(), Fail> {
 fn the_floor_stays_until_its_slot_is_open(rt: HostRuntime) -> Result<(), Fail> {
     let alloc = rt.alloc();
     let mut store = four_commits(&rt, alloc)?;
-    refuses(&rt, &mut store, &[
-        (0, StartFault::NothingToDo),
-        (131, StartFault::NotYet(130)),
-        (u64::MAX, StartFault::NotYet(130)),
-    ]);
+    refuses(
+        &rt,
+        &mut store,
+        &[
+            (0, StartFault::NothingToDo),
+            (131, StartFault::NotYet(130)),
+            (u64::MAX, StartFault::NotYet(130)),
+        ],
+    );
     assert_eq!(rt; store.floor_start(120), Ok(()));
     for did in [JobDid::BodyWritten, JobDid::BodySynced, JobDid::GateWritten] {
-        refuses(&rt, &mut store, &[
-            (0, StartFault::JobBusy),
-            (131, StartFault::JobBusy),
-        ]);
+        refuses(
+            &rt,
+            &mut store,
+            &[(0, StartFault::JobBusy), (131, StartFault::JobBusy)],
+        );
         take_steps(&rt, &mut store, &[did]);
         assert_eq!(rt; store.floor(), 0);
     }
     take_steps(&rt, &mut store, &[JobDid::JobDone, JobDid::Idle]);
     assert_eq!(rt; store.floor(), 120);
-    refuses(&rt, &mut store, &[
-        (119, StartFault::NothingToDo),
-        (120, StartFault::NothingToDo),
-        (131, StartFault::NotYet(130)),
-    ]);
+    refuses(
+        &rt,
+        &mut store,
+        &[
+            (119, StartFault::NothingToDo),
+            (120, StartFault::NothingToDo),
+            (131, StartFault::NotYet(130)),
+        ],
+    );
     let _disk = store.close();
     Ok(())
 }
@@ -85,13 +99,16 @@ fn a_transaction_below_the_floor_bars_it(rt: HostRuntime) -> Result<(), Fail> {
         Ok(txn) => txn,
         Err(fault) => panic!(&rt; "{fault:?}"),
     };
-    queue(&rt, alloc, &mut store, None, 120);
-    pump_to(&rt, &mut store, Did::Idle);
-    refuses(&rt, &mut store, &[
-        (111, StartFault::InUse(110)),
-        (120, StartFault::InUse(110)),
-        (121, StartFault::NotYet(120)),
-    ]);
+    delete_and_put(&rt, alloc, &mut store);
+    refuses(
+        &rt,
+        &mut store,
+        &[
+            (111, StartFault::InUse(110)),
+            (120, StartFault::InUse(110)),
+            (131, StartFault::NotYet(130)),
+        ],
+    );
     raise_floor(&rt, &mut store, 110);
     store.abort(reader);
     raise_floor(&rt, &mut store, 120);
@@ -130,11 +147,15 @@ fn a_floor_takes_a_slot(rt: HostRuntime) -> Result<(), Fail> {
     }
     raise_floor(&rt, &mut store, 1);
     raise_floor(&rt, &mut store, 2);
-    refuses(&rt, &mut store, &[
-        (2, StartFault::NothingToDo),
-        (3, StartFault::StatusFull),
-        (15, StartFault::NotYet(14)),
-    ]);
+    refuses(
+        &rt,
+        &mut store,
+        &[
+            (2, StartFault::NothingToDo),
+            (3, StartFault::StatusFull),
+            (15, StartFault::NotYet(14)),
+        ],
+    );
     let _disk = store.close();
     Ok(())
 }
@@ -166,7 +187,10 @@ fn an_archive_behind_a_floor_leaves_out_what_ended_before(rt: HostRuntime) -> Re
     archive(&rt, &mut store, 120, 1);
     let view = view_of(&rt, &store);
     let kept = store.between(&view, SEVEN, 115, 131);
-    let refused = matches!(store.between(&view, SEVEN, 114, 131), Err(QueryFault::BeforeKept(115)));
+    let refused = matches!(
+        store.between(&view, SEVEN, 114, 131),
+        Err(QueryFault::BeforeKept(115))
+    );
     store.end(view);
     // The one record is b.
     let mut disk = store.close();

@@ -90,11 +90,16 @@ pub const SLOT_STEPS: [JobDid; 5] = [
 /// A new store whose record is a from 100 on, b from 110 on, gone at 120 and c from 130 on.
 pub fn four_commits(rt: &impl Abort, alloc: Global) -> Result<Store<MemDisk>, Fail> {
     let mut store = two_commits(rt, alloc)?;
-    queue(rt, alloc, &mut store, None, 120);
-    pump_to(rt, &mut store, Did::Idle);
-    queue(rt, alloc, &mut store, Some(b"c"), 130);
-    pump_to(rt, &mut store, Did::Idle);
+    delete_and_put(rt, alloc, &mut store);
     Ok(store)
+}
+
+/// The record is gone at 120, and c from 130 on.
+pub fn delete_and_put(rt: &impl Abort, alloc: Global, store: &mut Store<MemDisk>) {
+    queue(rt, alloc, store, None, 120);
+    pump_to(rt, store, Did::Idle);
+    queue(rt, alloc, store, Some(b"c"), 130);
+    pump_to(rt, store, Did::Idle);
 }
 
 /// The archive up to a time is made, whose run has so many pieces.

@@ -7,7 +7,7 @@ use Rattle.store.specs.Parts.{parts_of}
 use Rattle.store.specs.Values.{StoreValue}
 use Rattle.store.specs.declared.job.JobStage.TheVariants.{Writing}
 use Rattle.store.specs.declared.job.JobWork.TheVariants.{Archive}
-use Rattle.store.proofs.Entries.{begun}
+use Rattle.store.proofs.ArchiveStarts.{begun}
 use Rattle.store.proofs.store.Store.archive_start.Goals as goal
 
 pub returns-in-Ok-make_place : goal.returns-in-Ok-make_place
