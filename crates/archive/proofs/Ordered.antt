@@ -1,7 +1,7 @@
 -- The rows of a scan, told record by record.
-use Rattle.std.proofs.Common.{◌≡◌, ℕ, Bool, true, false, cond, ◌==◌, ◌&&◌, nat_lt, List, [], ◌∷◌, ◌++◌, map, Some, None, refl, ap, sym, ◌∙◌, arith}
+use Rattle.std.proofs.Common.{◌≡◌, ℕ, suc, ◌^◌, ◌<◌, Bool, true, false, cond, ◌==◌, ◌&&◌, nat_lt, List, [], ◌∷◌, ◌++◌, map, Some, None, refl, ap, sym, ◌∙◌, arith}
 use Rattle.std.specs.Prelude.{not, filter}
-use Rattle.std.specs.List.{cons_option}
+use Rattle.std.specs.List.{slice_get, flat_map, cons_option}
 use Rattle.std.specs.List.Sorted.{ties}
 use Rattle.std.specs.Ordering.{nat_cmp, is_lt}
 use Rattle.std.proofs.lemmas.Bool.Decides.{nat_tests}
@@ -12,7 +12,11 @@ use Rattle.history.specs.Versions.{cut, lasts, rows}
 use Rattle.image.specs.Values.{Value}
 use Rattle.image.specs.Reading.{ArchiveRecord}
 use Rattle.image.specs.Facts.{run_versions}
-use Rattle.archive.specs.Answers.{versions_in, row_of, run_rows, scan_rows, rows_of}
+use Rattle.archive.specs.declared.run.RunEntry.{RunEntry}
+use Rattle.archive.specs.Runs.{HoldRuns}
+use Rattle.archive.specs.Answers.{versions_in, rows_of, head_of, of_relation, is_wanted, with_record, row_of, rows_in}
+use Rattle.archive.proofs.Conversion.{laid_run}
+use Rattle.archive.proofs.Walking.{rows-append, where_lasting}
 
 abbrev pub Row : Type 0
 Row = ℕ × Version Value
@@ -26,18 +30,17 @@ rows_of-append number (x ∷ xs) ys =
     let Goal : Bool → Type 0 = λ b. map value (cond b (x ∷ filter here (xs ++ ys)) (filter here (xs ++ ys))) ≡ map value (cond b (x ∷ filter here xs) (filter here xs)) ++ rows_of number ys in
     elim (x.0 == number) as Goal [ true ↦ ap (λ (vs : List (Version Value)). x.1 ∷ vs) rest | false ↦ rest ]
 
-rows-append : (vs ws : List (Version Value)) (a b : ℕ) → rows (vs ++ ws) a b ≡ rows vs a b ++ rows ws a b
-rows-append [] ws a b = refl
-rows-append (v ∷ vs) ws a b =
-    let rest = rows-append vs ws a b in
-    let part = cut a b v in
-    let Goal : Bool → Type 0 = λ t. cond t (part ∷ rows (vs ++ ws) a b) (rows (vs ++ ws) a b) ≡ cond t (part ∷ rows vs a b) (rows vs a b) ++ rows ws a b in
-    elim (lasts part) as Goal [ true ↦ ap (λ (us : List (Version Value)). part ∷ us) rest | false ↦ rest ]
-
 -- one record shows the same in a scan and under its own key
 module _ (relation number a b : ℕ) where
-  row_alone : (r : ArchiveRecord) (rest : List ArchiveRecord) → rows_of number (row_of relation a b r) ++ rows (run_versions (key_of relation number) rest) a b ≡ rows (run_versions (key_of relation number) (r ∷ rest)) a b
-  row_alone r rest =
+  of_this_relation : (r : ArchiveRecord) → r.key.record < 2 ^ 64 → lasts (cut a b r.version) ≡ true → is_wanted (of_relation relation a b) (head_of r) ≡ (r.key.relation == relation)
+  of_this_relation r few long =
+      let begins : r.version.from < b = grind (arith, nat_tests) in
+      let ends : a < r.version.to = grind (arith, nat_tests) in
+      grind (arith, nat_tests)
+
+  row_alone : (r : ArchiveRecord) (rest : List ArchiveRecord) → r.key.record < 2 ^ 64
+      → rows_of number (row_of with_record (of_relation relation a b) r) ++ rows (run_versions (key_of relation number) rest) a b ≡ rows (run_versions (key_of relation number) (r ∷ rest)) a b
+  row_alone r rest few =
       let part = cut a b r.version in
       let pair : Row = (r.key.record, part) in
       let value : Row → Version Value = λ p. p.1 in
@@ -46,6 +49,7 @@ module _ (relation number a b : ℕ) where
       let behind = rows later a b in
       let own = r.key.relation == relation in
       let same = r.key.record == number in
+      let wanted = ap (λ (t : Bool). cond {A = List Row} t (pair ∷ []) []) (where_lasting _ own (lasts part) (of_this_relation r few)) in
       let Kept : Bool → Type 0 = λ t. filter here (cond t (pair ∷ []) []) ≡ cond t (cond same (pair ∷ []) []) [] in
       let kept : Kept (own && lasts part) = elim (own && lasts part) as Kept [ true ↦ refl | false ↦ refl ] in
       let Shown : Bool → Type 0 = λ t. rows (cons_option (cond t (Some r.version) None) later) a b ≡ cond t (cond (lasts part) (part ∷ behind) behind) behind in
@@ -58,21 +62,26 @@ module _ (relation number a b : ℕ) where
         ]
         | false ↦ refl
       ] in
-      ap (λ (ps : List Row). map value ps ++ behind) kept ∙ all own (lasts part) same ∙ sym shown
+      ap (λ (ps : List Row). rows_of number ps ++ behind) wanted ∙ ap (λ (ps : List Row). map value ps ++ behind) kept ∙ all own (lasts part) same ∙ sym shown
 
-  run_alone : (records : List ArchiveRecord) → rows_of number (run_rows relation a b records) ≡ rows (run_versions (key_of relation number) records) a b
-  run_alone [] = refl
-  run_alone (r ∷ rs) =
-      rows_of-append number (row_of relation a b r) (run_rows relation a b rs)
-      ∙ ap (λ (vs : List (Version Value)). rows_of number (row_of relation a b r) ++ vs) (run_alone rs)
-      ∙ row_alone r rs
+  run_alone : (records : List ArchiveRecord) → ((i : ℕ) (r : ArchiveRecord) → slice_get records i ≡ Some r → r.key.record < 2 ^ 64)
+      → rows_of number (rows_in with_record (of_relation relation a b) records) ≡ rows (run_versions (key_of relation number) records) a b
+  run_alone [] few = refl
+  run_alone (r ∷ rs) few =
+      rows_of-append number (row_of with_record (of_relation relation a b) r) (rows_in with_record (of_relation relation a b) rs)
+      ∙ ap (λ (vs : List (Version Value)). rows_of number (row_of with_record (of_relation relation a b) r) ++ vs) (run_alone rs (λ i s at. few (suc i) s at))
+      ∙ row_alone r rs (few 0 r refl)
 
-  pub scan_alone : (lists : List (List ArchiveRecord)) → rows_of number (scan_rows relation a b lists) ≡ rows (versions_in (key_of relation number) lists) a b
-  scan_alone [] = refl
-  scan_alone (records ∷ lists) =
-      rows_of-append number (run_rows relation a b records) (scan_rows relation a b lists)
-      ∙ ap (λ (vs : List (Version Value)). vs ++ rows_of number (scan_rows relation a b lists)) (run_alone records)
-      ∙ ap (λ (vs : List (Version Value)). rows (run_versions (key_of relation number) records) a b ++ vs) (scan_alone lists)
+  pub scan_alone : (area : List ℕ) (runs : List RunEntry) (lists : List (List ArchiveRecord)) → HoldRuns area runs lists
+      → rows_of number (flat_map (rows_in with_record (of_relation relation a b)) lists) ≡ rows (versions_in (key_of relation number) lists) a b
+  scan_alone area [] [] hold = refl
+  scan_alone area [] (records ∷ lists) hold = absurd hold
+  scan_alone area (x ∷ xs) [] hold = absurd hold
+  scan_alone area (x ∷ xs) (records ∷ lists) hold =
+      let laid = laid_run area x records hold.0 in
+      rows_of-append number (rows_in with_record (of_relation relation a b) records) (flat_map (rows_in with_record (of_relation relation a b)) lists)
+      ∙ ap (λ (vs : List (Version Value)). vs ++ rows_of number (flat_map (rows_in with_record (of_relation relation a b)) lists)) (run_alone records (λ i r at. (laid.each i r at).number))
+      ∙ ap (λ (vs : List (Version Value)). rows (run_versions (key_of relation number) records) a b ++ vs) (scan_alone area xs lists hold.1)
       ∙ sym (rows-append (run_versions (key_of relation number) records) (versions_in (key_of relation number) lists) a b)
 
 -- of two rows neither is before the other where they are of one record

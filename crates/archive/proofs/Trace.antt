@@ -1,20 +1,24 @@
 -- What queries read, one look after another.
-use Rattle.std.proofs.Common.{◌≡◌, inl, inr, ℕ, ◌+◌, ◌≤◌, ◌<◌, Bool, true, false, cond, List, [], ◌∷◌, ◌++◌, length, Option, Some, None, refl, sym, ◌∙◌, ap, subst, arith, append_assoc}
+use Rattle.std.proofs.Common.{◌≡◌, inl, inr, ℕ, ◌+◌, ◌≤◌, ◌<◌, Bool, true, false, IsTrue, cond, List, [], ◌∷◌, ◌++◌, length, Option, Some, None, refl, sym, ◌∙◌, ap, subst, arith, append_assoc}
 use Rattle.std.specs.List.{slice_get}
 use Rattle.std.proofs.lemmas.List.{append-nil}
 use Rattle.std.proofs.lemmas.Option.{slice_get_within}
 use Rattle.std.proofs.lemmas.Bool.{cases_lt}
 use Rattle.std.proofs.lemmas.Bool.Decides.{nat_tests}
 use Rattle.history.specs.declared.key.Key.{Key}
+use Rattle.history.specs.declared.time.Version.{Version}
+use Rattle.image.specs.Values.{Value}
 use Rattle.archive.specs.declared.run.RunEntry.{RunEntry}
 use Rattle.archive.specs.declared.head.Head.{Head}
 use Rattle.archive.specs.declared.head.Placed.{Placed}
+use Rattle.archive.specs.declared.wanted.Wanted.{Wanted}
 use Rattle.archive.specs.declared.fault.ArchiveFault.{ArchiveFault}
 use Rattle.archive.specs.declared.fault.ArchiveFault.TheVariants.{Device, NoMemory, Damaged}
-use Rattle.archive.specs.Answers.{precedes}
-use Rattle.archive.specs.Searches.{IsFaultOf}
+use Rattle.archive.specs.Answers.{precedes, follows, is_wanted}
+use Rattle.archive.specs.Searches.{is_before, may_follow, IsFaultOf}
 use Rattle.archive.specs.Damages.{placed_at, IsHeadSound, IsHeadBroken, IsValueBroken, IfDamaged}
-use Rattle.archive.specs.Traces.{nth_head, last_of, high_of, IsSearched, IsFoundIn, IsFindBroken, NoneBefore, IsFindDamaged, last_walked, IsWalk, joined, IsWalked, IsWalkBroken, AtNext, AtItsValue, AreWalked, IsOfRuns, IsDamagedRun}
+use Rattle.archive.specs.Traces.{nth_head, last_of, high_of, IsSearched, IsFoundIn, IsFindBroken, NoneBefore, IsFindDamaged, HasPart, GivesRow, last_walked, IsWalk, joined, IsWalked, IsWalkBroken, AtNext, AtItsValue, AreWalked, IsOfRuns, IsDamagedRun}
+use Rattle.archive.proofs.Walking.{out_behind}
 
 -- what a fault tells of a run that is damaged
 pub map_damaged : {P Q : ℕ → Type 0} (fault : ArchiveFault) → ((start : ℕ) → P start → Q start) → IfDamaged P fault → IfDamaged Q fault
@@ -33,9 +37,6 @@ pub broken_there : (area later : List ℕ) (run : RunEntry) (last other : Option
     → IsHeadBroken later run last n → IsHeadBroken area run other n
 broken_there area later run last other n same same_last is =
     subst (λ (xs : List ℕ). IsHeadBroken xs run other n) same (subst (λ (o : Option Placed). IsHeadBroken later run o n) same_last is)
-
-pub placed_there : (area later : List ℕ) (run : RunEntry) (n : ℕ) (placed : Placed) → later ≡ area → placed ≡ placed_at later run n → placed ≡ placed_at area run n
-placed_there area later run n placed same is = subst (λ (xs : List ℕ). placed ≡ placed_at xs run n) same is
 
 pub placed_again : (area later : List ℕ) (run : RunEntry) (n : ℕ) (placed : Placed) → later ≡ area → placed ≡ placed_at area run n → placed ≡ placed_at later run placed.number
 placed_again area later run n placed same is =
@@ -81,21 +82,41 @@ module _ (area : List ℕ) (runs : List RunEntry) (key : Key) (time i : ℕ) (ru
 
 -- ---- the walk over the records of a run
 
-module _ {R : Type 0} where
-  -- rows that a walk has given so far, behind those of before it
-  pub record IsWalking (area : List ℕ) (run : RunEntry) (key : Key) (time : ℕ) (Gives : ℕ → List R → Type 0) (old : List R) (last : Option Placed) (number : ℕ) (rows : List R) : Type 0 where
-    pub read : List ℕ
-    pub first : ℕ
-    pub searched : IsSearched area run key time read first
-    pub parts : List (List R)
-    pub walk : IsWalk area run Gives read first parts
-    pub last_is : last ≡ last_walked area run read first parts
-    pub number_is : number ≡ first + length parts
-    pub are : rows ≡ old ++ joined parts
+begun : (area : List ℕ) (run : RunEntry) (n : ℕ) {last : Option Placed} → IsHeadSound area run last n → (nth_head area run n).from < (nth_head area run n).to
+begun area run n sound = let range = sound.in_range in grind (arith, nat_tests)
 
-  module _ (area : List ℕ) (run : RunEntry) (key : Key) (time : ℕ) (Gives : ℕ → List R → Type 0) (old : List R) where
-    pub walking_first : (last : Option Placed) (number : ℕ) → (read : List ℕ) × IsSearched area run key time read number × (last ≡ last_of area run read)
-        → IsWalking area run key time Gives old last number old
+-- the next of one that is wanted doesn't precede
+next_not_before : (w : Wanted) (p q : Placed) → q.number ≡ p.number + 1 → q.head.from < q.head.to → IsTrue (may_follow p q) → IsTrue (is_wanted w p.head) → precedes w.first w.a q.head ≡ false
+next_not_before w p q next stands behind wanted =
+    let before : is_before p.head q.head ≡ true = grind (arith, nat_tests) in
+    let not_before : precedes w.first w.a p.head ≡ false = grind (arith, nat_tests) in
+    grind (arith, nat_tests)
+
+module _ {R : Type 0} where
+  module _ (shown : ℕ → Version Value → R) (area : List ℕ) (w : Wanted) (run : RunEntry) (old : List R) where
+    -- a walk meets none that precedes: so one that isn't wanted is behind those that are
+    walk_behind : (read : List ℕ) (first : ℕ) (parts : List (List R)) → IsSearched area run w.first w.a read first → IsWalk shown area w run read first parts
+        → IsHeadSound area run (last_walked area run read first parts) (first + length parts) → is_wanted w (nth_head area run (first + length parts)) ≡ false
+        → IsTrue (follows w.last w.b (nth_head area run (first + length parts)))
+    walk_behind read first [] searched walk sound out =
+        out_behind w (nth_head area run (first + 0)) (first_fails area run w.first w.a read (first + 0) (omega (arith, searched.high)) sound.few) out
+    walk_behind read first (row ∷ rows) searched walk sound out =
+        let n = first + length (row ∷ rows) in
+        let next : n ≡ first + length rows + 1 = omega arith in
+        out_behind w (nth_head area run n) (next_not_before w (placed_at area run (first + length rows)) (placed_at area run n) next (begun area run n sound) sound.follows walk.1) out
+
+    -- rows that a walk has given so far, behind those of before it
+    pub record IsWalking (last : Option Placed) (number : ℕ) (rows : List R) : Type 0 where
+      pub read : List ℕ
+      pub first : ℕ
+      pub searched : IsSearched area run w.first w.a read first
+      pub parts : List (List R)
+      pub walk : IsWalk shown area w run read first parts
+      pub last_is : last ≡ last_walked area run read first parts
+      pub number_is : number ≡ first + length parts
+      pub are : rows ≡ old ++ joined parts
+
+    pub walking_first : (last : Option Placed) (number : ℕ) → (read : List ℕ) × IsSearched area run w.first w.a read number × (last ≡ last_of area run read) → IsWalking last number old
     walking_first last number bound = record {
       read = bound.0;
       first = number;
@@ -107,67 +128,75 @@ module _ {R : Type 0} where
       are = sym (append-nil old);
     }
 
-    module _ (last : Option Placed) (n : ℕ) (rows : List R) (way : IsWalking area run key time Gives old last n rows) where
-      pub walking_more : (later : List ℕ) (placed : Placed) (row new : List R) → later ≡ area → (placed ≡ placed_at later run n) × IsHeadSound later run last n → Gives n row → new ≡ rows ++ row
-          → IsWalking area run key time Gives old (Some placed) (n + 1) new
-      walking_more later placed row new same is gives grown =
-          let there = sound_there area later run last (last_walked area run way.read way.first way.parts) n placed same way.last_is is in
-          record {
-            read = way.read;
-            first = way.first;
-            searched = way.searched;
-            parts = row ∷ way.parts;
-            walk = (
-              subst (λ (k : ℕ). IsHeadSound area run (last_walked area run way.read way.first way.parts) k) way.number_is there.1,
-              subst (λ (k : ℕ). Gives k row) way.number_is gives,
-              way.walk,
-            );
-            last_is = ap Some (there.0 ∙ ap (λ (k : ℕ). placed_at area run k) way.number_is);
-            number_is = omega (arith, way.number_is);
-            are = grown ∙ ap (λ (xs : List R). xs ++ row) way.are ∙ append_assoc old (joined way.parts) row;
-          }
-
-      pub walking_past : (Ends : Head → Type 0) → run.slot.records ≡ n → (found : List R) × IsWalked area run key time Gives Ends found × (rows ≡ old ++ found)
-      walking_past Ends past = (
+    module _ (last : Option Placed) (n : ℕ) (rows : List R) (way : IsWalking last n rows) where
+      pub walking_past : run.slot.records ≡ n → (found : List R) × IsWalked shown area w run found × (rows ≡ old ++ found)
+      walking_past past = (
         joined way.parts,
         record { read = way.read; first = way.first; searched = way.searched; parts = way.parts; walk = way.walk; end = inl (past ∙ way.number_is); are = refl },
         way.are,
       )
 
-      pub walking_ends : (Ends : Head → Type 0) (later : List ℕ) (placed : Placed) → later ≡ area → (placed ≡ placed_at later run n) × IsHeadSound later run last n → Ends placed.head
-          → (found : List R) × IsWalked area run key time Gives Ends found × (rows ≡ old ++ found)
-      walking_ends Ends later placed same is ends =
-          let there = sound_there area later run last (last_walked area run way.read way.first way.parts) n placed same way.last_is is in
-          let head : placed.head ≡ nth_head area run (way.first + length way.parts) = ap (λ (p : Placed). p.head) (there.0 ∙ ap (λ (k : ℕ). placed_at area run k) way.number_is) in (
-            joined way.parts,
-            record {
-              read = way.read;
-              first = way.first;
-              searched = way.searched;
-              parts = way.parts;
-              walk = way.walk;
-              end = inr (subst (λ (k : ℕ). IsHeadSound area run (last_walked area run way.read way.first way.parts) k) way.number_is there.1, subst Ends head ends);
-              are = refl;
-            },
-            way.are,
-          )
-
-      pub walking_head : (Wanted : Head → Type 0) (later : List ℕ) (fault : ArchiveFault) → later ≡ area → n < run.slot.records → IfDamaged (λ _. IsHeadBroken later run last n) fault
-          → IfDamaged (λ _. IsWalkBroken area run key time Gives Wanted) fault
-      walking_head Wanted later fault same less = map_damaged fault (λ start is.
+      pub walking_head : (later : List ℕ) (fault : ArchiveFault) → later ≡ area → n < run.slot.records → IfDamaged (λ _. IsHeadBroken later run last n) fault
+          → IfDamaged (λ _. IsWalkBroken shown area w run) fault
+      walking_head later fault same less = map_damaged fault (λ start is.
           let there = broken_there area later run last (last_walked area run way.read way.first way.parts) n same way.last_is is in
           AtNext way.read way.first way.parts way.searched way.walk (subst (λ (k : ℕ). k < run.slot.records) way.number_is less)
           (subst (λ (k : ℕ). IsHeadBroken area run (last_walked area run way.read way.first way.parts) k) way.number_is there))
 
-      pub walking_value : (Wanted : Head → Type 0) (later : List ℕ) (placed : Placed) (fault : ArchiveFault) → later ≡ area → (placed ≡ placed_at later run n) × IsHeadSound later run last n
-          → IfDamaged (λ _. Wanted placed.head × IsValueBroken area run n) fault → IfDamaged (λ _. IsWalkBroken area run key time Gives Wanted) fault
-      walking_value Wanted later placed fault same is = map_damaged fault (λ start broken.
-          let there = sound_there area later run last (last_walked area run way.read way.first way.parts) n placed same way.last_is is in
-          let head : placed.head ≡ nth_head area run (way.first + length way.parts) = ap (λ (p : Placed). p.head) (there.0 ∙ ap (λ (k : ℕ). placed_at area run k) way.number_is) in
-          AtItsValue way.read way.first way.parts way.searched way.walk
-          (subst (λ (k : ℕ). IsHeadSound area run (last_walked area run way.read way.first way.parts) k) way.number_is there.1)
-          (subst Wanted head broken.0)
-          (subst (λ (k : ℕ). IsValueBroken area run k) way.number_is broken.1))
+      -- the next head is there
+      module _ (later : List ℕ) (placed : Placed) (same : later ≡ area) (is : (placed ≡ placed_at later run n) × IsHeadSound later run last n) where
+        in_area : (placed ≡ placed_at area run n) × IsHeadSound area run (last_walked area run way.read way.first way.parts) n
+        in_area = sound_there area later run last (last_walked area run way.read way.first way.parts) n placed same way.last_is is
+
+        place : placed ≡ placed_at area run (way.first + length way.parts)
+        place = in_area.0 ∙ ap (λ (k : ℕ). placed_at area run k) way.number_is
+
+        sound : IsHeadSound area run (last_walked area run way.read way.first way.parts) (way.first + length way.parts)
+        sound = subst (λ (k : ℕ). IsHeadSound area run (last_walked area run way.read way.first way.parts) k) way.number_is in_area.1
+
+        pub walking_at : (then : List ℕ) → then ≡ area → placed ≡ placed_at then run placed.number
+        walking_at then same_then = placed_again area then run n placed same_then in_area.0
+
+        pub walking_more : (then : List ℕ) (row new : List R) → then ≡ area → IsTrue (is_wanted w placed.head) → GivesRow shown then w run placed.number row → new ≡ rows ++ row
+            → IsWalking (Some placed) (n + 1) new
+        walking_more then row new same_then wanted gives grown = record {
+          read = way.read;
+          first = way.first;
+          searched = way.searched;
+          parts = row ∷ way.parts;
+          walk = (
+            sound,
+            subst (λ (p : Placed). IsTrue (is_wanted w p.head)) place wanted,
+            subst (λ (k : ℕ). GivesRow shown area w run k row) (ap (λ (p : Placed). p.number) place) (subst (λ (xs : List ℕ). GivesRow shown xs w run placed.number row) same_then gives),
+            way.walk,
+          );
+          last_is = ap Some place;
+          number_is = omega (arith, way.number_is);
+          are = grown ∙ ap (λ (xs : List R). xs ++ row) way.are ∙ append_assoc old (joined way.parts) row;
+        }
+
+        pub walking_ends : is_wanted w placed.head ≡ false → (found : List R) × IsWalked shown area w run found × (rows ≡ old ++ found)
+        walking_ends out = (
+          joined way.parts,
+          record {
+            read = way.read;
+            first = way.first;
+            searched = way.searched;
+            parts = way.parts;
+            walk = way.walk;
+            end = inr (sound, walk_behind way.read way.first way.parts way.searched way.walk sound (subst (λ (p : Placed). is_wanted w p.head ≡ false) place out));
+            are = refl;
+          },
+          way.are,
+        )
+
+        pub walking_value : (then : List ℕ) (fault : ArchiveFault) → then ≡ area → IsTrue (is_wanted w placed.head)
+            → IfDamaged (λ _. HasPart w placed.head × IsValueBroken then run placed.number) fault → IfDamaged (λ _. IsWalkBroken shown area w run) fault
+        walking_value then fault same_then wanted = map_damaged fault (λ start broken.
+            AtItsValue way.read way.first way.parts way.searched way.walk sound
+            (subst (λ (p : Placed). IsTrue (is_wanted w p.head)) place wanted)
+            (subst (λ (p : Placed). HasPart w p.head) place broken.0)
+            (subst (λ (k : ℕ). IsValueBroken area run k) (ap (λ (p : Placed). p.number) place) (subst (λ (xs : List ℕ). IsValueBroken xs run placed.number) same_then broken.1)))
 
   -- ---- the runs of a log
 

@@ -1,22 +1,25 @@
 -- What a walk over the records of a run has shown.
-use Rattle.std.proofs.Common.{◌≡◌, ◌≢◌, ◌⊎◌, inl, inr, ℕ, zero, suc, ◌+◌, ◌<◌, ◌≤◌, Bool, true, false, cond, ◌==◌, ◌&&◌, max, min, List, [], ◌∷◌, ◌++◌, take, map, filter, Some, None, refl, sym, ◌∙◌, ap, subst, arith, append_assoc}
+use Rattle.std.proofs.Common.{◌≡◌, inl, inr, ℕ, zero, suc, ◌+◌, ◌<◌, ◌≤◌, Bool, true, false, IsTrue, not, cond, ◌&&◌, max, min, List, [], ◌∷◌, ◌++◌, take, map, filter, Some, None, refl, sym, ◌∙◌, ap, subst, arith, append_assoc}
 use Rattle.std.specs.List.{slice_get, flat_map, cons_option}
 use Rattle.std.proofs.lemmas.List.{append-nil, map-append}
-use Rattle.std.proofs.lemmas.List.Elements.{filter-append, filter_map-append}
+use Rattle.std.proofs.lemmas.List.Elements.{filter-append}
 use Rattle.std.proofs.lemmas.Option.{slice_get_within}
-use Rattle.std.proofs.lemmas.Bool.{cases_lt, cases_eq}
+use Rattle.std.proofs.lemmas.Bool.{cases_lt}
 use Rattle.std.proofs.lemmas.Bool.Decides.{nat_tests}
 use Rattle.history.specs.declared.key.Key.{Key}
 use Rattle.history.specs.declared.time.Version.{Version}
-use Rattle.history.specs.Key.{same_key, key_of}
+use Rattle.history.specs.Key.{same_key}
 use Rattle.history.specs.Versions.{cut, lasts, rows}
 use Rattle.image.specs.Values.{Value}
 use Rattle.image.specs.Reading.{ArchiveRecord}
-use Rattle.image.specs.Facts.{run_versions, version_for}
+use Rattle.image.specs.Facts.{run_versions}
 use Rattle.archive.specs.declared.run.RunEntry.{RunEntry}
 use Rattle.archive.specs.Laid.{IsBefore, IsLaidRun}
-use Rattle.archive.specs.Answers.{head_of, precedes, versions_in, row_of, run_rows}
+use Rattle.archive.specs.declared.head.Head.{Head}
+use Rattle.archive.specs.declared.wanted.Wanted.{Wanted}
+use Rattle.archive.specs.Answers.{versions_in, head_of, precedes, follows, of_key, is_wanted, alone, row_of, rows_in}
 use Rattle.archive.specs.Searches.{IsBound}
+use Rattle.archive.specs.Traces.{IsOneKey, HasPart}
 use Rattle.archive.proofs.Orders.{places_before}
 
 -- ---- lists that each item adds to
@@ -48,92 +51,48 @@ module _ {X Y : Type 0} (f : X → List Y) where
 
 -- ---- the rows of a key
 
-pub key_row : Key → ℕ → ℕ → ArchiveRecord → List (Version Value)
-key_row key a b r = rows (run_versions key (r ∷ [])) a b
-
-rows-append : (vs ws : List (Version Value)) (a b : ℕ) → rows (vs ++ ws) a b ≡ rows vs a b ++ rows ws a b
+pub rows-append : (vs ws : List (Version Value)) (a b : ℕ) → rows (vs ++ ws) a b ≡ rows vs a b ++ rows ws a b
 rows-append vs ws a b = ap (filter lasts) (map-append (cut a b) vs ws) ∙ filter-append lasts (map (cut a b) vs) (map (cut a b) ws)
 
--- one record after another
-pub rows_flat : (key : Key) (a b : ℕ) (records : List ArchiveRecord) → rows (run_versions key records) a b ≡ flat_map (key_row key a b) records
-unfolding key_row
-rows_flat key a b [] = refl
-rows_flat key a b (r ∷ rs) =
-    ap (λ (vs : List (Version Value)). rows vs a b) (filter_map-append (version_for key) (r ∷ []) rs)
-    ∙ rows-append (run_versions key (r ∷ [])) (run_versions key rs) a b
-    ∙ ap (λ (vs : List (Version Value)). rows (run_versions key (r ∷ [])) a b ++ vs) (rows_flat key a b rs)
+-- tests that agree of what lasts
+pub where_lasting : (x y last : Bool) → (last ≡ true → x ≡ y) → (x && last) ≡ (y && last)
+where_lasting x y last same = elim last as (λ t. (t ≡ true → x ≡ y) → (x && t) ≡ (y && t)) [ true ↦ (λ same. ap (λ (z : Bool). z && true) (same refl)) | false ↦ (λ same. by_false x ∙ sym (by_false y)) ] same where
+  by_false : (z : Bool) → (z && false) ≡ false
+  by_false true = refl
+  by_false false = refl
 
--- and one run after another
-pub rows_of_runs : (key : Key) (a b : ℕ) (lists : List (List ArchiveRecord)) → rows (versions_in key lists) a b ≡ flat_map (λ records. rows (run_versions key records) a b) lists
-rows_of_runs key a b [] = refl
-rows_of_runs key a b (rs ∷ lists) =
-    rows-append (run_versions key rs) (versions_in key lists) a b
-    ∙ ap (λ (vs : List (Version Value)). rows (run_versions key rs) a b ++ vs) (rows_of_runs key a b lists)
+module _ (key : Key) (a b : ℕ) where
+  of_this_key : (r : ArchiveRecord) → lasts (cut a b r.version) ≡ true → is_wanted (of_key key a b) (head_of r) ≡ same_key r.key key
+  of_this_key r long =
+      let begins : r.version.from < b = grind (arith, nat_tests) in
+      let ends : a < r.version.to = grind (arith, nat_tests) in
+      grind (arith, nat_tests)
 
-row_by : ℕ → ℕ → Version Value → Bool → Bool → List (Version Value)
-row_by a b v own shown = cond own (cond shown (cut a b v ∷ []) []) []
+  row_alone : (r : ArchiveRecord) (rest : List ArchiveRecord) → row_of alone (of_key key a b) r ++ rows (run_versions key rest) a b ≡ rows (run_versions key (r ∷ rest)) a b
+  row_alone r rest =
+      let part = cut a b r.version in
+      let later = run_versions key rest in
+      let behind = rows later a b in
+      let own = same_key r.key key in
+      let Shown : Bool → Type 0 = λ t. rows (cons_option (cond t (Some r.version) None) later) a b ≡ cond t (cond (lasts part) (part ∷ behind) behind) behind in
+      let shown : Shown own = elim own as Shown [ true ↦ refl | false ↦ refl ] in
+      let Goal : Bool → Bool → Type 0 = λ s t. cond (s && t) (part ∷ []) [] ++ behind ≡ cond s (cond t (part ∷ behind) behind) behind in
+      let all : (s t : Bool) → Goal s t = λ s t. elim s as (λ s. Goal s t) [ true ↦ elim t as (λ t. Goal true t) [ true ↦ refl | false ↦ refl ] | false ↦ refl ] in
+      ap (λ (c : Bool). cond {A = List (Version Value)} c (part ∷ []) [] ++ behind) (where_lasting _ own (lasts part) (of_this_key r))
+      ∙ all own (lasts part)
+      ∙ sym shown
 
-no_rows : (own : Bool) → cond {A = List (Version Value)} own [] [] ≡ []
-no_rows true = refl
-no_rows false = refl
+  run_alone : (records : List ArchiveRecord) → rows_in alone (of_key key a b) records ≡ rows (run_versions key records) a b
+  run_alone [] = refl
+  run_alone (r ∷ rs) = ap (λ (vs : List (Version Value)). row_of alone (of_key key a b) r ++ vs) (run_alone rs) ∙ row_alone r rs
 
-key_row_is : (key : Key) (a b : ℕ) (r : ArchiveRecord) → key_row key a b r ≡ row_by a b r.version (same_key r.key key) (lasts (cut a b r.version))
-unfolding key_row row_by
-key_row_is key a b r =
-    elim (same_key r.key key) as (λ own. rows (cons_option (cond own (Some r.version) None) []) a b ≡ cond own (cond (lasts (cut a b r.version)) (cut a b r.version ∷ []) []) []) [ true ↦ refl | false ↦ refl ]
-
-pub row_shown : (key : Key) (a b : ℕ) (r : ArchiveRecord) → r.key ≡ key → lasts (cut a b r.version) ≡ true → key_row key a b r ≡ cut a b r.version ∷ []
-unfolding row_by
-row_shown key a b r same shown =
-    let relation : r.key.relation ≡ key.relation = ap (λ (k : Key). k.relation) same in
-    let number : r.key.record ≡ key.record = ap (λ (k : Key). k.record) same in
-    let own : same_key r.key key ≡ true = grind (arith, nat_tests) in
-    key_row_is key a b r ∙ ap (λ (c : Bool). cond c (cond (lasts (cut a b r.version)) (cut a b r.version ∷ []) []) []) own ∙ ap (λ (c : Bool). cond c (cut a b r.version ∷ []) []) shown
-
-pub row_of_other : (key : Key) (a b : ℕ) (r : ArchiveRecord) → same_key r.key key ≡ false → key_row key a b r ≡ []
-unfolding row_by
-row_of_other key a b r other = key_row_is key a b r ∙ ap (λ (c : Bool). cond c (cond (lasts (cut a b r.version)) (cut a b r.version ∷ []) []) []) other
-
-pub row_too_short : (key : Key) (a b : ℕ) (r : ArchiveRecord) → lasts (cut a b r.version) ≡ false → key_row key a b r ≡ []
-unfolding row_by
-row_too_short key a b r short =
-    key_row_is key a b r
-    ∙ ap (λ (c : Bool). cond (same_key r.key key) (cond c (cut a b r.version ∷ []) []) []) short
-    ∙ no_rows (same_key r.key key)
-
-other_test : (k key : Key) → k ≢ key → same_key k key ≡ false
-other_test k key differs = by_relation (cases_eq k.relation key.relation) (cases_eq k.record key.record) where
-  unequal : (k.relation ≡ key.relation) → (k.record ≡ key.record) → ⊥
-  unequal e f = differs (λ i. record { relation = e i; «record» = f i })
-
-  by_relation : (k.relation ≡ key.relation) ⊎ (k.relation ≢ key.relation) → (k.record ≡ key.record) ⊎ (k.record ≢ key.record) → same_key k key ≡ false
-  by_relation (inl e) (inl f) = absurd (unequal e f)
-  by_relation (inl e) (inr g) = grind (arith, nat_tests)
-  by_relation (inr d) other = grind (arith, nat_tests)
-
--- what precedes adds no row: it is of another key, or has ended
-pub row_before : (key : Key) (a b : ℕ) (r : ArchiveRecord) → precedes key a (head_of r) ≡ true → key_row key a b r ≡ []
-row_before key a b r before = by_key (cases_eq r.key.relation key.relation) (cases_eq r.key.record key.record) where
-  ended : r.version.to ≤ a → key_row key a b r ≡ []
-  ended past = row_too_short key a b r (let short : min r.version.to b ≤ max r.version.from a = omega arith in grind (arith, nat_tests))
-
-  by_key : (r.key.relation ≡ key.relation) ⊎ (r.key.relation ≢ key.relation) → (r.key.record ≡ key.record) ⊎ (r.key.record ≢ key.record) → key_row key a b r ≡ []
-  by_key (inl relation) (inl number) = ended (grind (arith, nat_tests))
-  by_key (inl relation) (inr other) = row_of_other key a b r (grind (arith, nat_tests))
-  by_key (inr other) number = row_of_other key a b r (grind (arith, nat_tests))
-
--- nor does what begins at b or later
-pub row_after : (key : Key) (a b : ℕ) (r : ArchiveRecord) → b ≤ r.version.from → key_row key a b r ≡ []
-row_after key a b r late = row_too_short key a b r (let short : min r.version.to b ≤ max r.version.from a = omega arith in grind (arith, nat_tests))
-
--- a row of an interval that some time lies in
-pub row_lasts : (key : Key) (a b : ℕ) (r : ArchiveRecord) → a < b → r.key ≡ key → precedes key a (head_of r) ≡ false → r.version.from < r.version.to → r.version.from < b → lasts (cut a b r.version) ≡ true
-row_lasts key a b r some same not_before stands begins =
-    let relation : r.key.relation ≡ key.relation = ap (λ (k : Key). k.relation) same in
-    let number : r.key.record ≡ key.record = ap (λ (k : Key). k.record) same in
-    let later : a < r.version.to = grind (arith, nat_tests) in
-    let long : max r.version.from a < min r.version.to b = omega arith in
-    grind (arith, nat_tests)
+  -- one run after another
+  pub rows_alone : (lists : List (List ArchiveRecord)) → flat_map (rows_in alone (of_key key a b)) lists ≡ rows (versions_in key lists) a b
+  rows_alone [] = refl
+  rows_alone (rs ∷ lists) =
+      ap (λ (vs : List (Version Value)). vs ++ flat_map (rows_in alone (of_key key a b)) lists) (run_alone rs)
+      ∙ ap (λ (vs : List (Version Value)). rows (run_versions key rs) a b ++ vs) (rows_alone lists)
+      ∙ sym (rows-append (run_versions key rs) (versions_in key lists) a b)
 
 pub no_interval : (vs : List (Version Value)) (a b : ℕ) → b ≤ a → rows vs a b ≡ []
 no_interval [] a b none = refl
@@ -142,116 +101,93 @@ no_interval (v ∷ vs) a b none =
     let test : lasts (cut a b v) ≡ false = grind (arith, nat_tests) in
     ap (λ (c : Bool). cond c (cut a b v ∷ rows vs a b) (rows vs a b)) test ∙ no_interval vs a b none
 
-module _ (area : List ℕ) (run : RunEntry) (records : List ArchiveRecord) (laid : IsLaidRun area run records) where
+-- each version of one key that is wanted has a part in the interval
+pub one_key : (w : Wanted) (head : Head) → IsOneKey w → IsTrue (is_wanted w head) → head.from < head.to → HasPart w head
+one_key w head one wanted stands =
+    let relation : w.first.relation ≡ w.last.relation = ap (λ (k : Key). k.relation) one.0 in
+    let number : w.first.record ≡ w.last.record = ap (λ (k : Key). k.record) one.0 in
+    let some = one.1 in
+    let begins : head.from < w.b = grind (arith, nat_tests) in
+    let ends : w.a < head.to = grind (arith, nat_tests) in
+    omega arith
+
+-- ---- the records of a run
+
+-- what is behind one that follows does too
+follows_later : (key : Key) (time : ℕ) (r s : ArchiveRecord) → IsBefore r s → r.version.from < r.version.to → follows key time (head_of r) ≡ true → follows key time (head_of s) ≡ true
+follows_later key time r s before stands holds = grind (arith, nat_tests)
+
+pub out_behind : (w : Wanted) (head : Head) → precedes w.first w.a head ≡ false → is_wanted w head ≡ false → follows w.last w.b head ≡ true
+out_behind w head not_before out = by_test (precedes w.first w.a head) (follows w.last w.b head) not_before out where
+  by_test : (p f : Bool) → p ≡ false → (not p && not f) ≡ false → f ≡ true
+  by_test true f is out = cc
+  by_test false true is out = refl
+  by_test false false is out = cc
+
+out_before : (w : Wanted) (head : Head) → precedes w.first w.a head ≡ true → is_wanted w head ≡ false
+out_before w head before = ap (λ (p : Bool). not p && not (follows w.last w.b head)) before
+
+out_after : (w : Wanted) (head : Head) → follows w.last w.b head ≡ true → is_wanted w head ≡ false
+out_after w head after = by_test (precedes w.first w.a head) (follows w.last w.b head) after where
+  by_test : (p f : Bool) → f ≡ true → (not p && not f) ≡ false
+  by_test true f is = refl
+  by_test false true is = refl
+  by_test false false is = cc
+
+module _ {R : Type 0} (shown : ℕ → Version Value → R) (w : Wanted) (r : ArchiveRecord) where
+  none_where : (is_wanted w (head_of r) && lasts (cut w.a w.b r.version)) ≡ false → row_of shown w r ≡ []
+  none_where none = ap (λ (c : Bool). cond {A = List R} c (shown r.key.record (cut w.a w.b r.version) ∷ []) []) none
+
+  row_unwanted : is_wanted w (head_of r) ≡ false → row_of shown w r ≡ []
+  row_unwanted out = none_where (ap (λ (t : Bool). t && lasts (cut w.a w.b r.version)) out)
+
+  pub row_short : min r.version.to w.b ≤ max r.version.from w.a → row_of shown w r ≡ []
+  row_short short = let test : lasts (cut w.a w.b r.version) ≡ false = grind (arith, nat_tests) in none_where (by_last _ _ test) where
+    by_last : (x y : Bool) → y ≡ false → (x && y) ≡ false
+    by_last x true is = cc
+    by_last true false is = refl
+    by_last false false is = refl
+
+  pub row_shown : IsTrue (is_wanted w (head_of r)) → HasPart w (head_of r) → row_of shown w r ≡ shown r.key.record (cut w.a w.b r.version) ∷ []
+  row_shown wanted part =
+      let test : lasts (cut w.a w.b r.version) ≡ true = grind (arith, nat_tests) in
+      ap (λ (c : Bool). cond {A = List R} c (shown r.key.record (cut w.a w.b r.version) ∷ []) []) (by_both _ _ wanted test)
+    where
+      by_both : (x y : Bool) → IsTrue x → y ≡ true → (x && y) ≡ true
+      by_both true y is same = same
+      by_both false y is same = is
+
+module _ {R : Type 0} (shown : ℕ → Version Value → R) (w : Wanted) (area : List ℕ) (run : RunEntry) (records : List ArchiveRecord) (laid : IsLaidRun area run records) where
   lasting : (n : ℕ) (r : ArchiveRecord) → slice_get records n ≡ Some r → r.version.from < r.version.to
   lasting n r at = (laid.each n r at).lasts
 
-  same_record : (n : ℕ) (a b : ArchiveRecord) → slice_get records n ≡ Some a → slice_get records n ≡ Some b → a ≡ b
-  same_record n a b at_a at_b = cc
+  -- a run that ended by then adds no row
+  pub past_rows : run.slot.upto ≤ w.a → rows_in shown w records ≡ []
+  past_rows past = sym (none_after (row_of shown w) records 0 (λ i r from at. let by = (laid.each i r at).by_upto in row_short shown w r (omega arith)))
 
-  -- a run that ended by a adds no row
-  pub past_rows : (key : Key) (a b : ℕ) → run.slot.upto ≤ a → rows (run_versions key records) a b ≡ []
-  past_rows key a b past =
-      rows_flat key a b records
-      ∙ sym (none_after (key_row key a b) records 0 (λ i r from at. let by = (laid.each i r at).by_upto in row_too_short key a b r (let short : min r.version.to b ≤ max r.version.from a = omega arith in grind (arith, nat_tests))))
-
-  module _ (key : Key) (a b n : ℕ) where
+  module _ (n : ℕ) where
     -- where the walk begins
-    pub rows_begin : IsBound records key a n → flat_map (key_row key a b) (take n records) ≡ []
-    rows_begin bound = none_before (key_row key a b) records n (λ i r less at. row_before key a b r (bound.before i r less at))
+    pub rows_begin : IsBound records w.first w.a n → flat_map (row_of shown w) (take n records) ≡ []
+    rows_begin bound = none_before (row_of shown w) records n (λ i r less at. row_unwanted shown w r (out_before w (head_of r) (bound.before i r less at)))
 
-    pub rows_end_past : run.slot.records ≤ n → flat_map (key_row key a b) (take n records) ≡ rows (run_versions key records) a b
-    rows_end_past past =
-        none_after (key_row key a b) records n (λ i r from at. absurd (omega (arith, slice_get_within records i r at, laid.count)))
-        ∙ sym (rows_flat key a b records)
+    pub rows_end_past : run.slot.records ≤ n → flat_map (row_of shown w) (take n records) ≡ rows_in shown w records
+    rows_end_past past = none_after (row_of shown w) records n (λ i r from at. absurd (omega (arith, slice_get_within records i r at, laid.count)))
 
     -- where it ends before the last record
-    module _ (r : ArchiveRecord) (at : slice_get records n ≡ Some r) where
-      others_after : (i : ℕ) (s : ArchiveRecord) → n ≤ i → slice_get records i ≡ Some s → (s ≡ r) ⊎ IsBefore r s
-      others_after i s from at_s = elim (cases_lt n i) [
-        | inl above ↦ inr (places_before records laid.in_order lasting n i r s above at at_s)
+    pub rows_end : (r : ArchiveRecord) → slice_get records n ≡ Some r → precedes w.first w.a (head_of r) ≡ false → is_wanted w (head_of r) ≡ false
+        → flat_map (row_of shown w) (take n records) ≡ rows_in shown w records
+    rows_end r at not_before out = none_after (row_of shown w) records n each where
+      behind : follows w.last w.b (head_of r) ≡ true
+      behind = out_behind w (head_of r) not_before out
+
+      each : (i : ℕ) (s : ArchiveRecord) → n ≤ i → slice_get records i ≡ Some s → row_of shown w s ≡ []
+      each i s from at_s = elim (cases_lt n i) [
+        | inl above ↦
+            let before = places_before records laid.in_order lasting n i r s above at at_s in
+            row_unwanted shown w s (out_after w (head_of s) (follows_later w.last w.b r s before (lasting n r at) behind))
         | inr below ↦
             let same : i ≡ n = omega arith in
             let at_n : slice_get records n ≡ Some s = subst (λ (k : ℕ). slice_get records k ≡ Some s) same at_s in
-            inl (same_record n s r at_n at)
-      ]
-
-      greater_key : (s : ArchiveRecord) → precedes key a (head_of r) ≡ false → same_key r.key key ≡ false → IsBefore r s → same_key s.key key ≡ false
-      greater_key s not_before other before = grind (arith, nat_tests)
-
-      pub rows_end_key : precedes key a (head_of r) ≡ false → r.key ≢ key → flat_map (key_row key a b) (take n records) ≡ rows (run_versions key records) a b
-      rows_end_key not_before differs = none_after (key_row key a b) records n each ∙ sym (rows_flat key a b records) where
-        other : same_key r.key key ≡ false
-        other = other_test r.key key differs
-
-        each : (i : ℕ) (s : ArchiveRecord) → n ≤ i → slice_get records i ≡ Some s → key_row key a b s ≡ []
-        each i s from at_s = elim (others_after i s from at_s) [
-          | inl same ↦ row_of_other key a b s (ap (λ (t : ArchiveRecord). same_key t.key key) same ∙ other)
-          | inr before ↦ row_of_other key a b s (greater_key s not_before other before)
-        ]
-
-      later_row : (s : ArchiveRecord) → r.key ≡ key → b ≤ r.version.from → IsBefore r s → key_row key a b s ≡ []
-      later_row s same late before = by_order before where
-        relation : r.key.relation ≡ key.relation
-        relation = ap (λ (k : Key). k.relation) same
-
-        number : r.key.record ≡ key.record
-        number = ap (λ (k : Key). k.record) same
-
-        by_order : IsBefore r s → key_row key a b s ≡ []
-        by_order (inl greater) = row_of_other key a b s (let own = relation in grind (arith, nat_tests))
-        by_order (inr (equal, inl greater)) = row_of_other key a b s (let own = number in grind (arith, nat_tests))
-        by_order (inr (equal, inr later)) = row_after key a b s (let stands = lasting n r at in let apart = later.1 in omega arith)
-
-      pub rows_end_time : r.key ≡ key → b ≤ r.version.from → flat_map (key_row key a b) (take n records) ≡ rows (run_versions key records) a b
-      rows_end_time same late = none_after (key_row key a b) records n each ∙ sym (rows_flat key a b records) where
-        each : (i : ℕ) (s : ArchiveRecord) → n ≤ i → slice_get records i ≡ Some s → key_row key a b s ≡ []
-        each i s from at_s = elim (others_after i s from at_s) [
-          | inl is ↦ row_after key a b s (subst (λ (t : ArchiveRecord). b ≤ t.version.from) (sym is) late)
-          | inr before ↦ later_row s same late before
-        ]
-
--- ---- the rows of a relation
-
-pub scan_row_shown : (relation a b : ℕ) (r : ArchiveRecord) → r.key.relation ≡ relation → lasts (cut a b r.version) ≡ true → row_of relation a b r ≡ (r.key.record, cut a b r.version) ∷ []
-scan_row_shown relation a b r same shown =
-    let test : ((r.key.relation == relation) && lasts (cut a b r.version)) ≡ true = grind (arith, nat_tests) in
-    ap (λ (c : Bool). cond {A = List (ℕ × Version Value)} c ((r.key.record, cut a b r.version) ∷ []) []) test
-
-pub scan_row_short : (relation a b : ℕ) (r : ArchiveRecord) → min r.version.to b ≤ max r.version.from a → row_of relation a b r ≡ []
-scan_row_short relation a b r short =
-    let test : ((r.key.relation == relation) && lasts (cut a b r.version)) ≡ false = grind (arith, nat_tests) in
-    ap (λ (c : Bool). cond {A = List (ℕ × Version Value)} c ((r.key.record, cut a b r.version) ∷ []) []) test
-
-pub scan_row_other : (relation a b : ℕ) (r : ArchiveRecord) → r.key.relation ≢ relation → row_of relation a b r ≡ []
-scan_row_other relation a b r other =
-    let test : ((r.key.relation == relation) && lasts (cut a b r.version)) ≡ false = grind (arith, nat_tests, other) in
-    ap (λ (c : Bool). cond {A = List (ℕ × Version Value)} c ((r.key.record, cut a b r.version) ∷ []) []) test
-
-lesser_relation : (relation : ℕ) (r : ArchiveRecord) → r.version.from < r.version.to → precedes (key_of relation 0) 0 (head_of r) ≡ true → r.key.relation < relation
-lesser_relation relation r stands before = grind (arith, nat_tests)
-
-greater_relation : (relation : ℕ) (r s : ArchiveRecord) → precedes (key_of relation 0) 0 (head_of r) ≡ false → r.key.relation ≢ relation → IsBefore r s → relation < s.key.relation
-greater_relation relation r s not_before other before = grind (arith, nat_tests, other)
-
-module _ (area : List ℕ) (run : RunEntry) (records : List ArchiveRecord) (laid : IsLaidRun area run records) (relation a b : ℕ) where
-  pub past_scan : run.slot.upto ≤ a → run_rows relation a b records ≡ []
-  past_scan past =
-      sym (none_after (row_of relation a b) records 0 (λ i r from at. let by = (laid.each i r at).by_upto in scan_row_short relation a b r (omega arith)))
-
-  module _ (n : ℕ) where
-    pub scan_begin : IsBound records (key_of relation 0) 0 n → flat_map (row_of relation a b) (take n records) ≡ []
-    scan_begin bound = none_before (row_of relation a b) records n
-        (λ i r less at. let lower = lesser_relation relation r (laid.each i r at).lasts (bound.before i r less at) in scan_row_other relation a b r (λ same. omega arith))
-
-    pub scan_end_past : run.slot.records ≤ n → flat_map (row_of relation a b) (take n records) ≡ run_rows relation a b records
-    scan_end_past past = none_after (row_of relation a b) records n (λ i r from at. absurd (omega (arith, slice_get_within records i r at, laid.count)))
-
-    pub scan_end_other : (r : ArchiveRecord) → slice_get records n ≡ Some r → precedes (key_of relation 0) 0 (head_of r) ≡ false → r.key.relation ≢ relation
-        → flat_map (row_of relation a b) (take n records) ≡ run_rows relation a b records
-    scan_end_other r at not_before other = none_after (row_of relation a b) records n each where
-      each : (i : ℕ) (s : ArchiveRecord) → n ≤ i → slice_get records i ≡ Some s → row_of relation a b s ≡ []
-      each i s from at_s = elim (others_after area run records laid (key_of relation 0) a b n r at i s from at_s) [
-        | inl same ↦ scan_row_other relation a b s (λ is. other (sym (ap (λ (t : ArchiveRecord). t.key.relation) same) ∙ is))
-        | inr before ↦ (let greater = greater_relation relation r s not_before other before in scan_row_other relation a b s (λ is. omega arith))
+            let one : r ≡ s = cc in
+            row_unwanted shown w s (subst (λ (t : ArchiveRecord). is_wanted w (head_of t) ≡ false) one out)
       ]

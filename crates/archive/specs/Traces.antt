@@ -1,15 +1,15 @@
 -- What a query has read of a run, whatever its bytes are.
 -- Lists of what was read have what was read last at their front.
-use Rattle.std.specs.Prelude.{◌≡◌, ◌≢◌, ◌⊎◌, ℕ, ◌+◌, ◌<◌, ◌≤◌, if◌then◌else◌, List, [], ◌∷◌, ◌++◌, length, slice_get, Option, Some, None, max, min}
+use Rattle.std.specs.Prelude.{◌≡◌, ◌≢◌, ◌⊎◌, ℕ, ◌+◌, ◌<◌, ◌≤◌, IsTrue, if◌then◌else◌, List, [], ◌∷◌, ◌++◌, length, slice_get, Option, Some, None, max, min}
 use Rattle.history.specs.declared.key.Key.{Key}
 use Rattle.history.specs.declared.time.Version.{Version}
 use Rattle.history.specs.Versions.{cut}
-use Rattle.history.specs.Key.{key_of}
 use Rattle.image.specs.Values.{Value}
 use Rattle.archive.specs.declared.run.RunEntry.{RunEntry}
 use Rattle.archive.specs.declared.head.Head.{Head}
 use Rattle.archive.specs.declared.head.Placed.{Placed}
-use Rattle.archive.specs.Answers.{precedes}
+use Rattle.archive.specs.declared.wanted.Wanted.{Wanted}
+use Rattle.archive.specs.Answers.{precedes, follows, of_key, of_relation, is_wanted, alone, with_record}
 use Rattle.archive.specs.Damages.{entry_at, head_standing, placed_at, IsHeadSound, IsHeadBroken, IsValueAt, IsValueBroken}
 
 -- the head of the n-th record as it stands
@@ -101,44 +101,64 @@ pub record IsFindDamaged (area : List ℕ) (runs : List RunEntry) (key : Key) (t
 
 -- ---- rows
 
+-- the version of the n-th record, of this value
+abbrev pub version_at : List ℕ → RunEntry → ℕ → Value → Version Value
+version_at area run n value = record { from = (nth_head area run n).from; to = (nth_head area run n).to; value = value }
+
+-- one key, and an interval that some time lies in: then each version that is wanted has a part in it
+abbrev pub IsOneKey : Wanted → Type 0
+IsOneKey w = (w.first ≡ w.last) × (w.a < w.b)
+
+-- the version has a part in the interval
+abbrev pub HasPart : Wanted → Head → Type 0
+HasPart w head = max head.from w.a < min head.to w.b
+
+-- the n-th record's row, of the value that stands there: none where the version has no part in the interval, and then its value isn't read
+abbrev pub GivesRow : {R : Type 0} → (ℕ → Version Value → R) → List ℕ → Wanted → RunEntry → ℕ → List R → Type 0
+GivesRow shown area w run n row =
+    ((min (nth_head area run n).to w.b ≤ max (nth_head area run n).from w.a) × (row ≡ []))
+    ⊎ (HasPart w (nth_head area run n)
+    × ((value : Value) × IsValueAt area run n value × (row ≡ shown (nth_head area run n).key.record (cut w.a w.b (version_at area run n value)) ∷ [])))
+
 -- what was read before the next of the records from the first on that have given these rows
 abbrev pub last_walked : {R : Type 0} → List ℕ → RunEntry → List ℕ → ℕ → List R → Option Placed
 last_walked area run read first [] = last_of area run read
 last_walked area run read first (row ∷ rows) = Some (placed_at area run (first + length rows))
 
--- each head was sound beside the one before, and the record gives this row
-abbrev pub IsWalk : {R : Type 0} → List ℕ → RunEntry → (ℕ → R → Type 0) → List ℕ → ℕ → List R → Type 0
-IsWalk area run Gives read first [] = Unit {0}
-IsWalk area run Gives read first (row ∷ rows) =
+-- each head was sound beside the one before and wanted, and the record gives this row
+abbrev pub IsWalk : {R : Type 0} → (ℕ → Version Value → R) → List ℕ → Wanted → RunEntry → List ℕ → ℕ → List (List R) → Type 0
+IsWalk shown area w run read first [] = Unit {0}
+IsWalk shown area w run read first (row ∷ rows) =
     IsHeadSound area run (last_walked area run read first rows) (first + length rows)
-    × Gives (first + length rows) row
-    × IsWalk area run Gives read first rows
+    × IsTrue (is_wanted w (nth_head area run (first + length rows)))
+    × GivesRow shown area w run (first + length rows) row
+    × IsWalk shown area w run read first rows
 
 -- what each gave, in the order of reading
 abbrev pub joined : {R : Type 0} → List (List R) → List R
 joined [] = []
 joined (part ∷ parts) = joined parts ++ part
 
--- The rows of one run: a search, and then a walk over the records from the first that doesn't precede to one that is none of those wanted.
-pub record IsWalked {R : Type 0} (area : List ℕ) (run : RunEntry) (key : Key) (time : ℕ) (Gives : ℕ → List R → Type 0) (Ends : Head → Type 0) (rows : List R) : Type 0 where
+-- The rows of one run: a search, and then a walk over the records from the first that doesn't precede to one behind those that are wanted.
+pub record IsWalked {R : Type 0} (shown : ℕ → Version Value → R) (area : List ℕ) (w : Wanted) (run : RunEntry) (rows : List R) : Type 0 where
   pub read : List ℕ
   pub first : ℕ
-  pub searched : IsSearched area run key time read first
+  pub searched : IsSearched area run w.first w.a read first
   pub parts : List (List R)
-  pub walk : IsWalk area run Gives read first parts
+  pub walk : IsWalk shown area w run read first parts
   pub end : (run.slot.records ≡ first + length parts)
-      ⊎ (IsHeadSound area run (last_walked area run read first parts) (first + length parts) × Ends (nth_head area run (first + length parts)))
+      ⊎ (IsHeadSound area run (last_walked area run read first parts) (first + length parts) × IsTrue (follows w.last w.b (nth_head area run (first + length parts))))
   pub are : rows ≡ joined parts
 
 -- what was met that breaks a rule
-pub data IsWalkBroken {R : Type 0} (area : List ℕ) (run : RunEntry) (key : Key) (time : ℕ) (Gives : ℕ → List R → Type 0) (Wanted : Head → Type 0) : Type 0 where
-  OnTheWay : IsSearchBroken area run key time → IsWalkBroken area run key time Gives Wanted
-  AtNext : (read : List ℕ) (first : ℕ) (parts : List (List R)) → IsSearched area run key time read first → IsWalk area run Gives read first parts
+pub data IsWalkBroken {R : Type 0} (shown : ℕ → Version Value → R) (area : List ℕ) (w : Wanted) (run : RunEntry) : Type 0 where
+  OnTheWay : IsSearchBroken area run w.first w.a → IsWalkBroken shown area w run
+  AtNext : (read : List ℕ) (first : ℕ) (parts : List (List R)) → IsSearched area run w.first w.a read first → IsWalk shown area w run read first parts
       → first + length parts < run.slot.records → IsHeadBroken area run (last_walked area run read first parts) (first + length parts)
-      → IsWalkBroken area run key time Gives Wanted
-  AtItsValue : (read : List ℕ) (first : ℕ) (parts : List (List R)) → IsSearched area run key time read first → IsWalk area run Gives read first parts
-      → IsHeadSound area run (last_walked area run read first parts) (first + length parts) → Wanted (nth_head area run (first + length parts))
-      → IsValueBroken area run (first + length parts) → IsWalkBroken area run key time Gives Wanted
+      → IsWalkBroken shown area w run
+  AtItsValue : (read : List ℕ) (first : ℕ) (parts : List (List R)) → IsSearched area run w.first w.a read first → IsWalk shown area w run read first parts
+      → IsHeadSound area run (last_walked area run read first parts) (first + length parts) → IsTrue (is_wanted w (nth_head area run (first + length parts)))
+      → HasPart w (nth_head area run (first + length parts)) → IsValueBroken area run (first + length parts) → IsWalkBroken shown area w run
 
 -- the rows of each of the first runs: none of one that ends by the time
 abbrev pub AreWalked : {R : Type 0} → (RunEntry → List R → Type 0) → ℕ → List RunEntry → List (List R) → Type 0
@@ -164,54 +184,16 @@ pub record IsDamagedRun {R : Type 0} (Gives : RunEntry → List R → Type 0) (B
   pub here : start ≡ run.slot.start
   pub broken : Breaks run
 
--- ---- the rows of a key
-
--- the version of the n-th record, of this value
-abbrev pub version_at : List ℕ → RunEntry → ℕ → Value → Version Value
-version_at area run n value = record { from = (nth_head area run n).from; to = (nth_head area run n).to; value = value }
-
--- a head of the key that begins before the end
-abbrev pub IsRow : Key → ℕ → Head → Type 0
-IsRow key b head = (head.key ≡ key) × (head.from < b)
-
--- it is of another key, or begins at the end or later
-abbrev pub IsNoRow : Key → ℕ → Head → Type 0
-IsNoRow key b head = (head.key ≢ key) ⊎ (b ≤ head.from)
-
--- the n-th record's row, of the value that stands there
-abbrev pub GivesRow : List ℕ → RunEntry → ℕ → ℕ → ℕ → List (Version Value) → Type 0
-GivesRow area run a b n row = (value : Value) × IsValueAt area run n value × (row ≡ cut a b (version_at area run n value) ∷ [])
-
-abbrev pub GivesKeyRow : List ℕ → RunEntry → Key → ℕ → ℕ → ℕ → List (Version Value) → Type 0
-GivesKeyRow area run key a b n row = IsRow key b (nth_head area run n) × GivesRow area run a b n row
+-- ---- the rows of a key, and those of a relation
 
 abbrev pub AreRowsOf : List ℕ → Key → ℕ → ℕ → RunEntry → List (Version Value) → Type 0
-AreRowsOf area key a b run rows = IsWalked area run key a (GivesKeyRow area run key a b) (IsNoRow key b) rows
+AreRowsOf area key a b = IsWalked alone area (of_key key a b)
 
 abbrev pub AreRowsBroken : List ℕ → Key → ℕ → ℕ → RunEntry → Type 0
-AreRowsBroken area key a b run = IsWalkBroken area run key a (GivesKeyRow area run key a b) (IsRow key b)
-
--- ---- the rows of a relation
-
--- none where the version has no part in the interval, and then its value isn't read
-abbrev pub GivesScanRow : List ℕ → RunEntry → ℕ → ℕ → ℕ → List (ℕ × Version Value) → Type 0
-GivesScanRow area run a b n row =
-    ((min (nth_head area run n).to b ≤ max (nth_head area run n).from a) × (row ≡ []))
-    ⊎ ((max (nth_head area run n).from a < min (nth_head area run n).to b)
-    × ((value : Value) × IsValueAt area run n value × (row ≡ ((nth_head area run n).key.record, cut a b (version_at area run n value)) ∷ [])))
-
-abbrev pub GivesRelationRow : List ℕ → RunEntry → ℕ → ℕ → ℕ → ℕ → List (ℕ × Version Value) → Type 0
-GivesRelationRow area run relation a b n row = ((nth_head area run n).key.relation ≡ relation) × GivesScanRow area run a b n row
-
--- a value is read only of a record of the relation that has a part in the interval
-abbrev pub IsScanRow : ℕ → ℕ → ℕ → Head → Type 0
-IsScanRow relation a b head = (head.key.relation ≡ relation) × (max head.from a < min head.to b)
-
-abbrev pub IsElsewhere : ℕ → Head → Type 0
-IsElsewhere relation head = head.key.relation ≢ relation
+AreRowsBroken area key a b = IsWalkBroken alone area (of_key key a b)
 
 abbrev pub AreScanRowsOf : List ℕ → ℕ → ℕ → ℕ → RunEntry → List (ℕ × Version Value) → Type 0
-AreScanRowsOf area relation a b run rows = IsWalked area run (key_of relation 0) 0 (GivesRelationRow area run relation a b) (IsElsewhere relation) rows
+AreScanRowsOf area relation a b = IsWalked with_record area (of_relation relation a b)
 
 abbrev pub AreScanRowsBroken : List ℕ → ℕ → ℕ → ℕ → RunEntry → Type 0
-AreScanRowsBroken area relation a b run = IsWalkBroken area run (key_of relation 0) 0 (GivesRelationRow area run relation a b) (IsScanRow relation a b)
+AreScanRowsBroken area relation a b = IsWalkBroken with_record area (of_relation relation a b)

@@ -1,5 +1,8 @@
-use Rattle.std.proofs.Common.{◌∙◌, ap}
-use Rattle.archive.specs.Answers.{rows_of}
+use Rattle.std.proofs.Common.{◌∙◌, ap, subst}
+use Rattle.std.specs.List.{flat_map}
+use Rattle.archive.specs.Answers.{rows_of, with_record, rows_in}
+use Rattle.archive.specs.Searches.{archive_of}
+use Rattle.archive.specs.Traces.{IsWalked, IsOfRuns}
 use Rattle.archive.proofs.Ordered.{scan_alone}
 use Rattle.archive.proofs.reader.ArchiveReader.scan.Goals as goal
 
@@ -7,7 +10,12 @@ pub returns-clause-only : goal.returns-clause-only
 returns-clause-only g c = λ lists told right hold number.
     c.in_ok-order_rows.ensures.same number
     ∙ ap (λ rows. rows_of number rows) (c.in_ok-rows.ensures.only lists told right hold)
-    ∙ scan_alone c.args.relation number c.args.a c.args.b lists
+    ∙ ap (λ w. rows_of number (flat_map (rows_in with_record w) lists)) c.of_relation.ensures
+    ∙ scan_alone c.args.relation number c.args.a c.args.b _ c.args.runs.now lists hold
 
 pub returns-clause-exact : goal.returns-clause-exact
-returns-clause-exact g c = λ told right. (c.in_ok-rows.rows.items, c.in_ok-rows.ensures.exact told right, c.in_ok-order_rows.ensures.same)
+returns-clause-exact g c = λ told right. (
+  c.in_ok-rows.rows.items,
+  subst (λ w. IsOfRuns (IsWalked with_record (archive_of (g.D.Disk.state c.args.disk.now)) w) w.a c.args.runs.now c.in_ok-rows.rows.items) c.of_relation.ensures (c.in_ok-rows.ensures.exact told right),
+  c.in_ok-order_rows.ensures.same,
+)
