@@ -1,7 +1,7 @@
 //! Floors of a store, call by call.
 use crate::job_steps::{
     SLOT_STEPS, archive, archive_and_reclaim, delete_and_put, four_commits, holds, is_row,
-    no_commits, pump_to, queue, reads, take_steps, two_commits, view_of,
+    no_commits, opened, pump_to, queue, reads, take_steps, two_commits, view_of,
 };
 use crate::published::SEVEN;
 use disk::{Area, Disk, Fault, FaultDisk, MemDisk};
@@ -179,28 +179,40 @@ fn a_failed_store_raises_no_floor(rt: HostRuntime) -> Result<(), Fail> {
     Ok(())
 }
 
+/// What stood from 115 on is told, and nothing of before.
+fn keeps_from_115(rt: &impl Abort, store: &mut Store<MemDisk>) {
+    assert_eq!(rt; store.floor(), 115);
+    let view = view_of(rt, store);
+    match store.between(&view, SEVEN, 115, 131) {
+        Ok(rows) => {
+            assert_eq!(rt; rows.len(), 2);
+            assert!(rt; is_row(&rows[0], 115, 120, b"b"));
+            assert!(rt; is_row(&rows[1], 130, 131, b"c"));
+        }
+        Err(fault) => panic!(rt; "{fault:?}"),
+    }
+    assert!(rt;
+        matches!(
+            store.between(&view, SEVEN, 114, 131),
+            Err(QueryFault::BeforeKept(115))
+        )
+    );
+    store.end(view);
+}
+
 #[test]
-fn an_archive_behind_a_floor_leaves_out_what_ended_before(rt: HostRuntime) -> Result<(), Fail> {
+fn an_archive_leaves_out_what_ended_by_the_floor(rt: HostRuntime) -> Result<(), Fail> {
     let alloc = rt.alloc();
     let mut store = four_commits(&rt, alloc)?;
     raise_floor(&rt, &mut store, 115);
     archive(&rt, &mut store, 120, 1);
-    let view = view_of(&rt, &store);
-    let kept = store.between(&view, SEVEN, 115, 131);
-    let refused = matches!(
-        store.between(&view, SEVEN, 114, 131),
-        Err(QueryFault::BeforeKept(115))
-    );
-    store.end(view);
-    // The one record is b.
+    keeps_from_115(&rt, &mut store);
+    // The one record is b. So it is when the store is opened again.
     let mut disk = store.close();
     assert_eq!(&rt; disk.len(Area::Archive)?, 37);
-    let Ok(rows) = kept else {
-        return Err(Fail::from("refused"));
-    };
-    assert_eq!(&rt; rows.len(), 2);
-    assert!(&rt; is_row(&rows[0], 115, 120, b"b"));
-    assert!(&rt; is_row(&rows[1], 130, 131, b"c"));
-    assert!(&rt; refused);
+    let mut store = opened(&rt, alloc, disk);
+    keeps_from_115(&rt, &mut store);
+    raise_floor(&rt, &mut store, 120);
+    let _disk = store.close();
     Ok(())
 }

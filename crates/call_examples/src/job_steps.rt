@@ -9,7 +9,7 @@ use std::process::Abort;
 use std::test::Fail;
 use store::{Did, JobDid, Store, Submitted, View};
 
-fn opened(rt: &impl Abort, alloc: Global, disk: MemDisk) -> Store<MemDisk> {
+pub fn opened(rt: &impl Abort, alloc: Global, disk: MemDisk) -> Store<MemDisk> {
     match Store::open(alloc, disk, 1) {
         Ok(store) => store,
         Err((fault, _)) => panic!(rt; "{fault:?}"),
