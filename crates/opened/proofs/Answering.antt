@@ -86,10 +86,6 @@ pub answers-stay : (tells : Bool) (v : StoreValue) (m : Machine Value) (disk : D
     → time ≤ last m.published → IsKeptThen m key.relation time → SaysAt (IsSure tells view.reclaimed time) (at_answer m.published m.floors key time) answer
 answers-stay tells v m disk mark again asked new later view key time answer stands told opens is now goes answers early kept = by-front (kept-answers tells v m disk mark again stands told opens)
   where
-    by-front : OnFront (AnswersBy tells again) m → SaysAt (IsSure tells view.reclaimed time) (at_answer m.published m.floors key time) answer
-    by-front (inl by) = by.at view asked new later key time answer is now goes answers
-    by-front (inr opened) = by-opened (by-change (AnswersBy tells again) m m.gate opened)
-
     by-opened : AnswersBy tells again (m.published ++ take m.group m.queue) m.floors ⊎ ((r : Raising) × (m.raising ≡ Some r) × AnswersBy tells again m.published (raised r.scope r.floor m.floors)) → SaysAt (IsSure tells view.reclaimed time) (at_answer m.published m.floors key time) answer
     by-opened (inr floor) =
         let r = floor.0 in
@@ -100,6 +96,10 @@ answers-stay tells v m disk mark again asked new later view key time answer stan
         let up : HasRisingTimes (last m.published) (take m.group m.queue) =
         rising-take (last m.published) m.group m.queue (rising-from_following IsValue m.published m.queue (may_follow-behind IsValue [] m.published m.queue stands.machine.history)) in
         subst (λ said. SaysAt (IsSure tells view.reclaimed time) said answer) (answer-append m.published (take m.group m.queue) m.floors key time up early) (by.at view asked new later key time answer is now goes answers)
+
+    by-front : OnFront (AnswersBy tells again) m → SaysAt (IsSure tells view.reclaimed time) (at_answer m.published m.floors key time) answer
+    by-front (inl by) = by.at view asked new later key time answer is now goes answers
+    by-front (inr opened) = by-opened (by-change (AnswersBy tells again) m m.gate opened)
 
 -- ---- labels
 
@@ -115,10 +115,6 @@ labels-stay tells v m disk mark again label stands told opens = by-front (reopen
     before : orders.times_of label (order_of v.transactions) ≡ times_of m.published label
     before = times-of_label v.transactions m label stands.memory
 
-    by-front : OnFront (λ h floors. Stands tells again (opened h floors)) m → (more : List ℕ) × (orders.times_of label (order_of again.transactions) ≡ orders.times_of label (order_of v.transactions) ++ more)
-    by-front (inl now) = ([], times-of_label again.transactions (opened m.published m.floors) label now.memory ∙ sym before ∙ sym (append-nil (orders.times_of label (order_of v.transactions))))
-    by-front (inr behind) = by-opened (by-change (λ h floors. Stands tells again (opened h floors)) m m.gate behind)
-
     by-opened : Stands tells again (opened (m.published ++ take m.group m.queue) m.floors) ⊎ ((r : Raising) × (m.raising ≡ Some r) × Stands tells again (opened m.published (raised r.scope r.floor m.floors)))
         → (more : List ℕ) × (orders.times_of label (order_of again.transactions) ≡ orders.times_of label (order_of v.transactions) ++ more)
     by-opened (inr floor) =
@@ -130,3 +126,7 @@ labels-stay tells v m disk mark again label stands told opens = by-front (reopen
               ∙ times-append label m.published group
               ∙ ap (λ (ts : List ℕ). ts ++ times_of group label) (sym before),
         )
+
+    by-front : OnFront (λ h floors. Stands tells again (opened h floors)) m → (more : List ℕ) × (orders.times_of label (order_of again.transactions) ≡ orders.times_of label (order_of v.transactions) ++ more)
+    by-front (inl now) = ([], times-of_label again.transactions (opened m.published m.floors) label now.memory ∙ sym before ∙ sym (append-nil (orders.times_of label (order_of v.transactions))))
+    by-front (inr behind) = by-opened (by-change (λ h floors. Stands tells again (opened h floors)) m m.gate behind)
