@@ -1,5 +1,5 @@
 //! Examples of the calls of single crates: keys and histories, versions, transactions, times, lists
-//! of calls, steps of an archive, lines of scripts, and words of the command line. There is nothing
+//! of calls, steps of jobs, lines of scripts, and words of the command line. There is nothing
 //! here but tests.
 #![tactic(auto)]
 
@@ -10,7 +10,11 @@ mod command_line;
 #[cfg(test)]
 mod commit_times;
 #[cfg(test)]
+mod floor_steps;
+#[cfg(test)]
 mod histories;
+#[cfg(test)]
+mod job_steps;
 #[cfg(test)]
 mod key_versions;
 #[cfg(test)]

@@ -1,13 +1,12 @@
 //! Reclaims of a store, call by call.
-use crate::published::{SEVEN, is_value};
-use chains::SharedValue;
-use disk::{Area, Disk, MemDisk};
-use history::Version;
-use recovery::format;
-use std::alloc::Global;
-use std::process::Abort;
+use crate::job_steps::{
+    SLOT_STEPS, archive, archive_and_reclaim, four_commits, holds, is_row, pump_to, queue, reads,
+    take_steps, two_commits, view_of,
+};
+use crate::published::SEVEN;
+use disk::Area;
 use std::test::Fail;
-use store::{Did, JobDid, QueryFault, StartFault, Store, Submitted, View};
+use store::{Did, JobDid, QueryFault, StartFault};
 
 /// The first bytes of slot 5 once it names a reclaim up to 120 that left no anchors.
 const NO_ANCHORS: [u8; 28] = [
@@ -29,115 +28,6 @@ const ANCHOR_FRONT: [u8; 38] = [
 const NEXT_FRONT: [u8; 30] = [
     1, 0, 0, 0, 0, 0, 0, 0, 0x0e, 0, 0, 0, 0, 0, 0, 0, 1, 1, 0, 7, 0, 0, 0, 0, 0, 0, 0, 1, 1, 0x64,
 ];
-
-fn opened(rt: &impl Abort, alloc: Global, disk: MemDisk) -> Store<MemDisk> {
-    match Store::open(alloc, disk, 1) {
-        Ok(store) => store,
-        Err((fault, _)) => panic!(rt; "{fault:?}"),
-    }
-}
-
-/// Queues a commit that writes a value of this one field, or deletes the record.
-fn queue(
-    rt: &impl Abort,
-    alloc: Global,
-    store: &mut Store<MemDisk>,
-    field: Option<&[u8]>,
-    now: u64,
-) {
-    let mut txn = match store.begin() {
-        Ok(txn) => txn,
-        Err(fault) => panic!(rt; "{fault:?}"),
-    };
-    let written = match field {
-        Some(field) => txn.put(alloc, SEVEN, &[field]),
-        None => txn.delete(SEVEN),
-    };
-    assert!(rt; written.is_ok());
-    match store.submit(txn, 9, now) {
-        Ok(Submitted::Queued(ticket)) => ticket.give_up(),
-        Ok(Submitted::ReadOnly(_)) => panic!(rt; "nothing was written"),
-        Err(fault) => panic!(rt; "{fault:?}"),
-    }
-}
-
-/// Takes steps of groups up to this one.
-fn pump_to(rt: &impl Abort, store: &mut Store<MemDisk>, last: Did) {
-    for _ in 0..100 {
-        match store.pump() {
-            Ok(did) => {
-                if did == last {
-                    return;
-                }
-            }
-            Err(fault) => panic!(rt; "{fault:?}"),
-        }
-    }
-    panic!(rt; "no such step");
-}
-
-/// A new store whose record is a from 100 on and b from 110 on.
-fn two_commits(rt: &impl Abort, alloc: Global) -> Result<Store<MemDisk>, Fail> {
-    let mut disk = MemDisk::new(alloc);
-    format(alloc, &mut disk, 16)?;
-    let mut store = opened(rt, alloc, disk);
-    queue(rt, alloc, &mut store, Some(b"a"), 100);
-    pump_to(rt, &mut store, Did::Idle);
-    queue(rt, alloc, &mut store, Some(b"b"), 110);
-    pump_to(rt, &mut store, Did::Idle);
-    Ok(store)
-}
-
-/// Steps of a job, each with its answer.
-fn take_steps(rt: &impl Abort, store: &mut Store<MemDisk>, steps: &[JobDid]) {
-    for did in steps {
-        assert_eq!(rt; store.job_pump(), Ok(*did));
-    }
-}
-
-const SLOT_STEPS: [JobDid; 5] = [
-    JobDid::BodyWritten,
-    JobDid::BodySynced,
-    JobDid::GateWritten,
-    JobDid::JobDone,
-    JobDid::Idle,
-];
-
-/// A new store whose record is a from 100 on, b from 110 on, gone at 120 and c from 130 on.
-fn four_commits(rt: &impl Abort, alloc: Global) -> Result<Store<MemDisk>, Fail> {
-    let mut store = two_commits(rt, alloc)?;
-    queue(rt, alloc, &mut store, None, 120);
-    pump_to(rt, &mut store, Did::Idle);
-    queue(rt, alloc, &mut store, Some(b"c"), 130);
-    pump_to(rt, &mut store, Did::Idle);
-    Ok(store)
-}
-
-/// The archive up to a time is made, whose run has so many pieces.
-fn archive(rt: &impl Abort, store: &mut Store<MemDisk>, upto: u64, pieces: usize) {
-    assert_eq!(rt; store.archive_start(upto), Ok(()));
-    for _ in 0..pieces {
-        take_steps(rt, store, &[JobDid::WroteRun]);
-    }
-    take_steps(rt, store, &[JobDid::RunSynced]);
-    take_steps(rt, store, &SLOT_STEPS);
-}
-
-/// Whether an area holds these bytes at this place.
-fn holds(
-    disk: &mut MemDisk,
-    area: Area,
-    place: u64,
-    bytes: &[u8],
-    found: &mut [u8],
-) -> Result<bool, Fail> {
-    let len = disk.len(area)?;
-    if found.len() != bytes.len() || len < place || len - place < found.len() as u64 {
-        return Ok(false);
-    }
-    disk.read(area, place, found)?;
-    Ok(&*found == bytes)
-}
 
 #[test]
 fn a_reclaim_frees_what_ended(rt: HostRuntime) -> Result<(), Fail> {
@@ -193,37 +83,6 @@ fn a_transaction_below_the_mark_bars_a_reclaim(rt: HostRuntime) -> Result<(), Fa
     assert_eq!(rt; store.reclaim_start(), Ok(()));
     let _disk = store.close();
     Ok(())
-}
-
-fn view_of(rt: &impl Abort, store: &Store<MemDisk>) -> View {
-    match store.view() {
-        Ok(view) => view,
-        Err(fault) => panic!(rt; "{fault:?}"),
-    }
-}
-
-/// Whether the value at a time is this field alone, or none.
-fn reads(store: &mut Store<MemDisk>, view: &View, time: u64, field: Option<&[u8]>) -> bool {
-    match store.at(view, SEVEN, time) {
-        Ok(Some(value)) => match field {
-            Some(field) => is_value(Some(&value), field),
-            None => false,
-        },
-        Ok(None) => field.is_none(),
-        Err(_) => false,
-    }
-}
-
-fn is_row(row: &Version<SharedValue>, from: u64, to: u64, field: &[u8]) -> bool {
-    row.from == from && row.to == to && is_value(Some(&row.value), field)
-}
-
-/// The archive up to 120 is made, and the heap and memory give up what it has.
-fn archive_and_reclaim(rt: &impl Abort, store: &mut Store<MemDisk>) {
-    archive(rt, store, 120, 1);
-    assert_eq!(rt; store.reclaim_start(), Ok(()));
-    take_steps(rt, store, &[JobDid::HeapSynced]);
-    take_steps(rt, store, &SLOT_STEPS);
 }
 
 #[test]

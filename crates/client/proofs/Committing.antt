@@ -13,7 +13,8 @@ use Rattle.history.proofs.Members.{Contains-cons_cases, Contains-nil}
 use Rattle.image.specs.Values.{Value, IsValue}
 use Rattle.run.specs.Traces.{Trace, moment_at, machine_at}
 use Rattle.client.specs.Public.{Public}
-use Rattle.client.specs.Kept.{IsKeptTime, IsUnchanged, DoneIsRead, DoneIsKept, DoneIsUnchanged, PutIsRead, DeleteIsRead}
+use Rattle.run.specs.Laws.{IsKeptTime}
+use Rattle.client.specs.Kept.{IsUnchanged, DoneIsRead, DoneIsKept, DoneIsUnchanged, PutIsRead, DeleteIsRead}
 use Rattle.client.specs.Settled.{IsSettled, PutSettles}
 use Rattle.client.proofs.Reading.{KeptLike, last-later, survivor-has}
 use Rattle.client.proofs.Settling.{shown-is, goes-on, settled-read, times-stay}
@@ -81,7 +82,7 @@ now-later m now is =
     omega (arith, last_after-append 0 m.published m.queue, last-later (last m.published) m.queue behind)
 
 pub done-unchanged : Public → DoneIsUnchanged
-done-unchanged public tells t i k n time key done low =
+done-unchanged public tells t i k n time key done low floors =
     let found = public.done tells t i k time done in
     let submit = found.3 in
     let machine = (public.runs tells t i i (omega arith)).0 in
@@ -94,8 +95,8 @@ done-unchanged public tells t i k n time key done low =
       later = omega arith;
       published = omega (arith, by, found.1);
       unwritten = λ c has later upto. absurd (omega (arith, later, upto));
-      kept = times-stay public tells t i n key.relation time (omega (arith, found.2, low)) kept;
-      kept_next = times-stay public tells t i (suc n) key.relation time (omega (arith, found.2, low)) kept;
+      kept = times-stay public tells t i n key.relation time (omega (arith, found.2, low)) kept (λ j floor from upto is. floors j floor from (omega (arith, upto)) is);
+      kept_next = times-stay public tells t i (suc n) key.relation time (omega (arith, found.2, low)) kept floors;
     }
 
 -- ---- a put

@@ -21,7 +21,8 @@ use Rattle.standing.specs.Homes.{IsSure}
 use Rattle.standing.specs.Laws.{SaysAt}
 use Rattle.run.specs.Moments.{Moment}
 use Rattle.run.specs.Promise.{IsKeptAs, IsKeptWith, Survives}
-use Rattle.client.specs.Kept.{IsAnswer, IsReadBack, IsKeptTime}
+use Rattle.run.specs.Laws.{IsKeptTime}
+use Rattle.client.specs.Kept.{IsAnswer, IsReadBack}
 use Rattle.client.specs.Settled.{IsSettled}
 
 -- times rise

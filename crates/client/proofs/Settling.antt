@@ -8,7 +8,7 @@ use Rattle.history.proofs.Histories.{may_follow-front, may_follow-behind}
 use Rattle.image.specs.Values.{Value, IsValue}
 use Rattle.run.specs.Traces.{Trace, moment_at, machine_at}
 use Rattle.client.specs.Public.{Public}
-use Rattle.client.specs.Kept.{IsKeptTime}
+use Rattle.run.specs.Laws.{IsKeptTime}
 use Rattle.client.specs.Settled.{IsSettled, SettledStays, SettledIsRead, SettledReopens, TimesStayKept}
 use Rattle.client.proofs.Reading.{KeptLike, last-on, kept-read, survivor-settled}
 
@@ -60,8 +60,4 @@ settled-read public tells t n key time value image told settled kept stop =
     kept-read tells image again.0 again.1 key time value again.2 again.3
 
 pub times-stay : Public → TimesStayKept
-times-stay public tells t p q relation time low kept =
-    let stand = public.floors tells t p q low in (
-      subst (λ (f : ℕ → ℕ). f relation ≤ time) (sym stand.0) kept.0,
-      subst (λ (o : Option Raising). MatchOption o (Unit {0}) (λ r. IsTrue (covers r.scope relation) → r.floor ≤ time)) (sym stand.1) kept.1,
-    )
+times-stay public tells t p q relation time low kept floors = public.times tells t p q relation time low kept floors

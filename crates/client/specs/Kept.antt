@@ -1,12 +1,11 @@
 -- What an application reads back of an acknowledged commit.
 use Rattle.std.specs.Borrow.{Bor}
-use Rattle.std.specs.Prelude.{ℕ, ◌≡◌, ◌≤◌, ◌<◌, ◌⊎◌, Bool, IsTrue, suc, List, map, Contains, IsSome, Option, None, Some, MatchOption, Result, Ok, Err}
+use Rattle.std.specs.Prelude.{ℕ, ◌≡◌, ◌≤◌, ◌<◌, ◌⊎◌, Bool, IsTrue, suc, List, map, Contains, IsSome, Option, None, Some, Result, Ok, Err}
 use Rattle.disk.specs.Areas.{Image, AreSound, image_of}
 use Rattle.disk.specs.Calls.{DiskState}
 use Rattle.history.specs.declared.key.Key.{Key}
 use Rattle.history.specs.declared.key.KeyWrite.{KeyWrite}
 use Rattle.history.specs.Key.{write_in}
-use Rattle.history.specs.Floors.{covers}
 use Rattle.history.specs.Histories.{Commit, History, last, state}
 use Rattle.history.specs.Machine.{Machine}
 use Rattle.image.specs.Values.{Value}
@@ -25,6 +24,7 @@ use Rattle.run.specs.declared.calls.Call.TheVariants as call
 use Rattle.run.specs.declared.calls.Answer.{Answer}
 use Rattle.run.specs.declared.calls.Answer.TheVariants as answer
 use Rattle.run.specs.declared.calls.RedeemOutcome.TheVariants as told
+use Rattle.run.specs.Laws.{IsKeptTime}
 use Rattle.run.specs.Promise.{IsKeptAs}
 use Rattle.run.specs.Places.{Running, place_at}
 use Rattle.run.specs.Traces.{Trace, moment_at, machine_at, StopLeaves, IsCall, place_of, IsSubmit, LeavesKey}
@@ -43,9 +43,9 @@ pub record IsReadBack (tells : Bool) (image : Image) (key : Key) (time : ℕ) (v
 
 -- ---- times
 
--- the time is kept of this relation: no floor is later, nor is the one in the making
-abbrev pub IsKeptTime : Machine Value → ℕ → ℕ → Type 0
-IsKeptTime m relation time = (m.floors relation ≤ time) × MatchOption m.raising (Unit {0}) (λ r. IsTrue (covers r.scope relation) → r.floor ≤ time)
+-- No call of these numbers begins a floor later than the time.
+abbrev pub BeginsNoLaterFloor : {tells : Bool} → Trace tells → (from upto time : ℕ) → Type 0
+BeginsNoLaterFloor t from upto time = (i floor : ℕ) → from ≤ i → i < upto → IsCall t i (call.Floor floor) (answer.Floor (Ok tt)) → floor ≤ time
 
 -- A value that was written at the one time is still the key's at the other: after this many calls that time is published, no commit between the two writes the key, and it is kept then and after the next call.
 pub record IsUnchanged {tells : Bool} (t : Trace tells) (n : ℕ) (key : Key) (from upto : ℕ) : Type 0 where
@@ -72,9 +72,9 @@ abbrev pub DoneIsKept : Type 0
 DoneIsKept = (tells : Bool) (t : Trace tells) (i k time : ℕ) → IsTrue tells → IsDone t k i time
     → (c : Commit Value) × (c.time ≡ time) × IsSubmit t i c × ((n : ℕ) (image : Image) → k ≤ n → StopLeaves t n image → (h : History Value) × (floors : ℕ → ℕ) × IsKeptAs tells image h floors × Contains h c)
 
--- At its own time nothing has to be asked for: no call raises a floor, and a commit is later than each.
+-- At its own time nothing else has to be asked for than that no floor later than it is begun: a commit is later than each floor before it.
 abbrev pub DoneIsUnchanged : Type 0
-DoneIsUnchanged = (tells : Bool) (t : Trace tells) (i k n time : ℕ) (key : Key) → IsDone t k i time → k ≤ n → IsUnchanged t n key time time
+DoneIsUnchanged = (tells : Bool) (t : Trace tells) (i k n time : ℕ) (key : Key) → IsDone t k i time → k ≤ n → BeginsNoLaterFloor t i (suc n) time → IsUnchanged t n key time time
 
 -- Done was answered, with this time, for a transaction that put this value last under the key.
 pub record IsPutDone {tells : Bool} (t : Trace tells) (k time : ℕ) (key : Key) (value : Value) : Type 0 where

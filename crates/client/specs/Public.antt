@@ -1,7 +1,7 @@
 -- The public clauses on which the laws of this crate stand: those of `run`, and of its histories.
 use Rattle.history.specs.Laws.{LaterChangesNothing, RunAdds, RunPublishes, ConflictIsDecided}
 use Rattle.image.specs.Values.{Value, IsValue}
-use Rattle.run.specs.Laws.{FirstMoment, MomentSurvives, WriteStands, StopsSurvive, MachineRuns, FloorsStand, DoneNamesItsSubmit, PutIsSubmitted, DeleteIsSubmitted, ViewAnswersByItsMoment}
+use Rattle.run.specs.Laws.{FirstMoment, MomentSurvives, WriteStands, StopsSurvive, MachineRuns, TimesStayKept, DoneNamesItsSubmit, PutIsSubmitted, DeleteIsSubmitted, ViewAnswersByItsMoment}
 
 pub record Public : Type 0 where
   pub first : FirstMoment
@@ -9,7 +9,7 @@ pub record Public : Type 0 where
   pub writes : WriteStands
   pub stops : StopsSurvive
   pub runs : MachineRuns
-  pub floors : FloorsStand
+  pub times : TimesStayKept
   pub done : DoneNamesItsSubmit
   pub put : PutIsSubmitted
   pub delete : DeleteIsSubmitted

@@ -7,7 +7,8 @@ use Rattle.history.specs.Machine.{Machine, opened}
 use Rattle.image.specs.Values.{Value}
 use Rattle.run.specs.Promise.{IsKeptAs}
 use Rattle.run.specs.Traces.{Trace, machine_at, StopLeaves}
-use Rattle.client.specs.Kept.{IsReadBack, IsKeptTime, IsUnchanged, IsPutDone}
+use Rattle.run.specs.Laws.{IsKeptTime}
+use Rattle.client.specs.Kept.{IsReadBack, BeginsNoLaterFloor, IsUnchanged, IsPutDone}
 
 -- the time is published and kept, and this is the key's value then
 pub record IsSettled (m : Machine Value) (key : Key) (time : ℕ) (value : Option Value) : Type 0 where
@@ -34,6 +35,6 @@ SettledReopens = (tells : Bool) (t : Trace tells) (n : ℕ) (key : Key) (time : 
     → IsTrue tells → IsSettled (machine_at t n) key time value → IsKeptTime (machine_at t (suc n)) key.relation time → StopLeaves t n image
     → (h : History Value) × (floors : ℕ → ℕ) × IsKeptAs tells image h floors × IsSettled (opened h floors) key time value
 
--- A time that is kept stays so: no call raises a floor, or begins to.
+-- A time that is kept stays so, unless a call between begins a later floor.
 abbrev pub TimesStayKept : Type 0
-TimesStayKept = (tells : Bool) (t : Trace tells) (p q relation time : ℕ) → p ≤ q → IsKeptTime (machine_at t p) relation time → IsKeptTime (machine_at t q) relation time
+TimesStayKept = (tells : Bool) (t : Trace tells) (p q relation time : ℕ) → p ≤ q → IsKeptTime (machine_at t p) relation time → BeginsNoLaterFloor t p q time → IsKeptTime (machine_at t q) relation time

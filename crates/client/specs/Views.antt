@@ -6,7 +6,8 @@ use Rattle.timequery.specs.declared.fault.QueryFault.{QueryFault}
 use Rattle.run.specs.declared.calls.Call.TheVariants as call
 use Rattle.run.specs.declared.calls.Answer.TheVariants as answer
 use Rattle.run.specs.Traces.{Trace, machine_at, IsCall, place_of}
-use Rattle.client.specs.Kept.{IsAnswer, IsKeptTime}
+use Rattle.run.specs.Laws.{IsKeptTime}
+use Rattle.client.specs.Kept.{IsAnswer}
 use Rattle.client.specs.Settled.{IsSettled}
 
 -- the call of this number asked the view of that one for the value of the key at the time, and this is its answer

@@ -19,7 +19,7 @@ fn public_clauses()
     run::laws::stops_survive();
     run::laws::writes_stand();
     run::laws::calls_link();
-    run::laws::floors_stand();
+    run::laws::times_stay_kept();
     run::laws::done_names_its_submit();
     run::laws::writes_are_submitted();
     run::laws::views_stay();
@@ -32,7 +32,7 @@ fn public_clauses()
 /// submitted a write set, and whoever opens a store on what any later stop leaves reads each of its
 /// writes at the commit's time and until a later commit of the key, unless the device or memory gives
 /// out; the image is kept as a history that has the commit. At the commit's own time that needs
-/// nothing more, since no call raises a floor.
+/// nothing more than that no later floor is begun.
 pub fn done_is_read()
     ensures read { DoneIsRead }
     ensures kept { DoneIsKept }

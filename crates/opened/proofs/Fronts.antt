@@ -1,5 +1,5 @@
 -- What is said of a front, for what is said of another.
-use Rattle.std.proofs.Common.{◌≡◌, ℕ, inl, inr, refl, Option, None, Some}
+use Rattle.std.proofs.Common.{◌≡◌, ◌⊎◌, ℕ, inl, inr, refl, Option, None, Some}
 use Rattle.history.specs.Floors.{Raising, raised}
 use Rattle.history.specs.Histories.{History}
 use Rattle.history.specs.Fronts.{OnRaised, OnOpened, OnFront, with_group}
@@ -34,13 +34,13 @@ pub front-is : {V X : Type 0} (P : History V → (ℕ → ℕ) → Type 0) (m : 
 front-is P m say (inl on) = say m.published m.floors on
 front-is P m say (inr on) = opened-is P m m.gate say on
 
--- where no floor is in the making, what stands behind a gate is the whole group
-no-raise : {V : Type 0} (P : History V → (ℕ → ℕ) → Type 0) (m : Machine V) (o : Option Raising) → o ≡ None → OnRaised P m o → ⊥
-no-raise P m None none on = on
-no-raise P m (Some r) none on = absurd cc
+-- what stands behind a gate is the whole group, or the floor in the making
+by-raised : {V : Type 0} (P : History V → (ℕ → ℕ) → Type 0) (m : Machine V) (o : Option Raising) → m.raising ≡ o → OnRaised P m o → (r : Raising) × (m.raising ≡ Some r) × P m.published (raised r.scope r.floor m.floors)
+by-raised P m None is on = absurd on
+by-raised P m (Some r) is on = (r, is, on)
 
-pub group-front : {V : Type 0} (P : History V → (ℕ → ℕ) → Type 0) (m : Machine V) (gate : Gate) → m.raising ≡ None → OnOpened P m gate → (gate ≡ MayBeOpen OfGroup) × P (with_group m) m.floors
-group-front P m Shut none on = absurd on
-group-front P m (Due change) none on = absurd on
-group-front P m (MayBeOpen OfGroup) none on = (refl, on)
-group-front P m (MayBeOpen OfFloor) none on = absurd (no-raise P m m.raising none on)
+pub by-change : {V : Type 0} (P : History V → (ℕ → ℕ) → Type 0) (m : Machine V) (gate : Gate) → OnOpened P m gate → P (with_group m) m.floors ⊎ ((r : Raising) × (m.raising ≡ Some r) × P m.published (raised r.scope r.floor m.floors))
+by-change P m Shut on = absurd on
+by-change P m (Due change) on = absurd on
+by-change P m (MayBeOpen OfGroup) on = inl on
+by-change P m (MayBeOpen OfFloor) on = inr (by-raised P m m.raising refl on)

@@ -176,7 +176,6 @@ module _ (old : DiskState) (mark : ℕ) (disk : DiskState) (r : Recovered) (arch
     staged = λ staged. absurd staged;
     snapshots = IsPermutation-refl [];
     floors = so.floor;
-    raising = refl;
     failed = refl;
   }
 
@@ -282,6 +281,7 @@ module _ (old : DiskState) (mark : ℕ) (disk : DiskState) (r : Recovered) (arch
     order = order;
     in_step = in_step;
     gate = λ works. refl;
+    raises = refl;
     marks = (let order = image.stands.homes.marks in omega (arith, marked, is.archived, order), (let upto = archived-range image.reading h floors image.stands in omega (arith, is.archived, upto)));
     job = tt;
     disk = λ tells_so. on_disk;

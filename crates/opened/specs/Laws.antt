@@ -1,5 +1,5 @@
 -- What opening a store, formatting a disk and closing a store stand for.
-use Rattle.std.specs.Prelude.{ℕ, ◌≡◌, ◌+◌, ◌≤◌, ◌++◌, Bool, IsTrue, List, [], Option, Result}
+use Rattle.std.specs.Prelude.{ℕ, ◌≡◌, ◌+◌, ◌≤◌, ◌++◌, Bool, IsTrue, List, [], Option, Result, MatchOption}
 use Rattle.disk.specs.Areas.{Areas, Image, AreSound, LeavesImage, LeavesNoMore, image_of}
 use Rattle.disk.specs.Calls.{DiskState, top}
 use Rattle.std.specs.List.{AllByRecursion}
@@ -7,6 +7,7 @@ use Rattle.std.specs.declared.alloc.Global.{Global}
 use Rattle.std.specs.declared.vec.Vec.{Vec}
 use Rattle.history.specs.declared.key.Key.{Key}
 use Rattle.history.specs.declared.time.Version.{Version}
+use Rattle.history.specs.Floors.{covers}
 use Rattle.history.specs.Histories.{History, last}
 use Rattle.history.specs.Fronts.{OnFront}
 use Rattle.history.specs.Machine.{Machine, opened}
@@ -131,11 +132,15 @@ abbrev pub KeptAnswers : Type 0
 KeptAnswers = (tells : Bool) (v : StoreValue) (m : Machine Value) (disk : DiskState) (mark : ℕ) (again : StoreValue)
     → Stands tells v m → IsTrue tells → OpensAgain tells v disk mark again → OnFront (AnswersBy tells again) m
 
--- and up to the last time that was published they are answered as before
+-- the floor in the making, if there is one, keeps this time of the relation
+abbrev pub IsKeptThen : Machine Value → ℕ → ℕ → Type 0
+IsKeptThen m relation time = MatchOption m.raising (Unit {0}) (λ r. IsTrue (covers r.scope relation) → r.floor ≤ time)
+
+-- and up to the last time that was published they are answered as before, if no floor in the making is later
 abbrev pub AnswersStay : Type 0
 AnswersStay = (tells : Bool) (v : StoreValue) (m : Machine Value) (disk : DiskState) (mark : ℕ) (again asked new : StoreValue) (later : Machine Value) (view : ViewValue) (key : Key) (time : ℕ) (answer : Result (Option Value) QueryFault)
     → Stands tells v m → IsTrue tells → OpensAgain tells v disk mark again → IsViewOf again view → Stands tells asked later → GoesOn tells again asked → AnswersAtView tells asked view key time answer new
-    → time ≤ last m.published → SaysAt (IsSure tells view.reclaimed time) (at_answer m.published m.floors key time) answer
+    → time ≤ last m.published → IsKeptThen m key.relation time → SaysAt (IsSure tells view.reclaimed time) (at_answer m.published m.floors key time) answer
 
 -- ---- labels
 

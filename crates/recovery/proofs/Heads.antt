@@ -10,7 +10,7 @@ use Rattle.wire.specs.declared.slot.Body.{Body}
 use Rattle.wire.specs.declared.slot.Body.TheVariants as bodies
 use Rattle.wire.specs.declared.slot.Slot.{Slot as Wired}
 use Rattle.image.specs.Reading.{Head, Slot, Commits, Archived, Reclaimed, Floor}
-use Rattle.image.specs.Log.{heads_of, last_time_after, last_time, archive_mark, reclaim_mark, reclaim_mark_after, AreRisingAfter, MayAllCome}
+use Rattle.image.specs.Log.{heads_of, last_time_after, last_time, archive_mark, reclaim_mark, reclaim_mark_after, floor_of, AreRisingAfter, MayAllCome}
 use Rattle.image.proofs.Logs.{heads_of-append, last_time_after-append, marked-all, marked-none}
 use Rattle.status.specs.Rules.{head_of, slot_of, log_of, KeepsRules}
 use Rattle.reading.specs.Layouts.{entries_in, entries_of, later_than, no_anchors, anchors_in, anchors_after}
@@ -64,6 +64,12 @@ pub archived_upto_last : (profile : ℕ) (slots : List Wired) → KeepsRules pro
 archived_upto_last profile slots rules =
     subst (λ (heads : List Head). archive_mark (log_of slots) ≤ last_time_after 0 heads) (sym (entry_heads slots))
     (marked-all profile [] (log_of slots) marked-none (rules_say profile slots rules).0).archived
+
+-- neither is a floor
+pub floor_upto_last : (profile : ℕ) (slots : List Wired) (relation : ℕ) → KeepsRules profile slots → floor_of (log_of slots) relation ≤ last_time_after 0 (map head_of (entries_of slots))
+floor_upto_last profile slots relation rules =
+    subst (λ (heads : List Head). floor_of (log_of slots) relation ≤ last_time_after 0 heads) (sym (entry_heads slots))
+    ((marked-all profile [] (log_of slots) marked-none (rules_say profile slots rules).0).floors relation)
 
 -- neither is the reclaim mark, which is in range
 pub reclaimed_upto_last : (profile : ℕ) (slots : List Wired) → KeepsRules profile slots → reclaim_mark (log_of slots) ≤ last_time_after 0 (map head_of (entries_of slots))

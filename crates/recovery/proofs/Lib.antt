@@ -4,6 +4,7 @@ pub mod Settling
 pub mod Counting
 pub mod Walking
 pub mod Heads
+pub mod RunEntries
 pub mod Stored
 pub mod Claims
 pub mod RightChains

@@ -32,6 +32,8 @@ use Rattle.recovery.specs.declared.fault.OpenFault.TheVariants.{NotAStore, Damag
 use Rattle.recovery.specs.Faults.{ReadsStatus, FailsStatusAt, FailsHeapAt, FailsArchiveAt, IsReadFault, IsImageFault}
 use Rattle.recovery.specs.ReadsImage.{IsOpening, KeepsOnly, IsReadFrom}
 use Rattle.recovery.specs.HeapReads.{numbers_in, live_of}
+use Rattle.recovery.specs.RunEntries.{AreEntriesOf}
+use Rattle.recovery.proofs.RunEntries.{one_list}
 use Rattle.recovery.specs.Laws.{SaySame}
 
 -- ---- the status area
@@ -201,7 +203,7 @@ same_read image r s reads_r reads_s =
       floors = is_r.floor 0 ∙ ap (λ (x : Reading). floor_of x.log 0) same.2 ∙ sym (is_s.floor 0);
       archives = is_r.archived ∙ ap (λ (x : Reading). archive_mark x.log) same.2 ∙ sym is_s.archived;
       reclaims = is_r.reclaimed ∙ ap (λ (x : Reading). reclaim_mark x.log) same.2 ∙ sym is_s.reclaimed;
-      runs_are = is_r.runs ∙ ap (λ (l : Layout). runs_of l.slots) same.1 ∙ sym is_s.runs;
+      runs_are = one_list reads_r.layout.slots r.runs.items s.runs.items is_r.runs (subst (λ (l : Layout). AreEntriesOf l.slots s.runs.items) layout is_s.runs);
       kept = λ n low high. (kept_too r.extents s.extents _ n is_r.extents keeps_s, kept_too s.extents r.extents _ n keeps_s is_r.extents);
       free = λ n low high. (free_too r.extents s.extents _ n is_r.extents keeps_s, free_too s.extents r.extents _ n keeps_s is_r.extents);
       live_are = is_r.live_are ∙ ap (λ (l : Layout). map live_of l.members) same.1 ∙ sym is_s.live_are;

@@ -1,22 +1,22 @@
 -- From the chains that were read of a heap to what its image opens as.
-use Rattle.std.proofs.Common.{◌≡◌, ◌≢◌, ℕ, zero, suc, nat_lt, Bool, true, false, IsTrue, List, [], ◌∷◌, ◌++◌, map, length, replicate, Some, refl, sym, ap, subst, ◌∙◌, arith}
-use Rattle.std.specs.Prelude.{◌==◌, ◌&&◌, filter, slice_get}
+use Rattle.std.proofs.Common.{◌≡◌, ◌≢◌, ℕ, zero, suc, nat_lt, List, [], ◌∷◌, ◌++◌, map, length, replicate, Some, refl, sym, ap, subst, ◌∙◌, arith}
+use Rattle.std.specs.Prelude.{filter, slice_get}
 use Rattle.std.specs.List.{AllByRecursion}
 use Rattle.history.proofs.Filters.{AllByRecursion-append, AllByRecursion-filter}
 use Rattle.disk.specs.Areas.{Image}
-use Rattle.wire.specs.Spelling.{kind_of, InRange, IsMember, IsRun, Rises}
+use Rattle.wire.specs.Spelling.{InRange, IsMember, IsRun, Rises}
 use Rattle.wire.specs.declared.slot.Member.{Member}
 use Rattle.wire.specs.declared.slot.Body.{Body}
 use Rattle.wire.specs.declared.slot.Body.TheVariants.{Commit, Archived, Reclaimed, Floor}
 use Rattle.wire.specs.declared.slot.Slot.{Slot}
 use Rattle.image.specs.Reading as readings
-use Rattle.image.specs.Log.{heads_of, last_time_after, archive_mark, floors_after}
+use Rattle.image.specs.Log.{heads_of, last_time_after, archive_mark, floor_of}
 use Rattle.chains.specs.KeyWrites.{KeyWrites, writes_of as chain_writes_of}
 use Rattle.extents.specs.declared.usage.Usage.{Usage}
 use Rattle.extents.specs.declared.usage.Usage.TheVariants.{Free}
 use Rattle.extents.specs.Usages.{IsKept, IsNoneOf}
 use Rattle.status.specs.declared.header.Header.{Header}
-use Rattle.status.specs.Rules.{is_built, head_of, slot_of, log_of, runs_in, runs_of}
+use Rattle.status.specs.Rules.{head_of, log_of, runs_in, runs_of}
 use Rattle.reading.specs.Extents.{Extent, HoldsExtent}
 use Rattle.reading.specs.Layouts.{StoredMember, IsStoredMember, Layout, extents_of, entries_of, later_than, no_anchors, anchors_after}
 use Rattle.reading.specs.Opening.{EndsWithin, mark_of}
@@ -28,6 +28,7 @@ use Rattle.recovery.specs.declared.fault.OpenFault.TheVariants.{NotAStore, Damag
 use Rattle.recovery.specs.declared.recovered.HeapRead.{HeapRead}
 use Rattle.recovery.specs.declared.recovered.Recovered.{Recovered}
 use Rattle.recovery.specs.Names.{head_named}
+use Rattle.recovery.specs.RunEntries.{AreEntriesOf}
 use Rattle.recovery.specs.Faults.{ReadsStatus, IsRunsFault, IsImageFault}
 use Rattle.recovery.specs.ReadsImage.{IsOpening, KeepsOnly, IsReadFrom}
 use Rattle.recovery.specs.Walk.{claimed}
@@ -36,41 +37,6 @@ use Rattle.recovery.specs.HeapReads.{values_of, numbers_in, HoldsMembers, HoldsE
 use Rattle.recovery.proofs.Heads.{entry_heads, later_heads}
 use Rattle.recovery.proofs.Claims.{IsNumbered, free_all, kept_all, still_free}
 use Rattle.recovery.proofs.HeldMembers.{numbered_all, numbered_anchors}
-
--- ---- a log without floors
-
-abbrev IsPlain : Body → Type 0
-IsPlain (Commit members) = Unit {0}
-IsPlain (Archived run) = Unit {0}
-IsPlain (Reclaimed anchors) = Unit {0}
-IsPlain (Floor relation floor) = ⊥
-
-abbrev ArePlain : List Slot → Type 0
-ArePlain slots = AllByRecursion (λ (s : Slot). IsPlain s.body) slots
-
-not_built : (b : Bool) → IsTrue (b && false) → ⊥
-not_built true is = cc
-not_built false is = cc
-
-built_is_plain : (profile : ℕ) (body : Body) → IsTrue (is_built profile (kind_of body)) → IsPlain body
-built_is_plain profile (Commit members) built = tt
-built_is_plain profile (Archived run) built = tt
-built_is_plain profile (Reclaimed anchors) built = tt
-built_is_plain profile (Floor relation floor) built = not_built (profile == 1) built
-
-built_are_plain : (profile : ℕ) (slots : List Slot) → ((n : ℕ) (slot : Slot) → slice_get slots n ≡ Some slot → IsTrue (is_built profile (kind_of slot.body))) → ArePlain slots
-built_are_plain profile [] built = tt
-built_are_plain profile (s ∷ slots) built = (built_is_plain profile s.body (built zero s refl), built_are_plain profile slots (λ n slot is. built (suc n) slot is))
-
-floor_in : (before : ℕ → ℕ) (body : Body) (log : List readings.Slot) (relation : ℕ) → IsPlain body → floors_after before (slot_of body ∷ log) relation ≡ floors_after before log relation
-floor_in before (Commit members) log relation is = refl
-floor_in before (Archived run) log relation is = refl
-floor_in before (Reclaimed anchors) log relation is = refl
-floor_in before (Floor scope floor) log relation is = absurd is
-
-no_floor : (before : ℕ → ℕ) (slots : List Slot) (relation : ℕ) → ArePlain slots → floors_after before (log_of slots) relation ≡ before relation
-no_floor before [] relation are = refl
-no_floor before (s ∷ slots) relation are = floor_in before s.body (log_of slots) relation are.0 ∙ no_floor before slots relation are.1
 
 -- ---- the ranges of what the slots name
 
@@ -149,10 +115,10 @@ reading_of header slots olds members = record {
 pub record IsGathered (slots : List Slot) (read : HeapRead) (r : Recovered) : Type 0 where
   pub used : r.used ≡ length slots
   pub commits : map head_named r.commits.items ≡ map head_of (entries_of slots)
-  pub floor : r.floor ≡ 0
+  pub floor : (relation : ℕ) → r.floor ≡ floor_of (log_of slots) relation
   pub archived : r.archived ≡ archive_mark (log_of slots)
   pub reclaimed : r.reclaimed ≡ mark_of slots
-  pub runs : r.runs.items ≡ runs_of slots
+  pub runs : AreEntriesOf slots r.runs.items
   pub extents : r.extents ≡ read.extents
   pub live : r.live.items ≡ read.live.items
   pub chains : r.chains ≡ read.chains
@@ -166,9 +132,6 @@ abbrev pub IsSlotsFault : List ℕ → List Slot → OpenFault → Type 0
 IsSlotsFault heap slots fault = IsMembersFault heap (mark_of slots) (anchors_after no_anchors slots) (later_than (mark_of slots) (entries_of slots)) fault
 
 module _ (image : Image) (header : Header) (slots : List Slot) (reads : ReadsStatus image.status header slots) where
-  are_plain : ArePlain slots
-  are_plain = built_are_plain header.profile slots (λ n slot is. (reads.log.rules n slot is).built)
-
   pub members_fail : (fault : OpenFault) → IsSlotsFault image.heap slots fault → IsImageFault image fault
   members_fail NotAStore fails = absurd fails
   members_fail (Damaged Status place) fails = absurd fails
@@ -249,7 +212,7 @@ module _ (image : Image) (header : Header) (slots : List Slot) (reads : ReadsSta
         is = record {
           used = gathered.used;
           commits = gathered.commits ∙ sym heads;
-          floor = λ relation. gathered.floor ∙ sym (no_floor (λ relation. 0) slots relation are_plain);
+          floor = gathered.floor;
           archived = gathered.archived;
           reclaimed = gathered.reclaimed;
           runs = gathered.runs;

@@ -1,9 +1,9 @@
 -- The moments of an opening.
-use Rattle.std.proofs.Common.{◌≡◌, ◌+◌, ◌≤◌, Bool, IsTrue, List, [], ◌∷◌, Result, Ok, Err, refl, ap, ◌∙◌, inl, inr, arith}
+use Rattle.std.proofs.Common.{◌≡◌, ◌+◌, ◌≤◌, Bool, IsTrue, [], ◌∷◌, Result, Ok, Err, refl, ap, ◌∙◌, inl, inr, arith}
 use Rattle.std.specs.Prelude.{is_err, true}
 use Rattle.std.proofs.lemmas.Bool.{cases_eq}
 use Rattle.disk.specs.Areas.{Areas, AreSound, LeavesNoMore}
-use Rattle.disk.specs.Calls.{DiskState, Counts, Syncs, top}
+use Rattle.disk.specs.Calls.{DiskState, Counts, top}
 use Rattle.disk.specs.declared.area.Area.{Area}
 use Rattle.disk.specs.declared.area.Area.TheVariants.{Status, Heap, Archive}
 use Rattle.disk.specs.declared.area.DeviceFault.{DeviceFault}

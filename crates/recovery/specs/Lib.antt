@@ -4,6 +4,7 @@ pub mod ReadChains
 pub mod Answers
 pub mod Resolving
 pub mod Names
+pub mod RunEntries
 pub mod Settling
 pub mod Faults
 pub mod ReadsImage

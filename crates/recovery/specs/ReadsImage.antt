@@ -10,11 +10,12 @@ use Rattle.chains.specs.KeyWrites.{writes_of}
 use Rattle.extents.specs.declared.usage.Usage.{Usage}
 use Rattle.extents.specs.Usages.{IsFree, IsKept, IsNoneOf}
 use Rattle.status.specs.declared.header.Header.{Header}
-use Rattle.status.specs.Rules.{is_built, runs_of}
+use Rattle.status.specs.Rules.{is_built}
 use Rattle.reading.specs.Layouts.{Layout, live}
 use Rattle.reading.specs.Opening.{Opens}
 use Rattle.recovery.specs.declared.recovered.Recovered.{Recovered}
 use Rattle.recovery.specs.Names.{head_named}
+use Rattle.recovery.specs.RunEntries.{AreEntriesOf}
 use Rattle.recovery.specs.Chains.{live_named}
 use Rattle.recovery.specs.HeapReads.{numbers_in, live_of}
 
@@ -35,7 +36,7 @@ pub record IsReadAs (layout : Layout) (reading : Reading) (r : Recovered) : Type
   pub floor : (relation : ℕ) → r.floor ≡ floor_of reading.log relation
   pub archived : r.archived ≡ archive_mark reading.log
   pub reclaimed : r.reclaimed ≡ reclaim_mark reading.log
-  pub runs : r.runs.items ≡ runs_of layout.slots
+  pub runs : AreEntriesOf layout.slots r.runs.items
   -- the extents of the live chains
   pub extents : KeepsOnly r.extents (numbers_in (live layout))
   pub live_are : map live_named r.live.items ≡ map live_of layout.members

@@ -12,6 +12,7 @@ mod opening;
 mod records;
 mod recovered;
 mod resolving;
+mod runs;
 
 pub use fault::{FormatFault, OpenFault};
 pub use formatting::format;

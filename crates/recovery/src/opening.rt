@@ -4,10 +4,9 @@ ghost use Rattle.std.specs.Prelude.{◌≡◌, ◌≤◌, ◌<◌, ◌^◌, IsTr
 ghost use Rattle.std.specs.List.{AllByRecursion};
 ghost use Rattle.disk.specs.Areas.{image_of, settled_on, LeavesNoMore};
 ghost use Rattle.disk.specs.Calls.{refusals};
-ghost use Rattle.image.specs.Log.{AreRisingAfter, last_time_after, archive_mark};
+ghost use Rattle.image.specs.Log.{AreRisingAfter, last_time_after};
 ghost use Rattle.status.specs.Header.{total};
-ghost use Rattle.status.specs.Rules.{head_of, log_of, runs_of, AreInRow, KeepsRules};
-ghost use Rattle.wire.specs.Spelling.{IsRun};
+ghost use Rattle.status.specs.Rules.{head_of, AreInRow, KeepsRules};
 ghost use Rattle.image.specs.Reading.{Reading};
 ghost use Rattle.reading.specs.Layouts.{Layout, entries_of};
 ghost use Rattle.reading.specs.Opening.{EndsWithin, FailsRuns};
@@ -18,15 +17,18 @@ ghost use Rattle.recovery.specs.Answers.{after_reads};
 ghost use Rattle.recovery.specs.Faults.{IsReadFault, IsHeaderFault, IsRunsFault, IsImageFault};
 ghost use Rattle.recovery.specs.ReadsImage.{IsOpening, IsReadFrom};
 ghost use Rattle.recovery.specs.Names.{head_named, name_of, refusals_at_opening};
+ghost use Rattle.recovery.specs.RunEntries.{runs_named, AreMarkedFrom};
 ghost use Rattle.recovery.specs.Settling.{Settles, CountsMore, CountsAtMost};
 
 use crate::fault::OpenFault;
 use crate::heap::{last_anchors, read_heap};
 use crate::recovered::{CommitName, Recovered};
+use crate::runs::read_runs;
+use archive::RunEntry;
 use disk::{Area, DeviceFault, Disk};
 use status::{Header, read_header, read_log};
 use std::alloc::{AllocError, Global};
-use wire::{Body, Member, Run, Slot};
+use wire::{Body, Member, Slot};
 
 const MOST_SLOTS: u64 = 65_536;
 
@@ -43,36 +45,6 @@ fn entries(alloc: Global, slots: &[Slot]) -> Result<Vec<Member>, AllocError>
         rest = after;
     }
     Ok(entries)
-}
-
-// The runs that the slots name, in order.
-fn runs(alloc: Global, slots: &[Slot]) -> Result<Vec<Run>, AllocError>
-    ensures { IfOk result (λ runs. runs.items ≡ runs_of slots.now) }
-{
-    let mut runs = Vec::new(alloc);
-    let mut rest = slots;
-    while let [slot, after @ ..] = rest {
-        if let Body::Archived(run) = &slot.body {
-            runs.push(*run)?;
-        }
-        rest = after;
-    }
-    Ok(runs)
-}
-
-// The archive mark of the slots.
-fn archive_mark(slots: &[Slot]) -> u64
-    ensures { result ≡ archive_mark (log_of slots.now) }
-{
-    let mut mark = 0;
-    let mut rest = slots;
-    while let [slot, after @ ..] = rest {
-        if let Body::Archived(run) = &slot.body {
-            mark = run.upto;
-        }
-        rest = after;
-    }
-    mark
 }
 
 fn names(alloc: Global, entries: &[Member]) -> Result<Vec<CommitName>, AllocError>
@@ -112,15 +84,14 @@ fn settle<D: Disk>(disk: &mut D) -> Result<(), DeviceFault>
 }
 
 // Where the first run starts that does not end within an archive of this length.
-fn first_past(runs: &[Run], archive_len: u64) -> Option<u64>
-    requires in_range { AllByRecursion IsRun runs.now }
-    ensures some { IfSome result (FailsRuns archive_len runs.now) }
-    ensures none { IfNone result (AllByRecursion (EndsWithin archive_len) runs.now) }
+fn first_past(runs: &[RunEntry], archive_len: u64) -> Option<u64>
+    ensures some { IfSome result (FailsRuns archive_len (runs_named runs.now)) }
+    ensures none { IfNone result (AllByRecursion (EndsWithin archive_len) (runs_named runs.now)) }
 {
     let mut rest = runs;
     while let [run, after @ ..] = rest {
-        if archive_len < run.start + run.len {
-            return Some(run.start);
+        if archive_len < run.slot.start + run.slot.len {
+            return Some(run.slot.start);
         }
         rest = after;
     }
@@ -128,10 +99,9 @@ fn first_past(runs: &[Run], archive_len: u64) -> Option<u64>
 }
 
 // Whether each run ends within the archive.
-fn check_runs<D: Disk>(disk: &mut D, runs: &[Run]) -> Result<(), OpenFault>
-    requires in_range { AllByRecursion IsRun runs.now }
-    ensures within { IsTrue D.tells → OnOk result (AllByRecursion (EndsWithin (length (D.state disk.old).areas.archive.bytes)) runs.now) }
-    ensures fault { IsTrue D.tells → IfErr result (IsRunsFault (length (D.state disk.old).areas.archive.bytes) runs.now) }
+fn check_runs<D: Disk>(disk: &mut D, runs: &[RunEntry]) -> Result<(), OpenFault>
+    ensures within { IsTrue D.tells → OnOk result (AllByRecursion (EndsWithin (length (D.state disk.old).areas.archive.bytes)) (runs_named runs.now)) }
+    ensures fault { IsTrue D.tells → IfErr result (IsRunsFault (length (D.state disk.old).areas.archive.bytes) (runs_named runs.now)) }
     ensures reads { D.state disk.new ≡ after_reads result (D.state disk.old) }
 {
     let archive_len = disk.len(Area::Archive)?;
@@ -162,7 +132,8 @@ fn read_settled<D: Disk>(alloc: Global, disk: &mut D) -> Result<Recovered, OpenF
     ensures last { IfOk result (λ r. r.last ≡ last_time_after 0 (map head_named r.commits.items)) }
     ensures latest { IfOk result (λ r. latest r.chains ≤ r.last) }
     ensures archived { IfOk result (λ r. r.archived ≤ r.last) }
-    ensures runs { IfOk result (λ r. AllByRecursion IsRun r.runs.items × AreInRow 0 r.runs.items) }
+    ensures floor { IfOk result (λ r. r.floor ≤ r.last) }
+    ensures runs { IfOk result (λ r. AreInRow 0 (runs_named r.runs.items) × AreMarkedFrom 0 r.runs.items) }
     ensures found { IsTrue D.tells → IfOk result (IsReadFrom (image_of (D.state disk.old).areas)) }
     ensures fault { IsTrue D.tells → IfErr result (IsImageFault (image_of (D.state disk.old).areas)) }
     ensures reads { D.state disk.new ≡ after_reads result (D.state disk.old) }
@@ -175,16 +146,16 @@ fn read_settled<D: Disk>(alloc: Global, disk: &mut D) -> Result<Recovered, OpenF
         Err(fault) => return Err(fault),
     };
     let commits = commit_names(alloc, &entries)?;
-    let runs = runs(alloc, &slots)?;
-    check_runs(disk, &runs)?;
+    let read = read_runs(alloc, &slots)?;
+    check_runs(disk, &read.runs)?;
     Ok(Recovered {
         header,
         used: slots.len() as u32,
         commits,
-        floor: 0,
-        archived: archive_mark(&slots),
+        floor: read.floor,
+        archived: read.archived,
         reclaimed: last_anchors(&slots).upto,
-        runs,
+        runs: read.runs,
         extents: heap.extents,
         live: heap.live,
         chains: heap.chains,
@@ -204,7 +175,8 @@ pub fn read_image<D: Disk>(alloc: Global, disk: &mut D) -> Result<Recovered, Ope
     ensures last { IfOk result (λ r. r.last ≡ last_time_after 0 (map head_named r.commits.items)) }
     ensures latest { IfOk result (λ r. latest r.chains ≤ r.last) }
     ensures archived { IfOk result (λ r. r.archived ≤ r.last) }
-    ensures runs { IfOk result (λ r. AllByRecursion IsRun r.runs.items × AreInRow 0 r.runs.items) }
+    ensures floor { IfOk result (λ r. r.floor ≤ r.last) }
+    ensures runs { IfOk result (λ r. AreInRow 0 (runs_named r.runs.items) × AreMarkedFrom 0 r.runs.items) }
 
     ensures found { IsTrue D.tells → IfOk result (IsReadFrom (image_of (D.state disk.old).areas)) }
     ensures fault { IsTrue D.tells → IfErr result (IsImageFault (image_of (D.state disk.old).areas)) }

@@ -3,10 +3,10 @@
 ghost use Rattle.std.specs.Prelude.{◌≤◌, ◌<◌, ◌^◌};
 ghost use Rattle.chains.specs.KeyWrites.{latest};
 
+use archive::RunEntry;
 use chains::Frozen;
 use extents::Extents;
 use status::Header;
-use wire::Run;
 
 /// A commit, as its slot names it: its time, in microseconds since 1970, and its label.
 #[derive(Clone, Copy, Debug, PartialEq, Eq)]
@@ -43,12 +43,13 @@ pub struct Recovered {
     pub used: u32,
     /// The commits of the log, in its order.
     pub commits: Vec<CommitName>,
-    /// The floor, the archive mark and the reclaim mark of the log, in microseconds since 1970; 0 for none.
+    /// The floor of every relation, the archive mark and the reclaim mark of the log, in microseconds since 1970;
+    /// 0 for none.
     pub floor: u64,
     pub archived: u64,
     pub reclaimed: u64,
-    /// The runs of the archive, in the log's order.
-    pub runs: Vec<Run>,
+    /// The runs of the archive, in the log's order, each with the archive mark and the floor before its slot.
+    pub runs: Vec<RunEntry>,
     /// The extents of the live chains are kept, and the others are free.
     pub extents: Extents,
     /// The live chains of commits; that of the anchors is none of them.

@@ -62,6 +62,7 @@ call-done tells w (call.End i) time next does = absurd does
 call-done tells w (call.TimesOf label) time next does = absurd does
 call-done tells w (call.Archive upto) time next does = absurd does
 call-done tells w call.Reclaim time next does = absurd does
+call-done tells w (call.Floor floor) time next does = absurd does
 call-done tells w call.JobPump time next does = absurd does
 
 -- what is published stays so
@@ -100,4 +101,5 @@ call-acknowledges tells w c answer.End next times does follows all = follows-hav
 call-acknowledges tells w c (answer.TimesOf x) next times does follows all = follows-have w next times follows all
 call-acknowledges tells w c (answer.Archive x) next times does follows all = follows-have w next times follows all
 call-acknowledges tells w c (answer.Reclaim x) next times does follows all = follows-have w next times follows all
+call-acknowledges tells w c (answer.Floor x) next times does follows all = follows-have w next times follows all
 call-acknowledges tells w c (answer.JobPump x) next times does follows all = follows-have w next times follows all

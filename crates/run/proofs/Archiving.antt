@@ -29,7 +29,7 @@ use Rattle.wire.specs.declared.slot.Anchors.{Anchors}
 use Rattle.wire.specs.declared.slot.Run.{Run as WireRun}
 use Rattle.store.specs.declared.job.Job.{Job}
 use Rattle.store.specs.declared.job.JobWork.{JobWork}
-use Rattle.store.specs.declared.job.JobWork.TheVariants.{Archive, Reclaim}
+use Rattle.store.specs.declared.job.JobWork.TheVariants.{Archive, Reclaim, Floor}
 use Rattle.store.specs.declared.job.JobStage.{JobStage}
 use Rattle.store.specs.declared.job.JobStage.TheVariants as stages
 use Rattle.store.specs.declared.job.JobDid.{JobDid}
@@ -54,10 +54,10 @@ use Rattle.run.proofs.Places.{reads-move, reads-plain, push_nothing, move, GoesO
 use Rattle.run.proofs.Pumping.{Leaves, leaves-so, counted-few, pump-keeps, any-fault}
 
 -- what is left alone is left alone by a store that is the same but for its transactions
-same-leaves : (old : TransactionsValue) (so new : StoreValue) → Leaves old so.transactions → new ≡ so → Leaves old new.transactions
+pub same-leaves : (old : TransactionsValue) (so new : StoreValue) → Leaves old so.transactions → new ≡ so → Leaves old new.transactions
 same-leaves old so new leaves is = leaves-so old so.transactions new.transactions leaves (ap (λ (v : StoreValue). v.transactions) is)
 
-nothing-left : (old : StoreValue) (new : StoreValue) → new ≡ old → Leaves old.transactions new.transactions
+pub nothing-left : (old : StoreValue) (new : StoreValue) → new ≡ old → Leaves old.transactions new.transactions
 nothing-left old new is = same-leaves old.transactions old new (record { mark = refl; opened = refl; heads = refl }) is
 
 -- ---- the beginning
@@ -271,6 +271,7 @@ moves-leave what made refused old new (Err why) is = same-leaves old.transaction
 done-leaves : (work : JobWork) (turn : TurnState) (old new : StoreValue) → Leaves old.transactions (slot_opened (work_done work old) turn new).transactions
 done-leaves (Archive run writer) turn old new = record { mark = refl; opened = refl; heads = refl }
 done-leaves (Reclaim anchors source written) turn old new = record { mark = refl; opened = refl; heads = refl }
+done-leaves (Floor floor) turn old new = record { mark = refl; opened = refl; heads = refl }
 
 turned-leave : (stage : SlotStage) (turn : TurnState) (j : Job) (old new : StoreValue) (what : JobDid) → IsJobTurned stage turn j old what new → Leaves old.transactions new.transactions
 turned-leave slots.Begun turn j old new what is = same-leaves old.transactions _ new (record { mark = refl; opened = refl; heads = refl }) is.1
@@ -293,10 +294,12 @@ anchors-leave tells (Some number) anchors source written j old new r is = moves-
 
 stores-leave : (tells : Bool) (work : JobWork) (j : Job) (old new : StoreValue) (r : Result JobDid PumpFault) → Stores tells work j old r new → Leaves old.transactions new.transactions
 stores-leave tells (Archive run writer) j old new r is = write-leaves tells writer.left run writer j old new r is
+stores-leave tells (Floor floor) j old new r is = absurd is
 stores-leave tells (Reclaim anchors source written) j old new r is = anchors-leave tells _ anchors source written j old new r is
 
 begun-leaves : (tells : Bool) (work : JobWork) (j : Job) (old new : StoreValue) (r : Result JobDid PumpFault) → TurnsJob tells j (first_turn old j) (slot_taken (made_ready work old)) r new → Leaves old.transactions new.transactions
 begun-leaves tells (Archive run writer) j old new r is = turn-leaves tells j (first_turn old j) (slot_taken old) new r is
+begun-leaves tells (Floor floor) j old new r is = turn-leaves tells j (first_turn old j) (slot_taken old) new r is
 begun-leaves tells (Reclaim anchors source written) j old new r is =
     let left = turn-leaves tells j (first_turn old j) (slot_taken (made_ready (Reclaim anchors source written) old)) new r is in
     record { mark = left.mark; opened = left.opened; heads = left.heads }
@@ -336,6 +339,7 @@ stores-few tells (Archive run writer) j old new r is = by-left writer.left is
     by-left : (left : List ℕ) → WritesOrSyncs tells left run writer j old r new → new.disk.made ≤ old.disk.made + 1
     by-left [] syncs = omega (arith, syncs.call.counts.made, counted-few old.disk.made)
     by-left (b ∷ bs) writes = omega (arith, writes.call.counts.made, counted-few old.disk.made)
+stores-few tells (Floor floor) j old new r is = absurd is
 stores-few tells (Reclaim anchors source written) j old new r is = by-extent (slice_get old.transactions.reserved written) is
   where
     by-extent : (o : Option ℕ) → AnchorsOrSync tells o anchors source written j old r new → new.disk.made ≤ old.disk.made + 1
@@ -344,6 +348,7 @@ stores-few tells (Reclaim anchors source written) j old new r is = by-extent (sl
 
 begun-few : (tells : Bool) (work : JobWork) (j : Job) (old new : StoreValue) (r : Result JobDid PumpFault) → TurnsJob tells j (first_turn old j) (slot_taken (made_ready work old)) r new → new.disk.made ≤ old.disk.made + 1
 begun-few tells (Archive run writer) j old new r first = omega (arith, first.call.counts.made, counted-few old.disk.made)
+begun-few tells (Floor floor) j old new r first = omega (arith, first.call.counts.made, counted-few old.disk.made)
 begun-few tells (Reclaim anchors source written) j old new r first = omega (arith, first.call.counts.made, counted-few old.disk.made)
 
 job-few : (tells : Bool) (s : JobStage) (j : Job) (old new : StoreValue) (r : Result JobDid PumpFault) → TakesJobStep tells s j old r new → new.disk.made ≤ old.disk.made + 1
@@ -383,17 +388,17 @@ pumped-goes tells v v' xs r sound pumps w is =
     read : AreRead tells v' (xs ++ held.Nothing ∷ []) (w.places ++ Free ∷ [])
     read = reads-plain tells v' xs w.places held.Nothing Free is.places.many tt (reads-move tells v v' xs w.places (job-pump-goes tells v v' r w.machine is.stands pumps) is.views)
 
-    by-failure : (b : Bool) → w.machine.failed ≡ b → IfErr r IsStepFault → MatchBool b ((r ≡ Err pump.Failed) × Stands tells v' w.machine) ((after : Machine Value) × steps.Run IsValue w.machine (job_ends_in r) after × Stands tells v' after)
+    by-failure : (b : Bool) → w.machine.failed ≡ b → IfErr r IsStepFault → MatchBool b ((r ≡ Err pump.Failed) × Stands tells v' w.machine) ((after : Machine Value) × steps.Run IsValue w.machine (job_ends_in w.machine r) after × Stands tells v' after)
         → (next : World) × Does tells w call.JobPump (answer.JobPump r) next × Follows w.machine next.machine × IsWorld tells v' (xs ++ held.Nothing ∷ []) next
     by-failure true failed refused done = (
       same w,
-      subst (λ (b : Bool). MatchBool b ((r ≡ Err pump.Failed) × (same w ≡ same w)) ((after : Machine Value) × IfErr r IsStepFault × steps.Run IsValue w.machine (job_ends_in r) after × (same w ≡ same (moved w after)))) (sym failed) (done.0, refl),
+      subst (λ (b : Bool). MatchBool b ((r ≡ Err pump.Failed) × (same w ≡ same w)) ((after : Machine Value) × IfErr r IsStepFault × steps.Run IsValue w.machine (job_ends_in w.machine r) after × (same w ≡ same (moved w after)))) (sym failed) (done.0, refl),
       no-step w.machine,
       record { stands = done.1; places = places w.machine.published (goes_on-same w.machine.published); views = read },
     )
     by-failure false works refused done = (
       same (moved w done.0),
-      subst (λ (b : Bool). MatchBool b ((r ≡ Err pump.Failed) × (same (moved w done.0) ≡ same w)) ((after : Machine Value) × IfErr r IsStepFault × steps.Run IsValue w.machine (job_ends_in r) after × (same (moved w done.0) ≡ same (moved w after)))) (sym works) (done.0, refused, done.1, refl),
-      (job_ends_in r, done.1),
-      record { stands = done.2; places = places done.0.published (run-goes_on w.machine done.0 (job_ends_in r) done.2.machine done.1); views = read },
+      subst (λ (b : Bool). MatchBool b ((r ≡ Err pump.Failed) × (same (moved w done.0) ≡ same w)) ((after : Machine Value) × IfErr r IsStepFault × steps.Run IsValue w.machine (job_ends_in w.machine r) after × (same (moved w done.0) ≡ same (moved w after)))) (sym works) (done.0, refused, done.1, refl),
+      (job_ends_in w.machine r, done.1),
+      record { stands = done.2; places = places done.0.published (run-goes_on w.machine done.0 (job_ends_in w.machine r) done.2.machine done.1); views = read },
     )

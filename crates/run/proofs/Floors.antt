@@ -1,9 +1,10 @@
--- No call raises a floor, or begins to.
-use Rattle.std.proofs.Common.{◌≡◌, ◌++◌, ℕ, Bool, true, false, cond, List, [], ◌∷◌, length, Result, Ok, Err, MatchBool, refl, ap, sym, subst, ◌∙◌}
-use Rattle.std.specs.Prelude.{nat_lt, ◌==◌, ◌&&◌}
+-- What calls leave of the floors: a time that is kept stays so, unless a later floor is begun.
+use Rattle.std.proofs.Common.{◌≡◌, ◌≤◌, ◌++◌, ℕ, Bool, true, false, cond, List, [], ◌∷◌, length, Option, None, Some, Result, Ok, Err, MatchBool, MatchOption, refl, ap, sym, subst, ◌∙◌}
+use Rattle.std.specs.Prelude.{nat_lt, ◌==◌, ◌&&◌, IsTrue, IfErr}
 use Rattle.std.specs.List.{AllByRecursion}
 use Rattle.std.specs.declared.alloc.AllocError.{AllocError}
 use Rattle.history.specs.declared.key.Key.{Key}
+use Rattle.history.specs.Floors.{Raising, covers, raised}
 use Rattle.history.specs.Machine.{Machine, Gate, Shut, Due, MayBeOpen, OfGroup, OfFloor}
 use Rattle.history.specs.Steps.{Event, Step, Decided, FloorStarted, FloorPublished, GroupBegan, GateDue, GateWritten, Published, Broke, Aborted, decided}
 use Rattle.history.specs.Steps as steps
@@ -20,7 +21,10 @@ use Rattle.group.specs.declared.answers.SubmitFault.{SubmitFault}
 use Rattle.group.specs.declared.answers.SubmitFault.TheVariants as refused
 use Rattle.snapshot.specs.declared.txn.TxnFault.{TxnFault}
 use Rattle.store.specs.declared.job.JobDid.{JobDid}
-use Rattle.standing.specs.Laws.{begins_in, breaks_in, ends_in, job_ends_in}
+use Rattle.store.specs.declared.job.JobDid.TheVariants as job_did
+use Rattle.store.specs.declared.job.StartFault.{StartFault}
+use Rattle.store.specs.declared.job.StartFault.TheVariants as start
+use Rattle.standing.specs.Laws.{begins_in, breaks_in, ends_in, floor_ends_in, floor_ends, job_breaks_in, job_ends_in}
 use Rattle.run.specs.declared.calls.Call.{Call}
 use Rattle.run.specs.declared.calls.Call.TheVariants as call
 use Rattle.run.specs.declared.calls.Answer.{Answer}
@@ -31,7 +35,8 @@ use Rattle.run.specs.declared.calls.RedeemOutcome.{RedeemOutcome}
 use Rattle.run.specs.declared.calls.RedeemOutcome.TheVariants as told
 use Rattle.run.specs.Places.{Place, Free, Running, Waits, Views, place_at}
 use Rattle.run.specs.Worlds.{World, same, moved, spent}
-use Rattle.run.specs.Runs.{Does, Begins, Puts, Deletes, Submits, Submitted, Aborts, Redeems, Shows, submission}
+use Rattle.run.specs.Runs.{Does, Begins, Puts, Deletes, Submits, Submitted, Aborts, Redeems, Shows, Raises, IsStepFault, submission}
+use Rattle.run.specs.Laws.{IsKeptTime}
 use Rattle.run.proofs.Passing.{get-same, scan-same, asks-same, asks_scan-same, asks_between-same, asks_scan_between-same, give_up-spent, closes-spent, archive-same, reclaim-same}
 
 -- the floors, and the one in the making, are the same
@@ -46,7 +51,7 @@ same-then a b c first second = (second.0 ∙ first.0, second.1 ∙ first.1)
 
 -- ---- the machine's steps
 
--- no floor is raised by it
+-- it neither begins nor raises a floor
 abbrev KeepsFloors : Event Value → Type 0
 KeepsFloors (FloorStarted r) = ⊥
 KeepsFloors (FloorPublished r) = ⊥
@@ -102,11 +107,76 @@ ends-keep gate (Err pump.Busy) = tt
 ends-keep gate (Err pump.NoMemory) = tt
 ends-keep gate (Err pump.Failed) = breaks-keep gate
 
-job_ends-keep : (said : Result JobDid PumpFault) → AllByRecursion KeepsFloors (job_ends_in said)
-job_ends-keep (Ok what) = tt
-job_ends-keep (Err pump.Busy) = tt
-job_ends-keep (Err pump.NoMemory) = tt
-job_ends-keep (Err pump.Failed) = (tt, tt)
+-- ---- a time that is kept
+
+held : (old new : Machine Value) (relation time : ℕ) → SameFloors old new → IsKeptTime old relation time → IsKeptTime new relation time
+held old new relation time is kept = (
+  subst (λ (f : ℕ → ℕ). f relation ≤ time) (sym is.0) kept.0,
+  subst (λ (o : Option Raising). MatchOption o (Unit {0}) (λ r. IsTrue (covers r.scope relation) → r.floor ≤ time)) (sym is.1) kept.1,
+)
+
+-- no floor begins in it
+abbrev BeginsNone : Event Value → Type 0
+BeginsNone (FloorStarted r) = ⊥
+BeginsNone event = Unit {0}
+
+raised-kept : (m : Machine Value) (r : Raising) (relation time : ℕ) → m.raising ≡ Some r → IsKeptTime m relation time → IsKeptTime (steps.floor_published m r) relation time
+raised-kept m r relation time is kept = (by-scope (covers r.scope relation) refl, tt)
+  where
+    late : IsTrue (covers r.scope relation) → r.floor ≤ time
+    late = subst (λ (o : Option Raising). MatchOption o (Unit {0}) (λ x. IsTrue (covers x.scope relation) → x.floor ≤ time)) is kept.1
+
+    by-scope : (b : Bool) → covers r.scope relation ≡ b → raised r.scope r.floor m.floors relation ≤ time
+    by-scope true covered = rw covered (late covered)
+    by-scope false other = rw other kept.0
+
+event-kept : (old : Machine Value) (event : Event Value) (new : Machine Value) (relation time : ℕ) → BeginsNone event → Step IsValue old event new → IsKeptTime old relation time → IsKeptTime new relation time
+event-kept old (steps.Began snapshot) new relation time none step kept = held old new relation time (step-floors old (steps.Began snapshot) new tt step) kept
+event-kept old (steps.BeginRefused why) new relation time none step kept = held old new relation time (step-floors old (steps.BeginRefused why) new tt step) kept
+event-kept old (Aborted snapshot) new relation time none step kept = held old new relation time (step-floors old (Aborted snapshot) new tt step) kept
+event-kept old (Decided s d) new relation time none step kept = held old new relation time (step-floors old (Decided s d) new tt step) kept
+event-kept old (steps.Refused s why) new relation time none step kept = held old new relation time (step-floors old (steps.Refused s why) new tt step) kept
+event-kept old GroupBegan new relation time none step kept = held old new relation time (step-floors old GroupBegan new tt step) kept
+event-kept old (Published size) new relation time none step kept = held old new relation time (step-floors old (Published size) new tt step) kept
+event-kept old (FloorStarted r) new relation time none step kept = absurd none
+event-kept old (steps.FloorRefused r why) new relation time none step kept = held old new relation time (step-floors old (steps.FloorRefused r why) new tt step) kept
+event-kept old (FloorPublished r) new relation time none step kept =
+    subst (λ (m : Machine Value). IsKeptTime m relation time) (sym step.3) (raised-kept old r relation time step.1 kept)
+event-kept old (GateDue change) new relation time none step kept = held old new relation time (step-floors old (GateDue change) new tt step) kept
+event-kept old (GateWritten change) new relation time none step kept = held old new relation time (step-floors old (GateWritten change) new tt step) kept
+event-kept old Broke new relation time none step kept = held old new relation time (step-floors old Broke new tt step) kept
+
+run-kept : (old : Machine Value) (events : List (Event Value)) (new : Machine Value) (relation time : ℕ) → AllByRecursion BeginsNone events → steps.Run IsValue old events new → IsKeptTime old relation time → IsKeptTime new relation time
+run-kept old [] new relation time none run kept = subst (λ (m : Machine Value). IsKeptTime m relation time) (sym run) kept
+run-kept old (event ∷ events) new relation time none run kept = run-kept run.0 events new relation time none.1 run.2 (event-kept old event run.0 relation time none.0 run.1 kept)
+
+-- a step of a job begins no floor
+floor-steps : (what : JobDid) (r : Raising) → AllByRecursion BeginsNone (floor_ends_in what r)
+floor-steps job_did.Idle r = tt
+floor-steps job_did.WroteRun r = tt
+floor-steps job_did.RunSynced r = tt
+floor-steps job_did.WroteExtent r = tt
+floor-steps job_did.HeapSynced r = tt
+floor-steps job_did.BodyWritten r = tt
+floor-steps job_did.BodySynced r = (tt, tt)
+floor-steps job_did.GateWritten r = (tt, tt)
+floor-steps job_did.JobDone r = (tt, tt)
+
+by-raising : (what : JobDid) (o : Option Raising) → AllByRecursion BeginsNone (floor_ends what o)
+by-raising what None = tt
+by-raising what (Some r) = floor-steps what r
+
+job-breaks : (gate : Gate) → AllByRecursion BeginsNone (job_breaks_in gate)
+job-breaks Shut = (tt, tt)
+job-breaks (Due OfGroup) = (tt, tt)
+job-breaks (Due OfFloor) = (tt, (tt, tt))
+job-breaks (MayBeOpen change) = (tt, tt)
+
+job-steps : (m : Machine Value) (said : Result JobDid PumpFault) → AllByRecursion BeginsNone (job_ends_in m said)
+job-steps m (Ok what) = by-raising what m.raising
+job-steps m (Err pump.Busy) = tt
+job-steps m (Err pump.NoMemory) = tt
+job-steps m (Err pump.Failed) = job-breaks m.gate
 
 submitted-keeps : (m : Machine Value) (s : Submission Value) (said : Result SubmitOutcome SubmitFault) (event : Event Value) (place : Place) → Submitted m s said event place → KeepsFloors event
 submitted-keeps m s (Ok (outcome.ReadOnly time)) event place is = subst KeepsFloors (sym is.1) tt
@@ -175,27 +245,55 @@ view-floors : (w : World) (said : Result (Unit {0}) AllocError) (next : World) �
 view-floors w (Ok u) next does = all-same w.machine next.machine (ap (λ (x : World). x.machine) does.2)
 view-floors w (Err why) next does = same-floors w next does
 
-pub call-floors : (tells : Bool) (w : World) (c : Call) (a : Answer) (next : World) → Does tells w c a next → SameFloors w.machine next.machine
-call-floors tells w c answer.Unknown next does = same-floors w next does.1
-call-floors tells w call.Begin (answer.Begin said) next does = begin-floors w said next does
-call-floors tells w (call.Put i key fields) (answer.Put said) next does = put-floors w i key _ (place_at w.places i) said next does
-call-floors tells w (call.Delete i key) (answer.Delete said) next does = delete-floors w i key (place_at w.places i) said next does
-call-floors tells w (call.Get i key) (answer.Get said) next does = same-floors w next (get-same w key (place_at w.places i) said next does)
-call-floors tells w (call.Scan i relation) (answer.Scan said) next does = same-floors w next (scan-same w relation (place_at w.places i) said next does)
-call-floors tells w (call.Submit i label now) (answer.Submit said) next does = submit-floors w i label now (place_at w.places i) said next does
-call-floors tells w (call.Abort i) answer.Abort next does = abort-floors w i (place_at w.places i) next does
-call-floors tells w call.Pump (answer.Pump said) next does =
-    moves-floors w next w.machine.failed _ _ (begins_in w.machine ++ ends_in w.machine.gate said) (begins-keep w.machine (ends_in w.machine.gate said) (ends-keep w.machine.gate said)) does
-call-floors tells w (call.Redeem i) (answer.Redeem said) next does = redeem-floors w i (place_at w.places i) said next does
-call-floors tells w (call.GiveUp i) answer.GiveUp next does = spent-floors w i next (give_up-spent w i (place_at w.places i) next does)
-call-floors tells w call.View (answer.View said) next does = view-floors w said next does
-call-floors tells w (call.At i key time) (answer.At said) next does = same-floors w next (asks-same tells w key time (place_at w.places i) said next does)
-call-floors tells w (call.ScanAt i relation time) (answer.ScanAt said) next does = same-floors w next (asks_scan-same tells w relation time (place_at w.places i) said next does)
-call-floors tells w (call.Between i key a b) (answer.Between said) next does = same-floors w next (asks_between-same tells w key a b (place_at w.places i) said next does)
-call-floors tells w (call.ScanBetween i relation a b) (answer.ScanBetween said) next does = same-floors w next (asks_scan_between-same tells w relation a b (place_at w.places i) said next does)
-call-floors tells w (call.End i) answer.End next does = spent-floors w i next (closes-spent w i (place_at w.places i) next does)
-call-floors tells w (call.TimesOf label) (answer.TimesOf said) next does = same-floors w next does.1
-call-floors tells w (call.Archive upto) (answer.Archive said) next does = same-floors w next (archive-same w upto said next does)
-call-floors tells w call.Reclaim (answer.Reclaim said) next does = same-floors w next (reclaim-same w said next does)
-call-floors tells w call.JobPump (answer.JobPump said) next does = moves-floors w next w.machine.failed _ _ (job_ends_in said) (job_ends-keep said) does
-call-floors tells w c a next does = absurd does
+-- the floor that a call begins, if it does, is no later
+abbrev pub AllowsTime : ℕ → Call → Answer → Type 0
+AllowsTime time c a = (floor : ℕ) → c ≡ call.Floor floor → a ≡ answer.Floor (Ok tt) → floor ≤ time
+
+abbrev pub KeepsTimes : World → Call → Answer → World → Type 0
+KeepsTimes w c a next = (relation time : ℕ) → AllowsTime time c a → IsKeptTime w.machine relation time → IsKeptTime next.machine relation time
+
+unraised : (w : World) (c : Call) (a : Answer) (next : World) → SameFloors w.machine next.machine → KeepsTimes w c a next
+unraised w c a next is = λ relation time allows kept. held w.machine next.machine relation time is kept
+
+floor-times : (w : World) (floor : ℕ) (said : Result (Unit {0}) StartFault) (next : World) → Raises w floor said next → KeepsTimes w (call.Floor floor) (answer.Floor said) next
+floor-times w floor (Ok u) next does = λ relation time allows kept. subst (λ (x : World). IsKeptTime x.machine relation time) (sym does.1) (kept.0, λ covered. allows floor refl refl)
+floor-times w floor (Err start.NothingToDo) next does = unraised w _ _ next (same-floors w next does.1)
+floor-times w floor (Err (start.NotYet time)) next does = unraised w _ _ next (same-floors w next does.1)
+floor-times w floor (Err (start.InUse snapshot)) next does = unraised w _ _ next (same-floors w next does.1)
+floor-times w floor (Err start.Failed) next does = unraised w _ _ next (same-floors w next does.1)
+floor-times w floor (Err start.JobBusy) next does = unraised w _ _ next (same-floors w next does)
+floor-times w floor (Err start.StatusFull) next does = unraised w _ _ next (same-floors w next does)
+floor-times w floor (Err start.ArchiveFull) next does = absurd does
+floor-times w floor (Err start.HeapFull) next does = absurd does
+floor-times w floor (Err start.NoMemory) next does = absurd does
+
+job-times : (w : World) (said : Result JobDid PumpFault) (next : World) (failed : Bool)
+    → MatchBool failed ((said ≡ Err pump.Failed) × (next ≡ same w)) ((after : Machine Value) × IfErr said IsStepFault × steps.Run IsValue w.machine (job_ends_in w.machine said) after × (next ≡ same (moved w after))) → KeepsTimes w call.JobPump (answer.JobPump said) next
+job-times w said next true does = unraised w _ _ next (same-floors w next does.1)
+job-times w said next false does = λ relation time allows kept.
+    subst (λ (x : World). IsKeptTime x.machine relation time) (sym does.3) (run-kept w.machine (job_ends_in w.machine said) does.0 relation time (job-steps w.machine said) does.2 kept)
+
+pub call-times : (tells : Bool) (w : World) (c : Call) (a : Answer) (next : World) → Does tells w c a next → KeepsTimes w c a next
+call-times tells w c answer.Unknown next does = unraised w c answer.Unknown next (same-floors w next does.1)
+call-times tells w call.Begin (answer.Begin said) next does = unraised w call.Begin (answer.Begin said) next (begin-floors w said next does)
+call-times tells w (call.Put i key fields) (answer.Put said) next does = unraised w (call.Put i key fields) (answer.Put said) next (put-floors w i key _ (place_at w.places i) said next does)
+call-times tells w (call.Delete i key) (answer.Delete said) next does = unraised w (call.Delete i key) (answer.Delete said) next (delete-floors w i key (place_at w.places i) said next does)
+call-times tells w (call.Get i key) (answer.Get said) next does = unraised w (call.Get i key) (answer.Get said) next (same-floors w next (get-same w key (place_at w.places i) said next does))
+call-times tells w (call.Scan i relation) (answer.Scan said) next does = unraised w (call.Scan i relation) (answer.Scan said) next (same-floors w next (scan-same w relation (place_at w.places i) said next does))
+call-times tells w (call.Submit i label now) (answer.Submit said) next does = unraised w (call.Submit i label now) (answer.Submit said) next (submit-floors w i label now (place_at w.places i) said next does)
+call-times tells w (call.Abort i) answer.Abort next does = unraised w (call.Abort i) answer.Abort next (abort-floors w i (place_at w.places i) next does)
+call-times tells w call.Pump (answer.Pump said) next does = unraised w call.Pump (answer.Pump said) next (moves-floors w next w.machine.failed _ _ (begins_in w.machine ++ ends_in w.machine.gate said) (begins-keep w.machine (ends_in w.machine.gate said) (ends-keep w.machine.gate said)) does)
+call-times tells w (call.Redeem i) (answer.Redeem said) next does = unraised w (call.Redeem i) (answer.Redeem said) next (redeem-floors w i (place_at w.places i) said next does)
+call-times tells w (call.GiveUp i) answer.GiveUp next does = unraised w (call.GiveUp i) answer.GiveUp next (spent-floors w i next (give_up-spent w i (place_at w.places i) next does))
+call-times tells w call.View (answer.View said) next does = unraised w call.View (answer.View said) next (view-floors w said next does)
+call-times tells w (call.At i key time) (answer.At said) next does = unraised w (call.At i key time) (answer.At said) next (same-floors w next (asks-same tells w key time (place_at w.places i) said next does))
+call-times tells w (call.ScanAt i relation time) (answer.ScanAt said) next does = unraised w (call.ScanAt i relation time) (answer.ScanAt said) next (same-floors w next (asks_scan-same tells w relation time (place_at w.places i) said next does))
+call-times tells w (call.Between i key a b) (answer.Between said) next does = unraised w (call.Between i key a b) (answer.Between said) next (same-floors w next (asks_between-same tells w key a b (place_at w.places i) said next does))
+call-times tells w (call.ScanBetween i relation a b) (answer.ScanBetween said) next does = unraised w (call.ScanBetween i relation a b) (answer.ScanBetween said) next (same-floors w next (asks_scan_between-same tells w relation a b (place_at w.places i) said next does))
+call-times tells w (call.End i) answer.End next does = unraised w (call.End i) answer.End next (spent-floors w i next (closes-spent w i (place_at w.places i) next does))
+call-times tells w (call.TimesOf label) (answer.TimesOf said) next does = unraised w (call.TimesOf label) (answer.TimesOf said) next (same-floors w next does.1)
+call-times tells w (call.Archive upto) (answer.Archive said) next does = unraised w (call.Archive upto) (answer.Archive said) next (same-floors w next (archive-same w upto said next does))
+call-times tells w call.Reclaim (answer.Reclaim said) next does = unraised w call.Reclaim (answer.Reclaim said) next (same-floors w next (reclaim-same w said next does))
+call-times tells w (call.Floor floor) (answer.Floor said) next does = floor-times w floor said next does
+call-times tells w call.JobPump (answer.JobPump said) next does = job-times w said next w.machine.failed does
+call-times tells w c a next does = absurd does

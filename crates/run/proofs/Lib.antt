@@ -5,6 +5,7 @@ pub mod Reading
 pub mod Submitting
 pub mod Pumping
 pub mod Archiving
+pub mod FloorCalls
 pub mod Tickets
 pub mod Views
 pub mod Runs

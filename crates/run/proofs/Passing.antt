@@ -27,6 +27,7 @@ use Rattle.snapshot.specs.declared.txn.TxnFault.{TxnFault}
 use Rattle.snapshot.proofs.WriteSetLemmas.{write_in-with_write}
 use Rattle.store.specs.declared.job.StartFault.{StartFault}
 use Rattle.store.specs.declared.job.StartFault.TheVariants as start
+use Rattle.standing.specs.Calls.{raising_to}
 use Rattle.run.specs.declared.calls.Call.{Call}
 use Rattle.run.specs.declared.calls.Call.TheVariants as call
 use Rattle.run.specs.declared.calls.Answer.{Answer}
@@ -37,7 +38,7 @@ use Rattle.run.specs.declared.calls.RedeemOutcome.{RedeemOutcome}
 use Rattle.run.specs.declared.calls.RedeemOutcome.TheVariants as told
 use Rattle.run.specs.Places.{Place, Free, Running, Waits, Views, place_at}
 use Rattle.run.specs.Worlds.{World, leaves, put, moved, same, spent}
-use Rattle.run.specs.Runs.{Does, Begins, Puts, Deletes, Gets, Scans, Submits, Submitted, Aborts, Redeems, GivesUp, Shows, Asks, AsksScan, AsksBetween, AsksScanBetween, Closes, Archives, Reclaims, PutSays, DeleteSays, deleted, submission}
+use Rattle.run.specs.Runs.{Does, Begins, Puts, Deletes, Gets, Scans, Submits, Submitted, Aborts, Redeems, GivesUp, Shows, Asks, AsksScan, AsksBetween, AsksScanBetween, Closes, Archives, Reclaims, Raises, PutSays, DeleteSays, deleted, submission}
 use Rattle.run.specs.Traces.{LeavesKey}
 use Rattle.run.proofs.Lists.{length-set, length-push, place-push_old, place-push_new}
 
@@ -350,6 +351,19 @@ asks_scan_between-same tells w relation a b (Running snapshot writes) said next 
 asks_scan_between-same tells w relation a b (Waits t) said next does = absurd does
 asks_scan_between-same tells w relation a b (Views h floors reclaimed) said next does = does.1
 
+-- a floor's start leaves the places
+floor-passes : (w : World) (floor : ℕ) (said : Result (Unit {0}) StartFault) (next : World) → Raises w floor said next → Passes w (call.Floor floor) (answer.Floor said) next
+floor-passes w floor (Ok u) next does = gives-nothing w (moved w (steps.floor_started w.machine (raising_to floor))) (call.Floor floor) (answer.Floor (Ok u)) next (beside-moved (call.Floor floor) w (steps.floor_started w.machine (raising_to floor))) does.1
+floor-passes w floor (Err start.NothingToDo) next does = same-passes w (call.Floor floor) (answer.Floor (Err start.NothingToDo)) next does.1
+floor-passes w floor (Err (start.NotYet time)) next does = same-passes w (call.Floor floor) (answer.Floor (Err (start.NotYet time))) next does.1
+floor-passes w floor (Err (start.InUse snapshot)) next does = same-passes w (call.Floor floor) (answer.Floor (Err (start.InUse snapshot))) next does.1
+floor-passes w floor (Err start.Failed) next does = same-passes w (call.Floor floor) (answer.Floor (Err start.Failed)) next does.1
+floor-passes w floor (Err start.JobBusy) next does = same-passes w (call.Floor floor) (answer.Floor (Err start.JobBusy)) next does
+floor-passes w floor (Err start.StatusFull) next does = same-passes w (call.Floor floor) (answer.Floor (Err start.StatusFull)) next does
+floor-passes w floor (Err start.ArchiveFull) next does = absurd does
+floor-passes w floor (Err start.HeapFull) next does = absurd does
+floor-passes w floor (Err start.NoMemory) next does = absurd does
+
 -- each call passes
 pub passes : (tells : Bool) (w : World) (c : Call) (a : Answer) (next : World) → Does tells w c a next → Passes w c a next
 passes tells w c answer.Unknown next does = same-passes w c answer.Unknown next does.1
@@ -371,6 +385,7 @@ passes tells w (call.ScanBetween i relation a b) (answer.ScanBetween said) next 
 passes tells w (call.End i) answer.End next does = spent-passes w i (call.End i) answer.End next (closes-spent w i (place_at w.places i) next does)
 passes tells w (call.TimesOf label) (answer.TimesOf said) next does = same-passes w (call.TimesOf label) (answer.TimesOf said) next does.1
 passes tells w (call.Archive upto) (answer.Archive said) next does = same-passes w (call.Archive upto) (answer.Archive said) next (archive-same w upto said next does)
+passes tells w (call.Floor floor) (answer.Floor said) next does = floor-passes w floor said next does
 passes tells w call.Reclaim (answer.Reclaim said) next does = same-passes w call.Reclaim (answer.Reclaim said) next (reclaim-same w said next does)
 passes tells w call.JobPump (answer.JobPump said) next does = moves-passes w call.JobPump (answer.JobPump said) next w.machine.failed _ _ _ does
 passes tells w c a next does = absurd does

@@ -34,11 +34,12 @@ use Rattle.run.specs.Runs.{Follows, Puts, Deletes, deleted, Redeems, Asks, submi
 use Rattle.run.specs.Moments.{Moment}
 use Rattle.run.specs.Promise.{Leaves, Link, Chain}
 use Rattle.run.specs.Traces.{Trace, moment_after, moment_at, machine_at, IsCall, place_of, IsSubmit, LeavesKey}
-use Rattle.run.specs.Laws.{AsManyAnswers, GoesToItsEnd, CallsLink, StopsSurvive, MachineRuns, ListsGoOn, StepIsList, FloorsStand, TicketsStay, DoneNamesItsSubmit, PutIsSubmitted, DeleteIsSubmitted, WrittenIsFound, ViewsStay, ViewAnswersByItsMoment}
+use Rattle.run.specs.Laws.{AsManyAnswers, GoesToItsEnd, CallsLink, StopsSurvive, MachineRuns, ListsGoOn, StepIsList, IsKeptTime, TimesStayKept, FloorsRise, TicketsStay, DoneNamesItsSubmit, PutIsSubmitted, DeleteIsSubmitted, WrittenIsFound, ViewsStay, ViewAnswersByItsMoment}
 use Rattle.run.proofs.Lists.{length-set, place-set_same, place-push_old}
 use Rattle.run.proofs.Survival.{moment-leaves}
 use Rattle.run.proofs.Commits.{commit-one}
-use Rattle.run.proofs.Floors.{SameFloors, same-then, call-floors}
+use Rattle.standing.proofs.RunsKept.{run-later}
+use Rattle.run.proofs.Floors.{call-times}
 use Rattle.run.proofs.Passing.{QueuesAt, Gives, IsGiven, WasRunning, passes}
 
 -- ---- lists
@@ -173,9 +174,29 @@ machine-is {tells} t p =
 pub machine-runs : MachineRuns
 machine-runs tells t p q low = (machine-is t p, runs-on t p q low)
 
-pub floors-stand : FloorsStand
-floors-stand tells t p q low =
-    kept-upto t (λ (m n : Moment). SameFloors m.world.machine n.world.machine) (λ m. (refl, refl)) (λ a b c one two. same-then a.world.machine b.world.machine c.world.machine one two) (λ c a m n link. call-floors tells m.world c a n.world link.does) p q low
+pub floors-rise : FloorsRise
+floors-rise tells t p q relation low =
+    let run = runs-on t p q low in
+    (run-later (machine_at t p) (machine_at t q) run.0 (machine-is t p) (machine-is t q) run.1).floors relation
+
+-- the call after a moment keeps a time where the floor that it begins is no later
+next-times : {tells : Bool} (t : Trace tells) (n relation time : ℕ) → ((floor : ℕ) → IsCall t n (call.Floor floor) (answer.Floor (Ok tt)) → floor ≤ time) → IsKeptTime (machine_at t n) relation time → IsKeptTime (machine_at t (suc n)) relation time
+next-times {tells} t n relation time low kept = elim (next-call t n) as (λ o. IsKeptTime (machine_at t (suc n)) relation time) [
+  | inl next ↦ call-times tells (moment_at t n).world next.asked next.said (moment_at t (suc n)).world (calls-link tells t n next.asked next.said next.is).does relation time
+      (λ floor asked said. low floor (next.is.0 ∙ ap (λ (c : Call). Some c) asked, next.is.1 ∙ ap (λ (a : Answer). Some a) said)) kept
+  | inr past ↦ subst (λ (m : Moment). IsKeptTime m.world.machine relation time) (sym (past-end tells t.calls t.answers t.start t.end t.promises.chain n past)) kept
+]
+
+times-on : {tells : Bool} (t : Trace tells) (p d relation time : ℕ) → ((i floor : ℕ) → p ≤ i → i < on p d → IsCall t i (call.Floor floor) (answer.Floor (Ok tt)) → floor ≤ time) → IsKeptTime (machine_at t p) relation time → IsKeptTime (machine_at t (on p d)) relation time
+times-on t p zero relation time low kept = kept
+times-on t p (suc d) relation time low kept =
+    next-times t (on p d) relation time (λ floor is. low (on p d) floor (omega (arith, on-is p d)) (omega arith) is)
+    (times-on t p d relation time (λ i floor from upto is. low i floor from (omega (arith, upto)) is) kept)
+
+pub times-stay-kept : TimesStayKept
+times-stay-kept tells t p q relation time low kept floors =
+    let same : on p (q - p) ≡ q = omega (arith, low, on-is p (q - p)) in
+    subst (λ (n : ℕ). IsKeptTime (machine_at t n) relation time) same (times-on t p (q - p) relation time (λ i floor from upto is. floors i floor from (omega (arith, upto, same)) is) kept)
 
 leaves-at : {tells : Bool} (t : Trace tells) (p : ℕ) → Leaves tells (moment_at t p)
 leaves-at {tells} t p =

@@ -1,10 +1,11 @@
 -- Laws of lists of calls.
 use Rattle.std.specs.Borrow.{Bor}
-use Rattle.std.specs.Prelude.{ℕ, ◌≡◌, ◌≤◌, ◌<◌, ◌⊎◌, ◌++◌, Bool, IsTrue, suc, List, [], ◌∷◌, length, map, Contains, IsSome, Option, Some, None, Result, Ok, if◌then◌else◌}
+use Rattle.std.specs.Prelude.{ℕ, ◌≡◌, ◌≤◌, ◌<◌, ◌⊎◌, ◌++◌, Bool, IsTrue, suc, List, [], ◌∷◌, length, map, Contains, IsSome, Option, Some, None, MatchOption, Result, Ok, if◌then◌else◌}
 use Rattle.disk.specs.Areas.{Image}
 use Rattle.history.specs.declared.key.Key.{Key}
 use Rattle.history.specs.declared.key.KeyWrite.{KeyWrite}
 use Rattle.history.specs.Key.{same_key, write_in}
+use Rattle.history.specs.Floors.{covers}
 use Rattle.history.specs.Answers.{at_answer}
 use Rattle.history.specs.Histories.{Commit, History, last, state, IsHistory}
 use Rattle.history.specs.Machine.{Machine, IsMachine}
@@ -89,9 +90,18 @@ StepIsList = (tells : Bool) (old new : StoreValue) (before after : List Held) (c
 
 -- ---- floors
 
--- no call raises a floor, or begins to
-abbrev pub FloorsStand : Type 0
-FloorsStand = (tells : Bool) (t : Trace tells) (p q : ℕ) → p ≤ q → ((machine_at t q).floors ≡ (machine_at t p).floors) × ((machine_at t q).raising ≡ (machine_at t p).raising)
+-- the time is kept of this relation: no floor is later, nor is the one in the making
+abbrev pub IsKeptTime : Machine Value → ℕ → ℕ → Type 0
+IsKeptTime m relation time = (m.floors relation ≤ time) × MatchOption m.raising (Unit {0}) (λ r. IsTrue (covers r.scope relation) → r.floor ≤ time)
+
+-- A time that is kept stays so, unless a call between begins a later floor.
+abbrev pub TimesStayKept : Type 0
+TimesStayKept = (tells : Bool) (t : Trace tells) (p q relation time : ℕ) → p ≤ q → IsKeptTime (machine_at t p) relation time
+    → ((i floor : ℕ) → p ≤ i → i < q → IsCall t i (call.Floor floor) (answer.Floor (Ok tt)) → floor ≤ time) → IsKeptTime (machine_at t q) relation time
+
+-- and no floor falls
+abbrev pub FloorsRise : Type 0
+FloorsRise = (tells : Bool) (t : Trace tells) (p q relation : ℕ) → p ≤ q → (machine_at t p).floors relation ≤ (machine_at t q).floors relation
 
 -- ---- tickets
 

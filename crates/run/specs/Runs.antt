@@ -10,6 +10,7 @@ use Rattle.history.specs.Histories.{last, state}
 use Rattle.history.specs.Machine.{Machine}
 use Rattle.history.specs.Queries.{seen, IsScanSeen}
 use Rattle.history.specs.Steps.{Event, Step, Began, BeginRefused, Aborted, Decided, begun}
+use Rattle.history.specs.FloorStarts as floors
 use Rattle.history.specs.Steps as steps
 use Rattle.history.specs.Submissions as submissions
 use Rattle.history.specs.Submissions.{Submission, commit_made}
@@ -32,6 +33,7 @@ use Rattle.store.specs.declared.job.JobDid.{JobDid}
 use Rattle.store.specs.declared.job.StartFault.{StartFault}
 use Rattle.store.specs.declared.job.StartFault.TheVariants as start
 use Rattle.standing.specs.Homes.{IsSure}
+use Rattle.standing.specs.Calls.{raising_to}
 use Rattle.standing.specs.Laws.{begins_in, ends_in, job_ends_in, SaysAt, SaysScanAt, SaysBetween, SaysScanBetween}
 use Rattle.run.specs.declared.calls.Call.{Call}
 use Rattle.run.specs.declared.calls.Call.TheVariants as call
@@ -200,10 +202,23 @@ Reclaims w (Err start.NoMemory) next = next ≡ same w
 Reclaims w (Err (start.NotYet time)) next = ⊥
 Reclaims w (Err start.ArchiveFull) next = ⊥
 
--- nor does a step of either, but for one that the device refuses
+-- A floor begins where the machine may raise it, or is refused as the machine says; which slots there are and what job runs the machine does not know.
+abbrev pub Raises : World → ℕ → Result (Unit {0}) StartFault → World → Type 0
+Raises w floor (Ok u) next = steps.Step IsValue w.machine (steps.FloorStarted (raising_to floor)) (steps.floor_started w.machine (raising_to floor)) × (next ≡ same (moved w (steps.floor_started w.machine (raising_to floor))))
+Raises w floor (Err start.NothingToDo) next = steps.Step IsValue w.machine (steps.FloorRefused (raising_to floor) floors.NothingToDo) w.machine × (next ≡ same w)
+Raises w floor (Err (start.NotYet time)) next = steps.Step IsValue w.machine (steps.FloorRefused (raising_to floor) (floors.NotYet time)) w.machine × (next ≡ same w)
+Raises w floor (Err (start.InUse snapshot)) next = steps.Step IsValue w.machine (steps.FloorRefused (raising_to floor) (floors.InUse snapshot)) w.machine × (next ≡ same w)
+Raises w floor (Err start.Failed) next = (w.machine.failed ≡ true) × (next ≡ same w)
+Raises w floor (Err start.JobBusy) next = next ≡ same w
+Raises w floor (Err start.StatusFull) next = next ≡ same w
+Raises w floor (Err start.ArchiveFull) next = ⊥
+Raises w floor (Err start.HeapFull) next = ⊥
+Raises w floor (Err start.NoMemory) next = ⊥
+
+-- Of a job's steps those of a floor's slot are the machine's; and it fails where the device refuses one.
 abbrev pub JobPumps : World → Result JobDid PumpFault → World → Type 0
 JobPumps w said next = MatchBool w.machine.failed ((said ≡ Err pump.Failed) × (next ≡ same w))
-    ((after : Machine Value) × IfErr said IsStepFault × steps.Run IsValue w.machine (job_ends_in said) after × (next ≡ same (moved w after)))
+    ((after : Machine Value) × IfErr said IsStepFault × steps.Run IsValue w.machine (job_ends_in w.machine said) after × (next ≡ same (moved w after)))
 
 -- ---- calls
 
@@ -228,6 +243,7 @@ NamesNone w (call.End i) = IsNoView (place_at w.places i)
 NamesNone w (call.TimesOf label) = ⊥
 NamesNone w (call.Archive upto) = ⊥
 NamesNone w call.Reclaim = ⊥
+NamesNone w (call.Floor floor) = ⊥
 NamesNone w call.JobPump = ⊥
 
 -- The call may have this answer, and then lead to this world. It is Unknown exactly where the place that it names holds no such value.
@@ -252,6 +268,7 @@ Does tells w (call.End i) answer.End next = Closes w i (place_at w.places i) nex
 Does tells w (call.TimesOf label) (answer.TimesOf said) next = ListsTimes w label said next
 Does tells w (call.Archive upto) (answer.Archive said) next = Archives w upto said next
 Does tells w call.Reclaim (answer.Reclaim said) next = Reclaims w said next
+Does tells w (call.Floor floor) (answer.Floor said) next = Raises w floor said next
 Does tells w call.JobPump (answer.JobPump said) next = JobPumps w said next
 Does tells w c a next = ⊥
 

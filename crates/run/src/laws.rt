@@ -1,6 +1,6 @@
 //! Laws of lists of calls, each as a function with nothing to do. They speak of a `Trace`: a list of
 //! calls as it went from a moment of the store, in `specs/Traces.antt`.
-ghost use Rattle.run.specs.Laws.{FirstMoment, MomentSurvives, ImageIsKept, CommitHasItsTime, WriteStands, AsManyAnswers, GoesToItsEnd, CallsLink, StopsSurvive, MachineRuns, ListsGoOn, StepIsList, FloorsStand, TicketsStay, DoneNamesItsSubmit, PutIsSubmitted, DeleteIsSubmitted, WrittenIsFound, ViewsStay, ViewAnswersByItsMoment};
+ghost use Rattle.run.specs.Laws.{FirstMoment, MomentSurvives, ImageIsKept, CommitHasItsTime, WriteStands, AsManyAnswers, GoesToItsEnd, CallsLink, StopsSurvive, MachineRuns, ListsGoOn, StepIsList, TimesStayKept, FloorsRise, TicketsStay, DoneNamesItsSubmit, PutIsSubmitted, DeleteIsSubmitted, WrittenIsFound, ViewsStay, ViewAnswersByItsMoment};
 
 use history::laws::Stored;
 use std::marker::Model;
@@ -54,9 +54,10 @@ pub fn lists_go_on()
     ensures step { StepIsList }
 {}
 
-/// No call raises a floor.
-pub fn floors_stand()
-    ensures { FloorsStand }
+/// A time that is kept stays so, unless a call between begins a later floor; and no floor falls.
+pub fn times_stay_kept()
+    ensures kept { TimesStayKept }
+    ensures rise { FloorsRise }
 {}
 
 /// A ticket stays in its place until it is spent. Where `Done` is answered for it, the call that gave

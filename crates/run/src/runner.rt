@@ -160,6 +160,7 @@ fn answer_call<D: Disk>(
         Call::TimesOf { label } => (times_of(store, places, label), Held::Nothing),
         Call::Archive { upto } => (archive(store, places, upto), Held::Nothing),
         Call::Reclaim => (reclaim(store, places), Held::Nothing),
+        Call::Floor { floor } => (raise_floor(store, places, floor), Held::Nothing),
         Call::JobPump => (job_pump(store, places), Held::Nothing),
     }
 }
@@ -186,6 +187,14 @@ fn reclaim<D: Disk>(store: &mut Store<D>, places: &[Held]) -> Answer
 {
     let _ = places;
     Answer::Reclaim(store.reclaim_start())
+}
+
+fn raise_floor<D: Disk>(store: &mut Store<D>, places: &[Held], floor: u64) -> Answer
+    ensures goes { Goes D.tells store.old places.now (Call.Floor floor) result store.new (places.now ++ Held.Nothing ∷ []) }
+    ensures made { MakesFew store.old store.new }
+{
+    let _ = places;
+    Answer::Floor(store.floor_start(floor))
 }
 
 fn job_pump<D: Disk>(store: &mut Store<D>, places: &[Held]) -> Answer

@@ -116,7 +116,6 @@ redeemed-stands v m time stands = record {
   staged = stands.staged;
   snapshots = stands.snapshots;
   floors = stands.floors;
-  raising = stands.raising;
   failed = stands.failed;
 }
 

@@ -57,7 +57,8 @@ use Rattle.store.specs.declared.job.StartFault.{StartFault}
 use Rattle.store.specs.declared.job.StartFault.TheVariants as fault
 use Rattle.standing.specs.Standing.{StandsInMemory}
 use Rattle.standing.specs.OnDisk.{OfRun, IsNextRun, IsRested, HasJob, Works}
-use Rattle.standing.specs.Stands.{StandsBeside as Stands}
+use Rattle.standing.specs.Stands.{job_gate, raising_of, StandsBeside as Stands}
+use Rattle.standing.proofs.Working.{gate-beside}
 use Rattle.standing.proofs.Held.{rising-held}
 use Rattle.standing.proofs.Memory.{last-is}
 use Rattle.standing.proofs.Jobs.{resting}
@@ -153,7 +154,7 @@ may-begin v upto none =
 
 -- ---- the archive begins
 
-lent-memory : (v : TransactionsValue) (m : Machine Value) → StandsInMemory v m → StandsInMemory (with_slot_lent v) m
+pub lent-memory : (v : TransactionsValue) (m : Machine Value) → StandsInMemory v m → StandsInMemory (with_slot_lent v) m
 lent-memory v m stands = record {
   names = stands.names;
   rising = stands.rising;
@@ -167,11 +168,10 @@ lent-memory v m stands = record {
   staged = stands.staged;
   snapshots = stands.snapshots;
   floors = stands.floors;
-  raising = stands.raising;
   failed = stands.failed;
 }
 
-lent-order : (v : TransactionsValue) → 0 < spare v → IsInOrder v → IsInOrder (with_slot_lent v)
+pub lent-order : (v : TransactionsValue) → 0 < spare v → IsInOrder v → IsInOrder (with_slot_lent v)
 lent-order v room order = record {
   split = order.split;
   pending = order.pending;
@@ -274,7 +274,8 @@ archive-start-stands tells old new upto answer m stands starts = by-refusal (ref
           machine = stands.machine;
           order = order;
           in_step = in_step;
-          gate = stands.gate;
+          gate = λ on. stands.gate on ∙ gate-beside old.turn old.job _ (ap job_gate may.free) refl;
+          raises = stands.raises ∙ ap raising_of may.free;
           marks = stands.marks;
           job = (let low = may.later in omega (arith, low), (let by = may.by_last in omega (arith, by, last-is old.transactions m stands.memory)));
           disk = λ told.

@@ -55,6 +55,7 @@ module _ (tells : Bool) (v : StoreValue) (m : Machine Value) (stands : Stands te
     order = stands.order;
     in_step = record { slots = stands.in_step.slots; used = stands.in_step.used; turns = λ on. let was = stands.in_step.turns on in record { turning = was.turning; writing = was.writing; turn = was.turn; job = was.job } };
     gate = stands.gate;
+    raises = stands.raises;
     marks = stands.marks;
     job = stands.job;
     disk = λ told.

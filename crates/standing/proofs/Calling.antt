@@ -59,7 +59,7 @@ use Rattle.store.specs.Calls as stores
 use Rattle.store.specs.Values.{StoreValue, HasRest}
 use Rattle.store.specs.declared.job.Job.{Job}
 use Rattle.store.specs.declared.job.JobWork.{JobWork}
-use Rattle.store.specs.declared.job.JobWork.TheVariants.{Archive, Reclaim}
+use Rattle.store.specs.declared.job.JobWork.TheVariants.{Archive, Reclaim, Floor}
 use Rattle.standing.specs.Standing.{HasWrites, StandsInMemory, snapshots_of}
 use Rattle.standing.specs.OnDisk.{IsImageOf, packed, IsPacked, members_of, slot_for, group_of, written_before, IsAtStage, Works, StandsOnDisk}
 use Rattle.standing.specs.Stands.{KeepsWork, KeepsJobOf, Stands}
@@ -126,6 +126,7 @@ keeps-opened (Some job) archived newest old new pending versions were keeps = by
   where
     by-work : (work : JobWork) → KeepsWork work job.stage archived newest old pending versions → KeepsWork work job.stage archived newest new pending versions
     by-work (Archive run writer) keeps = keeps
+    by-work (Floor floor) keeps = tt
     by-work (Reclaim anchors source written) keeps = record {
       is = keeps.is;
       recent = λ s there. ⊎_elim (λ (was : Contains (snapshots_of old) s). keeps.recent s was) (λ (late : archived ≤ s). let upto = keeps.is in omega (arith, upto, late)) (were s there);
@@ -142,6 +143,7 @@ opened-stands tells v m opened snapshots stands were memory machine = record {
   order = opened-order v.transactions opened stands.order;
   in_step = record { slots = stands.in_step.slots; used = stands.in_step.used; turns = λ on. let was = stands.in_step.turns on in record { turning = was.turning; writing = was.writing; turn = was.turn; job = was.job } };
   gate = stands.gate;
+  raises = stands.raises;
   marks = stands.marks;
   job = keeps-opened v.job v.archived (last m.published) v.transactions.opened opened v.transactions.pending v.transactions.versions were stands.job;
   disk = λ told. same-disk v m opened v.transactions.heads snapshots (stands.disk told);
@@ -229,6 +231,7 @@ redeemed-stands tells v m time stands memory = record {
   order = redeemed-order v.transactions time stands.order;
   in_step = record { slots = stands.in_step.slots; used = stands.in_step.used; turns = λ on. let was = stands.in_step.turns on in record { turning = was.turning; writing = was.writing; turn = was.turn; job = was.job } };
   gate = stands.gate;
+  raises = stands.raises;
   marks = stands.marks;
   job = stands.job;
   disk = λ told. same-disk v m v.transactions.opened (orders.redeemed time v.transactions.heads) m.snapshots (stands.disk told);
@@ -393,6 +396,7 @@ queued-stands tells v m label time numbers snapshots opened c stands were may le
       (latest-with_commit time (ordered v.transactions) c.writes (let last = by-last (orders.last_time v.transactions.heads) v.transactions.versions v.transactions.queue stands.order.latest in omega (arith, last, may.later))) (let after = may.later in omega (arith, after)) may.room);
   in_step = record { slots = stands.in_step.slots; used = stands.in_step.used; turns = λ on. let was = stands.in_step.turns on in record { turning = was.turning; writing = was.writing; turn = was.turn; job = was.job } };
   gate = stands.gate;
+  raises = stands.raises;
   marks = stands.marks;
   job = keeps-opened v.job v.archived (last m.published) v.transactions.opened opened v.transactions.pending v.transactions.versions were stands.job;
   disk = λ told.

@@ -1,11 +1,13 @@
 -- Each step of a job keeps what the store stands for, in memory and on its disk.
-use Rattle.std.proofs.Common.{◌≡◌, ◌≢◌, slice_get, ℕ, zero, suc, ◌+◌, ◌<◌, ◌≤◌, ◌==◌, nat_lt, Bool, true, false, List, [], ◌∷◌, ◌++◌, length, take, drop, map, Option, None, Some, is_some, ◌||◌, Result, Ok, Err, MatchBool, MatchOption, refl, arith, ap, sym, subst, ◌∙◌, inl, inr, length-append, append_assoc}
-use Rattle.std.specs.Prelude.{IsTrue}
+use Rattle.std.proofs.Common.{◌≡◌, ◌≢◌, slice_get, ℕ, zero, suc, ◌+◌, ◌<◌, ◌≤◌, ◌==◌, nat_lt, Bool, true, false, cond, unwrap_or, List, [], ◌∷◌, ◌++◌, length, take, drop, map, filter, Option, None, Some, is_some, ◌||◌, Result, Ok, Err, MatchBool, MatchOption, refl, arith, ap, sym, subst, ◌∙◌, inl, inr, length-append, append_assoc}
+use Rattle.std.specs.Prelude.{IsTrue, IsSome}
+use Rattle.std.proofs.lemmas.Bool.Decides.{nat_tests}
 use Rattle.std.specs.List.{AllByRecursion, flat_map}
 use Rattle.std.proofs.lemmas.List.{append-nil, map-append, take-append-drop, length-replicate}
 use Rattle.std.proofs.lemmas.Grind.{flat_map-append}
 use Rattle.history.specs.declared.key.Key.{Key}
-use Rattle.history.specs.Machine.{Machine, IsMachine}
+use Rattle.history.specs.Floors.{Raising, raised}
+use Rattle.history.specs.Machine.{Machine, OfGroup, OfFloor, Gate, Shut, Due, MayBeOpen, MayRaise, IsMachine}
 use Rattle.history.specs.Fronts.{OnFront}
 use Rattle.history.specs.Histories.{History, last}
 use Rattle.history.specs.Steps as steps
@@ -13,9 +15,12 @@ use Rattle.history.specs.Steps.{Event, Run}
 use Rattle.history.proofs.Filters.{AllByRecursion-append}
 use Rattle.history.proofs.Machines.{run-machine}
 use Rattle.image.specs.Values.{Value, IsValue}
-use Rattle.image.specs.Reading.{Archived, Reclaimed as ReclaimedSlot, Reading}
+use Rattle.image.specs.Reading.{Archived, Reclaimed as ReclaimedSlot, Floor as FloorSlot, Reading}
 use Rattle.image.specs.Plans.{with_run, with_anchors}
-use Rattle.image.specs.StandsFor.{archived_upto, reclaimed_upto}
+use Rattle.image.specs.StandsFor.{StandsFor, archived_upto, reclaimed_upto}
+use Rattle.history.specs.declared.time.Version.{Version}
+use Rattle.history.specs.Versions.{ends_after}
+use Rattle.history.proofs.Views.{filter-later}
 use Rattle.image.proofs.Logs.{archive_mark-append, reclaim_mark-append}
 use Rattle.disk.specs.declared.area.Area.TheVariants.{Status, Heap, Archive}
 use Rattle.disk.specs.declared.area.DeviceFault.{DeviceFault}
@@ -24,6 +29,7 @@ use Rattle.disk.specs.Calls.{DiskState, Writes, Syncs}
 use Rattle.disk.specs.Parts.{HoldsPart, KeepsPart, IsLoosened}
 use Rattle.disk.proofs.Stops.{left_by_write}
 use Rattle.disk.proofs.Parts.{synced_part, kept_by_sync}
+use Rattle.wire.specs.Numbers.{u16_bytes}
 use Rattle.wire.specs.Spelling.{IsSpelled, InRange, spelling, front_of, fields_of, u32_bytes, u64_bytes}
 use Rattle.wire.specs.declared.slot.Anchors.{Anchors}
 use Rattle.wire.specs.declared.slot.Run.{Run as WireRun}
@@ -39,7 +45,7 @@ use Rattle.deltas.specs.Records.{spelling as record_spelling}
 use Rattle.deltas.specs.Filling.{IsFilled}
 use Rattle.deltas.specs.Chains.{first_number}
 use Rattle.deltas.specs.declared.filled_extent.FilledExtent.{FilledExtent}
-use Rattle.wire.specs.declared.slot.Body.TheVariants.{Archived as ArchivedBody, Reclaimed as ReclaimedBody}
+use Rattle.wire.specs.declared.slot.Body.TheVariants.{Archived as ArchivedBody, Reclaimed as ReclaimedBody, Floor as FloorBody}
 use Rattle.chains.proofs.Forgetting.{latest-forgotten}
 use Rattle.extents.specs.Usages.{IsOut, IsKept, AreOut}
 use Rattle.status.specs.declared.header.Header.{Header}
@@ -66,7 +72,7 @@ use Rattle.group.specs.Queued.{QueuedValue, numbers_of}
 use Rattle.group.specs.declared.answers.PumpFault.{PumpFault}
 use Rattle.group.specs.declared.answers.PumpFault.TheVariants as pump
 use Rattle.transactions.specs.Order.{IsInOrder, StageFits}
-use Rattle.transactions.specs.Values.{TransactionsValue, is_turning, with_slot_used}
+use Rattle.transactions.specs.Values.{TransactionsValue, is_turning, with_slot_used, raised_to}
 use Rattle.transactions.specs.Steps as groups
 use Rattle.transactions.specs.Reclaims.{prepared, versions_once, reclaimed_to}
 use Rattle.transactions.specs.declared.stage.GroupStage.{GroupStage}
@@ -75,27 +81,27 @@ use Rattle.transactions.proofs.Publishing.{out-swapped}
 use Rattle.store.specs.Values.{StoreValue, IsInStep, IsOnItsWay, turn_in, turn_of, lent_to}
 use Rattle.store.specs.declared.job.Job.{Job}
 use Rattle.store.specs.declared.job.JobWork.{JobWork}
-use Rattle.store.specs.declared.job.JobWork.TheVariants.{Archive as ArchiveWork, Reclaim}
+use Rattle.store.specs.declared.job.JobWork.TheVariants.{Archive as ArchiveWork, Reclaim, Floor as FloorWork}
 use Rattle.store.specs.declared.job.JobStage.{JobStage}
 use Rattle.store.specs.declared.job.JobStage.TheVariants as job
 use Rattle.store.specs.declared.job.JobDid.{JobDid}
 use Rattle.store.specs.declared.job.JobDid.TheVariants as did
 use Rattle.store.specs.Jobs.{PumpsJob, TakesJobStep, Stores, WritesOrSyncs, WritesRun, AnchorsOrSync, WritesAnchors, SyncsStored, BeginsJobSlot, TurnsJob, IsJobTurned, with_job, job_fails, work_done, job_done, slot_opened, slot_body, behind_piece, first_turn, slot_taken}
 use Rattle.standing.specs.Standing.{StandsInMemory, Reclaims}
-use Rattle.standing.specs.OnDisk.{IsImageOf, AllPacked, HasTimes, group_of, IsAtStage, IsTurnOf, StoredAnchors, Product, OfRun, OfAnchors, body_of, slot_naming, laid_with, read_with, IsNextRun, IsNextChain, MayBeNext, IsMadeBy, IsWritten, IsFilling, KeepsProduct, IsTurnFor, IsAtJob, JobIsAt, HasJob, IsRested, Works, StandsOnDisk}
-use Rattle.standing.specs.Stands.{HasMarks, KeepsWork, KeepsJobOf, gate_of, StandsBeside as Stands}
-use Rattle.standing.specs.Laws.{job_ends_in}
+use Rattle.standing.specs.OnDisk.{IsImageOf, AllPacked, HasTimes, group_of, IsAtStage, IsTurnOf, StoredAnchors, Product, OfRun, OfAnchors, OfFloor, body_of, slot_naming, laid_with, read_with, IsNextRun, IsNextChain, MayBeNext, IsMadeBy, IsWritten, IsFilling, KeepsProduct, IsTurnFor, IsAtJob, JobIsAt, HasJob, IsRested, Works, StandsOnDisk}
+use Rattle.standing.specs.Stands.{HasMarks, KeepsWork, KeepsJobOf, gate_at, gate_for, gate_in, job_gate, gate_of, raising_by, raising_of, StandsBeside as Stands}
+use Rattle.standing.specs.Laws.{floor_ends, job_breaks_in, job_ends_in}
 use Rattle.standing.proofs.Besides.{IsBeside, AreBeside, all-keep, all-hold, write-beside, torn-beside, sync-beside, beside-none, beside-out, beside-numbers}
 use Rattle.standing.proofs.Chains.{fill-is, all-filled}
 use Rattle.standing.proofs.HeapForgets.{heap-forgets}
 use Rattle.standing.proofs.Joining as joining
-use Rattle.standing.proofs.Joining.{numbers-split}
-use Rattle.standing.proofs.Publishing.{breaks}
+use Rattle.standing.proofs.Joining.{MayOpenWithin, numbers-split}
+use Rattle.standing.proofs.Publishing.{regated, breaks}
 use Rattle.standing.proofs.Reclaimed.{prepares, reclaims}
 use Rattle.standing.proofs.Retired.{reserved-out, reclaimed-kept, reclaimed-times, reclaimed-order, times-long}
-use Rattle.standing.proofs.Jobs.{IsFree, resting, adds, made_extents, made-are, live-with, product-built, laid-after, stands-after, built-after, product-leaves-within, product-leads}
-use Rattle.standing.proofs.Working.{Working, working, group_in, room-left, job-room}
-use Rattle.standing.proofs.Pumping.{now-at, job-free, out-middle, stage-leaves, works-leave, goes-on-working, goes-on-failed, broken-machine, broken-order, slot-alone}
+use Rattle.standing.proofs.Jobs.{floors_with, MayStand, IsFree, resting, adds, made_extents, made-are, live-with, product-built, laid-after, stands-after, built-after, product-leaves-within, product-leads}
+use Rattle.standing.proofs.Working.{Working, working, group_in, still-shut, gate-beside, room-left, job-room}
+use Rattle.standing.proofs.Pumping.{may-stand, gate-in-turn, now-at, job-free, out-middle, stage-leaves, works-leave, goes-on-working, goes-on-failed, broken-machine, broken-order, slot-alone}
 
 -- ---- what a group's stage says of the areas
 
@@ -177,34 +183,160 @@ stage-behind header layout v m p qs Turning turn old status still rests keeps at
 -- ---- the store after a step
 
 abbrev Ends : Bool → Machine Value → Result JobDid PumpFault → StoreValue → Type 0
-Ends tells m answer v = (after : Machine Value) × steps.Run IsValue m (job_ends_in answer) after × Stands tells v after
+Ends tells m answer v = (after : Machine Value) × steps.Run IsValue m (job_ends_in m answer) after × Stands tells v after
 
 -- what memory keeps of a job, in this store
 abbrev Keeps : StoreValue → Machine Value → JobWork → JobStage → Type 0
 Keeps v m work stage = KeepsWork work stage v.archived (last m.published) v.transactions.opened v.transactions.pending v.transactions.versions
 
--- a call that is made
-stays : (tells : Bool) (new to : StoreValue) (m : Machine Value) (said : JobDid) → new ≡ to → Stands tells to m → Ends tells m (Ok said) new
-stays tells new to m said is parts = (m, refl, subst (λ (x : StoreValue). Stands tells x m) (sym is) parts)
+-- a call that is made, of which the machine does nothing
+stays : (tells : Bool) (new to : StoreValue) (m : Machine Value) (said : JobDid) → floor_ends said m.raising ≡ [] → new ≡ to → Stands tells to m → Ends tells m (Ok said) new
+stays tells new to m said nothing is parts =
+    (m, subst (λ (es : List (Event Value)). Run IsValue m es m) (sym nothing) refl, subst (λ (x : StoreValue). Stands tells x m) (sym is) parts)
+
+-- a refused call leaves the gate so
+abbrev job_gate_left : Gate → Gate
+job_gate_left Shut = Shut
+job_gate_left (Due OfGroup) = Due OfGroup
+job_gate_left (Due OfFloor) = MayBeOpen OfFloor
+job_gate_left (MayBeOpen change) = MayBeOpen change
+
+job-breaks : (m : Machine Value) → m.failed ≡ false → (gate : Gate) → m.gate ≡ gate → Run IsValue m (job_breaks_in gate) (steps.broken (steps.gated m (job_gate_left gate)))
+job-breaks m works Shut is = (steps.broken m, (works, refl), ap (λ (g : Gate). steps.broken (steps.gated m g)) (sym is))
+job-breaks m works (Due OfGroup) is = (steps.broken m, (works, refl), ap (λ (g : Gate). steps.broken (steps.gated m g)) (sym is))
+job-breaks m works (Due OfFloor) is = (steps.gated m (MayBeOpen OfFloor), (works, is, refl), (steps.broken (steps.gated m (MayBeOpen OfFloor)), (works, refl), refl))
+job-breaks m works (MayBeOpen change) is = (steps.broken m, (works, refl), ap (λ (g : Gate). steps.broken (steps.gated m g)) (sym is))
+
+-- the same of a machine whose gate is so
+gated-so : (P : Machine Value → Type 0) (m : Machine Value) (gate : Gate) → gate ≡ m.gate → P m → P (steps.gated m gate)
+gated-so P m gate same p = subst (λ (g : Gate). P (steps.gated m g)) (sym same) p
+
+gated-machine : (m : Machine Value) (gate : Gate) → IsMachine IsValue m → IsMachine IsValue (steps.gated m gate)
+gated-machine m gate machine = record {
+  history = machine.history;
+  group_few = machine.group_few;
+  group_queued = machine.group_queued;
+  floors_reached = machine.floors_reached;
+  snapshots = machine.snapshots;
+  raising = machine.raising;
+}
+
+gated-works : (header : Header) (v : StoreValue) (m : Machine Value) (gate : Gate) → Works header v m → Works header v (steps.gated m gate)
+gated-works header v m gate w = record { log = w.log; heap = w.heap; packed = w.packed; group = w.group; job = w.job; sound = w.sound }
+
+-- the machine once the job's slot is open
+abbrev pub machine_done : JobWork → Machine Value → Machine Value
+machine_done (ArchiveWork run writer) m = m
+machine_done (Reclaim anchors source written) m = m
+machine_done (FloorWork floor) m = steps.floor_published m (record { scope = None; floor = floor })
+
+done-failed : (m : Machine Value) (work : JobWork) → (machine_done work m).failed ≡ m.failed
+done-failed m (ArchiveWork run writer) = refl
+done-failed m (Reclaim anchors source written) = refl
+done-failed m (FloorWork floor) = refl
+
+-- no floor is in the making then, and the gate is shut
+done-raised : (m : Machine Value) (work : JobWork) → m.raising ≡ raising_by work → (machine_done work m).raising ≡ None
+done-raised m (ArchiveWork run writer) raises = raises
+done-raised m (Reclaim anchors source written) raises = raises
+done-raised m (FloorWork floor) raises = refl
+
+done-shut : (m : Machine Value) (work : JobWork) → m.gate ≡ gate_for work slots.GateWritten → (machine_done work m).gate ≡ Shut
+done-shut m (ArchiveWork run writer) gate = gate
+done-shut m (Reclaim anchors source written) gate = gate
+done-shut m (FloorWork floor) gate = refl
+
+begun-shut : (work : JobWork) → gate_for work slots.Begun ≡ Shut
+begun-shut (ArchiveWork run writer) = refl
+begun-shut (Reclaim anchors source written) = refl
+begun-shut (FloorWork floor) = refl
+
+-- ---- what the machine does in the calls of the slot
+
+-- what is answered where the slot was at this stage
+abbrev said_at : SlotStage → JobDid
+said_at slots.Begun = did.BodyWritten
+said_at slots.BodyWritten = did.BodySynced
+said_at slots.BodySynced = did.GateWritten
+said_at slots.GateWritten = did.JobDone
+said_at slots.Opened = did.JobDone
+
+by-floor : (m after : Machine Value) (said : JobDid) (o : Option Raising) → m.raising ≡ o → Run IsValue m (floor_ends said o) after → Run IsValue m (floor_ends said m.raising) after
+by-floor m after said o is run = subst (λ (x : Option Raising). Run IsValue m (floor_ends said x) after) (sym is) run
+
+none-told : (m : Machine Value) (gate : Gate) → m.gate ≡ gate → Run IsValue m [] (steps.gated m gate)
+none-told m gate is = ap (steps.gated m) (sym is)
+
+-- in a call that is not the last
+gate-run : (m : Machine Value) (work : JobWork) (s : SlotStage) → m.failed ≡ false → IsOnItsWay (slots.slot_stage_after s) → m.raising ≡ raising_by work → m.gate ≡ gate_for work s
+    → Run IsValue m (floor_ends (said_at s) m.raising) (steps.gated m (gate_for work (slots.slot_stage_after s)))
+gate-run m (ArchiveWork run writer) s works way raises gate = by-floor m (steps.gated m Shut) (said_at s) None raises (none-told m Shut gate)
+gate-run m (Reclaim anchors source written) s works way raises gate = by-floor m (steps.gated m Shut) (said_at s) None raises (none-told m Shut gate)
+gate-run m (FloorWork floor) slots.Begun works way raises gate = by-floor m (steps.gated m Shut) did.BodyWritten (Some (record { scope = None; floor = floor })) raises (none-told m Shut gate)
+gate-run m (FloorWork floor) slots.BodyWritten works way raises gate =
+    by-floor m (steps.gated m (Due OfFloor)) did.BodySynced (Some (record { scope = None; floor = floor })) raises
+    (steps.gated m (Due OfFloor), (works, subst (λ (o : Option Raising). IsSome o) (sym raises) refl, gate, refl), refl)
+gate-run m (FloorWork floor) slots.BodySynced works way raises gate =
+    by-floor m (steps.gated m (MayBeOpen OfFloor)) did.GateWritten (Some (record { scope = None; floor = floor })) raises (steps.gated m (MayBeOpen OfFloor), (works, gate, refl), refl)
+gate-run m (FloorWork floor) slots.GateWritten works way raises gate = absurd way
+gate-run m (FloorWork floor) slots.Opened works way raises gate = absurd way
+
+-- and in the last one
+done-run : (m : Machine Value) (work : JobWork) → m.failed ≡ false → m.raising ≡ raising_by work → m.gate ≡ gate_for work slots.GateWritten → Run IsValue m (floor_ends did.JobDone m.raising) (machine_done work m)
+done-run m (ArchiveWork run writer) works raises gate = by-floor m m did.JobDone None raises refl
+done-run m (Reclaim anchors source written) works raises gate = by-floor m m did.JobDone None raises refl
+done-run m (FloorWork floor) works raises gate =
+    let r : Raising = record { scope = None; floor = floor } in
+    by-floor m (steps.floor_published m r) did.JobDone (Some r) raises (steps.floor_published m r, (works, raises, gate, refl), refl)
+
+job-left-is : (s : SlotStage) → MayOpenWithin s → job_gate_left (gate_at OfFloor s) ≡ MayBeOpen OfFloor
+job-left-is slots.Begun may = absurd may
+job-left-is slots.BodyWritten may = absurd may
+job-left-is slots.BodySynced may = refl
+job-left-is slots.GateWritten may = refl
+job-left-is slots.Opened may = refl
 
 -- a refused call
 fails : (tells : Bool) (v new : StoreValue) (m : Machine Value) (why : PumpFault) (log : LogState) (j : Job) → (stands : Stands tells v m) → (works : m.failed ≡ false) → why ≡ pump.Failed → log.profile ≡ v.log.profile → log.slots ≡ v.log.slots → log.used ≡ v.log.used → lent_to v.job ≡ 1
-    → Keeps v m j.work j.stage → new ≡ record v { transactions = groups.broken v.transactions; log = log; job = Some j; disk = new.disk }
-    → ((told : IsTrue tells) (image : Image) → LeavesImage new.disk.areas image → OnFront (IsImageOf (stands.disk told).header image) m) → Ends tells m (Err why) new
-fails tells v new m why log j stands works said profile many used lent keeps is leaves =
+    → m.raising ≡ raising_by j.work → Keeps v m j.work j.stage → new ≡ record v { transactions = groups.broken v.transactions; log = log; job = Some j; disk = new.disk }
+    → ((told : IsTrue tells) (image : Image) → LeavesImage new.disk.areas image → OnFront (IsImageOf (stands.disk told).header image) (steps.gated m (job_gate_left m.gate))) → Ends tells m (Err why) new
+fails tells v new m why log j stands works said profile many used lent raised keeps is leaves =
+    let after : Machine Value = steps.broken (steps.gated m (job_gate_left m.gate)) in
     subst (λ (e : PumpFault). Ends tells m (Err e) new) (sym said) (
-      steps.broken m,
-      (steps.broken m, (works, refl), refl),
-      subst (λ (x : StoreValue). Stands tells x (steps.broken m)) (sym is) (goes-on-failed tells v (record v { transactions = groups.broken v.transactions; log = log; job = Some j; disk = new.disk }) m (steps.broken m) stands (record {
-        memory = breaks v.transactions m stands.memory;
-        machine = broken-machine m m.gate stands.machine;
+      after,
+      job-breaks m works m.gate refl,
+      subst (λ (x : StoreValue). Stands tells x after) (sym is) (goes-on-failed tells v (record v { transactions = groups.broken v.transactions; log = log; job = Some j; disk = new.disk }) m after stands (record {
+        memory = breaks v.transactions (steps.gated m (job_gate_left m.gate)) (regated v.transactions m (job_gate_left m.gate) stands.memory);
+        machine = broken-machine m (job_gate_left m.gate) stands.machine;
         order = broken-order v.transactions stands.order;
         in_step = record { slots = omega (arith, many, stands.in_step.slots, lent); used = used ∙ stands.in_step.used; turns = λ no. absurd cc };
         gate = λ no. absurd cc;
+        raises = raised;
         marks = stands.marks;
         job = keeps;
       }) refl profile many leaves),
     )
+
+-- a group's gate is no job's
+own-gate-left : (o : Option TurnState) (job : Option Job) → job_gate job ≡ Shut → job_gate_left (gate_of o job) ≡ gate_of o job
+own-gate-left None job shut = ap job_gate_left shut ∙ sym shut
+own-gate-left (Some t) job shut = by-stage t.stage
+  where
+    by-stage : (s : SlotStage) → job_gate_left (gate_at OfGroup s) ≡ gate_at OfGroup s
+    by-stage slots.Begun = refl
+    by-stage slots.BodyWritten = refl
+    by-stage slots.BodySynced = refl
+    by-stage slots.GateWritten = refl
+    by-stage slots.Opened = refl
+
+-- so is one before the job's slot
+fails-still : (tells : Bool) (v new : StoreValue) (m : Machine Value) (why : PumpFault) (j : Job) → (stands : Stands tells v m) → (works : m.failed ≡ false) → why ≡ pump.Failed → lent_to v.job ≡ 1 → turn_of v.job ≡ None
+    → m.raising ≡ raising_by j.work → Keeps v m j.work j.stage → new ≡ record v { transactions = groups.broken v.transactions; job = Some j; disk = new.disk }
+    → ((told : IsTrue tells) (image : Image) → LeavesImage new.disk.areas image → OnFront (IsImageOf (stands.disk told).header image) m) → Ends tells m (Err why) new
+fails-still tells v new m why j stands works said lent still raised keeps is leaves =
+    let same : job_gate_left m.gate ≡ m.gate = ap job_gate_left (stands.gate works) ∙ own-gate-left v.turn v.job (still-shut v.job still) ∙ sym (stands.gate works) in
+    fails tells v new m why v.log j stands works said refl refl refl lent raised keeps is
+    (λ told image left. gated-so (λ (x : Machine Value). OnFront (IsImageOf (stands.disk told).header image) x) m (job_gate_left m.gate) same (leaves told image left))
 
 -- ---- what the job makes is written
 
@@ -278,10 +410,10 @@ module _ (tells : Bool) (v new : StoreValue) (m : Machine Value) (stands : Stand
       stage-leaves v m c areas v.transactions.stage v.turn (stands.gate works) stands.order.stage_fits at image left
 
   -- the store with another job
-  moved : (j' : Job) → turn_of v.job ≡ None → turn_in j'.stage ≡ None → Keeps v m j'.work j'.stage → ((told : IsTrue tells) → Works (stands.disk told).header (with_job v j' new) m) → Stands tells (with_job v j' new) m
-  moved j' none none' keeps works-so =
+  moved : (j' : Job) → turn_of v.job ≡ None → turn_in j'.stage ≡ None → m.raising ≡ raising_by j'.work → Keeps v m j'.work j'.stage → ((told : IsTrue tells) → Works (stands.disk told).header (with_job v j' new) m) → Stands tells (with_job v j' new) m
+  moved j' none none' raised keeps works-so =
       goes-on-working tells v (with_job v j' new) m m stands works
-      (record { memory = stands.memory; machine = stands.machine; order = stands.order; in_step = in-step-with v new j j' is none none' stands.in_step; gate = stands.gate; marks = stands.marks; job = keeps }) works refl refl works-so
+      (record { memory = stands.memory; machine = stands.machine; order = stands.order; in_step = in-step-with v new j j' is none none' stands.in_step; gate = λ on. stands.gate on ∙ gate-beside v.turn v.job (Some j') (still-shut v.job none) (still-shut (Some j') none'); raises = raised; marks = stands.marks; job = keeps }) works refl refl works-so
 
 -- the first of these have what all have
 all-front-of : {X : Type 0} (P : X → Type 0) (n : ℕ) (xs : List X) → AllByRecursion P xs → AllByRecursion P (take n xs)
@@ -299,6 +431,9 @@ module _ (tells : Bool) (v new : StoreValue) (m : Machine Value) (stands : Stand
   still-none : turn_of v.job ≡ None
   still-none = ap turn_of is
 
+  no-floor : m.raising ≡ None
+  no-floor = stands.raises ∙ ap raising_of is
+
   -- the run as it is stored
   record OwnRun (layout : Layout) (reading : Reading) (archive : AreaState) : Type 0 where
     pub stored : StoredRun
@@ -310,6 +445,7 @@ module _ (tells : Bool) (v new : StoreValue) (m : Machine Value) (stands : Stand
       → IsAtJob header layout (ArchiveWork run writer) p job.Writing areas → OwnRun layout reading areas.archive
   own-run-of layout reading areas header (OfRun stored) made next at = record { stored = stored; entry = made; next = next; at = at }
   own-run-of layout reading areas header (OfAnchors a) made next at = absurd made
+  own-run-of layout reading areas header (OfFloor floor) made next at = absurd made
 
   own-run : (told : IsTrue tells) → OwnRun ((stands.disk told).works works).log.layout ((stands.disk told).works works).log.reading v.disk.areas.archive
   own-run told =
@@ -350,8 +486,8 @@ module _ (tells : Bool) (v new : StoreValue) (m : Machine Value) (stands : Stand
   wrote-run : (answer : Result JobDid PumpFault) → WritesRun tells run writer (archiving (ArchiveWork run writer) job.Writing) v answer new → Ends tells m answer new
   wrote-run (Ok said) takes =
       let j' : Job = archiving (ArchiveWork run (behind_piece writer)) job.Writing in
-      stays tells new (with_job v j' new) m said takes.moves.1
-      (moved tells v new m stands works sound (archiving (ArchiveWork run writer) job.Writing) is j' still-none refl run-kept (λ told.
+      stays tells new (with_job v j' new) m said (ap (floor_ends said) no-floor) takes.moves.1
+      (moved tells v new m stands works sound (archiving (ArchiveWork run writer) job.Writing) is j' still-none refl no-floor run-kept (λ told.
       let c = working tells v m stands works told in
       let w = c.works in
       let has = own-run told in
@@ -361,7 +497,7 @@ module _ (tells : Bool) (v new : StoreValue) (m : Machine Value) (stands : Stand
       (on-archive told (record v.disk.areas { status = w.group.rested }) archive kept w.group.at)
       (record { product = OfRun has.stored; made = has.entry; next = has.next; at = written-on told })))
   wrote-run (Err why) takes =
-      fails tells v new m why v.log (archiving (ArchiveWork run (behind_piece writer)) job.Writing) stands works takes.moves.0 refl refl refl (ap lent_to is) run-kept takes.moves.1 (λ told image left.
+      fails-still tells v new m why (archiving (ArchiveWork run (behind_piece writer)) job.Writing) stands works takes.moves.0 (ap lent_to is) still-none no-floor run-kept takes.moves.1 (λ told image left.
       let c = working tells v m stands works told in
       let w = c.works in
       let archive : AreaState = loosened writer.at (length piece) v.disk.areas.archive.bytes v.disk.areas.archive in
@@ -373,8 +509,8 @@ module _ (tells : Bool) (v new : StoreValue) (m : Machine Value) (stands : Stand
   synced-run : (answer : Result JobDid PumpFault) → writer.left ≡ [] → SyncsStored tells Archive did.RunSynced (archiving (ArchiveWork run writer) job.Writing) v answer new → Ends tells m answer new
   synced-run (Ok said) all takes =
       let j' : Job = archiving (ArchiveWork run writer) job.Stored in
-      stays tells new (with_job v j' new) m said takes.moves.1
-      (moved tells v new m stands works sound (archiving (ArchiveWork run writer) job.Writing) is j' still-none refl run-kept (λ told.
+      stays tells new (with_job v j' new) m said (ap (floor_ends said) no-floor) takes.moves.1
+      (moved tells v new m stands works sound (archiving (ArchiveWork run writer) job.Writing) is j' still-none refl no-floor run-kept (λ told.
       let c = working tells v m stands works told in
       let w = c.works in
       let has = own-run told in
@@ -391,7 +527,7 @@ module _ (tells : Bool) (v new : StoreValue) (m : Machine Value) (stands : Stand
         at = synced_part has.stored.entry.start (run_bytes has.stored.records) v.disk.areas.archive (subst (λ (l : List ℕ). HoldsPart has.stored.entry.start l v.disk.areas.archive.bytes) whole at.held);
       })))
   synced-run (Err why) all takes =
-      fails tells v new m why v.log (archiving (ArchiveWork run writer) job.Writing) stands works takes.moves.0 refl refl refl (ap lent_to is) run-kept takes.moves.1
+      fails-still tells v new m why (archiving (ArchiveWork run writer) job.Writing) stands works takes.moves.0 (ap lent_to is) still-none no-floor run-kept takes.moves.1
       (λ told image left. same tells v new m stands works sound (archiving (ArchiveWork run writer) job.Writing) is told (takes.call.areas told).same image left)
 
   run-step : (left : List ℕ) → writer.left ≡ left → (answer : Result JobDid PumpFault) → WritesOrSyncs tells left run writer (archiving (ArchiveWork run writer) job.Writing) v answer new → Ends tells m answer new
@@ -411,6 +547,9 @@ module _ (tells : Bool) (v new : StoreValue) (m : Machine Value) (stands : Stand
   none-turning : turn_of v.job ≡ None
   none-turning = ap turn_of is
 
+  no-floor-raised : m.raising ≡ None
+  no-floor-raised = stands.raises ∙ ap raising_of is
+
   -- the anchors as they are stored
   record OwnAnchors (layout : Layout) (reading : Reading) (heap : AreaState) : Type 0 where
     pub stored : StoredAnchors
@@ -422,6 +561,7 @@ module _ (tells : Bool) (v new : StoreValue) (m : Machine Value) (stands : Stand
   own-anchors-of : (layout : Layout) (reading : Reading) (areas : Areas) (header : Header) (p : Product) → IsMadeBy v.transactions.reserved (Reclaim anchors source done) p → MayBeNext layout reading m.published p
       → IsAtJob header layout (Reclaim anchors source done) p job.Writing areas → OwnAnchors layout reading areas.heap
   own-anchors-of layout reading areas header (OfRun stored) made next at = absurd made
+  own-anchors-of layout reading areas header (OfFloor floor) made next at = absurd made
   own-anchors-of layout reading areas header (OfAnchors a) made next at = record { stored = a; entry = made.0; numbers = made.1; next = next; at = at }
 
   own-anchors : (told : IsTrue tells) → OwnAnchors ((stands.disk told).works works).log.layout ((stands.disk told).works works).log.reading v.disk.areas.heap
@@ -513,8 +653,8 @@ module _ (tells : Bool) (v new : StoreValue) (m : Machine Value) (stands : Stand
   wrote-anchors : (number : ℕ) → slice_get v.transactions.reserved done ≡ Some number → (answer : Result JobDid PumpFault) → WritesAnchors tells anchors source done number now v answer new → Ends tells m answer new
   wrote-anchors number there (Ok said) takes =
       let j' : Job = reclaiming takes.behind (done + 1) job.Writing in
-      stays tells new (with_job v j' new) m said takes.moves.1
-      (moved tells v new m stands works sound now is j' none-turning refl chain-kept (λ told.
+      stays tells new (with_job v j' new) m said (ap (floor_ends said) no-floor-raised) takes.moves.1
+      (moved tells v new m stands works sound now is j' none-turning refl no-floor-raised chain-kept (λ told.
       let c = working tells v m stands works told in
       let w = c.works in
       let has = own-anchors told in
@@ -536,7 +676,7 @@ module _ (tells : Bool) (v new : StoreValue) (m : Machine Value) (stands : Stand
         at = record { rest = mine.rest; held = subst (AllByRecursion (HoldsExtent heap.bytes)) (sym mine.front) held };
       })))
   wrote-anchors number there (Err why) takes =
-      fails tells v new m why v.log (reclaiming takes.behind (done + 1) job.Writing) stands works takes.moves.0 refl refl refl (ap lent_to is) chain-kept takes.moves.1 (λ told image left.
+      fails-still tells v new m why (reclaiming takes.behind (done + 1) job.Writing) stands works takes.moves.0 (ap lent_to is) none-turning no-floor-raised chain-kept takes.moves.1 (λ told image left.
       let c = working tells v m stands works told in
       let w = c.works in
       let mine = next-extent told number there (takes.image, takes.filled, takes.behind, takes.is_filled) in
@@ -551,8 +691,8 @@ module _ (tells : Bool) (v new : StoreValue) (m : Machine Value) (stands : Stand
   synced-anchors : slice_get v.transactions.reserved done ≡ None → (answer : Result JobDid PumpFault) → SyncsStored tells Heap did.HeapSynced now v answer new → Ends tells m answer new
   synced-anchors none (Ok said) takes =
       let j' : Job = reclaiming source done job.Stored in
-      stays tells new (with_job v j' new) m said takes.moves.1
-      (moved tells v new m stands works sound now is j' none-turning refl chain-kept (λ told.
+      stays tells new (with_job v j' new) m said (ap (floor_ends said) no-floor-raised) takes.moves.1
+      (moved tells v new m stands works sound now is j' none-turning refl no-floor-raised chain-kept (λ told.
       let c = working tells v m stands works told in
       let w = c.works in
       let has = own-anchors told in
@@ -571,7 +711,7 @@ module _ (tells : Bool) (v new : StoreValue) (m : Machine Value) (stands : Stand
         at = extents_synced has.stored.extents v.disk.areas.heap (subst (AllByRecursion (HoldsExtent v.disk.areas.heap.bytes)) (all-filled has.stored v.transactions.reserved done has.numbers none) has.at.held);
       })))
   synced-anchors none (Err why) takes =
-      fails tells v new m why v.log now stands works takes.moves.0 refl refl refl (ap lent_to is) chain-kept takes.moves.1
+      fails-still tells v new m why now stands works takes.moves.0 (ap lent_to is) none-turning no-floor-raised chain-kept takes.moves.1
       (λ told image left. same tells v new m stands works sound now is told (takes.call.areas told).same image left)
 
   anchors-step : (o : Option ℕ) → slice_get v.transactions.reserved done ≡ o → (answer : Result JobDid PumpFault) → AnchorsOrSync tells o anchors source done now v answer new → Ends tells m answer new
@@ -581,27 +721,40 @@ module _ (tells : Bool) (v new : StoreValue) (m : Machine Value) (stands : Stand
 -- ---- the slot of what the job makes
 
 slot-front : (profile number : ℕ) (p : Product) → length (front_of profile (slot_naming number p)) ≤ 39
-unfolding front_of fields_of u32_bytes u64_bytes
+unfolding front_of fields_of u16_bytes u32_bytes u64_bytes
 slot-front profile number (OfRun run) = omega arith
 slot-front profile number (OfAnchors a) = omega arith
+slot-front profile number (OfFloor floor) =
+    elim (profile == 3) as (λ (b : Bool). length (4 ∷ 0 ∷ 0 ∷ (u32_bytes number ++ (u64_bytes floor ++ cond b (u16_bytes (unwrap_or None 0)) []))) ≤ 39) [ true ↦ omega arith | false ↦ omega arith ]
 
 slot-long : (profile number : ℕ) (p : Product) → length (spelling profile (slot_naming number p)) ≡ 511
 unfolding spelling
 slot-long profile number p = let front = slot-front profile number p in simp (length-append, length-replicate) (omega (arith, front))
 
-slot-in-range : (layout : Layout) (reading : Reading) (h : History Value) (profile : ℕ) (p : Product) → MayBeNext layout reading h p → InRange profile (body_of p)
-slot-in-range layout reading h profile (OfRun run) next = next.in_range
-slot-in-range layout reading h profile (OfAnchors a) next = next.in_range
+-- where commits are built a floor is one of every relation
+no-scope : (profile : ℕ) → IsTrue (is_built profile 1) → profile ≢ 3
+no-scope profile built is = (let one : profile ≡ 1 = grind (arith, nat_tests) in omega (arith, is, one))
+
+slot-in-range : (layout : Layout) (reading : Reading) (h : History Value) (profile : ℕ) (p : Product) → IsTrue (is_built profile 1) → MayBeNext layout reading h p → InRange profile (body_of p)
+slot-in-range layout reading h profile (OfRun run) built next = next.in_range
+slot-in-range layout reading h profile (OfAnchors a) built next = next.in_range
+slot-in-range layout reading h profile (OfFloor floor) built next = (let above = next.rises 0 in omega (arith, above), next.in_range, no-scope profile built)
 
 -- what the slot says is what the job made
 body-is : (reserved : List ℕ) (work : JobWork) (p : Product) → IsMadeBy reserved work p → body_of p ≡ slot_body work
 body-is reserved (ArchiveWork run writer) (OfRun r) made = ap (λ (x : WireRun). ArchivedBody x) made
 body-is reserved (ArchiveWork run writer) (OfAnchors a) made = absurd made
+body-is reserved (ArchiveWork run writer) (OfFloor to) made = absurd made
+body-is reserved (Reclaim anchors source written) (OfFloor to) made = absurd made
+body-is reserved (FloorWork floor) (OfRun r) made = absurd made
+body-is reserved (FloorWork floor) (OfAnchors a) made = absurd made
+body-is reserved (FloorWork floor) (OfFloor to) made = ap (λ (n : ℕ). FloorBody None n) made
 body-is reserved (Reclaim anchors source written) (OfRun r) made = absurd made
 body-is reserved (Reclaim anchors source written) (OfAnchors a) made = ap (λ (x : Anchors). ReclaimedBody x) made.0
 
 -- it is kept beside what the log names
 product-kept : (layout : Layout) (p : Product) (areas : Areas) → KeepsParts layout areas → KeepsProduct p areas → KeepsParts (laid_with layout p) areas
+product-kept layout (OfFloor floor) areas parts kept = record { extents = parts.extents; runs = parts.runs }
 product-kept layout (OfRun run) areas parts kept = archive_kept layout (slot_naming (length layout.slots) (OfRun run)) run areas parts kept
 product-kept layout (OfAnchors a) areas parts kept = reclaim_kept layout (slot_naming (length layout.slots) (OfAnchors a)) a.entry.upto a.extents areas parts kept
 
@@ -638,7 +791,7 @@ module _ (v new : StoreValue) (m : Machine Value) (c : Working v m) (j : Job) (i
       let same : spelling header.profile (slot_naming (length w.log.layout.slots) product) ≡ spelling v.log.profile (record { number = v.log.used; body = slot_body j.work }) =
       (let p = sym c.profile in λ i. spelling (p i) (record { number = number i; body = what i })) in
       let whole : IsSpelled header.profile (length w.log.layout.slots) (spelling header.profile (slot_naming (length w.log.layout.slots) product)) (slot_naming (length w.log.layout.slots) product) =
-      record { own = refl; in_range = slot-in-range w.log.layout w.log.reading m.published header.profile product mine.next; bytes_are = refl } in
+      record { own = refl; in_range = slot-in-range w.log.layout w.log.reading m.published header.profile product c.profile_built mine.next; bytes_are = refl } in
       record {
         number = w.log.used;
         long = subst (λ (l : List ℕ). length l ≡ 511) same (slot-long header.profile (length w.log.layout.slots) product);
@@ -661,9 +814,10 @@ module _ (v new : StoreValue) (m : Machine Value) (c : Working v m) (j : Job) (i
     own-call answer call = subst (λ (n : ℕ). IsSlotCall n t.body t.stage answer v.disk.areas new.disk.areas) at.number call
 
     -- a refused call leaves what a stop within it leaves
-    turn-leaves : IsSlotCall t.number t.body t.stage (Err (record {})) v.disk.areas new.disk.areas → (image : Image) → LeavesImage new.disk.areas image → OnFront (IsImageOf header image) m
-    turn-leaves call image left =
-        product-leaves-within header m w.log.layout w.log.reading w.log.laid w.log.stands c.profile_built w.log.built place product mine.next free-now t.body at.long at.spelled t.stage (Err (record {})) v.disk.areas new.disk.areas image at.at w.sound
+    turn-leaves : (gate : Gate) → (MayOpenWithin t.stage → MayStand product (steps.gated m gate)) → IsSlotCall t.number t.body t.stage (Err (record {})) v.disk.areas new.disk.areas → (image : Image) → LeavesImage new.disk.areas image
+        → OnFront (IsImageOf header image) (steps.gated m gate)
+    turn-leaves gate may call image left =
+        product-leaves-within header (steps.gated m gate) w.log.layout w.log.reading w.log.laid w.log.stands c.profile_built w.log.built place product mine.next free-now t.body at.long at.spelled t.stage (Err (record {})) v.disk.areas new.disk.areas image may at.at w.sound
         (own-call (Err (record {})) call) left
 
     turn-leads : IsSlotCall t.number t.body t.stage (Ok tt) v.disk.areas new.disk.areas → IsTurnAt header w.log.layout slot behind-it (slots.slot_stage_after t.stage) new.disk.areas
@@ -727,6 +881,22 @@ module _ (v new : StoreValue) (m : Machine Value) (c : Working v m) (j : Job) (i
           runs_end = ap (λ (x : WireRun). x.start + x.len) (sym made) ∙ sym (ap (row_end 0) more ∙ row_end-more 0 (runs_of w.log.layout.slots) r.entry);
         }
     done-by (ArchiveWork run writer) (OfAnchors a) made next keeps sorted = absurd made
+    done-by (ArchiveWork run writer) (OfFloor to) made next keeps sorted = absurd made
+    done-by (FloorWork floor) (OfRun r) made next keeps sorted = absurd made
+    done-by (FloorWork floor) (OfAnchors a) made next keeps sorted = absurd made
+    done-by (FloorWork floor) (OfFloor to) made next keeps sorted =
+        let slot' : Slot = slot_naming (length w.log.layout.slots) (OfFloor to) in
+        let more : runs_of (w.log.layout.slots ++ slot' ∷ []) ≡ runs_of w.log.layout.slots = flat_map-append (λ (s : Slot). runs_in s.body) w.log.layout.slots (slot' ∷ []) ∙ append-nil (runs_of w.log.layout.slots) in
+        record {
+          kept = w.heap.kept;
+          times = w.heap.times;
+          times_long = w.heap.times_long;
+          heap = w.heap.facts;
+          archived = w.log.archived ∙ sym (archive_mark-append 0 w.log.reading.log (FloorSlot None to ∷ []));
+          reclaimed = w.log.reclaimed ∙ sym (reclaim_mark-append 0 w.log.reading.log (FloorSlot None to ∷ []));
+          runs_end = w.log.runs_end ∙ sym (ap (row_end 0) more);
+        }
+    done-by (Reclaim anchors source written) (OfFloor to) made next keeps sorted = absurd made
     done-by (Reclaim anchors source written) (OfRun r) made next keeps sorted = absurd made
     done-by (Reclaim anchors source written) (OfAnchors a) made next keeps sorted =
         let slot' : Slot = slot_naming (length w.log.layout.slots) (OfAnchors a) in
@@ -757,15 +927,28 @@ module _ (v new : StoreValue) (m : Machine Value) (c : Working v m) (j : Job) (i
         let long : length behind-it.slots ≡ length w.log.layout.slots + 1 = ap (λ (l : List Slot). length l) added.slots_are ∙ length-append w.log.layout.slots (slot ∷ []) in
         omega (arith, long, at.number)
 
+    -- the floors are those that the machine has then
+    floors-done : (work : JobWork) (p : Product) → IsMadeBy v.transactions.reserved work p → floors_with p m.floors ≡ (machine_done work m).floors
+    floors-done (ArchiveWork run writer) (OfRun r) made = refl
+    floors-done (ArchiveWork run writer) (OfAnchors a) made = absurd made
+    floors-done (ArchiveWork run writer) (OfFloor to) made = absurd made
+    floors-done (Reclaim anchors source written) (OfRun r) made = absurd made
+    floors-done (Reclaim anchors source written) (OfAnchors a) made = refl
+    floors-done (Reclaim anchors source written) (OfFloor to) made = absurd made
+    floors-done (FloorWork floor) (OfRun r) made = absurd made
+    floors-done (FloorWork floor) (OfAnchors a) made = absurd made
+    floors-done (FloorWork floor) (OfFloor to) made = ap (λ (n : ℕ). raised None n m.floors) made
+
     -- the works of the store once the slot is open, where its work is done
-    opened-works : (x : StoreValue) → IsDone x behind-it (read_with w.log.reading product) → AllPacked m.published x.transactions.queue m.queue → AreSound new.disk.areas
-        → IsAtStage header behind-it (group_of behind-it x.transactions m) x.transactions.queue x.transactions.stage x.turn new.disk.areas → Works header (slot_opened x t new) m
-    opened-works x done packed sound stage = record {
+    opened-works : (x : StoreValue) (floors : ℕ → ℕ) → floors_with product m.floors ≡ floors → IsDone x behind-it (read_with w.log.reading product) → AllPacked m.published x.transactions.queue m.queue → AreSound new.disk.areas
+        → IsAtStage header behind-it (group_of behind-it x.transactions m) x.transactions.queue x.transactions.stage x.turn new.disk.areas → Works header (slot_opened x t new) (record m { floors = floors })
+    opened-works x floors are done packed sound stage = record {
       log = record {
         layout = behind-it;
         reading = read_with w.log.reading product;
         laid = laid-after header m w.log.layout w.log.reading w.log.laid w.log.stands c.profile_built w.log.built place product mine.next free-now;
-        stands = stands-after header m w.log.layout w.log.reading w.log.laid w.log.stands c.profile_built w.log.built place product mine.next free-now;
+        stands = subst (λ (f : ℕ → ℕ). StandsFor (read_with w.log.reading product) m.published f) are
+            (stands-after header m w.log.layout w.log.reading w.log.laid w.log.stands c.profile_built w.log.built place product mine.next free-now);
         built = built-after header m w.log.layout w.log.reading w.log.laid w.log.stands c.profile_built w.log.built place product mine.next free-now;
         used = long-used;
         archived = done.archived;
@@ -790,7 +973,7 @@ module _ (v new : StoreValue) (m : Machine Value) (c : Working v m) (j : Job) (i
 
     done-works : t.stage ≡ slots.GateWritten → AreSound new.disk.areas → is_turning v.transactions.stage ≡ false → Keeps v m j.work (job.Turning t) → IsOrdered v.transactions.versions
         → IsAtStage header w.log.layout (group_of w.log.layout v.transactions m) v.transactions.queue v.transactions.stage v.turn (record v.disk.areas { status = w.group.rested })
-        → IsSlotCall t.number t.body t.stage (Ok tt) v.disk.areas new.disk.areas → Works header (slot_opened (work_done j.work v) t new) m
+        → IsSlotCall t.number t.body t.stage (Ok tt) v.disk.areas new.disk.areas → Works header (slot_opened (work_done j.work v) t new) (machine_done j.work m)
     done-works gate sound free keeps sorted stands call =
         let areas = slot-alone t.stage t.number t.body v.disk.areas new.disk.areas call in
         let opened : IsTurnAt header w.log.layout slot behind-it slots.Opened new.disk.areas = subst (λ (s : SlotStage). IsTurnAt header w.log.layout slot behind-it (slots.slot_stage_after s) new.disk.areas) gate (turn-leads call) in
@@ -799,13 +982,16 @@ module _ (v new : StoreValue) (m : Machine Value) (c : Working v m) (j : Job) (i
         let rests : StatusRests header behind-it.slots new.disk.areas.status = subst (λ (ss : List Slot). StatusRests header ss new.disk.areas.status) (sym added.slots_are) opened.status in
         let stage = stage-behind header w.log.layout v.transactions m product v.transactions.queue v.transactions.stage v.turn (record v.disk.areas { status = w.group.rested }) new.disk.areas.status free rests
         (record { extents = kept.extents; runs = kept.runs }) stands in
-        by-work j.work (done-by j.work product mine.made mine.next keeps sorted)
+        by-work j.work (floors-done j.work product mine.made) (done-by j.work product mine.made mine.next keeps sorted)
         (subst (λ (a : Areas). IsAtStage header behind-it (group_of behind-it v.transactions m) v.transactions.queue v.transactions.stage v.turn a) (sym areas) stage)
       where
-        by-work : (work : JobWork) → IsDone (work_done work v) behind-it (read_with w.log.reading product)
-            → IsAtStage header behind-it (group_of behind-it v.transactions m) v.transactions.queue v.transactions.stage v.turn new.disk.areas → Works header (slot_opened (work_done work v) t new) m
-        by-work (ArchiveWork run writer) done stage = opened-works (work_done (ArchiveWork run writer) v) done w.packed sound stage
-        by-work (Reclaim anchors source written) done stage = opened-works (work_done (Reclaim anchors source written) v) done w.packed sound stage
+        by-work : (work : JobWork) → floors_with product m.floors ≡ (machine_done work m).floors → IsDone (work_done work v) behind-it (read_with w.log.reading product)
+            → IsAtStage header behind-it (group_of behind-it v.transactions m) v.transactions.queue v.transactions.stage v.turn new.disk.areas → Works header (slot_opened (work_done work v) t new) (machine_done work m)
+        by-work (ArchiveWork run writer) are done stage = opened-works (work_done (ArchiveWork run writer) v) m.floors are done w.packed sound stage
+        by-work (Reclaim anchors source written) are done stage = opened-works (work_done (Reclaim anchors source written) v) m.floors are done w.packed sound stage
+        by-work (FloorWork floor) are done stage =
+            let w' = opened-works (work_done (FloorWork floor) v) (raised None floor m.floors) are done w.packed sound stage in
+            record { log = w'.log; heap = w'.heap; packed = w'.packed; group = w'.group; job = w'.job; sound = w'.sound }
 
 -- ---- the transactions once a lent slot is used
 
@@ -823,7 +1009,6 @@ used-memory v m stands = record {
   staged = stands.staged;
   snapshots = stands.snapshots;
   floors = stands.floors;
-  raising = stands.raising;
   failed = stands.failed;
 }
 
@@ -841,21 +1026,71 @@ used-order v few order = record {
   slots_few = omega (arith, few);
 }
 
+-- ---- the floor is raised
+
+-- lists that agree on what ends after a floor agree on what ends after a later one
+raise : (low high : ℕ) (xs ys : List (Version Value)) → low ≤ high → filter (ends_after low) xs ≡ filter (ends_after low) ys → filter (ends_after high) xs ≡ filter (ends_after high) ys
+raise low high xs ys le same = sym (filter-later low high xs le) ∙ ap (filter (ends_after high)) same ∙ filter-later low high ys le
+
+raises-memory : (v : TransactionsValue) (m : Machine Value) (floor : ℕ) → StandsInMemory v m → ((relation : ℕ) → m.floors relation ≤ floor) → StandsInMemory (raised_to v floor) (steps.floor_published m (record { scope = None; floor = floor }))
+raises-memory v m floor stands up = record {
+  names = stands.names;
+  rising = stands.rising;
+  published = stands.published;
+  versions = record {
+    ordered = stands.versions.ordered;
+    marked = stands.versions.marked;
+    before = stands.versions.before;
+    rising = stands.versions.rising;
+    early = stands.versions.early;
+    writes = stands.versions.writes;
+    at_home = λ key. raise (m.floors key.relation) floor _ _ (up key.relation) (stands.versions.at_home key);
+  };
+  forgot = stands.forgot;
+  recent = stands.recent;
+  queue = stands.queue;
+  fresh = stands.fresh;
+  group = stands.group;
+  staged = stands.staged;
+  snapshots = stands.snapshots;
+  floors = λ relation. refl;
+  failed = stands.failed;
+}
+
+raised-order : (v : TransactionsValue) (floor : ℕ) → IsInOrder v → IsInOrder (raised_to v floor)
+raised-order v floor order = record {
+  split = order.split;
+  pending = order.pending;
+  latest = order.latest;
+  group_within = order.group_within;
+  group_few = order.group_few;
+  stage_fits = order.stage_fits;
+  stored = order.stored;
+  out = order.out;
+  room = order.room;
+  slots_few = order.slots_few;
+}
+
 -- ---- the work that is done
 
 -- of a store whose group's slot is not in the writing
 module _ (v : StoreValue) (m : Machine Value) (memory : StandsInMemory v.transactions m) (order : IsInOrder v.transactions) (marks : HasMarks v m) (still : is_turning v.transactions.stage ≡ false) where
-  memory-done : (work : JobWork) (t : TurnState) → Keeps v m work (job.Turning t) → StandsInMemory (work_done work v).transactions m
-  memory-done (ArchiveWork run writer) t keeps = memory
-  memory-done (Reclaim anchors source written) t keeps =
+  memory-done : (work : JobWork) (t : TurnState) → m.raising ≡ raising_by work → IsMachine IsValue m → Keeps v m work (job.Turning t) → StandsInMemory (work_done work v).transactions (machine_done work m)
+  memory-done (ArchiveWork run writer) t raises machine keeps = memory
+  memory-done (FloorWork floor) t raises machine keeps =
+      let may : MayRaise m (record { scope = None; floor = floor }) = subst (λ (o : Option Raising). MatchOption o (Unit {0}) (MayRaise m)) raises machine.raising in
+      raises-memory v.transactions m floor memory (λ relation. (let above = may.rises relation refl in omega (arith, above)))
+  memory-done (Reclaim anchors source written) t raises machine keeps =
       let is = keeps.is in let low = marks.0 in let high = marks.1 in
       reclaims v.transactions m anchors.upto memory (keeps.made refl) (omega (arith, is, low)) (omega (arith, is, high)) keeps.recent still
 
   order-done : (work : JobWork) → IsInOrder (work_done work v).transactions
   order-done (ArchiveWork run writer) = order
+  order-done (FloorWork floor) = raised-order v.transactions floor order
   order-done (Reclaim anchors source written) = reclaimed-order v.transactions anchors.upto order
 
-  marks-done : (work : JobWork) (t : TurnState) → Keeps v m work (job.Turning t) → ((work_done work v).transactions.reclaimed ≤ (work_done work v).archived) × ((work_done work v).archived ≤ last m.published)
+  marks-done : (work : JobWork) (t : TurnState) → Keeps v m work (job.Turning t) → ((work_done work v).transactions.reclaimed ≤ (work_done work v).archived) × ((work_done work v).archived ≤ last (machine_done work m).published)
+  marks-done (FloorWork floor) t keeps = marks
   marks-done (ArchiveWork run writer) t keeps = (let low = marks.0 in let up = keeps.0 in omega (arith, low, up), keeps.1)
   marks-done (Reclaim anchors source written) t keeps = (let is = keeps.is in omega (arith, is), marks.1)
 
@@ -869,6 +1104,7 @@ module _ (v : StoreValue) (m : Machine Value) (memory : StandsInMemory v.transac
     pub log : x.log ≡ v.log
 
   slots-done : (work : JobWork) → LeavesSlots (work_done work v)
+  slots-done (FloorWork floor) = record { slots = refl; used = refl; turning = refl; failed = refl; turn = refl; log = refl }
   slots-done (ArchiveWork run writer) = record { slots = refl; used = refl; turning = refl; failed = refl; turn = refl; log = refl }
   slots-done (Reclaim anchors source written) = record { slots = refl; used = refl; turning = refl; failed = refl; turn = refl; log = refl }
 
@@ -882,13 +1118,23 @@ module _ (tells : Bool) (v new : StoreValue) (m : Machine Value) (stands : Stand
   kept-now : Keeps v m j.work j.stage
   kept-now = kept-so tells v new m stands works sound j is
 
+  -- the floor that it is to raise is the one in the making
+  raises-now : m.raising ≡ raising_by j.work
+  raises-now = stands.raises ∙ ap raising_of is
+
+  -- the gate of the slot at a stage
+  abbrev gate_on : SlotStage → Gate
+  gate_on stage = gate_for j.work stage
+
   -- the slot goes on, and another call of it is to come
   goes-on : (t : TurnState) (log : LogState) → log.profile ≡ v.log.profile → log.slots ≡ v.log.slots → log.used ≡ v.log.used → log.writing ≡ true → t.number ≡ v.log.used → v.turn ≡ None → IsOnItsWay (slots.slot_stage_after t.stage)
       → Keeps v m j.work (job.Turning (record t { stage = slots.slot_stage_after t.stage }))
       → ((told : IsTrue tells) → Works (stands.disk told).header (record v { log = log; job = Some (record j { stage = job.Turning (record t { stage = slots.slot_stage_after t.stage }) }); disk = new.disk }) m)
-      → Stands tells (record v { log = log; job = Some (record j { stage = job.Turning (record t { stage = slots.slot_stage_after t.stage }) }); disk = new.disk }) m
+      → Stands tells (record v { log = log; job = Some (record j { stage = job.Turning (record t { stage = slots.slot_stage_after t.stage }) }); disk = new.disk }) (steps.gated m (gate_on (slots.slot_stage_after t.stage)))
   goes-on t log profile many used writing number free way keeps works-so =
       let was = stands.in_step.turns on in
+      let gate : Gate = gate_on (slots.slot_stage_after t.stage) in
+      let after : Option Job = Some (record j { stage = job.Turning (record t { stage = slots.slot_stage_after t.stage }) }) in
       let in_step : IsInStep (record v { log = log; job = Some (record j { stage = job.Turning (record t { stage = slots.slot_stage_after t.stage }) }); disk = new.disk }) = record {
         slots = omega (arith, many, stands.in_step.slots, one);
         used = used ∙ stands.in_step.used;
@@ -899,15 +1145,32 @@ module _ (tells : Bool) (v new : StoreValue) (m : Machine Value) (stands : Stand
           job = (number ∙ sym used, way, free);
         };
       } in
-      goes-on-working tells v (record v { log = log; job = Some (record j { stage = job.Turning (record t { stage = slots.slot_stage_after t.stage }) }); disk = new.disk }) m m stands works
-      (record { memory = stands.memory; machine = stands.machine; order = stands.order; in_step = in_step; gate = stands.gate; marks = stands.marks; job = keeps }) works profile many works-so
+      goes-on-working tells v (record v { log = log; job = Some (record j { stage = job.Turning (record t { stage = slots.slot_stage_after t.stage }) }); disk = new.disk }) m (steps.gated m gate) stands works (record {
+        memory = regated v.transactions m gate stands.memory;
+        machine = gated-machine m gate stands.machine;
+        order = stands.order;
+        in_step = in_step;
+        gate = λ _. sym (ap (λ (o : Option TurnState). gate_of o after) free);
+        raises = raises-now;
+        marks = stands.marks;
+        job = keeps;
+      }) works profile many (λ told. gated-works (stands.disk told).header _ m gate (works-so told))
 
   -- ---- the first call
+
+  -- the answer leads to the store, and the machine's gate to the slot's next stage
+  slot-moves : (stage : SlotStage) → IsOnItsWay (slots.slot_stage_after stage) → m.gate ≡ gate_on stage → (said : JobDid) → said ≡ said_at stage → (to : StoreValue) → new ≡ to
+      → Stands tells to (steps.gated m (gate_on (slots.slot_stage_after stage))) → Ends tells m (Ok said) new
+  slot-moves stage way gate said same to is parts =
+      let after : Machine Value = steps.gated m (gate_on (slots.slot_stage_after stage)) in
+      subst (λ (d : JobDid). Ends tells m (Ok d) new) (sym same)
+      (after, gate-run m j.work stage works way raises-now gate, subst (λ (x : StoreValue). Stands tells x after) (sym is) parts)
 
   begin-step : j.stage ≡ job.Stored → Keeps v m j.work (job.Turning (record (first_turn v j) { stage = slots.BodyWritten })) → v.turn ≡ None → (answer : Result JobDid PumpFault) → TurnsJob tells j (first_turn v j) (slot_taken v) answer new → Ends tells m answer new
   begin-step stored keeps free (Ok said) takes =
       let log : LogState = record v.log { writing = true } in
-      stays tells new (record v { log = log; job = Some (record j { stage = job.Turning (record (first_turn v j) { stage = slots.BodyWritten }) }); disk = new.disk }) m said takes.answer.1
+      let shut : m.gate ≡ gate_on slots.Begun = stands.gate works ∙ ap (λ (o : Option TurnState). gate_of o v.job) free ∙ ap job_gate is ∙ ap (gate_in j.work) stored ∙ sym (begun-shut j.work) in
+      slot-moves slots.Begun tt shut said takes.answer.0 (record v { log = log; job = Some (record j { stage = job.Turning (record (first_turn v j) { stage = slots.BodyWritten }) }); disk = new.disk }) takes.answer.1
       (goes-on (first_turn v j) log refl refl refl refl refl free tt keeps (λ told.
       let c = working tells v m stands works told in
       let w = c.works in
@@ -915,11 +1178,11 @@ module _ (tells : Bool) (v new : StoreValue) (m : Machine Value) (stands : Stand
       let at = begun v new m c j is stored on free in
       turning-works v new m c j is (first_turn v j) at log refl (sound told) v.disk.areas.status at.at.status (w.sound Status) (now-at v m c none) (takes.call.areas told)))
   begin-step stored keeps free (Err why) takes =
-      fails tells v new m why (record v.log { writing = true }) (record j { stage = job.Stored }) stands works takes.answer.0 refl refl refl one (subst (λ (s : JobStage). Keeps v m j.work s) stored kept-now) takes.answer.1 (λ told image left.
+      fails tells v new m why (record v.log { writing = true }) (record j { stage = job.Stored }) stands works takes.answer.0 refl refl refl one raises-now (subst (λ (s : JobStage). Keeps v m j.work s) stored kept-now) takes.answer.1 (λ told image left.
       let c = working tells v m stands works told in
       let w = c.works in
       let at = begun v new m c j is stored on free in
-      turn-leaves v new m c j is (first_turn v j) at (takes.call.areas told) image left)
+      turn-leaves v new m c j is (first_turn v j) at (job_gate_left m.gate) (λ no. absurd no) (takes.call.areas told) image left)
 
   -- ---- the others
 
@@ -934,9 +1197,11 @@ module _ (tells : Bool) (v new : StoreValue) (m : Machine Value) (stands : Stand
     any-turn : (work : JobWork) (u : TurnState) → Keeps v m work (job.Turning t) → Keeps v m work (job.Turning u)
     any-turn (ArchiveWork run writer) u keeps = keeps
     any-turn (Reclaim anchors source written) u keeps = keeps
+    any-turn (FloorWork floor) u keeps = tt
 
     no-turn : (work : JobWork) → Keeps v m work (job.Turning t) → Keeps v m work job.Stored
     no-turn (ArchiveWork run writer) keeps = keeps
+    no-turn (FloorWork floor) keeps = tt
     no-turn (Reclaim anchors source written) keeps = record { is = keeps.is; recent = keeps.recent; made = λ no. absurd cc }
 
     at-turn : (told : IsTrue tells) → IsTurnFor (stands.disk told).header ((stands.disk told).works works).log.layout (own (stands.disk told).header v m ((stands.disk told).works works) j is).product t v.disk.areas
@@ -954,26 +1219,33 @@ module _ (tells : Bool) (v new : StoreValue) (m : Machine Value) (stands : Stand
     log-writes : v.log.writing ≡ true
     log-writes = (stands.in_step.turns on).writing ∙ ap (λ (o : Option TurnState). is_some o || is_some (turn_of v.job)) was-turning.2 ∙ ap (λ (o : Option TurnState). is_some o) (ap turn_of is ∙ ap turn_in turning)
 
-    next-step : (stage : SlotStage) → t.stage ≡ stage → IsOnItsWay (slots.slot_stage_after stage) → (said : JobDid) → (call : (told : IsTrue tells) → IsSlotCall t.number t.body t.stage (Ok tt) v.disk.areas new.disk.areas)
+    -- the machine's gate is the slot's
+    gate-now : m.gate ≡ gate_on t.stage
+    gate-now = gate-in-turn v m j t stands.gate works was-turning.2 is turning
+
+    next-step : (stage : SlotStage) → t.stage ≡ stage → IsOnItsWay (slots.slot_stage_after stage) → (said : JobDid) → said ≡ said_at stage → (call : (told : IsTrue tells) → IsSlotCall t.number t.body t.stage (Ok tt) v.disk.areas new.disk.areas)
         → new ≡ with_job v (record j { stage = job.Turning (record t { stage = slots.slot_stage_after stage }) }) new → Ends tells m (Ok said) new
-    next-step stage at way said call to =
+    next-step stage at way said named call to =
         let same : with_job v (record j { stage = job.Turning (record t { stage = slots.slot_stage_after stage }) }) new ≡ with_job v (record j { stage = job.Turning (record t { stage = slots.slot_stage_after t.stage }) }) new =
         ap (λ (s : SlotStage). with_job v (record j { stage = job.Turning (record t { stage = slots.slot_stage_after s }) }) new) (sym at) in
-        stays tells new (with_job v (record j { stage = job.Turning (record t { stage = slots.slot_stage_after t.stage }) }) new) m said (to ∙ same)
+        slot-moves t.stage (subst (λ (s : SlotStage). IsOnItsWay (slots.slot_stage_after s)) (sym at) way) gate-now said (named ∙ ap said_at (sym at))
+        (with_job v (record j { stage = job.Turning (record t { stage = slots.slot_stage_after t.stage }) }) new) (to ∙ same)
         (goes-on t v.log refl refl refl log-writes was-turning.0 was-turning.2 (subst (λ (s : SlotStage). IsOnItsWay (slots.slot_stage_after s)) (sym at) way) (any-turn j.work (record t { stage = slots.slot_stage_after t.stage }) keeps-turning) (λ told.
         let c = working tells v m stands works told in
         let w = c.works in
         let rest = at-rest told in
         turning-works v new m c j is t (at-turn told) v.log refl (sound told) w.group.rested rest.0 rest.1 w.group.at (call told)))
 
-    last-step : t.stage ≡ slots.GateWritten → (said : JobDid) → ((told : IsTrue tells) → IsSlotCall t.number t.body t.stage (Ok tt) v.disk.areas new.disk.areas) → v.transactions.slots < 65536 → new ≡ job_done v j t new → Ends tells m (Ok said) new
-    last-step gate said call few to =
+    last-step : t.stage ≡ slots.GateWritten → (said : JobDid) → said ≡ did.JobDone → ((told : IsTrue tells) → IsSlotCall t.number t.body t.stage (Ok tt) v.disk.areas new.disk.areas) → v.transactions.slots < 65536 → new ≡ job_done v j t new → Ends tells m (Ok said) new
+    last-step gate said named call few to =
         let was = stands.in_step.turns on in
         let free : v.turn ≡ None = was-turning.2 in
         let still : is_turning v.transactions.stage ≡ false = was.turning ∙ ap (λ (o : Option TurnState). is_some o) free in
         let x : StoreValue = work_done j.work v in
         let leaves = slots-done v m stands.memory stands.order stands.marks still j.work in
-        let memory = used-memory x.transactions m (memory-done v m stands.memory stands.order stands.marks still j.work t keeps-turning) in
+        let after : Machine Value = machine_done j.work m in
+        let run = done-run m j.work works raises-now (gate-now ∙ ap gate_on gate) in
+        let memory = used-memory x.transactions after (memory-done v m stands.memory stands.order stands.marks still j.work t raises-now stands.machine keeps-turning) in
         let order = used-order x.transactions (omega (arith, few, leaves.slots)) (order-done v m stands.memory stands.order stands.marks still j.work) in
         let no-turn-of : (o : Option TurnState) → o ≡ None → MatchOption o (Unit {0}) (λ u. (u.number ≡ t.number + 1) × IsOnItsWay u.stage) = λ o none. subst (λ (y : Option TurnState). MatchOption y (Unit {0}) (λ u. (u.number ≡ t.number + 1) × IsOnItsWay u.stage)) (sym none) tt in
         let in_step : IsInStep (job_done v j t new) = record {
@@ -986,31 +1258,37 @@ module _ (tells : Bool) (v new : StoreValue) (m : Machine Value) (stands : Stand
             job = tt;
           };
         } in
-        stays tells new (job_done v j t new) m said to (goes-on-working tells v (job_done v j t new) m m stands works (record {
+        let ends = goes-on-working tells v (job_done v j t new) m after stands works (record {
           memory = memory;
-          machine = stands.machine;
+          machine = run-machine IsValue m after (floor_ends did.JobDone m.raising) stands.machine run;
           order = order;
           in_step = in_step;
-          gate = λ on. stands.gate on ∙ ap gate_of (sym leaves.turn);
+          gate = λ _. done-shut m j.work (gate-now ∙ ap gate_on gate) ∙ sym (ap (λ (o : Option TurnState). gate_of o None) (leaves.turn ∙ free));
+          raises = done-raised m j.work raises-now;
           marks = marks-done v m stands.memory stands.order stands.marks still j.work t keeps-turning;
           job = tt;
-        }) works (ap (λ (l : LogState). l.profile) leaves.log) (ap (λ (l : LogState). l.slots) leaves.log) (λ told.
+        }) (done-failed m j.work ∙ works) (ap (λ (l : LogState). l.profile) leaves.log) (ap (λ (l : LogState). l.slots) leaves.log) (λ told.
         let c = working tells v m stands works told in
-        done-works v new m c j is t (at-turn told) gate (sound told) still keeps-turning stands.memory.versions.ordered c.works.group.at (call told)))
+        done-works v new m c j is t (at-turn told) gate (sound told) still keeps-turning stands.memory.versions.ordered c.works.group.at (call told)) in
+        subst (λ (d : JobDid). Ends tells m (Ok d) new) (sym named) (after, run, subst (λ (y : StoreValue). Stands tells y after) (sym to) ends)
 
     turned : (stage : SlotStage) → t.stage ≡ stage → ((told : IsTrue tells) → IsSlotCall t.number t.body t.stage (Ok tt) v.disk.areas new.disk.areas) → (said : JobDid) → IsJobTurned stage t j v said new → Ends tells m (Ok said) new
-    turned slots.Begun at call said to = next-step slots.Begun at tt said call to.1
-    turned slots.BodyWritten at call said to = next-step slots.BodyWritten at tt said call to.1
-    turned slots.BodySynced at call said to = next-step slots.BodySynced at tt said call to.1
-    turned slots.GateWritten at call said to = last-step at said call to.1 to.2
+    turned slots.Begun at call said to = next-step slots.Begun at tt said to.0 call to.1
+    turned slots.BodyWritten at call said to = next-step slots.BodyWritten at tt said to.0 call to.1
+    turned slots.BodySynced at call said to = next-step slots.BodySynced at tt said to.0 call to.1
+    turned slots.GateWritten at call said to = last-step at said to.0 call to.1 to.2
     turned slots.Opened at call said to = absurd to
 
     turn-step : (answer : Result JobDid PumpFault) → TurnsJob tells j t v answer new → Ends tells m answer new
     turn-step (Ok said) takes = turned t.stage refl takes.call.areas said takes.answer
     turn-step (Err why) takes =
-        fails tells v new m why v.log (record j { stage = job.Stored }) stands works takes.answer.0 refl refl refl one (no-turn j.work keeps-turning) takes.answer.1 (λ told image left.
+        fails tells v new m why v.log (record j { stage = job.Stored }) stands works takes.answer.0 refl refl refl one raises-now (no-turn j.work keeps-turning) takes.answer.1 (λ told image left.
         let c = working tells v m stands works told in
-        turn-leaves v new m c j is t (at-turn told) (takes.call.areas told) image left)
+        let has = own c.header v m c.works j is in
+        turn-leaves v new m c j is t (at-turn told) (job_gate_left m.gate)
+        (λ may. may-stand (steps.gated m (job_gate_left m.gate)) v.transactions.reserved j.work has.product has.made raises-now
+        (λ floor of. ap job_gate_left (gate-now ∙ ap (λ (work : JobWork). gate_for work t.stage) of) ∙ job-left-is t.stage may))
+        (takes.call.areas told) image left)
 
 -- ---- what is made in memory before the slot is begun
 
@@ -1055,6 +1333,7 @@ prepared-parts tells v m anchors source written is stands works =
       order = prepared-order v.transactions anchors.upto stands.order;
       in_step = in_step;
       gate = stands.gate;
+      raises = stands.raises;
       marks = stands.marks;
       job = subst (λ (o : Option Job). KeepsJobOf o v.archived (last m.published) v.transactions.opened (Some (forgotten anchors.upto v.transactions.versions)) v.transactions.versions) (sym is) keeps';
     }) works refl refl (λ told. let c = working tells v m stands works told in prepared-works c.header v m anchors.upto c.works)
@@ -1066,6 +1345,9 @@ module _ (tells : Bool) (v new : StoreValue) (m : Machine Value) (stands : Stand
   begins-slot (ArchiveWork run writer) is free answer (inl short) = absurd short.0
   begins-slot (ArchiveWork run writer) is free answer (inr first) =
       begin-step tells v new m stands works sound (record { work = ArchiveWork run writer; stage = job.Stored }) is refl (kept-so tells v new m stands works sound (record { work = ArchiveWork run writer; stage = job.Stored }) is) free answer first
+  begins-slot (FloorWork floor) is free answer (inl short) = absurd short.0
+  begins-slot (FloorWork floor) is free answer (inr first) =
+      begin-step tells v new m stands works sound (record { work = FloorWork floor; stage = job.Stored }) is refl tt free answer first
   begins-slot (Reclaim anchors source written) is free answer (inl short) = subst (λ (r : Result JobDid PumpFault). Ends tells m r new) (sym short.1) (m, refl, subst (λ (x : StoreValue). Stands tells x m) (sym short.2) stands)
   begins-slot (Reclaim anchors source written) is free answer (inr first) =
       let ready : StoreValue = record v { transactions = prepared v.transactions anchors.upto } in
@@ -1080,6 +1362,7 @@ module _ (tells : Bool) (v new : StoreValue) (m : Machine Value) (stands : Stand
   waits-or-begins work is None free answer begins = begins-slot work is free answer begins
 
   write-step : (work : JobWork) → v.job ≡ Some (record { work = work; stage = job.Writing }) → (answer : Result JobDid PumpFault) → Stores tells work (record { work = work; stage = job.Writing }) v answer new → Ends tells m answer new
+  write-step (FloorWork floor) is answer takes = absurd takes
   write-step (ArchiveWork run writer) is answer takes = run-step tells v new m stands works sound run writer is writer.left refl answer takes
   write-step (Reclaim anchors source written) is answer takes = anchors-step tells v new m stands works sound anchors source written is (slice_get v.transactions.reserved written) refl answer takes
 
@@ -1089,17 +1372,17 @@ module _ (tells : Bool) (v new : StoreValue) (m : Machine Value) (stands : Stand
   job-step work (job.Turning t) is answer takes = turn-step tells v new m stands works sound (record { work = work; stage = job.Turning t }) is t refl answer takes
 
   step : (o : Option Job) → v.job ≡ o → (answer : Result JobDid PumpFault) → MatchOption o ((answer ≡ Ok did.Idle) × (new ≡ v)) (λ j. TakesJobStep tells j.stage j v answer new) → Ends tells m answer new
-  step None is answer idle = subst (λ (r : Result JobDid PumpFault). Ends tells m r new) (sym idle.0) (m, refl, subst (λ (x : StoreValue). Stands tells x m) (sym idle.1) stands)
+  step None is answer idle = subst (λ (r : Result JobDid PumpFault). Ends tells m r new) (sym idle.0) (m, by-floor m m did.Idle None (stands.raises ∙ ap raising_of is) refl, subst (λ (x : StoreValue). Stands tells x m) (sym idle.1) stands)
   step (Some j) is answer takes = job-step j.work j.stage is answer takes
 
 pub job-pump-stands : (tells : Bool) (old new : StoreValue) (answer : Result JobDid PumpFault) (m : Machine Value) → Stands tells old m → (IsTrue tells → AreSound new.disk.areas) → PumpsJob tells old answer new
-    → MatchBool m.failed ((answer ≡ Err pump.Failed) × Stands tells new m) ((after : Machine Value) × steps.Run IsValue m (job_ends_in answer) after × Stands tells new after)
+    → MatchBool m.failed ((answer ≡ Err pump.Failed) × Stands tells new m) ((after : Machine Value) × steps.Run IsValue m (job_ends_in m answer) after × Stands tells new after)
 job-pump-stands tells old new answer m stands sound pumps =
     by-failure m.failed refl
     (subst (λ (b : Bool). MatchBool b ((answer ≡ Err pump.Failed) × (new ≡ old)) (MatchOption old.job ((answer ≡ Ok did.Idle) × (new ≡ old)) (λ j. TakesJobStep tells j.stage j old answer new))) stands.memory.failed pumps)
   where
     by-failure : (b : Bool) → m.failed ≡ b → MatchBool b ((answer ≡ Err pump.Failed) × (new ≡ old)) (MatchOption old.job ((answer ≡ Ok did.Idle) × (new ≡ old)) (λ j. TakesJobStep tells j.stage j old answer new))
-        → MatchBool b ((answer ≡ Err pump.Failed) × Stands tells new m) ((after : Machine Value) × steps.Run IsValue m (job_ends_in answer) after × Stands tells new after)
+        → MatchBool b ((answer ≡ Err pump.Failed) × Stands tells new m) ((after : Machine Value) × steps.Run IsValue m (job_ends_in m answer) after × Stands tells new after)
     by-failure true failed is = (is.0, subst (λ (x : StoreValue). Stands tells x m) (sym is.1) stands)
     by-failure false works takes =
         step tells old new m stands works sound old.job refl answer takes

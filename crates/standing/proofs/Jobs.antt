@@ -5,14 +5,16 @@ use Rattle.std.specs.List.{AllByRecursion}
 use Rattle.std.proofs.lemmas.List.Concat.{flat_map-cons}
 use Rattle.history.proofs.Filters.{AllByRecursion-append}
 use Rattle.history.specs.Histories.{History}
-use Rattle.history.specs.Machine.{Machine}
-use Rattle.history.specs.Fronts.{OnFront}
+use Rattle.history.specs.Floors.{Raising, raised}
+use Rattle.history.specs.Machine.{Machine, Gate, MayBeOpen, OfFloor}
+use Rattle.history.specs.Fronts.{OnRaised, OnOpened, OnFront}
 use Rattle.image.specs.Values.{Value}
 use Rattle.image.specs.Reading.{Reading}
 use Rattle.image.specs.Plans.{HasRoom, with_anchors}
 use Rattle.image.specs.StandsFor.{StandsFor, archived_upto, reclaimed_upto}
 use Rattle.image.proofs.ArchiveStep.{archive-stands_for}
 use Rattle.image.proofs.ReclaimStep.{reclaim-stands_for}
+use Rattle.image.proofs.FloorStep.{floor-stands_for}
 use Rattle.image.proofs.GroupStep.{length-map}
 use Rattle.image.proofs.Standing.{last-is}
 use Rattle.disk.specs.declared.area.Area.{Area}
@@ -34,19 +36,19 @@ use Rattle.reading.specs.Keeping.{KeepsExtents, StatusRests}
 use Rattle.reading.specs.Jobs.{reclaimed}
 use Rattle.reading.specs.Opening.{AreBuilt}
 use Rattle.reading.specs.SlotTurns.{Adds, IsTurnAt, MayAt, MayWithin}
-use Rattle.reading.proofs.Jobs.{archive_laid, reclaim_laid}
+use Rattle.reading.proofs.Jobs.{archive_laid, reclaim_laid, floor_laid}
 use Rattle.reading.proofs.Lists.{all_of_front, all_of_back}
 use Rattle.reading.proofs.RunWays.{row-more}
 use Rattle.reading.proofs.SlotTurns.{turn_holds, turn_call_holds, turn_call_leads}
 use Rattle.store.specs.declared.job.Job.{Job}
 use Rattle.store.specs.declared.job.JobWork.{JobWork}
-use Rattle.store.specs.declared.job.JobWork.TheVariants.{Archive as ArchiveWork, Reclaim}
+use Rattle.store.specs.declared.job.JobWork.TheVariants.{Archive as ArchiveWork, Reclaim, Floor as FloorWork}
 use Rattle.store.specs.declared.job.JobStage.{JobStage}
 use Rattle.store.specs.declared.job.JobStage.TheVariants as job
 use Rattle.store.specs.Values.{turn_in, turn_of}
-use Rattle.standing.specs.OnDisk.{IsImageOf, Product, OfRun, OfAnchors, body_of, slot_naming, laid_with, read_with, MayBeNext, IsMadeBy, IsMaking, KeepsProduct, IsAtJob, HasJob, IsRested}
+use Rattle.standing.specs.OnDisk.{IsImageOf, Product, OfRun, OfAnchors, OfFloor, body_of, slot_naming, laid_with, read_with, MayBeNext, IsMadeBy, IsMaking, KeepsProduct, IsAtJob, HasJob, IsRested}
 use Rattle.standing.proofs.Besides.{IsBeside, AreBeside, all-keep, all-hold, beside-numbers}
-use Rattle.standing.proofs.Joining.{built-more}
+use Rattle.standing.proofs.Joining.{MayOpen, MayOpenWithin, built-more}
 
 -- the first of these have what all have
 all-taken-of : {X : Type 0} (P : X → Type 0) (n : ℕ) (xs : List X) → AllByRecursion P xs → AllByRecursion P (take n xs)
@@ -58,6 +60,7 @@ all-taken-of P (suc n) (x ∷ xs) all = (all.0, all-taken-of P n xs all.1)
 pub product-built : (profile : ℕ) (p : Product) → IsTrue (is_built profile 1) → IsTrue (is_built profile (kind_of (body_of p)))
 product-built profile (OfRun run) built = built
 product-built profile (OfAnchors a) built = built
+product-built profile (OfFloor floor) built = built
 
 -- ---- the status area as it would rest
 
@@ -83,10 +86,12 @@ sound-at areas rested sound is Archive = sound Archive
 abbrev pub made_extents : Product → List Extent
 made_extents (OfRun run) = []
 made_extents (OfAnchors a) = a.extents
+made_extents (OfFloor floor) = []
 
 pub made-are : (layout : Layout) (reading : Reading) (h : History Value) (p : Product) → MayBeNext layout reading h p → AllByRecursion IsExtent (made_extents p)
 made-are layout reading h (OfRun run) next = tt
 made-are layout reading h (OfAnchors a) next = next.chain.is_chain.each
+made-are layout reading h (OfFloor floor) next = tt
 
 extents-filtered : (P : Extent → Type 0) (late : StoredMember → Bool) (members : List StoredMember) → AllByRecursion P (extents_of members) → AllByRecursion P (extents_of (filter late members))
 extents-filtered P late [] all = tt
@@ -101,6 +106,7 @@ extents-filtered P late (s ∷ members) all =
 -- the live extents once it stands in the log are of those before it, and its own
 pub live-with : (P : Extent → Type 0) (layout : Layout) (p : Product) → AllByRecursion P (live layout) → AllByRecursion P (made_extents p) → AllByRecursion P (live (laid_with layout p))
 live-with P layout (OfRun run) all made = all
+live-with P layout (OfFloor floor) all made = all
 live-with P layout (OfAnchors a) all made =
     AllByRecursion-append P a.extents (extents_of (filter (λ (s : StoredMember). nat_lt a.entry.upto s.entry.time) layout.members)) made
     (extents-filtered P (λ (s : StoredMember). nat_lt a.entry.upto s.entry.time) layout.members (all_of_back P layout.anchors (extents_of layout.members) all))
@@ -109,7 +115,12 @@ live-with P layout (OfAnchors a) all made =
 pub made-beside : (layout : Layout) (reading : Reading) (h : History Value) (reserved : List ℕ) (work : JobWork) (p : Product) (n : ℕ) → IsMadeBy reserved work p → MayBeNext layout reading h p → AllByRecursion (λ (k : ℕ). k ≢ n) reserved → AreBeside n (made_extents p)
 made-beside layout reading h reserved (ArchiveWork run writer) (OfRun r) n made next others = tt
 made-beside layout reading h reserved (ArchiveWork run writer) (OfAnchors a) n made next others = absurd made
+made-beside layout reading h reserved (ArchiveWork run writer) (OfFloor floor) n made next others = absurd made
 made-beside layout reading h reserved (Reclaim anchors source written) (OfRun r) n made next others = absurd made
+made-beside layout reading h reserved (Reclaim anchors source written) (OfFloor floor) n made next others = absurd made
+made-beside layout reading h reserved (FloorWork floor) (OfRun r) n made next others = absurd made
+made-beside layout reading h reserved (FloorWork floor) (OfAnchors a) n made next others = absurd made
+made-beside layout reading h reserved (FloorWork floor) (OfFloor to) n made next others = tt
 made-beside layout reading h reserved (Reclaim anchors source written) (OfAnchors a) n made next others =
     beside-numbers n a.extents next.chain.is_chain.each (subst (AllByRecursion (λ (k : ℕ). k ≢ n)) (sym made.1) others)
 
@@ -135,6 +146,9 @@ job-beside-heap header layout reading h reserved (Some j) areas heap n beside ap
     making : (work : JobWork) (p : Product) → AreBeside n (made_extents p) → IsMaking work p areas → IsMaking work p (record areas { heap = heap })
     making (ArchiveWork run writer) (OfRun r) mine at = at
     making (ArchiveWork run writer) (OfAnchors a) mine at = absurd at
+    making (ArchiveWork run writer) (OfFloor floor) mine at = absurd at
+    making (FloorWork floor) p mine at = absurd at
+    making (Reclaim anchors source written) (OfFloor floor) mine at = absurd at
     making (Reclaim anchors source written) (OfRun r) mine at = absurd at
     making (Reclaim anchors source written) (OfAnchors a) mine at = record {
       rest = at.rest;
@@ -143,6 +157,7 @@ job-beside-heap header layout reading h reserved (Some j) areas heap n beside ap
 
     kept : (p : Product) → AreBeside n (made_extents p) → KeepsProduct p areas → KeepsProduct p (record areas { heap = heap })
     kept (OfRun r) mine at = at
+    kept (OfFloor floor) mine at = at
     kept (OfAnchors a) mine at = all-keep n areas.heap heap beside a.extents mine at
 
     by-stage : (s : JobStage) → IsAtJob header layout j.work has.product s areas → IsAtJob header layout j.work has.product s (record areas { heap = heap })
@@ -167,11 +182,15 @@ job-beside-status header layout reading h reserved (Some j) areas status none ha
     making : (work : JobWork) (p : Product) → IsMaking work p areas → IsMaking work p (record areas { status = status })
     making (ArchiveWork run writer) (OfRun r) at = at
     making (ArchiveWork run writer) (OfAnchors a) at = at
+    making (ArchiveWork run writer) (OfFloor floor) at = at
+    making (FloorWork floor) p at = at
+    making (Reclaim anchors source written) (OfFloor floor) at = at
     making (Reclaim anchors source written) (OfRun r) at = at
     making (Reclaim anchors source written) (OfAnchors a) at = at
 
     kept : (p : Product) → KeepsProduct p areas → KeepsProduct p (record areas { status = status })
     kept (OfRun r) at = at
+    kept (OfFloor floor) at = at
     kept (OfAnchors a) at = at
 
     by-stage : (s : JobStage) → turn_in s ≡ None → IsAtJob header layout j.work has.product s areas → IsAtJob header layout j.work has.product s (record areas { status = status })
@@ -193,6 +212,18 @@ job-moves header layout layout' reading reading' h h' reserved (Some j) areas no
 
 -- ---- the slot of what a job makes
 
+-- the floors once it stands in the log
+abbrev pub floors_with : Product → (ℕ → ℕ) → ℕ → ℕ
+floors_with (OfRun run) floors = floors
+floors_with (OfAnchors a) floors = floors
+floors_with (OfFloor floor) floors = raised None floor floors
+
+-- Where its gate may be open, a stop may leave it: a floor is the one that the machine has in the making, and so is its gate.
+abbrev pub MayStand : Product → Machine Value → Type 0
+MayStand (OfRun run) m = Unit {0}
+MayStand (OfAnchors a) m = Unit {0}
+MayStand (OfFloor floor) m = (m.raising ≡ Some (record { scope = None; floor = floor })) × (m.gate ≡ MayBeOpen OfFloor)
+
 -- its extents are in no live chain, and each is in it once
 abbrev pub IsFree : Layout → Product → Type 0
 IsFree layout p = AreDistinct (live layout ++ made_extents p)
@@ -212,6 +243,7 @@ module _ (header : Header) (m : Machine Value) (layout : Layout) (reading : Read
   slots-after : (q : Product) → (laid_with layout q).slots ≡ layout.slots ++ slot_naming (length layout.slots) q ∷ []
   slots-after (OfRun run) = refl
   slots-after (OfAnchors a) = refl
+  slots-after (OfFloor floor) = refl
 
   pub adds : Adds header layout slot after
   adds = record { slots_are = slots-after p; room = room }
@@ -223,18 +255,22 @@ module _ (header : Header) (m : Machine Value) (layout : Layout) (reading : Read
       subst (λ (n : ℕ). IsLayoutOf header (reclaimed layout (slot_naming (length layout.slots) (OfAnchors a)) n a.extents) (with_anchors reading a.olds)) (sym may.upto)
       (reclaim_laid header layout reading (slot_naming (length layout.slots) (OfAnchors a)) a.entry a.extents a.olds laid refl may.upto order may.chain apart)
 
+  laid-by (OfFloor floor) may apart = floor_laid header layout reading (slot_naming (length layout.slots) (OfFloor floor)) None floor laid refl
+
   pub laid-after : IsLayoutOf header after reading-after
   laid-after = laid-by p next free
 
   reading-room : HasRoom reading
   reading-room = omega (arith, room, laid.heap.slots_are, laid.heap.pieces_are, ap (λ l. length l) laid.heap.log_is, length-map (λ (s : Slot). status_slot s.body) layout.slots)
 
-  stands-by : (q : Product) → MayBeNext layout reading m.published q → StandsFor (read_with reading q) m.published m.floors
+  stands-by : (q : Product) → MayBeNext layout reading m.published q → StandsFor (read_with reading q) m.published (floors_with q m.floors)
   stands-by (OfRun run) may =
       archive-stands_for reading m.published m.floors stands run.entry.upto run.records may.plan (may.later, omega (arith, may.by_last, last-is reading m.published m.floors stands)) reading-room
   stands-by (OfAnchors a) may = reclaim-stands_for reading m.published m.floors stands a.olds may.plan may.later reading-room
+  stands-by (OfFloor floor) may =
+      floor-stands_for reading m.published m.floors stands None floor (may.scope, omega (arith, may.by_last, last-is reading m.published m.floors stands), λ relation covered. may.rises relation) reading-room
 
-  pub stands-after : StandsFor reading-after m.published m.floors
+  pub stands-after : StandsFor reading-after m.published (floors_with p m.floors)
   stands-after = stands-by p next
 
   pub built-after : AreBuilt header after.slots
@@ -243,36 +279,45 @@ module _ (header : Header) (m : Machine Value) (layout : Layout) (reading : Read
   pub image-before : (image : Image) → HoldsLayout header image layout → IsImageOf header image m.published m.floors
   image-before image held = record { layout = layout; reading = reading; laid = laid; held = held; stands = stands; profile_built = profile_built; built = built }
 
-  pub image-after : (image : Image) → HoldsLayout header image after → IsImageOf header image m.published m.floors
+  pub image-after : (image : Image) → HoldsLayout header image after → IsImageOf header image m.published (floors_with p m.floors)
   image-after image held = record { layout = after; reading = reading-after; laid = laid-after; held = held; stands = stands-after; profile_built = profile_built; built = built-after }
 
-  by-stage : (stage : SlotStage) (image : Image) → MayAt stage (HoldsLayout header image layout) (HoldsLayout header image after) → OnFront (IsImageOf header image) m
-  by-stage slots.Begun image may_be = inl (image-before image may_be)
-  by-stage slots.BodyWritten image may_be = inl (image-before image may_be)
-  by-stage slots.BodySynced image may_be = inl (image-before image may_be)
-  by-stage slots.GateWritten image (inl old) = inl (image-before image old)
-  by-stage slots.GateWritten image (inr new) = inl (image-after image new)
-  by-stage slots.Opened image may_be = inl (image-after image may_be)
+  on-front : (image : Image) → HoldsLayout header image after → MayStand p m → OnFront (IsImageOf header image) m
+  on-front image held may = by-product p (image-after image held) may
+    where
+      by-product : (q : Product) → IsImageOf header image m.published (floors_with q m.floors) → MayStand q m → OnFront (IsImageOf header image) m
+      by-product (OfRun run) is may = inl is
+      by-product (OfAnchors a) is may = inl is
+      by-product (OfFloor floor) is may =
+          inr (subst (λ (g : Gate). OnOpened (IsImageOf header image) m g) (sym may.1) (subst (λ (o : Option Raising). OnRaised (IsImageOf header image) m o) (sym may.0) is))
 
-  within-stage : (stage : SlotStage) (image : Image) → MayWithin stage (HoldsLayout header image layout) (HoldsLayout header image after) → OnFront (IsImageOf header image) m
-  within-stage slots.Begun image may_be = inl (image-before image may_be)
-  within-stage slots.BodyWritten image may_be = inl (image-before image may_be)
-  within-stage slots.BodySynced image (inl old) = inl (image-before image old)
-  within-stage slots.BodySynced image (inr new) = inl (image-after image new)
-  within-stage slots.GateWritten image (inl old) = inl (image-before image old)
-  within-stage slots.GateWritten image (inr new) = inl (image-after image new)
-  within-stage slots.Opened image may_be = inl (image-after image may_be)
+  by-stage : (stage : SlotStage) (image : Image) → (MayOpen stage → MayStand p m) → MayAt stage (HoldsLayout header image layout) (HoldsLayout header image after) → OnFront (IsImageOf header image) m
+  by-stage slots.Begun image may may_be = inl (image-before image may_be)
+  by-stage slots.BodyWritten image may may_be = inl (image-before image may_be)
+  by-stage slots.BodySynced image may may_be = inl (image-before image may_be)
+  by-stage slots.GateWritten image may (inl old) = inl (image-before image old)
+  by-stage slots.GateWritten image may (inr new) = on-front image new (may tt)
+  by-stage slots.Opened image may may_be = on-front image may_be (may tt)
+
+  within-stage : (stage : SlotStage) (image : Image) → (MayOpenWithin stage → MayStand p m) → MayWithin stage (HoldsLayout header image layout) (HoldsLayout header image after) → OnFront (IsImageOf header image) m
+  within-stage slots.Begun image may may_be = inl (image-before image may_be)
+  within-stage slots.BodyWritten image may may_be = inl (image-before image may_be)
+  within-stage slots.BodySynced image may (inl old) = inl (image-before image old)
+  within-stage slots.BodySynced image may (inr new) = on-front image new (may tt)
+  within-stage slots.GateWritten image may (inl old) = inl (image-before image old)
+  within-stage slots.GateWritten image may (inr new) = on-front image new (may tt)
+  within-stage slots.Opened image may may_be = on-front image may_be (may tt)
 
   -- what a stop may leave while it is in the writing
-  pub product-leaves : (stage : SlotStage) (areas : Areas) (image : Image) → IsTurnAt header layout slot after stage areas → LeavesImage areas image → OnFront (IsImageOf header image) m
-  product-leaves stage areas image at left = by-stage stage image (turn_holds header layout slot after adds stage areas image at left)
+  pub product-leaves : (stage : SlotStage) (areas : Areas) (image : Image) → (MayOpen stage → MayStand p m) → IsTurnAt header layout slot after stage areas → LeavesImage areas image → OnFront (IsImageOf header image) m
+  product-leaves stage areas image may at left = by-stage stage image may (turn_holds header layout slot after adds stage areas image at left)
 
   module _ (body : List ℕ) (long : length body ≡ 511) (spelled : IsSpelled header.profile (length layout.slots) body slot) where
     -- and within one of its calls and after it, made or refused
-    pub product-leaves-within : (stage : SlotStage) (result : Result (Unit {0}) DeviceFault) (old new : Areas) (image : Image) → IsTurnAt header layout slot after stage old → AreSound old
+    pub product-leaves-within : (stage : SlotStage) (result : Result (Unit {0}) DeviceFault) (old new : Areas) (image : Image) → (MayOpenWithin stage → MayStand p m) → IsTurnAt header layout slot after stage old → AreSound old
         → IsSlotCall (length layout.slots) body stage result old new → LeavesImage new image → OnFront (IsImageOf header image) m
-    product-leaves-within stage result old new image at sound call left =
-        within-stage stage image (turn_call_holds header layout slot after adds body long spelled stage result old new image at sound call left)
+    product-leaves-within stage result old new image may at sound call left =
+        within-stage stage image may (turn_call_holds header layout slot after adds body long spelled stage result old new image at sound call left)
 
     pub product-leads : (stage : SlotStage) (old new : Areas) → IsTurnAt header layout slot after stage old → AreSound old
         → IsSlotCall (length layout.slots) body stage (Ok tt) old new → IsTurnAt header layout slot after (slots.slot_stage_after stage) new

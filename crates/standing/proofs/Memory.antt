@@ -87,7 +87,6 @@ opens-one v m number snapshot stands fresh newest = record {
       (IsPermutation-trans (snapshot ∷ m.snapshots) (snapshot ∷ snapshots_of v.opened) (snapshots_of (with_opened v.opened number snapshot))
       (IsPermutation-cons snapshot m.snapshots (snapshots_of v.opened) stands.snapshots) (opened_one v.opened number snapshot fresh));
   floors = stands.floors;
-  raising = stands.raising;
   failed = stands.failed;
 }
 
@@ -119,7 +118,6 @@ closes-so v m number snapshot stands is =
         staged = stands.staged;
         snapshots = IsPermutation-refl rest;
         floors = stands.floors;
-        raising = stands.raising;
         failed = stands.failed;
       },
     )

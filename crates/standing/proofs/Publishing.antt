@@ -60,7 +60,6 @@ restaged v m stage stands staged fresh = record {
   staged = staged;
   snapshots = stands.snapshots;
   floors = stands.floors;
-  raising = stands.raising;
   failed = stands.failed;
 }
 
@@ -79,7 +78,6 @@ regated v m gate stands = record {
   staged = stands.staged;
   snapshots = stands.snapshots;
   floors = stands.floors;
-  raising = stands.raising;
   failed = stands.failed;
 }
 
@@ -97,7 +95,6 @@ breaks v m stands = record {
   staged = stands.staged;
   snapshots = stands.snapshots;
   floors = stands.floors;
-  raising = stands.raising;
   failed = refl;
 }
 
@@ -129,7 +126,6 @@ publishes v m stands machine turning =
       staged = λ none. absurd none;
       snapshots = stands.snapshots;
       floors = stands.floors;
-      raising = stands.raising;
       failed = stands.failed;
     }
 
@@ -155,7 +151,6 @@ freshens v m stands machine = record {
   staged = stands.staged;
   snapshots = stands.snapshots;
   floors = stands.floors;
-  raising = stands.raising;
   failed = stands.failed;
 }
   where
@@ -194,7 +189,6 @@ grouped-stands v m stands some =
       staged = λ stage. omega arith;
       snapshots = stands.snapshots;
       floors = stands.floors;
-      raising = stands.raising;
       failed = stands.failed;
     }
 

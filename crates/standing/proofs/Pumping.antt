@@ -5,7 +5,7 @@ use Rattle.std.specs.List.{flat_map}
 use Rattle.std.proofs.lemmas.Bool.{cases_lt}
 use Rattle.std.proofs.lemmas.List.{append-nil, map-append, take-append-drop}
 use Rattle.std.proofs.lemmas.Bool.Decides.{nat_tests}
-use Rattle.history.specs.Machine.{Machine, Gate, Shut, Due, MayBeOpen, OfGroup, OfFloor, IsMachine}
+use Rattle.history.specs.Machine.{Machine, Change, Gate, Shut, Due, MayBeOpen, OfGroup, OfFloor, IsMachine}
 use Rattle.history.specs.Fronts.{OnFront}
 use Rattle.history.specs.Steps as steps
 use Rattle.history.specs.Steps.{Event, Run}
@@ -19,7 +19,8 @@ use Rattle.image.specs.Values.{Value, IsValue}
 use Rattle.image.specs.Plans.{HasRoom, with_group}
 use Rattle.image.specs.Reading.{Commits, Member, Reading}
 use Rattle.image.specs.StandsFor.{archived_upto, reclaimed_upto}
-use Rattle.image.proofs.Logs.{reclaim_mark-append}
+use Rattle.image.specs.Log.{floor_of}
+use Rattle.image.proofs.Logs.{reclaim_mark-append, floors-append}
 use Rattle.image.proofs.GroupStep.{same_archived, more_facts}
 use Rattle.image.proofs.PlansStay.{archive-plan-stays, reclaim-plan-stays}
 use Rattle.disk.specs.Areas.{AreaState, Areas, Image, AreSound, LeavesImage, loosened, written, synced}
@@ -73,36 +74,36 @@ use Rattle.transactions.proofs.Publishing.{out-beside}
 use Rattle.store.specs.Values.{StoreValue, KeepsJob, IsInStep, IsOnItsWay, turn_in, turn_of, lent_to}
 use Rattle.store.specs.declared.job.Job.{Job}
 use Rattle.store.specs.declared.job.JobWork.{JobWork}
-use Rattle.store.specs.declared.job.JobWork.TheVariants.{Archive as ArchiveWork, Reclaim}
+use Rattle.store.specs.declared.job.JobWork.TheVariants.{Archive as ArchiveWork, Reclaim, Floor as FloorWork}
 use Rattle.store.specs.declared.job.JobStage.{JobStage}
 use Rattle.store.specs.declared.job.JobStage.TheVariants as job
 use Rattle.store.specs.Pumps.{Pumps, TakesStep, WritesExtent, MayBeginSlot, TurnsSlot, IsTurned, started, freshly, SyncsHeap}
 use Rattle.standing.specs.Standing.{StandsInMemory}
-use Rattle.standing.specs.OnDisk.{IsImageOf, AllPacked, written_before, group_of, IsAtStage, IsTurnOf, Product, OfRun, OfAnchors, IsNextRun, IsNextChain, MayBeNext, IsMadeBy, IsAtJob, HasJob, IsRested, HasTimes, Works, StandsOnDisk}
+use Rattle.standing.specs.OnDisk.{IsImageOf, AllPacked, written_before, group_of, IsAtStage, IsTurnOf, Product, OfRun, OfAnchors, OfFloor, IsNextRun, IsNextChain, MayBeNext, IsMadeBy, IsAtJob, HasJob, IsRested, HasTimes, Works, StandsOnDisk}
 use Rattle.std.specs.List.{AllByRecursion}
-use Rattle.standing.specs.Stands.{StandsBeside as Stands, HasMarks, KeepsWork, KeepsJobOf, KeepsJobIn, HasGate, gate_at, gate_of}
+use Rattle.standing.specs.Stands.{StandsBeside as Stands, HasMarks, KeepsWork, KeepsJobOf, KeepsJobIn, HasGate, gate_at, gate_for, gate_in, job_gate, gate_of, raising_by, raising_of}
 use Rattle.standing.specs.Laws.{begins_in, breaks_in, ends_in}
 use Rattle.standing.proofs.Conflicts.{rising-front, behind-group}
 use Rattle.standing.proofs.Packed.{packed-rest, length-mapped}
 use Rattle.standing.proofs.Retired.{reserved-out, published-times, chains-long}
 use Rattle.standing.proofs.Places.{IsNext, next-is, behind-is, take-next, drop-next, none-left}
 use Rattle.standing.proofs.Usages.{AllKept, all-published}
-use Rattle.standing.proofs.Working.{Inside, Working, working, group_in, room-left, job-room}
+use Rattle.standing.proofs.Working.{Inside, Working, working, group_in, still-shut, room-left, job-room}
 use Rattle.standing.proofs.Joining as joining
 use Rattle.standing.proofs.Joining.{numbers-split}
 use Rattle.standing.proofs.Publishing.{restaged, regated, breaks, publishes, freshens, fresh-marks, begins}
 use Rattle.standing.proofs.Besides.{IsBeside, AreBeside, all-keep, write-beside, torn-beside, sync-beside, beside-none, beside-out, none-number}
 use Rattle.standing.proofs.Freshening.{fresh-entries, fresh-order, fresh-works}
-use Rattle.standing.proofs.Jobs.{IsFree, made_extents, resting, rested-now, rested-sound, sound-at, job-beside-heap, job-beside-status, job-moves, product-leaves, rested-write, rested-sync}
+use Rattle.standing.proofs.Jobs.{IsFree, MayStand, made_extents, resting, rested-now, rested-sound, sound-at, job-beside-heap, job-beside-status, job-moves, product-leaves, rested-write, rested-sync}
 
 -- ---- the gate
 
-open-is : (s : SlotStage) → joining.MayOpen s → gate_at s ≡ MayBeOpen OfGroup
-open-is slots.Begun may = absurd may
-open-is slots.BodyWritten may = absurd may
-open-is slots.BodySynced may = absurd may
-open-is slots.GateWritten may = refl
-open-is slots.Opened may = refl
+pub open-is : (change : Change) (s : SlotStage) → joining.MayOpen s → gate_at change s ≡ MayBeOpen change
+open-is change slots.Begun may = absurd may
+open-is change slots.BodyWritten may = absurd may
+open-is change slots.BodySynced may = absurd may
+open-is change slots.GateWritten may = refl
+open-is change slots.Opened may = refl
 
 -- the gate after a call that is refused
 abbrev pub gate_left : Gate → Gate
@@ -111,7 +112,7 @@ gate_left (Due OfGroup) = MayBeOpen OfGroup
 gate_left (Due OfFloor) = Due OfFloor
 gate_left (MayBeOpen change) = MayBeOpen change
 
-left-is : (s : SlotStage) → joining.MayOpenWithin s → gate_left (gate_at s) ≡ MayBeOpen OfGroup
+left-is : (s : SlotStage) → joining.MayOpenWithin s → gate_left (gate_at OfGroup s) ≡ MayBeOpen OfGroup
 left-is slots.Begun may = absurd may
 left-is slots.BodyWritten may = absurd may
 left-is slots.BodySynced may = refl
@@ -125,25 +126,52 @@ breaks-run m works (Due OfGroup) is = (steps.gated m (MayBeOpen OfGroup), (works
 breaks-run m works (Due OfFloor) is = (steps.broken m, (works, refl), ap (λ (g : Gate). steps.broken (steps.gated m g)) (sym is))
 breaks-run m works (MayBeOpen change) is = (steps.broken m, (works, refl), ap (λ (g : Gate). steps.broken (steps.gated m g)) (sym is))
 
--- where no slot of a group is in the writing, the gate is shut and stays so
-no-turn : (o : Option TurnState) → is_some o ≡ false → gate_of o ≡ Shut
-no-turn None none = refl
-no-turn (Some t) none = absurd cc
+-- where no slot of a group is in the writing, the gate is the job's
+no-turn : (o : Option TurnState) (job : Option Job) → is_some o ≡ false → gate_of o job ≡ job_gate job
+no-turn None job none = refl
+no-turn (Some t) job none = absurd cc
 
-gate-shut : (v : StoreValue) (m : Machine Value) → IsInStep v → v.transactions.failed ≡ m.failed → HasGate v m → m.failed ≡ false → is_turning v.transactions.stage ≡ false → m.gate ≡ Shut
-gate-shut v m in_step failed gate works still =
-    gate works ∙ no-turn v.turn (sym (in_step.turns (failed ∙ works)).turning ∙ still)
+gate-of-job : (v : StoreValue) (m : Machine Value) → IsInStep v → v.transactions.failed ≡ m.failed → HasGate v m → m.failed ≡ false → is_turning v.transactions.stage ≡ false → m.gate ≡ job_gate v.job
+gate-of-job v m in_step failed gate works still =
+    gate works ∙ no-turn v.turn v.job (sym (in_step.turns (failed ∙ works)).turning ∙ still)
+
+-- and a refused call of the group leaves it so
+job-left : (o : Option Job) → gate_left (job_gate o) ≡ job_gate o
+job-left None = refl
+job-left (Some j) = by-stage j.stage
+  where
+    floor-left : (s : SlotStage) → gate_left (gate_at OfFloor s) ≡ gate_at OfFloor s
+    floor-left slots.Begun = refl
+    floor-left slots.BodyWritten = refl
+    floor-left slots.BodySynced = refl
+    floor-left slots.GateWritten = refl
+    floor-left slots.Opened = refl
+
+    by-work : (work : JobWork) (s : SlotStage) → gate_left (gate_for work s) ≡ gate_for work s
+    by-work (ArchiveWork run writer) s = refl
+    by-work (Reclaim anchors source written) s = refl
+    by-work (FloorWork floor) s = floor-left s
+
+    by-stage : (s : JobStage) → gate_left (gate_in j.work s) ≡ gate_in j.work s
+    by-stage job.Writing = refl
+    by-stage job.Stored = refl
+    by-stage (job.Turning t) = by-work j.work t.stage
+
+gate-stays : (v : StoreValue) (m : Machine Value) → IsInStep v → v.transactions.failed ≡ m.failed → HasGate v m → m.failed ≡ false → is_turning v.transactions.stage ≡ false → gate_left m.gate ≡ m.gate
+gate-stays v m in_step failed gate works still =
+    let is = gate-of-job v m in_step failed gate works still in
+    ap gate_left is ∙ job-left v.job ∙ sym is
 
 -- ---- what a stop may leave
 
-pub stage-leaves : (v : StoreValue) (m : Machine Value) (c : Working v m) (areas : Areas) (s : GroupStage) (o : Option TurnState) → m.gate ≡ gate_of o → StageFits s v.transactions.group v.transactions.queue
+pub stage-leaves : (v : StoreValue) (m : Machine Value) (c : Working v m) (areas : Areas) (s : GroupStage) (o : Option TurnState) → m.gate ≡ gate_of o v.job → StageFits s v.transactions.group v.transactions.queue
     → IsAtStage c.header c.works.log.layout (group_in v m c) v.transactions.queue s o areas → (image : Image) → LeavesImage areas image → OnFront (IsImageOf c.header image) m
 stage-leaves v m c areas NoGroup o gate fits at image left =
     inl record { layout = c.works.log.layout; reading = c.works.log.reading; laid = c.works.log.laid; held = rests_hold c.header c.works.log.layout areas image at left; stands = c.works.log.stands; profile_built = c.profile_built; built = c.works.log.built }
 stage-leaves v m c areas (Storing member extent) o gate fits at image left = joining.leaves_at v m c fits.0 m.gate (turns.Storing _ _) areas image (λ no. absurd no) at left
 stage-leaves v m c areas Stored o gate fits at image left = joining.leaves_at v m c fits m.gate (turns.Turning slots.Begun) areas image (λ no. absurd no) at left
 stage-leaves v m c areas Turning None gate fits at image left = absurd at
-stage-leaves v m c areas Turning (Some t) gate fits at image left = joining.leaves_at v m c fits m.gate (turns.Turning t.stage) areas image (λ may. gate ∙ open-is t.stage may) at.at left
+stage-leaves v m c areas Turning (Some t) gate fits at image left = joining.leaves_at v m c fits m.gate (turns.Turning t.stage) areas image (λ may. gate ∙ open-is OfGroup t.stage may) at.at left
 
 -- the areas, with the status area as it would rest
 abbrev resting-areas : (v : StoreValue) (m : Machine Value) → Working v m → Areas
@@ -169,18 +197,54 @@ job-free v m c (Reclaim anchors source written) (OfAnchors a) made next =
     distinct_join (live c.works.log.layout) a.extents c.works.log.laid.heap.apart (joining.distinct-extents a.extents (subst usages.AreDistinct (sym made.1) out.distinct))
     (joining.kept-cross v.transactions.usages (live c.works.log.layout) a.extents c.works.heap.kept (subst (AllByRecursion (IsOut v.transactions.usages)) (sym made.1) out.each))
 
+job-free v m c (ArchiveWork run writer) (OfFloor floor) made next = absurd made
+job-free v m c (Reclaim anchors source written) (OfFloor floor) made next = absurd made
+job-free v m c (FloorWork floor) (OfRun r) made next = absurd made
+job-free v m c (FloorWork floor) (OfAnchors a) made next = absurd made
+job-free v m c (FloorWork floor) (OfFloor to) made next = subst AreDistinct (sym (append-nil (live c.works.log.layout))) c.works.log.laid.heap.apart
+
+-- the floor that a job makes is the one in the making, and the machine's gate is its gate
+pub may-stand : (m : Machine Value) (reserved : List ℕ) (work : JobWork) (p : Product) → IsMadeBy reserved work p → m.raising ≡ raising_by work → (change_is : (floor : ℕ) → work ≡ FloorWork floor → m.gate ≡ MayBeOpen OfFloor) → MayStand p m
+may-stand m reserved (ArchiveWork run writer) (OfRun r) made raises opens = tt
+may-stand m reserved (ArchiveWork run writer) (OfAnchors a) made raises opens = absurd made
+may-stand m reserved (ArchiveWork run writer) (OfFloor to) made raises opens = absurd made
+may-stand m reserved (Reclaim anchors source written) (OfRun r) made raises opens = absurd made
+may-stand m reserved (Reclaim anchors source written) (OfAnchors a) made raises opens = tt
+may-stand m reserved (Reclaim anchors source written) (OfFloor to) made raises opens = absurd made
+may-stand m reserved (FloorWork floor) (OfRun r) made raises opens = absurd made
+may-stand m reserved (FloorWork floor) (OfAnchors a) made raises opens = absurd made
+may-stand m reserved (FloorWork floor) (OfFloor to) made raises opens = (raises ∙ ap (λ (f : ℕ). Some (record { scope = None; floor = f })) (sym made), opens floor refl)
+
+-- no slot of a group is in the writing beside one of a job
+pub no-group-turn : (v : StoreValue) (o : Option TurnState) (t : TurnState) → o ≡ Some t → MatchOption o (Unit {0}) (λ u. (u.number ≡ v.log.used) × IsOnItsWay u.stage × (v.turn ≡ None)) → v.turn ≡ None
+no-group-turn v None t is apart = absurd cc
+no-group-turn v (Some u) t is apart = apart.2
+
+-- the gate of a job whose slot is in the writing
+pub gate-in-turn : (v : StoreValue) (m : Machine Value) (j : Job) (t : TurnState) → HasGate v m → m.failed ≡ false → v.turn ≡ None → v.job ≡ Some j → j.stage ≡ job.Turning t → m.gate ≡ gate_for j.work t.stage
+gate-in-turn v m j t gate works alone is at = gate works ∙ ap (λ (o : Option TurnState). gate_of o v.job) alone ∙ ap job_gate is ∙ ap (gate_in j.work) at
+
 -- what is left while a job's slot is in the writing, or by what else is so
 by-job : (v : StoreValue) (m : Machine Value) (c : Working v m) (areas : Areas) (image : Image) → (o : Option Job) → v.job ≡ o → HasJob c.header c.works.log.layout c.works.log.reading m.published v.transactions.reserved o areas → LeavesImage areas image
     → (turn_of v.job ≡ None → OnFront (IsImageOf c.header image) m) → OnFront (IsImageOf c.header image) m
 by-job v m c areas image None is has left other = other (ap turn_of is)
 by-job v m c areas image (Some j) is has left other = by-stage j.stage refl has.at
   where
+    stood : (t : TurnState) → j.stage ≡ job.Turning t → joining.MayOpen t.stage → MayStand has.product m
+    stood t at may =
+        let turning : turn_in j.stage ≡ Some t = ap turn_in at in
+        let turns = c.inside.in_step.turns (c.inside.memory.failed ∙ c.on) in
+        let alone = no-group-turn v (turn_of v.job) t (ap turn_of is ∙ turning) turns.job in
+        let gate = gate-in-turn v m j t c.inside.gate c.on alone is at in
+        may-stand m v.transactions.reserved j.work has.product has.made (c.inside.raises ∙ ap raising_of is)
+        (λ floor of. gate ∙ ap (λ (work : JobWork). gate_for work t.stage) of ∙ open-is OfFloor t.stage may)
+
     by-stage : (s : JobStage) → j.stage ≡ s → IsAtJob c.header c.works.log.layout j.work has.product s areas → OnFront (IsImageOf c.header image) m
     by-stage job.Writing at _ = other (ap turn_of is ∙ ap turn_in at)
     by-stage job.Stored at _ = other (ap turn_of is ∙ ap turn_in at)
     by-stage (job.Turning t) at turn =
         product-leaves c.header m c.works.log.layout c.works.log.reading c.works.log.laid c.works.log.stands c.profile_built c.works.log.built (job-room v m c (ap lent_to is)) has.product has.next
-        (job-free v m c j.work has.product has.made has.next) t.stage areas image turn.at left
+        (job-free v m c j.work has.product has.made has.next) t.stage areas image (λ may. stood t at may) turn.at left
 
 pub works-leave : (v : StoreValue) (m : Machine Value) (c : Working v m) (image : Image) → LeavesImage v.disk.areas image → OnFront (IsImageOf c.header image) m
 works-leave v m c image left =
@@ -197,6 +261,7 @@ goes-on-working tells v v' m m' stands on now on' profile many works = record {
   order = now.order;
   in_step = now.in_step;
   gate = now.gate;
+  raises = now.raises;
   marks = now.marks;
   job = now.job;
   disk = λ told.
@@ -214,6 +279,7 @@ goes-on-failed tells v v' m m' stands now failed profile many leaves = record {
   order = now.order;
   in_step = now.in_step;
   gate = now.gate;
+  raises = now.raises;
   marks = now.marks;
   job = now.job;
   disk = λ told.
@@ -618,6 +684,13 @@ module _ (v new : StoreValue) (m : Machine Value) (c : Working v m) where
         behind = next.behind ∙ ap (row_end 0) (sym (runs_more header w.log.layout w.log.reading m.published (take v.transactions.group m.queue) m.floors group w.log.laid w.log.stands joins));
         in_range = next.in_range;
       }
+      next-by joins space grown same mark (OfFloor floor) next = record {
+        scope = next.scope;
+        rises = λ relation. (let same : floor_of (with_group w.log.reading (turns.members_of group)).log relation ≡ floor_of w.log.reading.log relation = ap (λ (f : ℕ → ℕ). f relation) (floors-append (λ q. 0) w.log.reading.log (Commits (map (λ (x : Member). x.head) (turns.members_of group)) ∷ [])) in
+            let above = next.rises relation in omega (arith, same, above));
+        by_last = omega (arith, grown, next.by_last);
+        in_range = next.in_range;
+      }
       next-by joins space grown same mark (OfAnchors a) next = record {
         plan = reclaim-plan-stays w.log.reading m.published (take v.transactions.group m.queue) m.floors (turns.members_of group) w.log.stands joins.is_group space a.olds next.plan;
         upto = next.upto ∙ sym same;
@@ -717,6 +790,7 @@ fails-parts tells v new m stands works gate log turn same many used leaves =
       order = broken-order v.transactions stands.order;
       in_step = record { slots = many ∙ stands.in_step.slots; used = used ∙ stands.in_step.used; turns = λ no. absurd cc };
       gate = λ no. absurd cc;
+      raises = stands.raises;
       marks = stands.marks;
       job = stands.job;
     }) refl same many leaves
@@ -729,9 +803,9 @@ fails-step tells v new m why is keeps stands works log turn same many used a b c
     subst (λ (e : PumpFault). Ends tells m (Err e) new) (sym is)
     (after, breaks-run m works m.gate refl, subst (λ (x : StoreValue). Stands tells x after) (same-store v new (groups.broken v.transactions) log turn keeps a b c) (fails-parts tells v new m stands works (gate_left m.gate) log turn same many used leaves))
 
--- where the gate is shut, a refused call leaves it so
-left-shut : (P : Machine Value → Type 0) (m : Machine Value) → m.gate ≡ Shut → P m → P (steps.gated m (gate_left m.gate))
-left-shut P m shut p = subst (λ (g : Gate). P (steps.gated m g)) (shut ∙ sym (ap gate_left shut)) p
+-- where a refused call leaves the gate so
+left-so : (P : Machine Value → Type 0) (m : Machine Value) → gate_left m.gate ≡ m.gate → P m → P (steps.gated m (gate_left m.gate))
+left-so P m same p = subst (λ (g : Gate). P (steps.gated m g)) (sym same) p
 
 -- a call that is made, and tells nothing of the machine
 stays-step : (tells : Bool) (v new : StoreValue) (m : Machine Value) (said what : Did) → KeepsJob v new → ends_in m.gate (Ok what) ≡ [] → said ≡ what → (transactions : TransactionsValue) (log : LogState) (turn : Option TurnState) → new.transactions ≡ transactions → new.log ≡ log → new.turn ≡ turn
@@ -784,7 +858,7 @@ wrote-step tells v new answer m stands works asks sound (Some stored) found take
     by-answer (Err why) at there takes =
         fails-step tells v new m why takes.steps.answer.0 takes.steps.job stands works v.log v.turn refl refl refl takes.steps.answer.1 takes.steps.log takes.steps.turn
         (λ told image left. let c = working tells v m stands works told in
-        left-shut (λ (x : Machine Value). OnFront (IsImageOf c.header image) x) m (gate-shut v m stands.in_step stands.memory.failed stands.gate works (ap is_turning at.is))
+        left-so (λ (x : Machine Value). OnFront (IsImageOf c.header image) x) m (gate-stays v m stands.in_step stands.memory.failed stands.gate works (ap is_turning at.is))
         (wrote-leaves v new m c at.member at.extent at.is at.low stored there (takes.call.areas told) image left))
     by-answer (Ok said) at there takes =
         let stage = groups.stage_behind v.transactions.queue v.transactions.stage in
@@ -799,7 +873,7 @@ wrote-step tells v new answer m stands works asks sound (Some stored) found take
         } in
         stays-step tells v new m said did.WroteExtent takes.steps.job refl takes.steps.answer.0 (groups.wrote_extent v.transactions) v.log v.turn takes.steps.answer.1 takes.steps.log takes.steps.turn
         (goes-on-working tells v (with_parts v new (groups.wrote_extent v.transactions) v.log v.turn) m m stands works
-        (record { memory = memory; machine = stands.machine; order = order; in_step = in_step; gate = stands.gate; marks = stands.marks; job = stands.job }) works refl refl (λ told.
+        (record { memory = memory; machine = stands.machine; order = order; in_step = in_step; gate = stands.gate; raises = stands.raises; marks = stands.marks; job = stands.job }) works refl refl (λ told.
         let c = working tells v m stands works told in
         let w = c.works in
         let base = resting-areas v m c in
@@ -838,7 +912,7 @@ synced-step tells v new answer m stands works asks sound takes =
     by-answer (Err why) at takes =
         fails-step tells v new m why takes.steps.answer.0 takes.steps.job stands works v.log v.turn refl refl refl takes.steps.answer.1 takes.steps.log takes.steps.turn
         (λ told image left. let c = working tells v m stands works told in
-        left-shut (λ (x : Machine Value). OnFront (IsImageOf c.header image) x) m (gate-shut v m stands.in_step stands.memory.failed stands.gate works (ap is_turning at.is))
+        left-so (λ (x : Machine Value). OnFront (IsImageOf c.header image) x) m (gate-stays v m stands.in_step stands.memory.failed stands.gate works (ap is_turning at.is))
         (same-leaves v new m c (takes.call.areas told).same image left))
     by-answer (Ok said) at takes =
         let memory = restaged v.transactions m Stored stands.memory (λ _. at.some) (λ turns. absurd cc) in
@@ -850,7 +924,7 @@ synced-step tells v new answer m stands works asks sound takes =
         } in
         stays-step tells v new m said did.HeapSynced takes.steps.job refl takes.steps.answer.0 (groups.at_stage Stored v.transactions) v.log v.turn takes.steps.answer.1 takes.steps.log takes.steps.turn
         (goes-on-working tells v (with_parts v new (groups.at_stage Stored v.transactions) v.log v.turn) m m stands works
-        (record { memory = memory; machine = stands.machine; order = order; in_step = in_step; gate = stands.gate; marks = stands.marks; job = stands.job }) works refl refl (λ told.
+        (record { memory = memory; machine = stands.machine; order = order; in_step = in_step; gate = stands.gate; raises = stands.raises; marks = stands.marks; job = stands.job }) works refl refl (λ told.
         let c = working tells v m stands works told in
         let w = c.works in
         let base = resting-areas v m c in
@@ -875,6 +949,7 @@ job-later (Some j) archived early late opened pending versions versions' still g
   where
     by-work : (work : JobWork) → KeepsWork work j.stage archived early opened pending versions → KeepsWork work j.stage archived late opened pending versions'
     by-work (ArchiveWork run writer) keeps = (keeps.0, (let upto = keeps.1 in omega (arith, upto, grown)))
+    by-work (FloorWork floor) keeps = tt
     by-work (Reclaim anchors source written) keeps = record { is = keeps.is; recent = keeps.recent; made = λ turning. (let none : is_some (turn_in j.stage) ≡ false = ap (λ (o : Option TurnState). is_some o) still in let no : true ≡ false = sym turning ∙ none in absurd cc) }
 
 -- ---- the slot
@@ -907,16 +982,16 @@ module _ (tells : Bool) (v new : StoreValue) (m : Machine Value) (t : TurnState)
   group-in-making : steps.IsInTheMaking m OfGroup
   group-in-making = omega (arith, group-some, stands.memory.group)
 
-  gate-now : m.gate ≡ gate_at t.stage
-  gate-now = stands.gate works ∙ ap gate_of mine-is
+  gate-now : m.gate ≡ gate_at OfGroup t.stage
+  gate-now = stands.gate works ∙ ap (λ (o : Option TurnState). gate_of o v.job) mine-is
 
   -- what the store is then
   between : (stage : SlotStage) → t.stage ≡ stage → IsOnItsWay (slots.slot_stage_after stage) → (IsTrue tells → IsSlotCall t.number t.body t.stage (Ok tt) v.disk.areas new.disk.areas) → (said what : Did)
-      → Run IsValue m (ends_in m.gate (Ok what)) (steps.gated m (gate_at (slots.slot_stage_after stage))) → said ≡ what
+      → Run IsValue m (ends_in m.gate (Ok what)) (steps.gated m (gate_at OfGroup (slots.slot_stage_after stage))) → said ≡ what
       → new.transactions ≡ v.transactions → new.log ≡ v.log → new.turn ≡ Some (record t { stage = slots.slot_stage_after stage }) → Ends tells m (Ok said) new
   between stage is way call said what run same a b c =
       let after : Option TurnState = Some (record t { stage = slots.slot_stage_after stage }) in
-      let gate : Gate = gate_at (slots.slot_stage_after stage) in
+      let gate : Gate = gate_at OfGroup (slots.slot_stage_after stage) in
       let to : Machine Value = steps.gated m gate in
       let memory = regated v.transactions m gate stands.memory in
       let machine' : IsMachine IsValue to = run-machine IsValue m to (ends_in m.gate (Ok what)) stands.machine run in
@@ -926,7 +1001,7 @@ module _ (tells : Bool) (v new : StoreValue) (m : Machine Value) (t : TurnState)
         turns = λ on. record { turning = ap is_turning turning; writing = writing; turn = (number, way); job = no-other v.log.used after };
       } in
       let then = goes-on-working tells v (with_parts v new v.transactions v.log after) m to stands works
-      (record { memory = memory; machine = machine'; order = stands.order; in_step = in_step; gate = λ on. refl; marks = stands.marks; job = stands.job }) works refl refl (λ told.
+      (record { memory = memory; machine = machine'; order = stands.order; in_step = in_step; gate = λ on. refl; raises = stands.raises; marks = stands.marks; job = stands.job }) works refl refl (λ told.
       let c = working tells v m stands works told in
       let w = c.works in
       let mine = own told in
@@ -956,7 +1031,7 @@ module _ (tells : Bool) (v new : StoreValue) (m : Machine Value) (t : TurnState)
       subst (λ (l : List ℕ). AreOut v.transactions.usages (l ++ v.transactions.reserved)) (numbers-split v.transactions.group v.transactions.queue) stands.order.out in
       let order = keeps-published v.transactions stands.order asks
       (out-beside v.transactions.usages (flat_map numbers_of (take v.transactions.group v.transactions.queue)) (flat_map numbers_of (drop v.transactions.group v.transactions.queue)) v.transactions.reserved Kept rest) in
-      let step : steps.Step IsValue m (steps.Published v.transactions.group) (steps.group_published m) = (works, group-some, stands.memory.group, gate-now ∙ ap gate_at is, refl) in
+      let step : steps.Step IsValue m (steps.Published v.transactions.group) (steps.group_published m) = (works, group-some, stands.memory.group, gate-now ∙ ap (gate_at OfGroup) is, refl) in
       let machine' : IsMachine IsValue (steps.group_published m) = run-machine IsValue m (steps.group_published m) (steps.Published v.transactions.group ∷ []) stands.machine (steps.group_published m, step, refl) in
       let in_step : IsInStep (with_parts v new (groups.published v.transactions) log None) = record {
         slots = stands.in_step.slots;
@@ -968,7 +1043,8 @@ module _ (tells : Bool) (v new : StoreValue) (m : Machine Value) (t : TurnState)
         machine = machine';
         order = order;
         in_step = in_step;
-        gate = λ on. refl;
+        gate = λ on. sym (still-shut v.job still);
+        raises = stands.raises;
         marks = (stands.marks.0, (let archived = stands.marks.1 in omega (arith, archived, grown)));
         job = job-later v.job v.archived (last m.published) (last (steps.group_published m).published) v.transactions.opened v.transactions.pending v.transactions.versions (groups.published v.transactions).versions still grown stands.job;
       }) works refl refl (λ told.
@@ -978,11 +1054,11 @@ module _ (tells : Bool) (v new : StoreValue) (m : Machine Value) (t : TurnState)
       (steps.group_published m, (steps.group_published m, step, refl), subst (λ (x : StoreValue). Stands tells x (steps.group_published m)) (same-store v new (groups.published v.transactions) log None keeps a b c) after)
 
   turned : (stage : SlotStage) → t.stage ≡ stage → (IsTrue tells → IsSlotCall t.number t.body t.stage (Ok tt) v.disk.areas new.disk.areas) → groups.due v.transactions ≡ next.AdvanceSlot → (what : Did) → IsTurned stage t v what new → Ends tells m (Ok what) new
-  turned slots.Begun is call asks what to = between slots.Begun is tt call what did.BodyWritten (ap (steps.gated m) (sym (gate-now ∙ ap gate_at is))) to.0 to.1 to.2 to.3
+  turned slots.Begun is call asks what to = between slots.Begun is tt call what did.BodyWritten (ap (steps.gated m) (sym (gate-now ∙ ap (gate_at OfGroup) is))) to.0 to.1 to.2 to.3
   turned slots.BodyWritten is call asks what to =
-      between slots.BodyWritten is tt call what did.BodySynced (steps.gated m (Due OfGroup), (works, group-in-making, gate-now ∙ ap gate_at is, refl), refl) to.0 to.1 to.2 to.3
+      between slots.BodyWritten is tt call what did.BodySynced (steps.gated m (Due OfGroup), (works, group-in-making, gate-now ∙ ap (gate_at OfGroup) is, refl), refl) to.0 to.1 to.2 to.3
   turned slots.BodySynced is call asks what to =
-      between slots.BodySynced is tt call what did.GateWritten (steps.gated m (MayBeOpen OfGroup), (works, gate-now ∙ ap gate_at is, refl), refl) to.0 to.1 to.2 to.3
+      between slots.BodySynced is tt call what did.GateWritten (steps.gated m (MayBeOpen OfGroup), (works, gate-now ∙ ap (gate_at OfGroup) is, refl), refl) to.0 to.1 to.2 to.3
   turned slots.GateWritten is call asks what to = opens is call asks what to.0 to.1 to.2 to.3
   turned slots.Opened is call asks what to = absurd to
 
@@ -1019,7 +1095,7 @@ module _ (tells : Bool) (v new : StoreValue) (m : Machine Value) (stands : Stand
   some-stored = subst (λ (s : GroupStage). StageFits s v.transactions.group v.transactions.queue) stored stands.order.stage_fits
 
   shut : m.gate ≡ Shut
-  shut = gate-shut v m stands.in_step stands.memory.failed stands.gate works (ap is_turning stored)
+  shut = gate-of-job v m stands.in_step stands.memory.failed stands.gate works (ap is_turning stored) ∙ still-shut v.job still
 
   first-turn : (told : IsTrue tells) → IsTurnOf (stands.disk told).header ((stands.disk told).works works).log.layout (group_of ((stands.disk told).works works).log.layout v.transactions m) first v.disk.areas
   first-turn told =
@@ -1051,7 +1127,7 @@ module _ (tells : Bool) (v new : StoreValue) (m : Machine Value) (stands : Stand
       } in
       stays-step tells v new m what did.BodyWritten keeps refl to.answer.0 (groups.at_stage Turning v.transactions) log after to.answer.1 to.answer.2 to.answer.3
       (goes-on-working tells v (with_parts v new (groups.at_stage Turning v.transactions) log after) m m stands works
-      (record { memory = memory; machine = stands.machine; order = order; in_step = in_step; gate = λ on. shut; marks = stands.marks; job = stands.job }) works refl refl (λ told.
+      (record { memory = memory; machine = stands.machine; order = order; in_step = in_step; gate = λ on. shut; raises = stands.raises; marks = stands.marks; job = stands.job }) works refl refl (λ told.
       let c = working tells v m stands works told in
       let w = c.works in
       let mine = first-turn told in
@@ -1078,6 +1154,7 @@ module _ (tells : Bool) (v new : StoreValue) (m : Machine Value) (stands : Stand
               order = broken-order (groups.at_stage Turning v.transactions) (keeps-begun v.transactions stands.order asks);
               in_step = record { slots = stands'.in_step.slots; used = stands'.in_step.used; turns = λ no. absurd cc };
               gate = λ no. absurd cc;
+              raises = stands'.raises;
               marks = stands'.marks;
               job = stands'.job;
               disk = λ told.
@@ -1101,6 +1178,7 @@ fresh-parts tells v m stands works stored some =
       order = fresh-order v.transactions stands.order;
       in_step = in_step;
       gate = stands.gate;
+      raises = stands.raises;
       marks = stands.marks;
       job = stands.job;
     }) works refl refl (λ told. let c = working tells v m stands works told in fresh-works c.header v m stored c.works)
@@ -1169,6 +1247,7 @@ started-parts tells v m size stands works memory machine =
       order = keeps-grouped v.transactions stands.order;
       in_step = started-in_step v stands.order stands.in_step;
       gate = stands.gate;
+      raises = stands.raises;
       marks = (grouped-has (λ (t : TransactionsValue). t.reclaimed ≤ v.archived) v.transactions stands.marks.0 stands.marks.0, stands.marks.1);
       job = grouped-has (λ (t : TransactionsValue). KeepsJobOf v.job v.archived (last m.published) t.opened t.pending t.versions) v.transactions stands.job stands.job;
     }) works refl refl (λ told. let c = working tells v m stands works told in begun-works c.header v m size stands.order c.works memory)

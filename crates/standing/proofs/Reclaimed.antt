@@ -31,7 +31,6 @@ reserves v m numbers stands = record {
   staged = stands.staged;
   snapshots = stands.snapshots;
   floors = stands.floors;
-  raising = stands.raising;
   failed = stands.failed;
 }
 
@@ -50,7 +49,6 @@ prepares v m mark stands = record {
   staged = stands.staged;
   snapshots = stands.snapshots;
   floors = stands.floors;
-  raising = stands.raising;
   failed = stands.failed;
 }
 
@@ -77,6 +75,5 @@ reclaims v m mark stands made low reached recent still =
       staged = stands.staged;
       snapshots = stands.snapshots;
       floors = stands.floors;
-      raising = stands.raising;
       failed = stands.failed;
     }

@@ -37,7 +37,8 @@ use Rattle.store.specs.declared.job.StartFault.TheVariants as fault
 use Rattle.store.proofs.ReclaimStarts.{too-full}
 use Rattle.standing.specs.Standing.{StandsInMemory, Reclaims, snapshots_of}
 use Rattle.standing.specs.OnDisk.{OfAnchors, IsNextChain, IsRested, Works}
-use Rattle.standing.specs.Stands.{HasMarks, StandsBeside as Stands}
+use Rattle.standing.specs.Stands.{HasMarks, job_gate, raising_of, StandsBeside as Stands}
+use Rattle.standing.proofs.Working.{gate-beside}
 use Rattle.standing.proofs.Retired.{reserved-live}
 use Rattle.standing.proofs.Chains.{begun, begun-named, begun-filling, begun-chain, begun-range}
 use Rattle.standing.proofs.Ranges.{IsInRange, each-chain, all-rising, facts-in-range, anchors-in-range}
@@ -110,6 +111,10 @@ not-below (Some least) mark snapshot none by =
       | false ↦ λ test said. let late : mark ≤ least = grind (arith, nat_tests) in omega (arith, late, by)
     ] refl none
 
+-- the least open snapshot is no later than any
+pub least-is-low : (places : List (Option ℕ)) (least snapshot : ℕ) → least_open places ≡ Some least → Contains (snapshots_of places) snapshot → least ≤ snapshot
+least-is-low places least snapshot is there = subst (λ (o : Option ℕ). AtMost o snapshot) is (least-of places None snapshot there)
+
 -- where none is below the mark, no open transaction reads below it
 pub none-reads-below : (places : List (Option ℕ)) (mark : ℕ) → below (least_open places) mark ≡ None → (snapshot : ℕ) → Contains (snapshots_of places) snapshot → mark ≤ snapshot
 none-reads-below places mark none snapshot there = not-below (least_open places) mark snapshot none (least-of places None snapshot there)
@@ -147,7 +152,6 @@ begun-memory v numbers m stands = record {
   staged = stands.staged;
   snapshots = stands.snapshots;
   floors = stands.floors;
-  raising = stands.raising;
   failed = stands.failed;
 }
 
@@ -251,7 +255,8 @@ reclaim-start-stands tells old new answer m stands starts = by-refusal (reclaim_
           machine = stands.machine;
           order = begun-order old.transactions ns may.room is.1.least stands.order;
           in_step = in_step;
-          gate = stands.gate;
+          gate = λ on. stands.gate on ∙ gate-beside old.turn old.job _ (ap job_gate may.free) refl;
+          raises = stands.raises ∙ ap raising_of may.free;
           marks = stands.marks;
           job = job;
           disk = λ told.

@@ -38,7 +38,7 @@ use Rattle.store.specs.declared.job.Job.{Job}
 use Rattle.store.specs.declared.job.JobStage.TheVariants as stages
 use Rattle.store.specs.declared.job.JobWork.TheVariants.{Archive}
 use Rattle.store.specs.declared.job.JobStage.{JobStage}
-use Rattle.standing.specs.OnDisk.{Product, OfRun, OfAnchors, IsNextRun, MayBeNext, IsMadeBy, IsAtJob, HasJob, Works}
+use Rattle.standing.specs.OnDisk.{Product, OfRun, OfAnchors, OfFloor, IsNextRun, MayBeNext, IsMadeBy, IsAtJob, HasJob, Works}
 use Rattle.standing.proofs.Archiving.{run-same}
 
 -- ---- what a plan adds
@@ -101,6 +101,7 @@ module _ (header : Header) (v : StoreValue) (m : Machine Value) (w : Works heade
           → OwnRun (λ stored. IsAtJob header w.log.layout (Archive run writer) (OfRun stored) stage v.disk.areas)
       by-product (OfRun stored) made next at = record { stored = stored; entry = made; next = next; at = at }
       by-product (OfAnchors a) made next at = absurd made
+      by-product (OfFloor floor) made next at = absurd made
 
   -- a piece goes behind the runs
   pub piece-behind : v.job ≡ Some (record { work = Archive run writer; stage = stages.Writing }) → v.runs_end ≤ writer.at

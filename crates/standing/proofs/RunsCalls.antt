@@ -31,7 +31,7 @@ use Rattle.store.specs.declared.job.Job.{Job}
 use Rattle.store.specs.declared.job.JobStage.{JobStage}
 use Rattle.store.specs.declared.job.JobStage.TheVariants as stages
 use Rattle.store.specs.declared.job.JobWork.{JobWork}
-use Rattle.store.specs.declared.job.JobWork.TheVariants.{Archive, Reclaim}
+use Rattle.store.specs.declared.job.JobWork.TheVariants.{Archive, Reclaim, Floor}
 use Rattle.store.specs.declared.job.JobDid.{JobDid}
 use Rattle.store.specs.declared.job.JobDid.TheVariants as did
 use Rattle.standing.specs.Homes.{HasPlace, JobHasPlace, RunsStand, KeepsUpTo, GoesOn}
@@ -215,6 +215,7 @@ module _ (tells : Bool) (v : StoreValue) (m after : Machine Value) (up : HasRisi
 
   stores : (work : JobWork) (result : Result JobDid PumpFault) (new : StoreValue) → v.job ≡ Some (record { work = work; stage = stages.Writing }) → HasPlace work v m → Stores tells work (record { work = work; stage = stages.Writing }) v result new → Leaves tells v new after
   stores (Archive run writer) result new is has does = archive-steps writer.left run writer result new is has does
+  stores (Floor floor) result new is has does = absurd does
   stores (Reclaim anchors source written) result new is has does = reclaim-steps (slice_get v.transactions.reserved written) anchors source written result new has does
 
   -- once the slot is open
@@ -238,6 +239,14 @@ module _ (tells : Bool) (v : StoreValue) (m after : Machine Value) (up : HasRisi
       record {
         place = tt;
         runs = λ told. runs-move v whole m after up later keeps has (from-same new same told) (runs told);
+        goes = goes-same tells v whole keeps (from-same new same);
+      }
+  done (Floor floor) t new is has same =
+      let whole : StoreValue = slot_opened (work_done (Floor floor) v) t new in
+      let keeps : KeepsArchive v whole = record { runs = refl; kept = refl; archived = refl; runs_end = refl; mark = refl } in
+      record {
+        place = tt;
+        runs = λ told. runs-move v whole m after up later keeps (let marks = (runs told).marks in omega arith) (from-same new same told) (runs told);
         goes = goes-same tells v whole keeps (from-same new same);
       }
 
@@ -270,6 +279,7 @@ module _ (tells : Bool) (v : StoreValue) (m after : Machine Value) (up : HasRisi
   by-work : (work : JobWork) (job : Job) (result : Result JobDid PumpFault) (new : StoreValue) → HasPlace job.work v m → TurnsJob tells job (first_turn v job) (slot_taken (made_ready work v)) result new → Leaves tells v new after
   by-work (Archive run writer) job result new has takes = first-turned job (first_turn v job) v.transactions result new refl refl refl has takes
   by-work (Reclaim anchors source written) job result new has takes = first-turned job (first_turn v job) _ result new refl refl refl has takes
+  by-work (Floor floor) job result new has takes = first-turned job (first_turn v job) v.transactions result new refl refl refl has takes
 
   stored : (b : Bool) (job : Job) (result : Result JobDid PumpFault) (new : StoreValue) → JobHasPlace v m → HasPlace job.work v m → MatchBool b (Path (Result JobDid PumpFault) result (Err fault.Busy) × (new ≡ v)) (BeginsJobSlot tells job v result new) → Leaves tells v new after
   stored true job result new place has takes = unchanged new place takes.1

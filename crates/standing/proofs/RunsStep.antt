@@ -33,7 +33,7 @@ use Rattle.store.specs.Calls.{same_run, is_front}
 use Rattle.store.specs.Values.{ArchiveValue, StoreValue}
 use Rattle.store.specs.declared.job.Job.{Job}
 use Rattle.store.specs.declared.job.JobWork.{JobWork}
-use Rattle.store.specs.declared.job.JobWork.TheVariants.{Archive, Reclaim}
+use Rattle.store.specs.declared.job.JobWork.TheVariants.{Archive, Reclaim, Floor}
 use Rattle.standing.specs.Homes.{AreArchived, HasPlace, JobHasPlace, RunsStand, KeepsUpTo, GoesOn}
 use Rattle.standing.proofs.RunsKept.{runs-held, runs-more, ends-later, ends-more, right-kept, archived-later, IsLater, last-rises, up_to-same}
 use Rattle.standing.proofs.RunsAhead.{RunReady}
@@ -85,6 +85,7 @@ pub place-move : (work : JobWork) (old new : StoreValue) (m after : Machine Valu
 place-move (Archive run writer) old new m after higher runs next archived has =
     (has.0, has.1, has.2 ∙ sym archived, (λ relation. let low = has.3 relation in let high = higher relation in omega arith), next ∙ has.4 ∙ ap (λ (rs : List RunEntry). rs ++ has.0 ∷ []) (sym runs))
 place-move (Reclaim anchors source written) old new m after higher runs next archived has = let low : anchors.upto ≤ old.archived = has in omega arith
+place-move (Floor floor) old new m after higher runs next archived has = tt
 
 pub job-place-move : (o : Option Job) (old new : StoreValue) (m after : Machine Value) → ((relation : ℕ) → m.floors relation ≤ after.floors relation) → new.archive.runs ≡ old.archive.runs → new.archive.next ≡ old.archive.next → new.archived ≡ old.archived
     → MatchOption o (Unit {0}) (λ job. HasPlace job.work old m) → MatchOption o (Unit {0}) (λ job. HasPlace job.work new after)

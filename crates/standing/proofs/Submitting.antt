@@ -147,7 +147,6 @@ queues-one v m label time writes numbers stands few waits later range =
       staged = stands.staged;
       snapshots = stands.snapshots;
       floors = stands.floors;
-      raising = stands.raising;
       failed = stands.failed;
     }
 

@@ -1,10 +1,11 @@
 -- The calls of a store keep its runs too, and go on.
-use Rattle.std.proofs.Common.{◌≡◌, ℕ, ◌+◌, ◌<◌, ◌≤◌, ◌^◌, ◌++◌, Bool, true, false, IsTrue, List, [], ◌∷◌, Option, None, Some, Result, Ok, Err, MatchBool, MatchOption, refl, arith, ap, sym, subst, ◌∙◌}
+use Rattle.std.proofs.Common.{◌≡◌, ℕ, ◌+◌, ◌<◌, ◌≤◌, ◌^◌, ◌++◌, Bool, true, false, IsTrue, List, [], ◌∷◌, Option, None, Some, Result, Ok, Err, MatchBool, MatchOption, refl, arith, ap, sym, subst, ◌∙◌, append-nil}
 use Rattle.disk.specs.Areas.{AreSound}
 use Rattle.disk.specs.Calls.{DiskState}
 use Rattle.history.specs.Histories.{HasRisingTimes}
+use Rattle.history.specs.Floors.{Raising}
 use Rattle.history.specs.Machine.{Machine}
-use Rattle.history.specs.Steps.{Run}
+use Rattle.history.specs.Steps.{Run, floor_started}
 use Rattle.image.specs.Values.{Value, IsValue}
 use Rattle.archive.specs.declared.run.RunEntry.{RunEntry}
 use Rattle.archive.specs.Runs.{RunsEndBy}
@@ -18,25 +19,30 @@ use Rattle.store.specs.Pumps.{Pumps}
 use Rattle.store.specs.Archives.{refusal_now, BeginsRun, IsArchiveBegun, StartsArchive, with_archive}
 use Rattle.store.specs.Jobs.{PumpsJob}
 use Rattle.store.specs.Reclaims.{reclaim_refusal, with_reclaim, BeginsReclaim, StartsReclaim}
+use Rattle.store.specs.Floors.{floor_refusal, with_floor, StartsFloor}
 use Rattle.store.specs.declared.job.JobDid.{JobDid}
 use Rattle.store.specs.declared.job.StartFault.{StartFault}
+use Rattle.store.specs.declared.job.StartFault.TheVariants as start
 use Rattle.standing.specs.Homes.{JobHasPlace, RunsStand, GoesOn}
 use Rattle.standing.specs.Laws.{begins_in, ends_in, job_ends_in}
 use Rattle.standing.specs.Stands.{Stands, StandsBeside}
+use Rattle.standing.specs.Calls.{raising_to, StartsOn}
 use Rattle.standing.proofs.RunsKept.{IsLater, run-later, same-later, machine-rises, up_to-same, up_to-is}
 use Rattle.standing.proofs.RunsStep.{KeepsArchive, runs-move, goes-same}
 use Rattle.standing.proofs.RunsCalls.{Leaves, StaysBeside, KnowsRun, beside-leaves, pump-stays, job_pump-leaves}
 use Rattle.standing.proofs.RunsAhead.{piece-behind, run-ready}
 use Rattle.standing.proofs.Archiving as archiving
 use Rattle.standing.proofs.Reclaiming as reclaiming
+use Rattle.standing.proofs.FloorStarts as floors
+use Rattle.standing.proofs.FloorStarts.{Refuses}
 use Rattle.standing.proofs.JobPumping as jobs
 use Rattle.standing.proofs.Pumping as groups
 
 pub beside : (tells : Bool) (v : StoreValue) (m : Machine Value) → Stands tells v m → StandsBeside tells v m
-beside tells v m s = record { memory = s.memory; machine = s.machine; order = s.order; in_step = s.in_step; gate = s.gate; marks = s.marks; job = s.job; disk = s.disk }
+beside tells v m s = record { memory = s.memory; machine = s.machine; order = s.order; in_step = s.in_step; gate = s.gate; raises = s.raises; marks = s.marks; job = s.job; disk = s.disk }
 
 pub whole : (tells : Bool) (old v : StoreValue) (m : Machine Value) → StandsBeside tells v m → Leaves tells old v m → Stands tells v m
-whole tells old v m s left = record { memory = s.memory; machine = s.machine; order = s.order; in_step = s.in_step; gate = s.gate; marks = s.marks; job = s.job; disk = s.disk; place = left.place; runs = left.runs }
+whole tells old v m s left = record { memory = s.memory; machine = s.machine; order = s.order; in_step = s.in_step; gate = s.gate; raises = s.raises; marks = s.marks; job = s.job; disk = s.disk; place = left.place; runs = left.runs }
 
 -- ---- a group's steps
 
@@ -67,11 +73,11 @@ job_pump-left : (tells : Bool) (old new : StoreValue) (answer : Result JobDid Pu
 job_pump-left tells old new answer m after stands later pumps = job_pump-leaves tells old new m after answer (machine-rises m stands.machine) later stands.place stands.runs (knows tells old m stands) pumps
 
 pub job-pump-stands : (tells : Bool) (old new : StoreValue) (answer : Result JobDid PumpFault) (m : Machine Value) → Stands tells old m → (IsTrue tells → AreSound new.disk.areas) → PumpsJob tells old answer new
-    → MatchBool m.failed ((answer ≡ Err pump.Failed) × Stands tells new m) ((after : Machine Value) × Run IsValue m (job_ends_in answer) after × Stands tells new after)
+    → MatchBool m.failed ((answer ≡ Err pump.Failed) × Stands tells new m) ((after : Machine Value) × Run IsValue m (job_ends_in m answer) after × Stands tells new after)
 job-pump-stands tells old new answer m stands sound pumps = by-failure m.failed (jobs.job-pump-stands tells old new answer m (beside tells old m stands) sound pumps)
   where
-    by-failure : (b : Bool) → MatchBool b ((answer ≡ Err pump.Failed) × StandsBeside tells new m) ((after : Machine Value) × Run IsValue m (job_ends_in answer) after × StandsBeside tells new after)
-        → MatchBool b ((answer ≡ Err pump.Failed) × Stands tells new m) ((after : Machine Value) × Run IsValue m (job_ends_in answer) after × Stands tells new after)
+    by-failure : (b : Bool) → MatchBool b ((answer ≡ Err pump.Failed) × StandsBeside tells new m) ((after : Machine Value) × Run IsValue m (job_ends_in m answer) after × StandsBeside tells new after)
+        → MatchBool b ((answer ≡ Err pump.Failed) × Stands tells new m) ((after : Machine Value) × Run IsValue m (job_ends_in m answer) after × Stands tells new after)
     by-failure true is = (is.0, whole tells old new m is.1 (job_pump-left tells old new answer m m stands (same-later m) pumps))
     by-failure false is = (is.0, is.1, whole tells old new is.0 is.2 (job_pump-left tells old new answer m is.0 stands (run-later m is.0 _ stands.machine is.2.machine is.1) pumps))
 
@@ -147,6 +153,54 @@ archive-start-stands tells old new upto answer m stands starts =
 
 pub archive-start-goes : (tells : Bool) (old new : StoreValue) (upto : ℕ) (answer : Result (Unit {0}) StartFault) (m : Machine Value) → Stands tells old m → StartsArchive old upto answer new → GoesOn tells old new
 archive-start-goes tells old new upto answer m stands starts = (start-left tells old new upto answer m stands starts).goes
+
+-- ---- the beginning of a floor
+
+floor-begun-left : (tells : Bool) (old new : StoreValue) (floor : ℕ) (m after : Machine Value) → Stands tells old m → after.published ≡ m.published → after.floors ≡ m.floors → new ≡ with_floor old floor → Leaves tells old new after
+floor-begun-left tells old new floor m after stands published floors is =
+    let made : StoreValue = with_floor old floor in
+    let keeps : KeepsArchive old made = record { runs = refl; kept = refl; archived = refl; runs_end = refl; mark = refl } in
+    let later : IsLater m after = record { more = []; published = published ∙ sym (append-nil m.published); rising = tt; floors = λ relation. (let same = ap (λ (f : ℕ → ℕ). f relation) floors in omega arith) } in
+    subst (λ (x : StoreValue). Leaves tells old x after) (sym is) (record {
+      place = tt;
+      runs = λ told. runs-move old made m after (machine-rises m stands.machine) later keeps (stands.runs told).marks (up_to-same old.runs_end (archive_of old.disk)) (stands.runs told);
+      goes = goes-same tells old made keeps (λ told. up_to-same old.runs_end (archive_of old.disk));
+    })
+
+pub floor-start-stands : (tells : Bool) (old new : StoreValue) (floor : ℕ) (answer : Result (Unit {0}) StartFault) (m : Machine Value) → Stands tells old m → StartsFloor old floor answer new → StartsOn tells m (raising_to floor) answer new
+floor-start-stands tells old new floor answer m stands starts = by-refusal (floor_refusal old floor) refl starts
+  where
+    r : Raising
+    r = raising_to floor
+
+    kept : new ≡ old → Stands tells new m
+    kept is = subst (λ (x : StoreValue). Stands tells x m) (sym is) stands
+
+    refused : (why : StartFault) → Refuses m r why → Stands tells new m → StartsOn tells m r (Err why) new
+    refused start.NothingToDo is same = (is, same)
+    refused (start.NotYet time) is same = (is, same)
+    refused (start.InUse snapshot) is same = (is, same)
+    refused start.Failed is same = (is, same)
+    refused start.JobBusy is same = same
+    refused start.StatusFull is same = same
+    refused start.ArchiveFull is same = absurd is
+    refused start.HeapFull is same = absurd is
+    refused start.NoMemory is same = absurd is
+
+    by-refusal : (o : Option StartFault) → floor_refusal old floor ≡ o → MatchOption o ((answer ≡ Ok tt) × (new ≡ with_floor old floor)) (λ why. (answer ≡ Err why) × (new ≡ old)) → StartsOn tells m r answer new
+    by-refusal None none is =
+        let begun = floors.begins tells old floor m (beside tells old m stands) none in
+        subst (λ (a : Result (Unit {0}) StartFault). StartsOn tells m r a new) (sym is.0)
+        (begun.0, whole tells old new (floor_started m r) (subst (λ (x : StoreValue). StandsBeside tells x (floor_started m r)) (sym is.1) begun.1) (floor-begun-left tells old new floor m (floor_started m r) stands refl refl is.1))
+    by-refusal (Some why) some is =
+        subst (λ (a : Result (Unit {0}) StartFault). StartsOn tells m r a new) (sym is.0) (refused why (floors.refuses tells old floor m (beside tells old m stands) why some) (kept is.1))
+
+pub floor-start-goes : (tells : Bool) (old new : StoreValue) (floor : ℕ) (answer : Result (Unit {0}) StartFault) (m : Machine Value) → Stands tells old m → StartsFloor old floor answer new → GoesOn tells old new
+floor-start-goes tells old new floor answer m stands starts = by-refusal (floor_refusal old floor) starts
+  where
+    by-refusal : (o : Option StartFault) → MatchOption o ((answer ≡ Ok tt) × (new ≡ with_floor old floor)) (λ why. (answer ≡ Err why) × (new ≡ old)) → GoesOn tells old new
+    by-refusal None is = (floor-begun-left tells old new floor m m stands refl refl is.1).goes
+    by-refusal (Some why) is = (left-same tells old new m stands is.1).goes
 
 -- ---- calls that change the transactions alone
 

@@ -1,19 +1,23 @@
 -- A store that works: what is said of it in memory and of its disk, in one place.
-use Rattle.std.proofs.Common.{◌≡◌, ℕ, ◌<◌, ◌≤◌, false, IsTrue, Bool, List, length, arith, sym, ◌∙◌}
-use Rattle.history.specs.Machine.{Machine, IsMachine}
+use Rattle.std.proofs.Common.{◌≡◌, ℕ, ◌<◌, ◌≤◌, false, IsTrue, Bool, List, length, Option, None, Some, refl, arith, sym, ◌∙◌}
+use Rattle.history.specs.Machine.{Machine, Shut, IsMachine}
 use Rattle.image.specs.Values.{Value, IsValue}
 use Rattle.status.specs.declared.header.Header.{Header}
 use Rattle.status.specs.Header.{total}
 use Rattle.status.specs.Rules.{is_built}
+use Rattle.status.specs.TurnState.{TurnState}
 use Rattle.reading.specs.Turn.{Group}
 use Rattle.transactions.specs.Order.{IsInOrder}
 use Rattle.transactions.specs.Values.{claimed_by}
 use Rattle.transactions.specs.declared.stage.GroupStage.{GroupStage}
 use Rattle.transactions.specs.declared.stage.GroupStage.TheVariants.{NoGroup, Storing, Stored, Turning}
-use Rattle.store.specs.Values.{StoreValue, IsInStep, lent_to}
+use Rattle.store.specs.Values.{StoreValue, IsInStep, turn_in, turn_of, lent_to}
+use Rattle.store.specs.declared.job.Job.{Job}
+use Rattle.store.specs.declared.job.JobStage.{JobStage}
+use Rattle.store.specs.declared.job.JobStage.TheVariants as job
 use Rattle.standing.specs.Standing.{StandsInMemory}
 use Rattle.standing.specs.OnDisk.{Works, group_of}
-use Rattle.standing.specs.Stands.{StandsBeside, HasGate, HasMarks, KeepsJobIn}
+use Rattle.standing.specs.Stands.{StandsBeside, gate_in, job_gate, gate_of, HasGate, RaisesFloor, HasMarks, KeepsJobIn}
 
 -- what is said of a store in memory
 pub record Inside (v : StoreValue) (m : Machine Value) : Type 0 where
@@ -22,6 +26,7 @@ pub record Inside (v : StoreValue) (m : Machine Value) : Type 0 where
   pub order : IsInOrder v.transactions
   pub in_step : IsInStep v
   pub gate : HasGate v m
+  pub raises : RaisesFloor v m
   pub marks : HasMarks v m
   pub job : KeepsJobIn v m
 
@@ -36,7 +41,7 @@ pub record Working (v : StoreValue) (m : Machine Value) : Type 0 where
   pub works : Works header v m
 
 abbrev pub inside : (tells : Bool) (v : StoreValue) (m : Machine Value) → StandsBeside tells v m → Inside v m
-inside tells v m s = record { memory = s.memory; machine = s.machine; order = s.order; in_step = s.in_step; gate = s.gate; marks = s.marks; job = s.job }
+inside tells v m s = record { memory = s.memory; machine = s.machine; order = s.order; in_step = s.in_step; gate = s.gate; raises = s.raises; marks = s.marks; job = s.job }
 
 abbrev pub working : (tells : Bool) (v : StoreValue) (m : Machine Value) → StandsBeside tells v m → m.failed ≡ false → IsTrue tells → Working v m
 working tells v m s on told = record {
@@ -52,6 +57,23 @@ working tells v m s on told = record {
 -- the group that is being written
 abbrev pub group_in : (v : StoreValue) (m : Machine Value) → Working v m → Group
 group_in v m c = group_of c.works.log.layout v.transactions m
+
+-- ---- the gate
+
+-- a job whose slot is not in the writing opens none
+pub still-shut : (o : Option Job) → turn_of o ≡ None → job_gate o ≡ Shut
+still-shut None still = refl
+still-shut (Some j) still = by-stage j.stage still
+  where
+    by-stage : (s : JobStage) → turn_in s ≡ None → gate_in j.work s ≡ Shut
+    by-stage job.Writing still = refl
+    by-stage job.Stored still = refl
+    by-stage (job.Turning t) still = absurd cc
+
+-- beside such jobs it is that of the group alone
+pub gate-beside : (turn : Option TurnState) (before after : Option Job) → job_gate before ≡ Shut → job_gate after ≡ Shut → gate_of turn before ≡ gate_of turn after
+gate-beside None before after shut still = shut ∙ sym still
+gate-beside (Some t) before after shut still = refl
 
 -- ---- room in the log
 

@@ -1,9 +1,11 @@
 -- The calls of a store that stands for a state of the machine: each is one of its steps, with its answer, and the store stands for the state after it.
-use Rattle.std.specs.Prelude.{ℕ, ◌≡◌, ◌<◌, ◌^◌, ◌++◌, Bool, IsTrue, Result, Ok, Err, MatchBool}
+use Rattle.std.specs.Prelude.{ℕ, ◌≡◌, ◌<◌, ◌^◌, ◌++◌, Bool, true, IsTrue, None, Result, Ok, Err, MatchBool}
 use Rattle.disk.specs.Areas.{AreSound}
+use Rattle.history.specs.Floors.{Raising}
+use Rattle.history.specs.FloorStarts as floors
 use Rattle.history.specs.Machine.{Machine}
 use Rattle.history.specs.Answers as answers
-use Rattle.history.specs.Steps.{Step, Run, Began, BeginRefused, Aborted, begun}
+use Rattle.history.specs.Steps.{Step, Run, Began, BeginRefused, Aborted, FloorStarted, FloorRefused, begun, floor_started}
 use Rattle.history.specs.Steps as steps
 use Rattle.image.specs.Values.{Value, IsValue}
 use Rattle.snapshot.specs.Txn.{TxnValue, AreTxnWrites}
@@ -22,9 +24,11 @@ use Rattle.store.specs.Values.{StoreValue}
 use Rattle.store.specs.Pumps.{Pumps}
 use Rattle.store.specs.Archives.{StartsArchive}
 use Rattle.store.specs.Reclaims.{StartsReclaim}
+use Rattle.store.specs.Floors.{StartsFloor}
 use Rattle.store.specs.Jobs.{PumpsJob}
 use Rattle.store.specs.declared.job.JobDid.{JobDid}
 use Rattle.store.specs.declared.job.StartFault.{StartFault}
+use Rattle.store.specs.declared.job.StartFault.TheVariants as start
 use Rattle.standing.specs.Laws.{submission_of, event_of, begins_in, ends_in, job_ends_in, RedeemsAs}
 use Rattle.standing.specs.Stands.{Stands}
 
@@ -66,7 +70,28 @@ abbrev pub ReclaimStartStands : Type 0
 ReclaimStartStands = (tells : Bool) (old new : StoreValue) (answer : Result (Unit {0}) StartFault) (m : Machine Value) → Stands tells old m
     → StartsReclaim old answer new → Stands tells new m
 
--- a step of a job changes nothing of the machine's, unless the device refuses it
+-- a floor of every relation
+abbrev pub raising_to : ℕ → Raising
+raising_to floor = record { scope = None; floor = floor }
+
+-- a floor begins, or it is refused as the machine says; or another job runs, or the log has no slot for it
+abbrev pub StartsOn : Bool → Machine Value → Raising → Result (Unit {0}) StartFault → StoreValue → Type 0
+StartsOn tells m r (Ok done) new = Step IsValue m (FloorStarted r) (floor_started m r) × Stands tells new (floor_started m r)
+StartsOn tells m r (Err start.NothingToDo) new = Step IsValue m (FloorRefused r floors.NothingToDo) m × Stands tells new m
+StartsOn tells m r (Err (start.NotYet time)) new = Step IsValue m (FloorRefused r (floors.NotYet time)) m × Stands tells new m
+StartsOn tells m r (Err (start.InUse snapshot)) new = Step IsValue m (FloorRefused r (floors.InUse snapshot)) m × Stands tells new m
+StartsOn tells m r (Err start.Failed) new = (m.failed ≡ true) × Stands tells new m
+StartsOn tells m r (Err start.JobBusy) new = Stands tells new m
+StartsOn tells m r (Err start.StatusFull) new = Stands tells new m
+StartsOn tells m r (Err start.ArchiveFull) new = ⊥
+StartsOn tells m r (Err start.HeapFull) new = ⊥
+StartsOn tells m r (Err start.NoMemory) new = ⊥
+
+abbrev pub FloorStartStands : Type 0
+FloorStartStands = (tells : Bool) (old new : StoreValue) (floor : ℕ) (answer : Result (Unit {0}) StartFault) (m : Machine Value) → Stands tells old m
+    → StartsFloor old floor answer new → StartsOn tells m (raising_to floor) answer new
+
+-- Of a job's steps a floor's alone are the machine's: its gate is due, is written, and the floor is raised. Where the device refuses one the machine has failed.
 abbrev pub JobPumpStands : Type 0
 JobPumpStands = (tells : Bool) (old new : StoreValue) (answer : Result JobDid PumpFault) (m : Machine Value) → Stands tells old m → (IsTrue tells → AreSound new.disk.areas) → PumpsJob tells old answer new
-    → MatchBool m.failed ((answer ≡ Err pump.Failed) × Stands tells new m) ((after : Machine Value) × Run IsValue m (job_ends_in answer) after × Stands tells new after)
+    → MatchBool m.failed ((answer ≡ Err pump.Failed) × Stands tells new m) ((after : Machine Value) × Run IsValue m (job_ends_in m answer) after × Stands tells new after)

@@ -17,7 +17,7 @@ use Rattle.store.specs.Calls.{is_front}
 use Rattle.store.specs.Values.{StoreValue}
 use Rattle.store.specs.declared.job.Job.{Job}
 use Rattle.store.specs.declared.job.JobWork.{JobWork}
-use Rattle.store.specs.declared.job.JobWork.TheVariants.{Archive, Reclaim}
+use Rattle.store.specs.declared.job.JobWork.TheVariants.{Archive, Reclaim, Floor}
 use Rattle.standing.specs.Standing.{HasWrites}
 
 -- ---- the store's runs
@@ -32,6 +32,7 @@ abbrev pub HasPlace : JobWork → StoreValue → Machine Value → Type 0
 HasPlace (Archive run writer) v m =
     (entry : RunEntry) × (entry.slot ≡ run) × (entry.mark ≡ v.archived) × ((relation : ℕ) → entry.floor ≤ m.floors relation) × (v.archive.next ≡ v.archive.runs ++ entry ∷ [])
 HasPlace (Reclaim anchors source written) v m = anchors.upto ≤ v.archived
+HasPlace (Floor floor) v m = Unit {0}
 
 abbrev pub JobHasPlace : StoreValue → Machine Value → Type 0
 JobHasPlace v m = MatchOption v.job (Unit {0}) (λ job. HasPlace job.work v m)

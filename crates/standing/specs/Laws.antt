@@ -1,7 +1,8 @@
 -- The calls of a store are steps of the machine.
-use Rattle.std.specs.Prelude.{ℕ, ◌≡◌, ◌≤◌, ◌==◌, ◌&&◌, nat_lt, List, [], ◌∷◌, length, Option, Result, Ok, Err, MatchBool, if◌then◌else◌}
+use Rattle.std.specs.Prelude.{ℕ, ◌≡◌, ◌≤◌, ◌==◌, ◌&&◌, nat_lt, List, [], ◌∷◌, length, Option, None, Some, Result, Ok, Err, MatchBool, if◌then◌else◌}
 use Rattle.std.specs.declared.alloc.Global.{Global}
 use Rattle.std.specs.declared.vec.Vec.{Vec}
+use Rattle.history.specs.Floors.{Raising}
 use Rattle.history.specs.declared.key.Key.{Key}
 use Rattle.history.specs.declared.time.Version.{Version}
 use Rattle.history.specs.Histories as histories
@@ -10,7 +11,7 @@ use Rattle.history.specs.Machine.{Machine, Gate, Shut, Due, MayBeOpen, OfGroup, 
 use Rattle.history.specs.Answers as answers
 use Rattle.history.specs.Submissions as submissions
 use Rattle.history.specs.Submissions.{Submission, Decision, commit_made}
-use Rattle.history.specs.Steps.{Event, Step, Run, Began, BeginRefused, Aborted, Decided, Refused, GroupBegan, Published, GateDue, GateWritten, Broke, begun}
+use Rattle.history.specs.Steps.{Event, Step, Run, Began, BeginRefused, Aborted, Decided, Refused, GroupBegan, Published, FloorPublished, GateDue, GateWritten, Broke, begun}
 use Rattle.history.specs.Steps as steps
 use Rattle.image.specs.Values.{Value, IsValue}
 use Rattle.chains.specs.KeyWrites.{KeyWrites, writes_of, IsOrdered, forgotten}
@@ -25,6 +26,7 @@ use Rattle.timequery.specs.declared.fault.QueryFault.{QueryFault}
 use Rattle.timequery.specs.declared.fault.QueryFault.TheVariants as query
 use Rattle.store.specs.Calls as stores
 use Rattle.store.specs.declared.job.JobDid.{JobDid}
+use Rattle.store.specs.declared.job.JobDid.TheVariants as job_did
 use Rattle.group.specs.declared.answers.Submitted.{Submitted}
 use Rattle.group.specs.declared.answers.Submitted.TheVariants as submitted
 use Rattle.group.specs.declared.answers.SubmitFault.{SubmitFault}
@@ -90,12 +92,34 @@ ends_in gate (Err pump.Failed) = breaks_in gate
 
 -- ---- steps of a job
 
--- a job's steps are none of the machine's, but for a refused one
-abbrev pub job_ends_in : Result JobDid PumpFault → List (Event Value)
-job_ends_in (Ok what) = []
-job_ends_in (Err pump.Busy) = []
-job_ends_in (Err pump.NoMemory) = []
-job_ends_in (Err pump.Failed) = Broke ∷ []
+-- of a job's steps those of a floor's slot are the machine's, by the floor that it has in the making
+abbrev pub floor_ends_in : JobDid → Raising → List (Event Value)
+floor_ends_in job_did.Idle r = []
+floor_ends_in job_did.WroteRun r = []
+floor_ends_in job_did.RunSynced r = []
+floor_ends_in job_did.WroteExtent r = []
+floor_ends_in job_did.HeapSynced r = []
+floor_ends_in job_did.BodyWritten r = []
+floor_ends_in job_did.BodySynced r = GateDue OfFloor ∷ []
+floor_ends_in job_did.GateWritten r = GateWritten OfFloor ∷ []
+floor_ends_in job_did.JobDone r = FloorPublished r ∷ []
+
+abbrev pub floor_ends : JobDid → Option Raising → List (Event Value)
+floor_ends what None = []
+floor_ends what (Some r) = floor_ends_in what r
+
+-- a refused write of the gate may have opened it
+abbrev pub job_breaks_in : Gate → List (Event Value)
+job_breaks_in Shut = Broke ∷ []
+job_breaks_in (Due OfGroup) = Broke ∷ []
+job_breaks_in (Due OfFloor) = GateWritten OfFloor ∷ Broke ∷ []
+job_breaks_in (MayBeOpen change) = Broke ∷ []
+
+abbrev pub job_ends_in : Machine Value → Result JobDid PumpFault → List (Event Value)
+job_ends_in m (Ok what) = floor_ends what m.raising
+job_ends_in m (Err pump.Busy) = []
+job_ends_in m (Err pump.NoMemory) = []
+job_ends_in m (Err pump.Failed) = job_breaks_in m.gate
 
 -- ---- tickets and labels
 

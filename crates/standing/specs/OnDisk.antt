@@ -1,12 +1,12 @@
 -- What a store's disk stands for: what a stop may leave, and how the commits that wait are stored.
-use Rattle.std.specs.Prelude.{ℕ, ◌≡◌, ◌<◌, ◌≤◌, ◌+◌, ◌++◌, IsTrue, false, List, [], ◌∷◌, length, map, take, drop, Option, None, Some, MatchOption}
+use Rattle.std.specs.Prelude.{ℕ, ◌≡◌, ◌<◌, ◌≤◌, ◌+◌, ◌^◌, ◌++◌, IsTrue, false, List, [], ◌∷◌, length, map, take, drop, Option, None, Some, MatchOption}
 use Rattle.std.specs.List.{AllByRecursion, flat_map}
 use Rattle.disk.specs.Areas.{AreaState, Areas, Image, AreSound, IsSound, LeavesImage}
 use Rattle.disk.specs.Parts.{HoldsPart}
 use Rattle.wire.specs.Spelling.{IsSpelled, IsRun, AreAnchors}
 use Rattle.wire.specs.declared.slot.Anchors.{Anchors}
 use Rattle.wire.specs.declared.slot.Body.{Body}
-use Rattle.wire.specs.declared.slot.Body.TheVariants.{Commit as CommitBody, Archived as ArchivedBody, Reclaimed as ReclaimedBody}
+use Rattle.wire.specs.declared.slot.Body.TheVariants.{Commit as CommitBody, Archived as ArchivedBody, Reclaimed as ReclaimedBody, Floor as FloorBody}
 use Rattle.wire.specs.declared.slot.Slot.{Slot}
 use Rattle.history.specs.declared.key.Key.{Key}
 use Rattle.history.specs.Histories as histories
@@ -16,7 +16,8 @@ use Rattle.history.specs.Machine.{Machine}
 use Rattle.image.specs.Values.{Value}
 use Rattle.image.specs.Reading.{OldRecord, Reading}
 use Rattle.image.specs.Facts.{latest, heap_facts}
-use Rattle.image.specs.Plans.{stored_record, stored_member, IsArchivePlan, IsReclaimPlan, with_run, with_anchors}
+use Rattle.image.specs.Log.{IsScopeOf, floor_of}
+use Rattle.image.specs.Plans.{stored_record, stored_member, IsArchivePlan, IsReclaimPlan, with_run, with_anchors, with_floor}
 use Rattle.image.specs.StandsFor.{StandsFor, archived_upto, reclaimed_upto}
 use Rattle.chains.specs.KeyWrites.{KeyWrites, writes_of}
 use Rattle.extents.specs.declared.usage.Usage.{Usage}
@@ -34,7 +35,7 @@ use Rattle.reading.specs.Records.{record_bytes}
 use Rattle.reading.specs.Extents.{HoldsExtent}
 use Rattle.reading.specs.Layouts.{Layout, StoredMember, IsLayoutOf, HoldsLayout, IsAnchorChain, live, extents_of}
 use Rattle.reading.specs.Runs.{StoredRun, IsStoredRun, KeepsRun, run_bytes}
-use Rattle.reading.specs.Jobs.{archived, reclaimed}
+use Rattle.reading.specs.Jobs.{archived, reclaimed, floored}
 use Rattle.reading.specs.Keeping.{RestsAs, StatusRests, KeepsExtents}
 use Rattle.reading.specs.Opening.{AreBuilt}
 use Rattle.reading.specs.SlotTurns.{IsTurnAt}
@@ -48,7 +49,7 @@ use Rattle.archive.specs.Pieces.{InWriting}
 use Rattle.vacuum.specs.Anchors.{Sourced}
 use Rattle.store.specs.declared.job.Job.{Job}
 use Rattle.store.specs.declared.job.JobWork.{JobWork}
-use Rattle.store.specs.declared.job.JobWork.TheVariants.{Archive, Reclaim}
+use Rattle.store.specs.declared.job.JobWork.TheVariants.{Archive, Reclaim, Floor}
 use Rattle.store.specs.declared.job.JobStage.{JobStage}
 use Rattle.store.specs.declared.job.JobStage.TheVariants as job
 use Rattle.store.specs.Values.{StoreValue, turn_of}
@@ -112,12 +113,16 @@ group_of layout v m = record { members = members_of m.published (take v.group v.
 abbrev pub written_before : List QueuedValue → ℕ → ℕ → ℕ
 written_before qs member extent = length (flat_map numbers_of (take member qs)) + extent
 
--- the slot in the writing is the group's
-pub record IsTurnOf (header : Header) (layout : Layout) (group : Group) (t : TurnState) (areas : Areas) : Type 0 where
+-- The slot in the writing is this one, the next of the log; what stands where once it is open is laid out so.
+pub record IsTurn (header : Header) (layout : Layout) (slot : Slot) (after : Layout) (t : TurnState) (areas : Areas) : Type 0 where
   pub number : t.number ≡ length layout.slots
   pub long : length t.body ≡ 511
-  pub spelled : IsSpelled header.profile (length layout.slots) t.body group.slot
-  pub at : IsTurnAt header layout group.slot (laid_out layout group) t.stage areas
+  pub spelled : IsSpelled header.profile (length layout.slots) t.body slot
+  pub at : IsTurnAt header layout slot after t.stage areas
+
+-- it is the group's
+abbrev pub IsTurnOf : Header → Layout → Group → TurnState → Areas → Type 0
+IsTurnOf header layout group t areas = IsTurn header layout group.slot (laid_out layout group) t areas
 
 -- the areas at a stage of the group
 abbrev pub IsAtStage : Header → Layout → Group → List QueuedValue → GroupStage → Option TurnState → Areas → Type 0
@@ -135,15 +140,17 @@ pub record StoredAnchors : Type 0 where
   pub olds : List OldRecord
   pub extents : List Extent
 
--- a run of the archive, or a chain of anchors
+-- a run of the archive, a chain of anchors, or a floor alone
 pub data Product : Type 0 where
   OfRun : StoredRun → Product
   OfAnchors : StoredAnchors → Product
+  OfFloor : ℕ → Product
 
 -- the slot that names it
 abbrev pub body_of : Product → Body
 body_of (OfRun run) = ArchivedBody run.entry
 body_of (OfAnchors a) = ReclaimedBody a.entry
+body_of (OfFloor floor) = FloorBody None floor
 
 abbrev pub slot_naming : ℕ → Product → Slot
 slot_naming number p = record { number = number; body = body_of p }
@@ -152,10 +159,12 @@ slot_naming number p = record { number = number; body = body_of p }
 abbrev pub laid_with : Layout → Product → Layout
 laid_with layout (OfRun run) = archived layout (slot_naming (length layout.slots) (OfRun run)) run
 laid_with layout (OfAnchors a) = reclaimed layout (slot_naming (length layout.slots) (OfAnchors a)) a.entry.upto a.extents
+laid_with layout (OfFloor floor) = floored layout (slot_naming (length layout.slots) (OfFloor floor))
 
 abbrev pub read_with : Reading → Product → Reading
 read_with reading (OfRun run) = with_run reading run.entry.upto run.records
 read_with reading (OfAnchors a) = with_anchors reading a.olds
+read_with reading (OfFloor floor) = with_floor reading None floor
 
 -- The run may come next: it is the plan of an archive, stands behind the other runs, and its numbers are in range.
 pub record IsNextRun (layout : Layout) (reading : Reading) (h : History Value) (run : StoredRun) : Type 0 where
@@ -174,9 +183,17 @@ pub record IsNextChain (reading : Reading) (a : StoredAnchors) : Type 0 where
   pub chain : IsAnchorChain a.entry a.extents a.olds
   pub in_range : AreAnchors a.entry
 
+-- The floor of every relation may come next: it is above each that stands, and no later than the last commit.
+pub record IsNextFloor (reading : Reading) (h : History Value) (floor : ℕ) : Type 0 where
+  pub scope : IsScopeOf reading.profile None
+  pub rises : (relation : ℕ) → floor_of reading.log relation < floor
+  pub by_last : floor ≤ histories.last h
+  pub in_range : floor < 2 ^ 63
+
 abbrev pub MayBeNext : Layout → Reading → History Value → Product → Type 0
 MayBeNext layout reading h (OfRun run) = IsNextRun layout reading h run
 MayBeNext layout reading h (OfAnchors a) = IsNextChain reading a
+MayBeNext layout reading h (OfFloor floor) = IsNextFloor reading h floor
 
 -- ---- the job that makes it
 
@@ -184,8 +201,13 @@ MayBeNext layout reading h (OfAnchors a) = IsNextChain reading a
 abbrev pub IsMadeBy : List ℕ → JobWork → Product → Type 0
 IsMadeBy reserved (Archive run writer) (OfRun r) = r.entry ≡ run
 IsMadeBy reserved (Archive run writer) (OfAnchors a) = ⊥
+IsMadeBy reserved (Archive run writer) (OfFloor floor) = ⊥
 IsMadeBy reserved (Reclaim anchors source written) (OfRun r) = ⊥
 IsMadeBy reserved (Reclaim anchors source written) (OfAnchors a) = (a.entry ≡ anchors) × (map (λ (e : Extent). e.number) a.extents ≡ reserved)
+IsMadeBy reserved (Reclaim anchors source written) (OfFloor floor) = ⊥
+IsMadeBy reserved (Floor floor) (OfRun r) = ⊥
+IsMadeBy reserved (Floor floor) (OfAnchors a) = ⊥
+IsMadeBy reserved (Floor floor) (OfFloor made) = made ≡ floor
 
 -- the front of the run is written, and this is left of it
 pub record IsWritten (run : StoredRun) (writer : InWriting) (a : AreaState) : Type 0 where
@@ -202,20 +224,21 @@ pub record IsFilling (a : StoredAnchors) (source : Sourced) (written : ℕ) (hea
 abbrev pub IsMaking : JobWork → Product → Areas → Type 0
 IsMaking (Archive run writer) (OfRun r) areas = IsWritten r writer areas.archive
 IsMaking (Archive run writer) (OfAnchors a) areas = ⊥
+IsMaking (Archive run writer) (OfFloor floor) areas = ⊥
 IsMaking (Reclaim anchors source written) (OfRun r) areas = ⊥
 IsMaking (Reclaim anchors source written) (OfAnchors a) areas = IsFilling a source written areas.heap
+IsMaking (Reclaim anchors source written) (OfFloor floor) areas = ⊥
+IsMaking (Floor floor) p areas = ⊥
 
 -- whatever a stop may leave holds it
 abbrev pub KeepsProduct : Product → Areas → Type 0
 KeepsProduct (OfRun run) areas = KeepsRun areas.archive run
 KeepsProduct (OfAnchors a) areas = KeepsExtents a.extents areas.heap
+KeepsProduct (OfFloor floor) areas = Unit {0}
 
 -- the slot in the writing is the one that names it
-pub record IsTurnFor (header : Header) (layout : Layout) (p : Product) (t : TurnState) (areas : Areas) : Type 0 where
-  pub number : t.number ≡ length layout.slots
-  pub long : length t.body ≡ 511
-  pub spelled : IsSpelled header.profile (length layout.slots) t.body (slot_naming (length layout.slots) p)
-  pub at : IsTurnAt header layout (slot_naming (length layout.slots) p) (laid_with layout p) t.stage areas
+abbrev pub IsTurnFor : Header → Layout → Product → TurnState → Areas → Type 0
+IsTurnFor header layout p t areas = IsTurn header layout (slot_naming (length layout.slots) p) (laid_with layout p) t areas
 
 -- the areas at a stage of the job
 abbrev pub IsAtJob : Header → Layout → JobWork → Product → JobStage → Areas → Type 0

@@ -89,7 +89,6 @@ pub record StandsInMemory (v : TransactionsValue) (m : Machine Value) : Type 0 w
   pub staged : IsStaged v.stage → 0 < v.group
   pub snapshots : IsPermutation m.snapshots (snapshots_of v.opened)
   pub floors : (relation : ℕ) → v.floor ≡ m.floors relation
-  pub raising : m.raising ≡ None
   pub failed : v.failed ≡ m.failed
 
 -- A reclaim up to the archive mark is being made: no open transaction reads what is to be forgotten, and while its slot is in the writing, what memory is to be once it is done is made.

@@ -19,6 +19,7 @@ use Rattle.store.specs.Values.{StoreValue, HasRest}
 use Rattle.store.specs.Archives.{StartsArchive}
 use Rattle.store.specs.Jobs.{PumpsJob}
 use Rattle.store.specs.Reclaims.{StartsReclaim}
+use Rattle.store.specs.Floors.{StartsFloor}
 use Rattle.store.specs.Pumps.{Pumps}
 use Rattle.store.specs.declared.job.JobDid.{JobDid}
 use Rattle.store.specs.declared.job.StartFault.{StartFault}
@@ -116,6 +117,9 @@ ArchiveStartGoesOn = (tells : Bool) (old new : StoreValue) (upto : ℕ) (answer 
 
 abbrev pub ReclaimStartGoesOn : Type 0
 ReclaimStartGoesOn = (tells : Bool) (old new : StoreValue) (answer : Result (Unit {0}) StartFault) (m : Machine Value) → Stands tells old m → StartsReclaim old answer new → GoesOn tells old new
+
+abbrev pub FloorStartGoesOn : Type 0
+FloorStartGoesOn = (tells : Bool) (old new : StoreValue) (floor : ℕ) (answer : Result (Unit {0}) StartFault) (m : Machine Value) → Stands tells old m → StartsFloor old floor answer new → GoesOn tells old new
 
 -- a call that changes the transactions alone
 abbrev pub RestGoesOn : Type 0

@@ -3,8 +3,8 @@
 #![tactic(auto)]
 
 ghost use Rattle.standing.specs.Laws.{TimesAreOfLabel, ForgottenHolds};
-ghost use Rattle.standing.specs.Views.{ViewIsOfHistory, ViewGoesOn, AtIsAnswered, ScanAtIsAnswered, BetweenIsAnswered, ScanBetweenIsAnswered, RecentIsAnswered, AtIsAnsweredRecently, ScanAtIsAnsweredRecently, BetweenIsAnsweredRecently, ScanBetweenIsAnsweredRecently, AtStands, ScanAtStands, BetweenStands, ScanBetweenStands, PumpGoesOn, JobPumpGoesOn, ArchiveStartGoesOn, ReclaimStartGoesOn, RestGoesOn};
-ghost use Rattle.standing.specs.Calls.{BeginStands, AbortStands, SubmitStands, PumpStands, RedeemStands, ArchiveStartStands, ReclaimStartStands, JobPumpStands};
+ghost use Rattle.standing.specs.Views.{ViewIsOfHistory, ViewGoesOn, AtIsAnswered, ScanAtIsAnswered, BetweenIsAnswered, ScanBetweenIsAnswered, RecentIsAnswered, AtIsAnsweredRecently, ScanAtIsAnsweredRecently, BetweenIsAnsweredRecently, ScanBetweenIsAnsweredRecently, AtStands, ScanAtStands, BetweenStands, ScanBetweenStands, PumpGoesOn, JobPumpGoesOn, ArchiveStartGoesOn, ReclaimStartGoesOn, FloorStartGoesOn, RestGoesOn};
+ghost use Rattle.standing.specs.Calls.{BeginStands, AbortStands, SubmitStands, PumpStands, RedeemStands, ArchiveStartStands, ReclaimStartStands, FloorStartStands, JobPumpStands};
 
 /// A begin takes the last published time as its snapshot.
 pub fn begin_stands()
@@ -29,12 +29,14 @@ pub fn pump_stands()
     ensures { PumpStands }
 {}
 
-/// An archive or a reclaim that begins, and each step of either, changes nothing of the machine's.
-/// Before each step and after it, made or refused, whatever a stop may leave stands for what is
-/// published.
+/// An archive or a reclaim that begins, and each step of either, changes nothing of the machine's; a
+/// floor that begins is one in the making, and its last step raises it. Before each step and after it,
+/// made or refused, whatever a stop may leave stands for what is published, with the floors that stand
+/// or, once a floor's gate may be open, with that floor.
 pub fn jobs_stand()
     ensures archive { ArchiveStartStands }
     ensures reclaim { ReclaimStartStands }
+    ensures floor { FloorStartStands }
     ensures step { JobPumpStands }
 {}
 
@@ -69,6 +71,7 @@ pub fn views_go_on()
     ensures job_pump { JobPumpGoesOn }
     ensures archive { ArchiveStartGoesOn }
     ensures reclaim { ReclaimStartGoesOn }
+    ensures floor { FloorStartGoesOn }
     ensures rest { RestGoesOn }
 {}
 

@@ -5,7 +5,7 @@ use Rattle.wire.specs.declared.slot.Member.{Member}
 use Rattle.wire.specs.declared.slot.Run.{Run}
 use Rattle.wire.specs.declared.slot.Anchors.{Anchors}
 use Rattle.wire.specs.declared.slot.Slot.{Slot}
-use Rattle.image.specs.Log.{last_time, archive_mark, reclaim_mark}
+use Rattle.image.specs.Log.{last_time, archive_mark, reclaim_mark, floor_of}
 use Rattle.status.specs.declared.header.Header.{Header}
 use Rattle.status.specs.declared.fault.LogFault.{LogFault}
 use Rattle.status.specs.declared.fault.LogFault.TheVariants.{NotAStore, Damaged, Device, NoMemory}
@@ -20,11 +20,12 @@ abbrev pub StartsAfter : ℕ → List Member → Type 0
 StartsAfter time [] = ⊥
 StartsAfter time (m ∷ ms) = time < m.time
 
--- the log of these slots ends here: the time of its last commit, its marks and the end of its last run
+-- the log of these slots ends here: the time of its last commit, its marks, its floor, which is that of every relation, and the end of its last run
 pub record EndsAt (slots : List Slot) (end : LogEnd) : Type 0 where
   pub last_is : end.last ≡ last_time (log_of slots)
   pub archived_is : end.archived ≡ archive_mark (log_of slots)
   pub reclaimed_is : end.reclaimed ≡ reclaim_mark (log_of slots)
+  pub floor_is : (relation : ℕ) → end.floor ≡ floor_of (log_of slots) relation
   pub runs_end_is : end.runs_end ≡ row_end 0 (runs_of slots)
 
 -- the run goes further than the archive mark, no further than the last commit, and starts where the last run ends
@@ -37,6 +38,11 @@ pub record IsNextRun (end : LogEnd) (run : Run) : Type 0 where
 pub record AreNextAnchors (end : LogEnd) (anchors : Anchors) : Type 0 where
   pub upto_mark : anchors.upto ≡ end.archived
   pub later : end.reclaimed < anchors.upto
+
+-- the floor is greater than the one before it, and no later than the last commit
+pub record IsNextFloor (end : LogEnd) (floor : ℕ) : Type 0 where
+  pub later : end.floor < floor
+  pub upto_last : floor ≤ end.last
 
 -- these slots were read, and their log ends here
 pub record IsWalk (profile : ℕ) (slots : List Slot) (end : LogEnd) : Type 0 where

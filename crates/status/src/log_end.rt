@@ -3,8 +3,8 @@ ghost use Rattle.std.specs.Prelude.{◌≡◌, ◌↔◌, ◌+◌, ◌<◌, ◌�
 ghost use Rattle.wire.specs.Spelling.{InRange, kind_of};
 ghost use Rattle.wire.specs.declared.slot.Slot.{Slot};
 ghost use Rattle.image.specs.Log.{last_time_after};
-ghost use Rattle.status.specs.Rules.{head_of, MayFollow};
-ghost use Rattle.status.specs.Walking.{StartsAfter, IsNextRun, AreNextAnchors, EndsAt};
+ghost use Rattle.status.specs.Rules.{head_of, CoversAll, MayFollow};
+ghost use Rattle.status.specs.Walking.{StartsAfter, IsNextRun, AreNextAnchors, IsNextFloor, EndsAt};
 
 use crate::reading::is_built;
 use arrayvec::ArrayVec;
@@ -19,6 +19,8 @@ pub struct LogEnd {
     pub archived: u64,
     /// The reclaim mark, 0 for none.
     pub reclaimed: u64,
+    /// The floor of every relation, 0 for none.
+    pub floor: u64,
     /// The byte of the archive at which the last run ends, 0 for none.
     pub runs_end: u64,
 }
@@ -64,6 +66,7 @@ impl LogEnd {
             last: 0,
             archived: 0,
             reclaimed: 0,
+            floor: 0,
             runs_end: 0,
         }
     }
@@ -82,6 +85,13 @@ impl LogEnd {
         anchors.upto == self.archived && self.reclaimed < anchors.upto
     }
 
+    // Whether the floor is greater than the one before it, and no later than the last commit.
+    fn takes_floor(&self, floor: u64) -> bool
+        ensures { IsTrue result ↔ IsNextFloor self.now floor }
+    {
+        self.floor < floor && floor <= self.last
+    }
+
     /// Whether this slot may follow in a store of this profile.
     pub fn may_be_followed(&self, profile: u32, slot: &Slot) -> bool
         ensures { InRange profile slot.now.body → (before : List Slot) → EndsAt before self.now → (IsTrue result ↔ MayFollow profile before slot.now) }
@@ -93,14 +103,14 @@ impl LogEnd {
             Body::Commit(members) => starts_after(self.last, members.as_slice()),
             Body::Archived(run) => self.takes_run(run),
             Body::Reclaimed(anchors) => self.takes_anchors(anchors),
-            Body::Floor { .. } => false,
+            Body::Floor { floor, .. } => self.takes_floor(*floor),
         }
     }
 
-    /// Where the log ends once this slot follows.
+    /// Where the log ends once this slot follows. Its floor is that of every relation.
     pub fn with(&self, slot: &Slot) -> LogEnd
         requires in_range { (profile : ℕ) × InRange profile slot.now.body }
-        ensures { (before : List Slot) → EndsAt before self.now → EndsAt (before ++ slot.now ∷ []) result }
+        ensures { CoversAll slot.now.body → (before : List Slot) → EndsAt before self.now → EndsAt (before ++ slot.now ∷ []) result }
     {
         match &slot.body {
             Body::Commit(members) => LogEnd {
@@ -116,7 +126,10 @@ impl LogEnd {
                 reclaimed: anchors.upto,
                 ..*self
             },
-            Body::Floor { .. } => *self,
+            Body::Floor { floor, .. } => LogEnd {
+                floor: *floor,
+                ..*self
+            },
         }
     }
 }

@@ -17,12 +17,14 @@ const ARCHIVED: u8 = 2;
 
 const RECLAIMED: u8 = 3;
 
+const FLOOR: u8 = 4;
+
 /// Whether slots of a kind are built in a profile. A store of a profile is read once its commits
 /// are built.
 pub fn is_built(profile: u32, kind: u8) -> bool
     ensures { result ≡ is_built profile kind }
 {
-    profile == 1 && (kind == COMMIT || kind == ARCHIVED || kind == RECLAIMED)
+    profile == 1 && (kind == COMMIT || kind == ARCHIVED || kind == RECLAIMED || kind == FLOOR)
 }
 
 // The header at the front of an area of this length.

@@ -1,6 +1,7 @@
 //! Whole images: as they are formatted, read, and damaged.
 use crate::area_bytes::{begin_with, bytes_of, put, zeros};
 use crate::worked_bytes::{ANCHOR, COMMIT_SLOT, EXTENT_FRONT, HEADER, KEY, RUN, RUN_BYTES};
+use archive::RunEntry;
 use disk::{Area, DeviceFault, Disk, MemDisk};
 use recovery::{FormatFault, OpenFault, Recovered, format, read_image};
 use std::alloc::{AllocError, Global};
@@ -244,7 +245,12 @@ fn an_archived_slot_is_read(rt: HostRuntime) -> Result<(), Fail> {
     let found = read_image(rt.alloc(), &mut disk)?;
     assert_eq!(rt; (found.used, found.last), (5, 130));
     assert_eq!(rt; (found.archived, found.reclaimed, found.floor), (120, 0, 0));
-    assert_eq!(rt; found.runs.as_slice(), [RUN].as_slice());
+    let run = RunEntry {
+        slot: RUN,
+        mark: 0,
+        floor: 0,
+    };
+    assert_eq!(rt; found.runs.as_slice(), [run].as_slice());
     assert_eq!(rt;
         (fields_at(&found, 115), fields_at(&found, 125)),
         (Some(1), None)

@@ -11,6 +11,8 @@ mod disks;
 #[cfg(test)]
 mod extent_numbers;
 #[cfg(test)]
+mod floored_images;
+#[cfg(test)]
 mod heap_chains;
 #[cfg(test)]
 mod heap_records;

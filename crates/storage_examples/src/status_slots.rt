@@ -273,11 +273,73 @@ fn reclaimed_slots_keep_their_rules(rt: HostRuntime) -> Result<(), Fail> {
     Ok(())
 }
 
+/// Floors behind a commit at 100, and what is read.
+#[derive(Clone, Copy)]
+struct Floors {
+    what: &'static str,
+    floors: &'static [u64],
+    want: Result<usize, LogFault>,
+}
+
+const FLOORS: [Floors; 6] = [
+    Floors {
+        what: "two floors, up to the last commit",
+        floors: &[60, 100],
+        want: Ok(3),
+    },
+    Floors {
+        what: "the floor goes back",
+        floors: &[60, 59],
+        want: Err(LogFault::Damaged(2)),
+    },
+    Floors {
+        what: "the floor does not rise",
+        floors: &[60, 60],
+        want: Err(LogFault::Damaged(2)),
+    },
+    Floors {
+        what: "behind a floor that rose, one goes back",
+        floors: &[60, 100, 99],
+        want: Err(LogFault::Damaged(3)),
+    },
+    Floors {
+        what: "the floor is past the last commit",
+        floors: &[101],
+        want: Err(LogFault::Damaged(1)),
+    },
+    Floors {
+        what: "no floor is 0",
+        floors: &[0],
+        want: Err(LogFault::Damaged(1)),
+    },
+];
+
 #[test]
-fn all_slots_but_floors_are_built_in_profile_1(rt: HostRuntime) {
-    assert!(rt; is_built(1, 1));
-    assert!(rt; is_built(1, 2));
-    assert!(rt; is_built(1, 3));
-    assert!(rt; !is_built(1, 4));
+fn floors_keep_their_rules(rt: HostRuntime) -> Result<(), Fail> {
+    let alloc = rt.alloc();
+    for row in FLOORS {
+        let mut disk = new_disk(alloc, 8704)?;
+        let mut log = StatusLog::new(&SIXTEEN, 0);
+        write_slot(&mut log, one_commit(), &mut disk)?;
+        for floor in row.floors {
+            let body = Body::Floor {
+                relation: None,
+                floor: *floor,
+            };
+            write_slot(&mut log, body, &mut disk)?;
+        }
+        let read = read_log(alloc, &mut disk, &SIXTEEN);
+        assert_eq!(rt; read.map(|slots| slots.len()), row.want, "{}", row.what);
+    }
+    Ok(())
+}
+
+#[test]
+fn all_slots_are_built_in_profile_1(rt: HostRuntime) {
+    for kind in 1..5 {
+        assert!(rt; is_built(1, kind), "kind {kind}");
+    }
+    assert!(rt; !is_built(1, 0));
+    assert!(rt; !is_built(1, 5));
     assert!(rt; !is_built(2, 1));
 }

@@ -1,11 +1,10 @@
 -- A group's slot is begun.
-use Rattle.std.proofs.Common.{◌≡◌, ◌⊎◌, Bool, true, Result, Err, refl, ap, subst, inl, inr}
+use Rattle.std.proofs.Common.{◌≡◌, Bool, true, Result, Err, refl, subst, inl, inr}
 use Rattle.wire.specs.declared.slot.Body.{Body}
 use Rattle.group.specs.declared.answers.Did.{Did}
 use Rattle.group.specs.declared.answers.PumpFault.{PumpFault}
 use Rattle.group.specs.declared.answers.PumpFault.TheVariants as fault
 use Rattle.transactions.specs.Steps.{IsCommitOf, entries, is_stale}
-use Rattle.transactions.specs.Values.{TransactionsValue}
 use Rattle.store.specs.Values.{StoreValue}
 use Rattle.store.specs.Pumps.{MayBeginSlot, TakesSlot, freshly}
 

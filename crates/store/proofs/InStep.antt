@@ -1,8 +1,8 @@
 -- A store stays in step when its job goes on.
-use Rattle.std.proofs.Common.{◌≡◌, ◌<◌, ◌≤◌, ◌^◌, ℕ, ◌+◌, ◌||◌, Bool, true, false, is_some, List, [], ◌∷◌, Option, Some, None, Result, Ok, Err, MatchBool, MatchOption, MatchResult, slice_get, refl, sym, ◌∙◌, ap, subst, arith, inl, inr}
+use Rattle.std.proofs.Common.{◌≡◌, ◌≤◌, ℕ, ◌+◌, ◌||◌, Bool, true, false, is_some, List, [], ◌∷◌, Option, Some, None, Result, Ok, Err, MatchBool, MatchOption, MatchResult, slice_get, refl, sym, ◌∙◌, ap, subst, arith, inl, inr}
 use Rattle.status.specs.SlotCalls.{SlotStage}
 use Rattle.status.specs.SlotCalls as slots
-use Rattle.status.specs.TurnState.{TurnState}
+use Rattle.status.specs.TurnState.{TurnState, LogState}
 use Rattle.group.specs.declared.answers.PumpFault.{PumpFault}
 use Rattle.group.specs.declared.answers.PumpFault.TheVariants as fault
 use Rattle.transactions.specs.Values.{is_turning}
@@ -14,11 +14,11 @@ use Rattle.wire.specs.declared.slot.Run.{Run}
 use Rattle.wire.specs.declared.slot.Anchors.{Anchors}
 use Rattle.transactions.specs.Reclaims.{prepared}
 use Rattle.store.specs.Values.{StoreValue, IsInStep, IsOnItsWay, turn_in}
-use Rattle.store.specs.Parts.{IsInPlace, IsInRange}
+use Rattle.store.specs.Parts.{IsInPlace, IsStageOf, IsInRange}
 use Rattle.store.specs.Jobs.{TakesJobStep, Stores, WritesOrSyncs, AnchorsOrSync, SyncsStored, BeginsJobSlot, TurnsJob, IsJobTurned, JobTurnFails, JobMoves, with_job, job_fails, work_done, slot_opened, slot_taken, made_ready, first_turn}
 use Rattle.store.specs.declared.job.Job.{Job}
 use Rattle.store.specs.declared.job.JobWork.{JobWork}
-use Rattle.store.specs.declared.job.JobWork.TheVariants.{Archive, Reclaim}
+use Rattle.store.specs.declared.job.JobWork.TheVariants.{Archive, Reclaim, Floor}
 use Rattle.store.specs.declared.job.JobStage.{JobStage}
 use Rattle.store.specs.declared.job.JobStage.TheVariants as stages
 use Rattle.store.specs.declared.job.JobDid.{JobDid}
@@ -43,21 +43,32 @@ running v job = record v { job = Some job }
 counts : (v : StoreValue) (job : Job) → Holds (running v job) → Counts v job
 counts v job holds = record { slots = holds.in_step.slots; used = holds.in_step.used; few = holds.in_range.slots; run = holds.in_range.run }
 
+-- once it is written a job of any kind is at a stage of its kind
+stored-stage : (work : JobWork) → IsStageOf work stages.Stored
+stored-stage (Archive run writer) = tt
+stored-stage (Reclaim anchors source written) = tt
+stored-stage (Floor floor) = tt
+
+turning-stage : (work : JobWork) (turn : TurnState) → IsStageOf work (stages.Turning turn)
+turning-stage (Archive run writer) turn = tt
+turning-stage (Reclaim anchors source written) turn = tt
+turning-stage (Floor floor) turn = tt
+
 none-there : (o : Option TurnState) → is_some o ≡ false → o ≡ None
 none-there None out = refl
 none-there (Some turn) out = absurd (let is : true ≡ false = out in cc)
 
 -- ---- one step
 
-fails : (v : StoreValue) (job made : Job) (new : StoreValue) → (IsInPlace job.work → IsInPlace made.work) → Counts v job → Holds (job_fails (running v job) made new)
-fails v job made new run_is c = record {
+fails : (v : StoreValue) (job made : Job) (new : StoreValue) → (IsInPlace job.work → IsInPlace made.work) → IsStageOf made.work made.stage → Counts v job → Holds (job_fails (running v job) made new)
+fails v job made new run_is stage c = record {
   in_step = record { slots = c.slots; used = c.used; turns = λ works. absurd (let is : true ≡ false = works in cc) };
-  in_range = record { slots = c.few; run = run_is c.run };
+  in_range = record { slots = c.few; run = run_is c.run; stage = stage };
 }
 
 -- the job's slot is what it was
-goes-on : (v : StoreValue) (job made : Job) (new : StoreValue) → (IsInPlace job.work → IsInPlace made.work) → turn_in made.stage ≡ turn_in job.stage → Holds (running v job) → Holds (with_job (running v job) made new)
-goes-on v job made new run_is turn_is holds = record {
+goes-on : (v : StoreValue) (job made : Job) (new : StoreValue) → (IsInPlace job.work → IsInPlace made.work) → IsStageOf made.work made.stage → turn_in made.stage ≡ turn_in job.stage → Holds (running v job) → Holds (with_job (running v job) made new)
+goes-on v job made new run_is stage turn_is holds = record {
   in_step = record {
     slots = holds.in_step.slots;
     used = holds.in_step.used;
@@ -68,7 +79,7 @@ goes-on v job made new run_is turn_is holds = record {
       job = rw turn_is (holds.in_step.turns works).job;
     };
   };
-  in_range = record { slots = holds.in_range.slots; run = run_is holds.in_range.run };
+  in_range = record { slots = holds.in_range.slots; run = run_is holds.in_range.run; stage = stage };
 }
 
 -- the job's slot is in the writing
@@ -85,63 +96,67 @@ turns v job next new c number way none writing turning = record {
       job = (number, way, none);
     };
   };
-  in_range = record { slots = c.few; run = c.run };
+  in_range = record { slots = c.few; run = c.run; stage = turning-stage job.work next };
 }
+
+-- what a job made changes nothing of the slots
+record KeepsTurn (v made : StoreValue) : Type 0 where
+  log : made.log ≡ v.log
+  turn : made.turn ≡ v.turn
+  slots : made.transactions.slots ≡ v.transactions.slots
+  used : made.transactions.used ≡ v.transactions.used
+  stage : made.transactions.stage ≡ v.transactions.stage
+
+keeps-turn : (work : JobWork) (v : StoreValue) → KeepsTurn v (work_done work v)
+keeps-turn (Archive run writer) v = record { log = refl; turn = refl; slots = refl; used = refl; stage = refl }
+keeps-turn (Reclaim anchors source written) v = record { log = refl; turn = refl; slots = refl; used = refl; stage = refl }
+keeps-turn (Floor floor) v = record { log = refl; turn = refl; slots = refl; used = refl; stage = refl }
 
 -- the job is done
 ends : (work : JobWork) (v : StoreValue) (job : Job) (turn : TurnState) (new : StoreValue) → Counts v job → turn.number ≡ v.log.used → v.turn ≡ None → is_turning v.transactions.stage ≡ is_some v.turn → Holds (slot_opened (work_done work (running v job)) turn new)
-ends (Archive run writer) v job turn new c number none turning = record {
-  in_step = record {
-    slots = omega (arith, c.slots);
-    used = omega (arith, c.used, number);
-    turns = λ works. record {
-      turning = turning;
-      writing = sym (ap (λ (o : Option TurnState). is_some o || false) none);
-      turn = subst (λ (o : Option TurnState). MatchOption o (Unit {0}) (λ t. (t.number ≡ turn.number + 1) × IsOnItsWay t.stage)) (sym none) tt;
-      job = tt;
-    };
-  };
-  in_range = record { slots = c.few; run = tt };
-}
-ends (Reclaim anchors source written) v job turn new c number none turning = record {
-  in_step = record {
-    slots = omega (arith, c.slots);
-    used = omega (arith, c.used, number);
-    turns = λ works. record {
-      turning = turning;
-      writing = sym (ap (λ (o : Option TurnState). is_some o || false) none);
-      turn = subst (λ (o : Option TurnState). MatchOption o (Unit {0}) (λ t. (t.number ≡ turn.number + 1) × IsOnItsWay t.stage)) (sym none) tt;
-      job = tt;
-    };
-  };
-  in_range = record { slots = c.few; run = tt };
-}
+ends work v job turn new c number none turning =
+    let same = keeps-turn work (running v job) in
+    let no_turn : (work_done work (running v job)).turn ≡ None = same.turn ∙ none in
+    record {
+      in_step = record {
+        slots = omega (arith, c.slots, ap (λ (l : LogState). l.slots) same.log, same.slots);
+        used = omega (arith, c.used, number, same.used);
+        turns = λ works. record {
+          turning = ap is_turning same.stage ∙ turning ∙ ap is_some (sym same.turn);
+          writing = sym (ap (λ (o : Option TurnState). is_some o || false) no_turn);
+          turn = subst (λ (o : Option TurnState). MatchOption o (Unit {0}) (λ t. (t.number ≡ turn.number + 1) × IsOnItsWay t.stage)) (sym no_turn) tt;
+          job = tt;
+        };
+      };
+      in_range = record { slots = subst (λ (l : LogState). l.slots ≤ 65536) (sym same.log) c.few; run = tt; stage = tt };
+    }
 
 -- ---- what becomes of it
 
-moves : (what : JobDid) (v : StoreValue) (job made refused : Job) (result : Result JobDid PumpFault) (new : StoreValue) → (IsInPlace job.work → IsInPlace made.work) → (IsInPlace job.work → IsInPlace refused.work) → turn_in made.stage ≡ turn_in job.stage
+moves : (what : JobDid) (v : StoreValue) (job made refused : Job) (result : Result JobDid PumpFault) (new : StoreValue) → (IsInPlace job.work → IsInPlace made.work) → IsStageOf made.work made.stage → (IsInPlace job.work → IsInPlace refused.work) → IsStageOf refused.work refused.stage → turn_in made.stage ≡ turn_in job.stage
     → JobMoves what made refused (running v job) result new → Holds (running v job) → Holds new
-moves what v job made refused (Ok said) new run_is refused_is turn_is done holds = subst Holds (sym done.1) (goes-on v job made new run_is turn_is holds)
-moves what v job made refused (Err why) new run_is refused_is turn_is done holds = subst Holds (sym done.1) (fails v job refused new refused_is (counts v job holds))
+moves what v job made refused (Ok said) new run_is stage refused_is refused_stage turn_is done holds = subst Holds (sym done.1) (goes-on v job made new run_is stage turn_is holds)
+moves what v job made refused (Err why) new run_is stage refused_is refused_stage turn_is done holds = subst Holds (sym done.1) (fails v job refused new refused_is refused_stage (counts v job holds))
 
 syncs : (tells : Bool) (area : Area) (what : JobDid) (v : StoreValue) (job : Job) (result : Result JobDid PumpFault) (new : StoreValue) → job.stage ≡ stages.Writing → SyncsStored tells area what job (running v job) result new → Holds (running v job) → Holds new
-syncs tells area what v job result new is does holds = moves what v job _ _ result new (λ place. place) (λ place. place) (sym (ap turn_in is)) does.moves holds
+syncs tells area what v job result new is does holds = moves what v job _ _ result new (λ place. place) (stored-stage job.work) (λ place. place) holds.in_range.stage (sym (ap turn_in is)) does.moves holds
 
 runs : (tells : Bool) (left : List ℕ) (run : Run) (writer : InWriting) (v : StoreValue) (job : Job) (result : Result JobDid PumpFault) (new : StoreValue) → job.stage ≡ stages.Writing → job.work ≡ Archive run writer
     → WritesOrSyncs tells left run writer job (running v job) result new → Holds (running v job) → Holds new
 runs tells [] run writer v job result new is work does holds = syncs tells areas.Archive did.RunSynced v job result new is does holds
 runs tells (b ∷ bs) run writer v job result new is work does holds =
     let place : IsInPlace job.work → IsInPlace (Archive run writer) = subst IsInPlace work in
-    moves did.WroteRun v job _ _ result new place place refl does.moves holds
+    moves did.WroteRun v job _ _ result new place tt place tt refl does.moves holds
 
 anchors-or-sync : (tells : Bool) (o : Option ℕ) (anchors : Anchors) (source : Sourced) (written : ℕ) (v : StoreValue) (job : Job) (result : Result JobDid PumpFault) (new : StoreValue) → job.stage ≡ stages.Writing
     → AnchorsOrSync tells o anchors source written job (running v job) result new → Holds (running v job) → Holds new
 anchors-or-sync tells None anchors source written v job result new is does holds = syncs tells areas.Heap did.HeapSynced v job result new is does holds
-anchors-or-sync tells (Some number) anchors source written v job result new is does holds = moves did.WroteExtent v job _ _ result new (λ place. tt) (λ place. tt) refl does.moves holds
+anchors-or-sync tells (Some number) anchors source written v job result new is does holds = moves did.WroteExtent v job _ _ result new (λ place. tt) tt (λ place. tt) tt refl does.moves holds
 
 stores : (tells : Bool) (work : JobWork) (v : StoreValue) (job : Job) (result : Result JobDid PumpFault) (new : StoreValue) → job.stage ≡ stages.Writing → job.work ≡ work → Stores tells work job (running v job) result new → Holds (running v job) → Holds new
 stores tells (Archive run writer) v job result new is work does holds = runs tells writer.left run writer v job result new is work does holds
 stores tells (Reclaim anchors source written) v job result new is work does holds = anchors-or-sync tells (slice_get v.transactions.reserved written) anchors source written v job result new is does holds
+stores tells (Floor floor) v job result new is work does holds = absurd does
 
 turned : (stage : SlotStage) (own : TurnState) (v : StoreValue) (job : Job) (what : JobDid) (new : StoreValue) → IsJobTurned stage own job (running v job) what new → IsOnItsWay stage
     → Counts v job → own.number ≡ v.log.used → v.turn ≡ None → v.log.writing ≡ true → is_turning v.transactions.stage ≡ is_some v.turn → Holds new
@@ -153,7 +168,7 @@ turned slots.Opened own v job what new is way c number none writing turning = ab
 
 advances : (own : TurnState) (v : StoreValue) (job : Job) (result : Result JobDid PumpFault) (new : StoreValue) → job.stage ≡ stages.Turning own → v.transactions.failed ≡ false
     → MatchResult result (λ what. IsJobTurned own.stage own job (running v job) what new) (λ why. JobTurnFails job (running v job) why new) → Holds (running v job) → Holds new
-advances own v job (Err why) new is works answer holds = subst Holds (sym answer.1) (fails v job (record job { stage = stages.Stored }) new (λ place. place) (counts v job holds))
+advances own v job (Err why) new is works answer holds = subst Holds (sym answer.1) (fails v job (record job { stage = stages.Stored }) new (λ place. place) (stored-stage job.work) (counts v job holds))
 advances own v job (Ok what) new is works answer holds =
     let turns = holds.in_step.turns works in
     let turn_is : turn_in job.stage ≡ Some own = ap turn_in is in
@@ -164,7 +179,7 @@ advances own v job (Ok what) new is works answer holds =
 
 first-call : (v : StoreValue) (job : Job) (turn : TurnState) (result : Result JobDid PumpFault) (new : StoreValue) → turn.number ≡ v.log.used → v.turn ≡ None → is_turning v.transactions.stage ≡ is_some v.turn → Counts v job
     → MatchResult result (λ what. IsJobTurned slots.Begun turn job (running (slot_taken v) job) what new) (λ why. JobTurnFails job (running (slot_taken v) job) why new) → Holds new
-first-call v job turn (Err why) new number none turning c answer = subst Holds (sym answer.1) (fails (slot_taken v) job _ new (λ place. place) (record { slots = c.slots; used = c.used; few = c.few; run = c.run }))
+first-call v job turn (Err why) new number none turning c answer = subst Holds (sym answer.1) (fails (slot_taken v) job _ new (λ place. place) (stored-stage job.work) (record { slots = c.slots; used = c.used; few = c.few; run = c.run }))
 first-call v job turn (Ok what) new number none turning c answer =
     subst Holds (sym answer.1) (turns (slot_taken v) job _ new (record { slots = c.slots; used = c.used; few = c.few; run = c.run }) number tt none refl turning)
 
@@ -173,6 +188,7 @@ by-work : (tells : Bool) (work : JobWork) (v : StoreValue) (job : Job) (result :
 by-work tells (Archive run writer) v job result new none turning c takes = first-call v job (first_turn (running v job) job) result new refl none turning c takes.answer
 by-work tells (Reclaim anchors source written) v job result new none turning c takes =
     first-call (record v { transactions = prepared v.transactions anchors.upto }) job (first_turn (running v job) job) result new refl none turning (record { slots = c.slots; used = c.used; few = c.few; run = c.run }) takes.answer
+by-work tells (Floor floor) v job result new none turning c takes = first-call v job (first_turn (running v job) job) result new refl none turning c takes.answer
 
 begins : (tells b : Bool) (v : StoreValue) (job : Job) (result : Result JobDid PumpFault) (new : StoreValue) → is_some v.turn ≡ b → v.transactions.failed ≡ false
     → MatchBool b (Path (Result JobDid PumpFault) result (Err fault.Busy) × (new ≡ running v job)) (BeginsJobSlot tells job (running v job) result new) → Holds (running v job) → Holds new

@@ -1,5 +1,5 @@
 -- A step of a job, over plain values.
-use Rattle.std.proofs.Common.{◌≡◌, ◌<◌, ℕ, Bool, true, false, is_some, List, [], ◌∷◌, length, Option, None, Some, Result, Ok, Err, MatchResult, subst, sym, refl, arith, inl, inr}
+use Rattle.std.proofs.Common.{◌≡◌, ◌<◌, ℕ, Bool, true, false, is_some, List, [], ◌∷◌, length, Option, Some, Result, Ok, Err, MatchResult, subst, arith, inr}
 use Rattle.disk.specs.Calls.{DiskState}
 use Rattle.archive.specs.Pieces.{InWriting}
 use Rattle.wire.specs.declared.slot.Run.{Run}

@@ -4,4 +4,4 @@ pub mod JobSteps
 pub mod InStep
 pub mod ReclaimStarts
 pub mod Begins
-pub mod Entries
+pub mod ArchiveStarts

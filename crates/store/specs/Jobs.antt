@@ -5,7 +5,7 @@ use Rattle.disk.specs.declared.area.Area.{Area}
 use Rattle.disk.specs.declared.area.Area.TheVariants as areas
 use Rattle.wire.specs.declared.slot.Anchors.{Anchors}
 use Rattle.wire.specs.declared.slot.Body.{Body}
-use Rattle.wire.specs.declared.slot.Body.TheVariants.{Archived, Reclaimed}
+use Rattle.wire.specs.declared.slot.Body.TheVariants as bodies
 use Rattle.wire.specs.declared.slot.Run.{Run}
 use Rattle.wire.specs.Spelling.{spelling}
 use Rattle.archive.specs.Pieces.{InWriting}
@@ -21,12 +21,12 @@ use Rattle.group.specs.declared.answers.PumpFault.{PumpFault}
 use Rattle.group.specs.declared.answers.PumpFault.TheVariants as fault
 use Rattle.transactions.specs.Steps.{broken}
 use Rattle.transactions.specs.Reclaims.{prepared, reclaimed_to}
-use Rattle.transactions.specs.Values.{with_slot_used}
+use Rattle.transactions.specs.Values.{with_slot_used, raised_to}
 use Rattle.store.specs.Values.{ArchiveValue, StoreValue}
 use Rattle.store.specs.Pumps.{Calls}
 use Rattle.store.specs.declared.job.Job.{Job}
 use Rattle.store.specs.declared.job.JobWork.{JobWork}
-use Rattle.store.specs.declared.job.JobWork.TheVariants.{Archive, Reclaim}
+use Rattle.store.specs.declared.job.JobWork.TheVariants.{Archive, Reclaim, Floor}
 use Rattle.store.specs.declared.job.JobStage.{JobStage}
 use Rattle.store.specs.declared.job.JobStage.TheVariants as stages
 use Rattle.store.specs.declared.job.JobDid.{JobDid}
@@ -91,24 +91,28 @@ AnchorsOrSync tells (Some number) anchors source written job old result new = Wr
 
 -- ---- by its kind
 
--- the next step before its slot
+-- The next step before its slot. A floor has none.
 abbrev pub Stores : Bool → JobWork → Job → StoreValue → Result JobDid PumpFault → StoreValue → Type 0
 Stores tells (Archive run writer) job old result new = WritesOrSyncs tells writer.left run writer job old result new
 Stores tells (Reclaim anchors source written) job old result new = AnchorsOrSync tells (slice_get old.transactions.reserved written) anchors source written job old result new
+Stores tells (Floor floor) job old result new = ⊥
 
 -- what the job's slot says
 abbrev pub slot_body : JobWork → Body
-slot_body (Archive run writer) = Archived run
-slot_body (Reclaim anchors source written) = Reclaimed anchors
+slot_body (Archive run writer) = bodies.Archived run
+slot_body (Reclaim anchors source written) = bodies.Reclaimed anchors
+slot_body (Floor floor) = bodies.Floor None floor
 
 -- what is made in memory before the slot is begun, and whether there may be no memory for it
 abbrev pub made_ready : JobWork → StoreValue → StoreValue
 made_ready (Archive run writer) v = v
 made_ready (Reclaim anchors source written) v = record v { transactions = prepared v.transactions anchors.upto }
+made_ready (Floor floor) v = v
 
 abbrev pub TakesMemory : JobWork → Type 0
 TakesMemory (Archive run writer) = ⊥
 TakesMemory (Reclaim anchors source written) = Unit {0}
+TakesMemory (Floor floor) = ⊥
 
 -- the run that was made is one of the log's
 abbrev pub with_next_run : ArchiveValue → ArchiveValue
@@ -118,6 +122,7 @@ with_next_run archive = record archive { runs = archive.next; next = [] }
 abbrev pub work_done : JobWork → StoreValue → StoreValue
 work_done (Archive run writer) v = record v { archived = run.upto; runs_end = run.start + run.len; archive = with_next_run v.archive }
 work_done (Reclaim anchors source written) v = record v { transactions = reclaimed_to v.transactions anchors.upto }
+work_done (Floor floor) v = record v { transactions = raised_to v.transactions floor }
 
 -- ---- the slot
 

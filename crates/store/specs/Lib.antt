@@ -7,3 +7,4 @@ pub mod Archives
 pub mod Jobs
 pub mod Parts
 pub mod Reclaims
+pub mod Floors

@@ -7,6 +7,7 @@ use Rattle.status.specs.Header.{total}
 use Rattle.status.specs.Rules.{row_end}
 use Rattle.recovery.specs.Faults.{IsImageFault}
 use Rattle.recovery.specs.Names.{refusals_at_opening}
+use Rattle.recovery.specs.RunEntries.{runs_named, AreMarkedFrom}
 use Rattle.recovery.specs.ReadsImage.{IsReadFrom}
 use Rattle.recovery.specs.Settling.{Settles, CountsMore, CountsAtMost}
 use Rattle.recovery.specs.declared.fault.OpenFault.{OpenFault}
@@ -16,7 +17,6 @@ use Rattle.recovery.specs.declared.recovered.Recovered.{Recovered}
 use Rattle.transactions.specs.declared.stage.GroupStage.TheVariants.{NoGroup}
 use Rattle.store.specs.Heads.{head_as}
 use Rattle.archive.specs.declared.run.RunEntry.{RunEntry}
-use Rattle.wire.specs.declared.slot.Run.{Run}
 use Rattle.store.specs.Values.{ArchiveValue, StoreValue}
 
 -- the extents of each chain of a commit are in the chain of its time
@@ -27,16 +27,9 @@ with_live times (chain ∷ chains) = with_live (with_times times chain.extents.i
 abbrev pub times_of : List LiveChain → List ℕ
 times_of live = with_live (replicate 65536 0) live
 
--- The runs of a log as queries know them, behind an archive mark. No floor comes before any: a log with a floor is not opened.
-abbrev pub AreEntriesOf : ℕ → List Run → List RunEntry → Type 0
-AreEntriesOf mark [] [] = Unit {0}
-AreEntriesOf mark [] (entry ∷ entries) = ⊥
-AreEntriesOf mark (run ∷ runs) [] = ⊥
-AreEntriesOf mark (run ∷ runs) (entry ∷ entries) = (entry.slot ≡ run) × (entry.mark ≡ mark) × (entry.floor ≡ 0) × AreEntriesOf run.upto runs entries
-
--- nothing of the archive is read
-pub record IsUnread (runs : List Run) (archive : ArchiveValue) : Type 0 where
-  pub entries : AreEntriesOf 0 runs archive.runs
+-- these are the runs of the log, and nothing of the archive is read
+pub record IsUnread (runs : List RunEntry) (archive : ArchiveValue) : Type 0 where
+  pub runs_are : archive.runs ≡ runs
   pub next : archive.next ≡ []
   pub kept : archive.kept ≡ []
 
@@ -48,7 +41,7 @@ opened_on mark r archive disk = record {
   turn = None;
   job = None;
   archived = r.archived;
-  runs_end = row_end 0 r.runs.items;
+  runs_end = row_end 0 (runs_named r.runs.items);
   archive = archive;
   disk = disk;
 }
@@ -58,6 +51,7 @@ pub record Opens (tells : Bool) (old : DiskState) (mark : ℕ) (v : StoreValue) 
   pub recovered : Recovered
   pub read : IsTrue tells → IsReadFrom (image_of old.areas) recovered
   pub new_is : v ≡ opened_on mark recovered v.archive v.disk
+  pub marked : AreMarkedFrom 0 recovered.runs.items
   pub unread : IsUnread recovered.runs.items v.archive
   pub ordered : IsOrdered v.transactions.versions
   pub settled : IsTrue tells → v.disk.areas ≡ settled_on (image_of old.areas)

@@ -1,5 +1,5 @@
 -- The beginning of a reclaim.
-use Rattle.std.specs.Prelude.{ℕ, ◌≡◌, ◌+◌, ◌≤◌, ◌==◌, true, nat_lt, is_some, List, length, map, Option, Some, None, Result, Ok, Err, MatchOption, if◌then◌else◌}
+use Rattle.std.specs.Prelude.{ℕ, ◌≡◌, ◌≤◌, ◌==◌, true, nat_lt, is_some, List, length, map, Option, Some, None, Result, Ok, Err, MatchOption, if◌then◌else◌}
 use Rattle.deltas.specs.declared.«record».Record.{Record}
 use Rattle.deltas.specs.Chains.{first_number}
 use Rattle.deltas.specs.Packing.{bodies}
@@ -16,12 +16,12 @@ use Rattle.store.specs.declared.job.JobWork.TheVariants.{Reclaim}
 use Rattle.store.specs.declared.job.StartFault.{StartFault}
 use Rattle.store.specs.declared.job.StartFault.TheVariants as fault
 
--- the least snapshot of the open transactions, where it is below the archive mark
+-- the least snapshot of the open transactions, where it is below a time
 abbrev pub below : Option ℕ → ℕ → Option ℕ
-below None mark = None
-below (Some snapshot) mark = if nat_lt snapshot mark then Some snapshot else None
+below None time = None
+below (Some snapshot) time = if nat_lt snapshot time then Some snapshot else None
 
--- why no reclaim begins where a transaction reads below the mark, and where none does
+-- why no job begins that takes what stood before a time, where a transaction reads below it and where none does
 abbrev pub refusal_for_use : StoreValue → Option ℕ → Option StartFault
 refusal_for_use v (Some snapshot) = Some (fault.InUse snapshot)
 refusal_for_use v None = if spare v.transactions == 0 then Some fault.StatusFull else None

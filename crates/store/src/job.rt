@@ -32,9 +32,13 @@ pub enum JobWork {
         source: AnchorSource,
         written: usize,
     },
+    /// Nothing: its slot alone names the floor, in microseconds since 1970.
+    Floor {
+        floor: u64,
+    },
 }
 
-/// A job that runs: an archive or a reclaim.
+/// A job that runs: an archive, a reclaim or a floor.
 pub struct Job {
     pub(crate) work: JobWork,
     pub(crate) stage: JobStage,
@@ -67,12 +71,13 @@ pub enum StartFault {
     Failed,
     /// A job runs.
     JobBusy,
-    /// All versions that ended by then are archived, or the heap has nothing that is archived.
+    /// All versions that ended by then are archived, or the heap has nothing that is archived, or the
+    /// floor is as late.
     NothingToDo,
     /// No commit is as late: the time of the last one, in microseconds since 1970.
     NotYet(u64),
-    /// A transaction is open that reads below the archive mark: the least snapshot of those that are
-    /// open, in microseconds since 1970.
+    /// A transaction is open that reads below the archive mark, or below the new floor: the least
+    /// snapshot of those that are open, in microseconds since 1970.
     InUse(u64),
     /// No slot of the status log is left for it.
     StatusFull,

@@ -6,7 +6,7 @@ ghost use Rattle.deltas.specs.Chains.{first_number};
 ghost use Rattle.store.specs.Jobs.{PumpsJob, TakesJobStep, Stores, writing, WritesOrSyncs, WritesRun, WritesAnchors, AnchorsOrSync, SyncsStored, BeginsJobSlot, TurnsJob, slot_body, made_ready, work_done, TakesMemory};
 ghost use Rattle.disk.specs.Calls.{DiskState};
 ghost use Rattle.transactions.specs.Values.{KeepsSlots};
-ghost use Rattle.store.specs.Parts.{parts_of, job_did_at, IsInPlace};
+ghost use Rattle.store.specs.Parts.{parts_of, job_did_at, IsInPlace, IsStageOf};
 ghost use Rattle.store.specs.Values.{ArchiveValue};
 ghost use Rattle.store.specs.declared.job.Job.{Job};
 
@@ -31,7 +31,8 @@ type Stepped = (Result<JobDid, PumpFault>, Option<Job>);
 
 impl<D: Disk> Store<D> {
     /// One step of the job that runs: it writes the next 8,192 bytes of its run or of its anchors, syncs
-    /// them, or makes the next device call of its slot. `Idle` is answered where no job runs.
+    /// them, or makes the next device call of its slot; a floor has its slot alone. `Idle` is answered
+    /// where no job runs.
     ///
     /// Answers `Failed` once a write or sync of the device was refused, and `Busy`, with nothing done,
     /// where the job would begin its slot while a group's is in the writing. `NoMemory`, with nothing
@@ -87,6 +88,7 @@ fn step_job<D: Disk>(
 ) -> Stepped
     requires slots { transactions.old.slots < 65536 }
     requires end { IsInPlace job.work }
+    requires stage { IsStageOf job.work job.stage }
     requires free { is_turning ≡ false → job.stage ≡ JobStage.Stored → log.old.writing ≡ false }
     requires room { log.old.used < log.old.slots }
     ensures { (turn : Option TurnState) → is_some turn ≡ is_turning
@@ -138,6 +140,7 @@ fn step_job<D: Disk>(
 
 // Writes the next piece of what the slot is to name; where all is written it is synced.
 fn store_next<D: Disk>(transactions: &mut Transactions, disk: &mut D, work: JobWork) -> Stepped
+    requires { IsStageOf work JobStage.Writing }
     ensures { (log : LogState) (turn : Option TurnState) (archived runs_end : ℕ) (archive : ArchiveValue)
         → Stores D.tells work (writing work) (parts_of transactions.old log turn (Some (writing work)) archived runs_end archive (D.state disk.old)) result.0 (parts_of transactions.new log turn result.1 archived runs_end archive (D.state disk.new)) }
 {
@@ -148,6 +151,7 @@ fn store_next<D: Disk>(transactions: &mut Transactions, disk: &mut D, work: JobW
             source,
             written,
         } => store_anchors(transactions, disk, anchors, source, written),
+        JobWork::Floor { .. } => unreachable!(),
     }
 }
 
@@ -304,6 +308,10 @@ fn slot_body(work: &JobWork) -> Body
     match work {
         JobWork::Archive { run, .. } => Body::Archived(*run),
         JobWork::Reclaim { anchors, .. } => Body::Reclaimed(*anchors),
+        JobWork::Floor { floor } => Body::Floor {
+            relation: None,
+            floor: *floor,
+        },
     }
 }
 
@@ -319,7 +327,7 @@ fn make_ready(
     ensures slots { KeepsSlots transactions.old transactions.new }
 {
     match work {
-        JobWork::Archive { .. } => Ok(()),
+        JobWork::Archive { .. } | JobWork::Floor { .. } => Ok(()),
         JobWork::Reclaim { anchors, .. } => transactions.prepare_reclaim(alloc, anchors.upto),
     }
 }
@@ -364,7 +372,7 @@ fn begin_slot<D: Disk>(
 }
 
 // What the job made stands: an archive's run is the log's, and raises the archive mark; a reclaim
-// raises the reclaim mark.
+// raises the reclaim mark, and a floor the floor.
 fn finish(
     alloc: Global,
     transactions: &mut Transactions,
@@ -385,6 +393,7 @@ fn finish(
             archive.put_run();
         }
         JobWork::Reclaim { anchors, .. } => transactions.reclaim(alloc, anchors.upto),
+        JobWork::Floor { floor } => transactions.raise_floor(*floor),
     }
 }
 

@@ -1,14 +1,14 @@
 //! Opening a store.
 ghost use Rattle.std.specs.Prelude.{◌≡◌, IfOk, IfErr, map};
-ghost use Rattle.std.specs.List.{AllByRecursion};
-ghost use Rattle.wire.specs.Spelling.{IsRun};
 ghost use Rattle.status.specs.Rules.{row_end};
+ghost use Rattle.recovery.specs.RunEntries.{runs_named};
 ghost use Rattle.store.specs.Heads.{head_as};
 ghost use Rattle.extents.specs.Times.{with_times};
 ghost use Rattle.store.specs.Opens.{Opens, OpenRefuses, times_of};
 
 use crate::store::Store;
 use crate::store_archive::StoreArchive;
+use archive::RunEntry;
 use chains::Bound;
 use disk::Disk;
 use extents::ChainTimes;
@@ -18,7 +18,6 @@ use recovery::{CommitName, LiveChain, OpenFault, Recovered, read_image};
 use status::StatusLog;
 use std::alloc::{AllocError, Global};
 use transactions::Transactions;
-use wire::Run;
 
 // The commits of the log as they stand in the commit order.
 fn heads_of(alloc: Global, commits: &[CommitName]) -> Result<Vec<CommitHead>, AllocError>
@@ -35,14 +34,13 @@ fn heads_of(alloc: Global, commits: &[CommitName]) -> Result<Vec<CommitHead>, Al
 }
 
 // Where the last of these runs ends.
-fn end_of(runs: &[Run]) -> u64
-    requires { AllByRecursion IsRun runs.now }
-    ensures { result ≡ row_end 0 runs.now }
+fn end_of(runs: &[RunEntry]) -> u64
+    ensures { result ≡ row_end 0 (runs_named runs.now) }
 {
     let mut end = 0;
     let mut rest = runs;
     while let [run, after @ ..] = rest {
-        end = run.start + run.len;
+        end = run.slot.start + run.slot.len;
         rest = after;
     }
     end
@@ -93,14 +91,8 @@ impl<D: Disk> Store<D> {
             Ok(times) => times,
             Err(_) => return Err((OpenFault::NoMemory, disk)),
         };
-        let archive = match StoreArchive::new(alloc, &recovered.runs) {
-            Ok(archive) => archive,
-            Err(_) => return Err((OpenFault::NoMemory, disk)),
-        };
-        let log = StatusLog::new(&recovered.header, recovered.used);
-        let slots = log.slots();
         let Recovered {
-            header: _,
+            header,
             used,
             commits: _,
             floor,
@@ -112,6 +104,13 @@ impl<D: Disk> Store<D> {
             chains,
             last: _,
         } = recovered;
+        let runs_end = end_of(&runs);
+        let archive = match StoreArchive::new(alloc, runs) {
+            Ok(archive) => archive,
+            Err(_) => return Err((OpenFault::NoMemory, disk)),
+        };
+        let log = StatusLog::new(&header, used);
+        let slots = log.slots();
         let first = Key {
             relation: 0,
             record: 0,
@@ -127,7 +126,7 @@ impl<D: Disk> Store<D> {
             turn: None,
             job: None,
             archived,
-            runs_end: end_of(&runs),
+            runs_end,
             archive,
             disk,
         })

@@ -1,8 +1,10 @@
 //! The beginning of a job.
 ghost use Rattle.std.specs.Prelude.{◌≡◌, ◌<◌, ◌^◌, IfNone};
 ghost use Rattle.deltas.specs.Chains.{first_number};
+ghost use Rattle.transactions.specs.Reclaims.{oldest};
 ghost use Rattle.store.specs.Archives.{StartsArchive, refusal_now};
-ghost use Rattle.store.specs.Reclaims.{StartsReclaim, reclaim_refusal};
+ghost use Rattle.store.specs.Reclaims.{StartsReclaim, reclaim_refusal, refusal_for_use, below};
+ghost use Rattle.store.specs.Floors.{StartsFloor, floor_refusal};
 
 use crate::job::{Job, JobStage, JobWork, StartFault, put_job};
 use crate::store::Store;
@@ -132,8 +134,54 @@ impl<D: Disk> Store<D> {
         if self.archived == self.transactions.reclaimed() {
             return Some(StartFault::NothingToDo);
         }
+        self.refusal_for_use(self.archived)
+    }
+
+    /// Begins to raise the floor to a time in microseconds since 1970: before it nothing is promised
+    /// any more. It takes a slot, and `job_pump` writes it. No call of the disk is made, and no memory
+    /// is taken. Where it is refused nothing changes.
+    pub fn floor_start(&mut self, floor: u64) -> Result<(), StartFault>
+        ensures { StartsFloor self.old floor result self.new }
+    {
+        if let Some(fault) = self.floor_refusal(floor) {
+            return Err(fault);
+        }
+        self.transactions.lend_slot();
+        let job = Job {
+            work: JobWork::Floor { floor },
+            stage: JobStage::Stored,
+        };
+        put_job(&mut self.job, Some(job));
+        Ok(())
+    }
+
+    // Why the floor is not raised to a time.
+    fn floor_refusal(&self, floor: u64) -> Option<StartFault>
+        ensures { result ≡ floor_refusal self.now floor }
+    {
+        if self.transactions.has_failed() {
+            return Some(StartFault::Failed);
+        }
+        if self.job.is_some() {
+            return Some(StartFault::JobBusy);
+        }
+        if floor <= self.transactions.floor() {
+            return Some(StartFault::NothingToDo);
+        }
+        let last = self.transactions.last();
+        if last < floor {
+            return Some(StartFault::NotYet(last));
+        }
+        self.refusal_for_use(floor)
+    }
+
+    // Why no job begins that takes what stood before a time, where nothing else bars it: a transaction
+    // reads it, or no slot is spare.
+    fn refusal_for_use(&self, time: u64) -> Option<StartFault>
+        ensures { result ≡ refusal_for_use self.now (below (oldest self.now.transactions) time) }
+    {
         if let Some(oldest) = self.transactions.oldest() {
-            if oldest < self.archived {
+            if oldest < time {
                 return Some(StartFault::InUse(oldest));
             }
         }

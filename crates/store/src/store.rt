@@ -118,7 +118,7 @@ impl<D: Disk> Store<D> {
     }
 
     /// A view of what is published now, which later commits do not change, and no job: it shares the
-    /// versions in memory and the runs of the log.
+    /// versions in memory and the runs of the log, and its floor is that of now.
     pub fn view(&self) -> Result<View, AllocError>
         ensures { IfOk result (IsViewOf self.now) }
     {

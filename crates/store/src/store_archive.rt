@@ -1,17 +1,14 @@
 //! What a store has of its archive.
 ghost use Rattle.std.specs.Prelude.{◌≡◌, ◌++◌, ◌∷◌, [], IfOk, OnOk, OnErr};
-ghost use Rattle.std.specs.List.{AllByRecursion};
-ghost use Rattle.wire.specs.Spelling.{IsRun};
 ghost use Rattle.store.specs.Calls.{same_run, is_front};
 ghost use Rattle.store.specs.Jobs.{with_next_run};
-ghost use Rattle.store.specs.Opens.{AreEntriesOf, IsUnread};
+ghost use Rattle.store.specs.Opens.{IsUnread};
 
 use archive::{ArchiveReader, RunEntry};
 use std::alloc::{AllocError, Global};
 use std::marker::Model;
 use std::mem;
 use timequery::Runs;
-use wire::Run;
 
 /// The runs of the log, and a reader of the archive.
 #[derive(Drop)]
@@ -29,27 +26,6 @@ impl Model for StoreArchive {
     ghost Value = { ArchiveValue };
 
     ghost view = { λ a. record { runs = a.runs; next = a.next; kept = kept_of a.reader } };
-}
-
-// The runs of a log as queries know them.
-fn entries_of(alloc: Global, runs: &[Run]) -> Result<Vec<RunEntry>, AllocError>
-    requires { AllByRecursion IsRun runs.now }
-    ensures { IfOk result (λ entries. AreEntriesOf 0 runs.now entries.items) }
-{
-    let mut entries = Vec::new(alloc);
-    let mut mark = 0;
-    let mut rest = runs;
-    while let [run, after @ ..] = rest {
-        let entry = RunEntry {
-            slot: *run,
-            mark,
-            floor: 0,
-        };
-        entries.push(entry)?;
-        mark = run.upto;
-        rest = after;
-    }
-    Ok(entries)
 }
 
 fn is_same_run(a: &RunEntry, b: &RunEntry) -> bool
@@ -84,14 +60,12 @@ pub(crate) fn is_front(runs: &[RunEntry], others: &[RunEntry]) -> bool
 
 impl StoreArchive {
     /// That of a log with these runs, of which nothing is read.
-    pub(crate) fn new(alloc: Global, runs: &[Run]) -> Result<Self, AllocError>
-        requires { AllByRecursion IsRun runs.now }
-        ensures { IfOk result (IsUnread runs.now) }
+    pub(crate) fn new(alloc: Global, runs: Vec<RunEntry>) -> Result<Self, AllocError>
+        ensures { IfOk result (IsUnread runs.items) }
     {
-        let entries = entries_of(alloc, runs)?;
         Ok(StoreArchive {
             reader: ArchiveReader::new(alloc)?,
-            runs: Runs::from_vec(alloc, entries)?,
+            runs: Runs::from_vec(alloc, runs)?,
             next: Runs::new(),
         })
     }

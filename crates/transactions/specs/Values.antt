@@ -82,6 +82,12 @@ is_own v txn = is_own_of v txn.mark txn.number txn.snapshot txn.writes
 abbrev pub over : TransactionsValue → ℕ → TransactionsValue
 over v number = record v { opened = with_closed v.opened number }
 
+-- ---- the floor
+
+-- it is raised to a time
+abbrev pub raised_to : TransactionsValue → ℕ → TransactionsValue
+raised_to v floor = record v { floor = floor }
+
 -- ---- room in the log
 
 -- the slots that the waiting commits may still take: one for the group whose slot is in the writing, and one for each other

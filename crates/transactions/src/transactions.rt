@@ -4,7 +4,7 @@ ghost use Rattle.chains.specs.KeyWrites.{latest};
 ghost use Rattle.snapshot.specs.OpenTable.{open_count};
 ghost use Rattle.group.specs.CommitOrder.{IsRisingAfter, last_time, times_of};
 ghost use Rattle.transactions.specs.declared.stage.GroupStage.TheVariants.{NoGroup};
-ghost use Rattle.transactions.specs.Values.{ordered, ordered_mark, over, is_own_of, KeepsSlots};
+ghost use Rattle.transactions.specs.Values.{ordered, ordered_mark, over, is_own_of, raised_to, KeepsSlots};
 ghost use Rattle.transactions.specs.Calls.{Begins, Aborts, Redeems, last, order_of};
 
 use crate::stage::GroupStage;
@@ -276,6 +276,14 @@ impl Transactions {
         ensures { result ≡ self.now.floor }
     {
         self.floor
+    }
+
+    /// Raises the floor to a time in microseconds since 1970. It takes no memory.
+    pub fn raise_floor(&mut self, floor: u64)
+        ensures is { self.new ≡ raised_to self.old floor }
+        ensures slots { KeepsSlots self.old self.new }
+    {
+        self.floor = floor;
     }
 
     /// The mark up to which the published versions have forgotten what ended, in microseconds since

@@ -1,4 +1,4 @@
-use Rattle.standing.proofs.Whole.{archive-start-stands, reclaim-start-stands, job-pump-stands}
+use Rattle.standing.proofs.Whole.{archive-start-stands, reclaim-start-stands, floor-start-stands, job-pump-stands}
 use Rattle.standing.proofs.jobs_stand.Goals as goal
 
 pub returns-clause-archive : goal.returns-clause-archive
@@ -6,6 +6,9 @@ returns-clause-archive c = λ tells old new upto answer m stands starts. archive
 
 pub returns-clause-reclaim : goal.returns-clause-reclaim
 returns-clause-reclaim c = λ tells old new answer m stands starts. reclaim-start-stands tells old new answer m stands starts
+
+pub returns-clause-floor : goal.returns-clause-floor
+returns-clause-floor c = λ tells old new floor answer m stands starts. floor-start-stands tells old new floor answer m stands starts
 
 pub returns-clause-step : goal.returns-clause-step
 returns-clause-step c = λ tells old new answer m stands sound pumps. job-pump-stands tells old new answer m stands sound pumps

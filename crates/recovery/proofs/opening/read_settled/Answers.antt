@@ -10,14 +10,17 @@ use Rattle.wire.specs.declared.slot.Run.{Run}
 use Rattle.wire.specs.declared.slot.Member.{Member}
 use Rattle.wire.specs.declared.slot.Slot.{Slot}
 use Rattle.image.specs.Reading.{Head}
-use Rattle.image.specs.Log.{AreRisingAfter, last_time_after, archive_mark}
-use Rattle.status.specs.Rules.{head_of, log_of, runs_of}
+use Rattle.image.specs.Log.{AreRisingAfter, last_time_after, archive_mark, floor_of}
+use Rattle.status.specs.Rules.{head_of, log_of, runs_of, CoversAll, AreInRow}
+use Rattle.status.proofs.Rules.{rules_cover}
 use Rattle.reading.specs.Layouts.{entries_of, anchors_after, no_anchors}
 use Rattle.reading.specs.Opening.{EndsWithin}
 use Rattle.recovery.specs.declared.fault.OpenFault.{OpenFault}
 use Rattle.recovery.specs.Faults.{IsRunsFault}
 use Rattle.reading.proofs.Rules.{rules_say}
-use Rattle.recovery.proofs.Heads.{entries_rise, archived_upto_last, mark_is}
+use Rattle.recovery.specs.RunEntries.{runs_named, AreEntriesOf}
+use Rattle.recovery.proofs.RunEntries.{go_on}
+use Rattle.recovery.proofs.Heads.{entries_rise, archived_upto_last, floor_upto_last, mark_is}
 use Rattle.recovery.proofs.OpenedHeap.{HoldsSlots, IsSlotsFault, runs_in_range, image_read, members_fail, runs_fail}
 use Rattle.recovery.proofs.opening.read_settled.Goals as goal
 
@@ -45,14 +48,30 @@ returns-clause-last g c =
 pub returns-clause-archived : goal.returns-clause-archived
 returns-clause-archived g c =
     let slots : List Slot = c.in_ok-slots.slots.items in
-    let mark = c.archive_mark.ensures ∙ ap (λ (l : List Slot). archive_mark (log_of l)) c.deref-7.ensures.value in
+    let mark = c.in_ok-read.ensures.archived ∙ ap (λ (l : List Slot). archive_mark (log_of l)) c.deref-5.ensures.value in
     let last = c.in-Ok.ensures.last ∙ ap (λ (l : List Slot). last_time_after 0 (map head_of (entries_of l))) c.deref-2.ensures.value in
     omega (arith, mark, last, archived_upto_last _ slots c.in_ok-slots.ensures.slots.rules)
 
+pub returns-clause-floor : goal.returns-clause-floor
+returns-clause-floor g c =
+    let slots : List Slot = c.in_ok-slots.slots.items in
+    let floor = c.in_ok-read.ensures.floor 0 ∙ ap (λ (l : List Slot). floor_of (log_of l) 0) c.deref-5.ensures.value in
+    let last = c.in-Ok.ensures.last ∙ ap (λ (l : List Slot). last_time_after 0 (map head_of (entries_of l))) c.deref-2.ensures.value in
+    omega (arith, floor, last, floor_upto_last _ slots 0 c.in_ok-slots.ensures.slots.rules)
+
+pub read_runs-requires : goal.read_runs-requires
+read_runs-requires g c =
+    let slots : c.deref-5.result.now ≡ c.in_ok-slots.slots.items = c.deref-5.ensures.value in
+    record {
+      in_range = subst (λ (l : List Slot). AllByRecursion IsRun (runs_of l)) (sym slots) (runs_in_range _ _ c.in_ok-slots.ensures.slots.in_range);
+      floors = subst (λ (l : List Slot). AllByRecursion (λ s. CoversAll s.body) l) (sym slots) (rules_cover _ _ c.in_ok-slots.ensures.slots.rules);
+    }
+
 pub returns-clause-runs : goal.returns-clause-runs
 returns-clause-runs g c =
-    let runs = c.in_ok-runs.ensures ∙ ap runs_of c.deref-5.ensures.value in
-    rw runs (runs_in_range _ _ c.in_ok-slots.ensures.slots.in_range, (rules_say _ _ c.in_ok-slots.ensures.slots.rules).1)
+    let slots : List Slot = c.in_ok-slots.slots.items in
+    let listed = subst (λ (l : List Slot). AreEntriesOf l c.in_ok-read.read.runs.items) c.deref-5.ensures.value c.in_ok-read.ensures.runs in
+    (subst (AreInRow 0) (sym listed.runs_are) (rules_say _ _ c.in_ok-slots.ensures.slots.rules).1, go_on slots 0 c.in_ok-read.read.runs.items listed.runs_are listed.marks_are)
 
 pub returns-clause-found : goal.returns-clause-found
 returns-clause-found g c = λ told.
@@ -63,18 +82,19 @@ returns-clause-found g c = λ told.
     let heap : HoldsSlots (g.D.Disk.state c.args.disk.now).areas.heap.bytes slots c.in-Ok.heap =
     subst (λ (l : List Slot). HoldsSlots (g.D.Disk.state c.args.disk.now).areas.heap.bytes l c.in-Ok.heap) c.deref-2.ensures.value
     (subst (λ (s : DiskState). HoldsSlots s.areas.heap.bytes c.deref-2.result.now c.in-Ok.heap) state (c.in-Ok.ensures.read told)) in
-    let runs : c.deref-6.result.now ≡ runs_of slots = c.deref-6.ensures.value ∙ c.in_ok-runs.ensures ∙ ap runs_of c.deref-5.ensures.value in
+    let listed = subst (λ (l : List Slot). AreEntriesOf l c.in_ok-read.read.runs.items) c.deref-5.ensures.value c.in_ok-read.ensures.runs in
+    let runs : runs_named c.deref-6.result.now ≡ runs_of slots = ap runs_named c.deref-6.ensures.value ∙ listed.runs_are in
     let within : AllByRecursion (EndsWithin (length (g.D.Disk.state c.args.disk.now).areas.archive.bytes)) (runs_of slots) =
     subst (AllByRecursion (EndsWithin (length (g.D.Disk.state c.args.disk.now).areas.archive.bytes))) runs
-    (subst (λ (s : DiskState). AllByRecursion (EndsWithin (length s.areas.archive.bytes)) c.deref-6.result.now) (c.in-Ok.ensures.reads ∙ state) (c.in_ok-check_runs.ensures.within told)) in
+    (subst (λ (s : DiskState). AllByRecursion (EndsWithin (length s.areas.archive.bytes)) (runs_named c.deref-6.result.now)) (c.in-Ok.ensures.reads ∙ state) (c.in_ok-check_runs.ensures.within told)) in
     image_read (image_of (g.D.Disk.state c.args.disk.now).areas) c.in_ok-header.header slots (record { header_reads = c.in_ok-header.ensures.found told; log = log }) c.in-Ok.heap _ refl heap within
     (record {
       used = omega (arith, c.len.ensures, c.in_ok-slots.slots.ok.0);
       commits = c.in_ok-commits.ensures ∙ ap (λ (l : List Member). map head_of l) entries;
-      floor = refl;
-      archived = c.archive_mark.ensures ∙ ap (λ (l : List Slot). archive_mark (log_of l)) c.deref-7.ensures.value;
-      reclaimed = ap (λ (a : Anchors). a.upto) (c.last_anchors.ensures ∙ ap (λ (l : List Slot). anchors_after no_anchors l) c.deref-8.ensures.value) ∙ sym (mark_is slots);
-      runs = c.in_ok-runs.ensures ∙ ap runs_of c.deref-5.ensures.value;
+      floor = λ relation. c.in_ok-read.ensures.floor relation ∙ ap (λ (l : List Slot). floor_of (log_of l) relation) c.deref-5.ensures.value;
+      archived = c.in_ok-read.ensures.archived ∙ ap (λ (l : List Slot). archive_mark (log_of l)) c.deref-5.ensures.value;
+      reclaimed = ap (λ (a : Anchors). a.upto) (c.last_anchors.ensures ∙ ap (λ (l : List Slot). anchors_after no_anchors l) c.deref-7.ensures.value) ∙ sym (mark_is slots);
+      runs = listed;
       extents = refl;
       live = refl;
       chains = refl;
@@ -91,16 +111,12 @@ returns-in-Err-clause-fault g c = λ told.
     (subst (λ (s : DiskState). IsSlotsFault s.areas.heap.bytes c.deref-2.result.now c.in-Err.fault) state (c.in-Err.ensures.first told)) in
     members_fail (image_of (g.D.Disk.state c.args.disk.now).areas) c.in_ok-header.header slots (record { header_reads = c.in_ok-header.ensures.found told; log = log }) c.in-Err.fault fails
 
-pub check_runs-requires : goal.check_runs-requires
-check_runs-requires g c =
-    let runs : c.deref-6.result.now ≡ runs_of c.in_ok-slots.slots.items = c.deref-6.ensures.value ∙ c.in_ok-runs.ensures ∙ ap runs_of c.deref-5.ensures.value in
-    record { in_range = subst (AllByRecursion IsRun) (sym runs) (runs_in_range _ _ c.in_ok-slots.ensures.slots.in_range) }
-
 pub returns-in_err-check_runs-clause-fault : goal.returns-in_err-check_runs-clause-fault
 returns-in_err-check_runs-clause-fault g c = λ told.
     let slots : List Slot = c.in_ok-slots.slots.items in
     let log = subst (λ (s : DiskState). HoldsLog c.in_ok-header.header s.areas.status.bytes slots) c.in_ok-header.ensures.reads (c.in_ok-slots.ensures.log told) in
-    let runs : c.deref-6.result.now ≡ runs_of slots = c.deref-6.ensures.value ∙ c.in_ok-runs.ensures ∙ ap runs_of c.deref-5.ensures.value in
+    let listed = subst (λ (l : List Slot). AreEntriesOf l c.in_ok-read.read.runs.items) c.deref-5.ensures.value c.in_ok-read.ensures.runs in
+    let runs : runs_named c.deref-6.result.now ≡ runs_of slots = ap runs_named c.deref-6.ensures.value ∙ listed.runs_are in
     let state = c.in_ok-slots.ensures.same ∙ c.in_ok-header.ensures.reads in
     let heap : HoldsSlots (g.D.Disk.state c.args.disk.now).areas.heap.bytes slots c.in-Ok.heap =
     subst (λ (l : List Slot). HoldsSlots (g.D.Disk.state c.args.disk.now).areas.heap.bytes l c.in-Ok.heap) c.deref-2.ensures.value
@@ -108,7 +124,7 @@ returns-in_err-check_runs-clause-fault g c = λ told.
     let fault : OpenFault = c.in_err-check_runs.field-0.0 in
     let fails : IsRunsFault (length (g.D.Disk.state c.args.disk.now).areas.archive.bytes) (runs_of slots) fault =
     subst (λ (l : List Run). IsRunsFault (length (g.D.Disk.state c.args.disk.now).areas.archive.bytes) l fault) runs
-    (subst (λ (s : DiskState). IsRunsFault (length s.areas.archive.bytes) c.deref-6.result.now fault) (c.in-Ok.ensures.reads ∙ state) (c.in_err-check_runs.ensures.fault told)) in
+    (subst (λ (s : DiskState). IsRunsFault (length s.areas.archive.bytes) (runs_named c.deref-6.result.now) fault) (c.in-Ok.ensures.reads ∙ state) (c.in_err-check_runs.ensures.fault told)) in
     let p = err_from_is_err_and c.from_residual-in_err-check_runs.result c.from_residual-in_err-check_runs.ensures.1 in
     rw (p.1, p.2)
     (runs_fail (image_of (g.D.Disk.state c.args.disk.now).areas) c.in_ok-header.header slots (record { header_reads = c.in_ok-header.ensures.found told; log = log }) c.in-Ok.heap fault heap fails)

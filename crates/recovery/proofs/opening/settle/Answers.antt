@@ -1,4 +1,4 @@
-use Rattle.recovery.proofs.Settling.{left_by, still_left, settles_one, settles_two, settles_three, three_more}
+use Rattle.recovery.proofs.Settling.{still_left, settles_one, settles_two, settles_three, three_more}
 use Rattle.disk.proofs.Stops.{left_by_sync}
 use Rattle.recovery.proofs.opening.settle.Goals as goal
 

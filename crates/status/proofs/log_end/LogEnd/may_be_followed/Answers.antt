@@ -3,7 +3,7 @@ use Rattle.std.specs.Prelude.{IsTrue}
 use Rattle.wire.specs.declared.slot.Member.{Member}
 use Rattle.status.specs.Rules.{is_built}
 use Rattle.status.specs.Walking.{StartsAfter}
-use Rattle.status.proofs.Rules.{commits_follow, runs_follow, reclaims_follow}
+use Rattle.status.proofs.Rules.{commits_follow, runs_follow, reclaims_follow, floors_follow}
 use Rattle.status.proofs.log_end.LogEnd.may_be_followed.Goals as goal
 
 pub returns-in-Commit : goal.returns-in-Commit
@@ -24,3 +24,9 @@ returns-in-Reclaimed c = λ in_range before ends.
     reclaims_follow c.args.profile before c.args.slot.now c.args.self.now c.in-Reclaimed.anchors c.takes_anchors.result c.in-Reclaimed.is
     (sym (c.is_built.ensures ∙ ap (is_built c.args.profile) c.kind_of.ensures) ∙ c.if-not-is_built.false)
     ends c.takes_anchors.ensures
+
+pub returns-in-Floor : goal.returns-in-Floor
+returns-in-Floor c = λ in_range before ends.
+    floors_follow c.args.profile before c.args.slot.now c.args.self.now c.in-Floor.relation c.in-Floor.floor c.takes_floor.result c.in-Floor.is
+    (sym (c.is_built.ensures ∙ ap (is_built c.args.profile) c.kind_of.ensures) ∙ c.if-not-is_built.false)
+    in_range ends c.takes_floor.ensures

@@ -1,6 +1,4 @@
-use Rattle.std.proofs.Common.{◌≡◌, ℕ, ◌+◌, ◌<◌, ◌^◌, max, List, length, Option, None, Some, Ok, refl, sym, ◌∙◌, ap, subst, arith}
-use Rattle.image.specs.Reading.{ArchiveRecord}
-use Rattle.wire.specs.declared.slot.Run.{Run}
+use Rattle.std.proofs.Common.{◌≡◌, ◌+◌, ◌<◌, ◌^◌, max, length, None, Some, Ok, refl, sym, ◌∙◌, ap, subst, arith}
 use Rattle.archive.specs.Pieces.{InWriting}
 use Rattle.archive.specs.Runs.{run_bytes}
 use Rattle.vacuum.specs.Archives.{records_of, run_of, unwritten}
@@ -9,7 +7,7 @@ use Rattle.store.specs.Parts.{parts_of}
 use Rattle.store.specs.Values.{StoreValue}
 use Rattle.store.specs.declared.job.JobStage.TheVariants.{Writing}
 use Rattle.store.specs.declared.job.JobWork.TheVariants.{Archive}
-use Rattle.store.proofs.Entries.{begun}
+use Rattle.store.proofs.ArchiveStarts.{begun}
 use Rattle.store.proofs.store.Store.archive_start.Goals as goal
 
 pub returns-in-Ok-make_place : goal.returns-in-Ok-make_place

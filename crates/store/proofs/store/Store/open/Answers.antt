@@ -2,11 +2,12 @@ use Rattle.std.proofs.Common.{◌≡◌, ℕ, List, map, length, min, false, ref
 use Rattle.std.proofs.lemmas.List.{length-map}
 use Rattle.status.specs.Header.{total}
 use Rattle.status.specs.Rules.{row_end}
-use Rattle.wire.specs.declared.slot.Run.{Run}
+use Rattle.archive.specs.declared.run.RunEntry.{RunEntry}
+use Rattle.recovery.specs.RunEntries.{runs_named}
 use Rattle.recovery.specs.declared.recovered.Recovered.{Recovered}
 use Rattle.recovery.specs.declared.recovered.CommitName.{CommitName}
 use Rattle.store.specs.Heads.{head_as}
-use Rattle.store.specs.Opens.{times_of, IsUnread}
+use Rattle.store.specs.Opens.{times_of}
 use Rattle.group.specs.declared.commit_order.CommitHead.{CommitHead}
 use Rattle.group.specs.CommitOrder.{IsRisingAfter, last_time}
 use Rattle.status.specs.TurnState.{LogState}
@@ -34,13 +35,13 @@ returns-clause-ok g c =
     let many : length (map head_as r.commits.items) ≡ length r.commits.items = length-map r.commits.items head_as in
     let slots_are : c.slots-slots.result ≡ total r.header = c.slots-slots.ensures ∙ ap (λ (l : LogState). l.slots) log_is in
     let times_are : c.in-Ok-times_of.times ≡ times_of r.live.items = c.in-Ok-times_of.ensures ∙ ap times_of c.deref-2.ensures.value in
-    let end_is : c.end_of.result ≡ row_end 0 r.runs.items = c.end_of.ensures ∙ ap (λ (runs : List Run). row_end 0 runs) c.deref-4.ensures.value in
-    let unread : IsUnread r.runs.items c.in-Ok-new.archive = subst (λ (runs : List Run). IsUnread runs c.in-Ok-new.archive) c.deref-3.ensures.value c.in-Ok-new.ensures in
+    let end_is : c.end_of-runs_end.result ≡ row_end 0 (runs_named r.runs.items) = c.end_of-runs_end.ensures ∙ ap (λ (runs : List RunEntry). row_end 0 (runs_named runs)) c.deref-3.ensures.value in
     record {
       recovered = r;
       read = c.in-Ok.ensures.found;
       new_is = rw (log_is, c.of_recovered.ensures, slots_are, heads_are, many, end_is, times_are) refl;
-      unread = unread;
+      marked = c.in-Ok.ensures.runs.1;
+      unread = c.in-Ok-new.ensures;
       ordered = rw c.of_recovered.ensures c.least-least.ensures.ordered;
       settled = c.in-Ok.ensures.settled;
       left = c.in-Ok.ensures.left;
