@@ -30,7 +30,7 @@ use Rattle.extents.specs.Usages.{IsKept}
 use Rattle.group.specs.CommitOrder as orders
 use Rattle.status.specs.declared.header.Header.{Header}
 use Rattle.status.specs.Header.{total}
-use Rattle.status.specs.Rules.{row_end, runs_of, log_of}
+use Rattle.status.specs.Rules.{row_end, log_of, AreInRow}
 use Rattle.reading.specs.Extents.{Extent}
 use Rattle.reading.specs.Layouts.{Layout, live}
 use Rattle.reading.specs.Runs.{StoredRun}
@@ -51,7 +51,9 @@ use Rattle.recovery.proofs.HistoryRead.{stands_opening, history_read, anchors_up
 use Rattle.transactions.specs.Order.{IsInOrder}
 use Rattle.store.specs.Heads.{head_as}
 use Rattle.store.specs.Values.{ArchiveValue, StoreValue, IsInStep}
-use Rattle.store.specs.Opens.{Opens, opened_on, AreEntriesOf, IsUnread}
+use Rattle.store.specs.Opens.{Opens, opened_on, IsUnread}
+use Rattle.recovery.specs.RunEntries.{runs_named, AreEntriesOf}
+use Rattle.archive.specs.declared.run.RunEntry.{RunEntry}
 use Rattle.store.proofs.Opened.{rising-opened, last-opened}
 use Rattle.standing.specs.Standing.{Name, name_of, name_at, HasWrites, HasForgotten, StandsInMemory}
 use Rattle.standing.specs.OnDisk.{IsImageOf, Works, StandsOnDisk}
@@ -220,7 +222,7 @@ module _ (old : DiskState) (mark : ℕ) (disk : DiskState) (r : Recovered) (arch
       used = is.used;
       archived = is.archived;
       reclaimed = marked;
-      runs_end = ap (row_end 0) is.runs;
+      runs_end = ap (row_end 0) (is.runs).runs_are;
     };
     heap = record {
       kept = kept-numbers r.extents (live image.layout) is.extents.kept;
@@ -254,7 +256,7 @@ module _ (old : DiskState) (mark : ℕ) (disk : DiskState) (r : Recovered) (arch
   runs_stand : RunsStand (opened_on mark r archive disk) (opened h floors)
   runs_stand =
       let laid = image.laid in
-      let entries = subst (λ (runs : List Run). AreEntriesOf 0 runs archive.runs) is.runs fresh.entries in
+      let entries = subst (λ (runs : List RunEntry). AreEntriesOf image.layout.slots runs) (sym fresh.runs_are) is.runs in
       let area : archive_of disk ≡ old.areas.archive.bytes = ap (λ (areas : Areas). areas.archive.bytes) settled in
       let lists : map (λ (s : StoredRun). s.records) image.layout.runs ≡ image.reading.runs = laid.runs.runs_are in
       let ruled : AreRunsOf [] (log_of image.layout.slots) (map (λ (s : StoredRun). s.records) image.layout.runs) =
@@ -265,8 +267,9 @@ module _ (old : DiskState) (mark : ℕ) (disk : DiskState) (r : Recovered) (arch
         held = subst (λ (bytes : List ℕ). HoldRuns bytes archive.runs image.reading.runs) (sym area)
             (subst (λ (l : List (List ArchiveRecord)). HoldRuns old.areas.archive.bytes archive.runs l) lists
             (runs-hold old.areas.archive.bytes image.layout.slots image.layout.runs archive.runs ruled laid.runs.entries_are laid.runs.each_run image.held.runs entries));
-        ends = subst (λ (runs : List Run). RunsEndBy (row_end 0 runs) archive.runs) (sym is.runs) (runs-end 0 0 (runs_of image.layout.slots) archive.runs laid.heap.in_row entries);
-        mark = marks-are image.layout.slots 0 archive.runs entries ∙ ap (λ (l : List readings.Slot). archive_mark l) laid.heap.log_is ∙ sym is.archived;
+        ends = subst (λ (runs : List RunEntry). RunsEndBy (row_end 0 (runs_named runs)) archive.runs) fresh.runs_are
+            (runs-end 0 archive.runs (subst (λ (runs : List Run). AreInRow 0 runs) (sym entries.runs_are) laid.heap.in_row));
+        mark = marks-are image.layout.slots 0 archive.runs entries.runs_are ∙ ap (λ (l : List readings.Slot). archive_mark l) laid.heap.log_is ∙ sym is.archived;
         marks = (let marks = image.stands.homes.marks in let reclaimed = is.reclaimed in omega arith);
         by_last = (let range = archived-range image.reading h floors image.stands in omega arith);
         archived = subst (λ (a : ℕ). AreArchived h floors a image.reading.runs) (sym archived_is) image.stands.homes.in_archive;

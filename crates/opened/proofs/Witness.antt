@@ -22,7 +22,7 @@ use Rattle.history.proofs.Filters.{AllByRecursion-filter}
 use Rattle.image.specs.Values.{Value}
 use Rattle.image.specs.Reading as readings
 use Rattle.image.specs.Reading.{Head, OldRecord, Reading}
-use Rattle.image.specs.Log.{AreRisingAfter, heads_of, last_time, archive_mark, reclaim_mark, floor_of, floors_after}
+use Rattle.image.specs.Log.{AreRisingAfter, heads_of, last_time, archive_mark, reclaim_mark, floor_of}
 use Rattle.image.specs.Facts.{old_writes, heap_commits, values_at_mark, commits_from, commit_read, write_of}
 use Rattle.image.specs.StandsFor.{head_of, IsChain as IsMember}
 use Rattle.image.proofs.Standing.{heads-rising, rises}
@@ -35,14 +35,15 @@ use Rattle.chains.proofs.Commits.{writes_of-with_commit}
 use Rattle.extents.specs.declared.usage.Usage.{Usage}
 use Rattle.extents.specs.declared.usage.Usage.TheVariants.{Free}
 use Rattle.extents.specs.Usages.{IsKept, IsNoneOf}
-use Rattle.wire.specs.Spelling.{kind_of}
 use Rattle.wire.specs.Spelling as wire
 use Rattle.wire.specs.declared.slot.Member.{Member as Entry}
 use Rattle.wire.specs.declared.slot.Body.{Body}
 use Rattle.wire.specs.declared.slot.Body.TheVariants as bodies
 use Rattle.wire.specs.declared.slot.Slot.{Slot}
 use Rattle.status.specs.declared.header.Header.{Header}
-use Rattle.status.specs.Rules.{is_built, slot_of, log_of, runs_in, runs_of}
+use Rattle.status.specs.Rules.{CoversAll, runs_in, runs_of}
+use Rattle.status.proofs.Rules.{rules_cover}
+use Rattle.wire.specs.declared.slot.Run.{Run}
 use Rattle.reading.specs.Extents.{Extent}
 use Rattle.reading.specs.Layouts.{StoredMember, IsStoredMember, live, entries_of}
 use Rattle.reading.specs.Opening.{unread, unread_layout}
@@ -63,10 +64,11 @@ use Rattle.recovery.proofs.RightChains.{numbered_of}
 use Rattle.recovery.proofs.OpenedHeap.{entries_in_range, runs_in_range}
 use Rattle.recovery.proofs.HistoryRead.{stands_opening}
 use Rattle.recovery.proofs.Settling.{settles_three}
-use Rattle.store.specs.Values.{StoreValue}
+use Rattle.store.specs.Values.{ArchiveValue, StoreValue}
 use Rattle.archive.specs.declared.run.RunEntry.{RunEntry}
-use Rattle.opened.proofs.Runs.{entries-made}
-use Rattle.store.specs.Opens.{AreEntriesOf, IsUnread, Opens, opened_on}
+use Rattle.recovery.specs.RunEntries.{runs_named, AreEntriesOf, AreMarkedFrom}
+use Rattle.recovery.proofs.RunEntries.{entries_made, floors_alike, go_on}
+use Rattle.store.specs.Opens.{IsUnread, Opens, opened_on}
 use Rattle.standing.specs.OnDisk.{IsImageOf}
 
 -- a list as a Vec
@@ -153,20 +155,6 @@ few_runs : (slots : List Slot) → length (runs_of slots) ≤ length slots
 few_runs [] = omega arith
 few_runs (s ∷ slots) = let one = one_run s.body in let rest = few_runs slots in omega (arith, length-append (runs_in s.body) (runs_of slots))
 
-not_built : {X : Type 0} (a : Bool) → IsTrue (a && false) → X
-not_built true built = absurd cc
-not_built false built = absurd cc
-
-one_floor : (profile : ℕ) (before : ℕ → ℕ) (body : Body) (log : List readings.Slot) (relation : ℕ) → IsTrue (is_built profile (kind_of body)) → floors_after before (slot_of body ∷ log) relation ≡ floors_after before log relation
-one_floor profile before (bodies.Commit members) log relation built = refl
-one_floor profile before (bodies.Archived run) log relation built = refl
-one_floor profile before (bodies.Reclaimed anchors) log relation built = refl
-one_floor profile before (bodies.Floor scope floor) log relation built = not_built (profile == 1) built
-
-no_floor : (profile : ℕ) (before : ℕ → ℕ) (slots : List Slot) (relation : ℕ) → ((n : ℕ) (slot : Slot) → slice_get slots n ≡ Some slot → IsTrue (is_built profile (kind_of slot.body))) → floors_after before (log_of slots) relation ≡ before relation
-no_floor profile before [] relation built = refl
-no_floor profile before (s ∷ slots) relation built = one_floor profile before s.body (log_of slots) relation (built 0 s refl) ∙ no_floor profile before slots relation (λ n slot at. built (suc n) slot at)
-
 -- ---- the heap
 
 each_entry : (members : List StoredMember) → AllByRecursion wire.IsMember (map (λ (s : StoredMember). s.entry) members) → AllByRecursion (λ (s : StoredMember). wire.IsMember s.entry) members
@@ -228,11 +216,24 @@ module _ (alloc : Global) (header : Header) (image : Image) (h : History Value) 
   commits_few : length (map name_as (heads_of is.reading.log)) < 2 ^ 63
   commits_few = let few = few_heads 0 (heads_of is.reading.log) rising (omega arith) in omega (arith, length-map (heads_of is.reading.log) name_as)
 
-  runs_few : length (runs_of is.layout.slots) < 2 ^ 63
-  runs_few = let few = few_runs is.layout.slots in let fits = is.held.log.opens.fits in let most = is.held.log.opens.has_room.few in omega arith
-
-  pub runs_ranged : AllByRecursion wire.IsRun (runs_of is.layout.slots)
+  runs_ranged : AllByRecursion wire.IsRun (runs_of is.layout.slots)
   runs_ranged = runs_in_range header.profile is.layout.slots (λ n slot at. (is.held.log.opens.each_spelled n slot at).in_range)
+
+  -- each floor of the log is of every relation
+  floors_cover : AllByRecursion (λ (s : Slot). CoversAll s.body) is.layout.slots
+  floors_cover = rules_cover header.profile is.layout.slots is.held.log.opens.rules
+
+  -- its runs, each with what stood before its slot
+  entries : (runs : List RunEntry) × AreEntriesOf is.layout.slots runs
+  entries = entries_made is.layout.slots runs_ranged floors_cover
+
+  runs_few : length entries.0 < 2 ^ 63
+  runs_few =
+      let few = few_runs is.layout.slots in
+      let fits = is.held.log.opens.fits in
+      let most = is.held.log.opens.has_room.few in
+      let named : length (runs_named entries.0) ≡ length (runs_of is.layout.slots) = ap (λ (l : List Run). length l) (entries.1).runs_are in
+      omega (arith, length-map entries.0 (λ (e : RunEntry). e.slot))
 
   ranges : AllByRecursion (λ (s : StoredMember). wire.IsMember s.entry) is.layout.members
   ranges = each_entry is.layout.members
@@ -265,10 +266,10 @@ module _ (alloc : Global) (header : Header) (image : Image) (h : History Value) 
     header = header;
     used = length is.layout.slots;
     commits = vec_of alloc (map name_as (heads_of is.reading.log)) commits_few;
-    floor = 0;
+    floor = floor_of is.reading.log 0;
     archived = archive_mark is.reading.log;
     reclaimed = reclaim_mark is.reading.log;
-    runs = vec_of alloc (runs_of is.layout.slots) runs_few;
+    runs = vec_of alloc entries.0 runs_few;
     extents = claimed (replicate 65536 Free) (numbers_in (live is.layout));
     live = vec_of alloc (chains_live alloc is.layout.members few) members_few;
     chains = chains_from (map anchor_writes anchors) (heap_commits is.reading);
@@ -288,10 +289,10 @@ module _ (alloc : Global) (header : Header) (image : Image) (h : History Value) 
   read_as = record {
     used = refl;
     commits = names_again (heads_of is.reading.log);
-    floor = λ relation. sym (ap (λ (l : List readings.Slot). floor_of l relation) (sym is.laid.heap.log_is) ∙ no_floor header.profile (λ r. 0) is.layout.slots relation is.built);
+    floor = λ relation. subst (λ (l : List readings.Slot). floor_of l 0 ≡ floor_of l relation) is.laid.heap.log_is (floors_alike is.layout.slots floors_cover 0 relation);
     archived = refl;
     reclaimed = refl;
-    runs = refl;
+    runs = entries.1;
     extents = extents_kept;
     live_are = live_again alloc is.layout.members few;
     writes = λ key.
@@ -310,9 +311,16 @@ module _ (alloc : Global) (header : Header) (image : Image) (h : History Value) 
   }
 
   -- nothing of its archive is read
-  unread-of : (entries : List RunEntry) → AreEntriesOf 0 (runs_of is.layout.slots) entries → IsUnread recovered.runs.items (record { runs = entries; next = []; kept = [] })
+  pub nothing_read : ArchiveValue
+  nothing_read = record { runs = entries.0; next = []; kept = [] }
+
+  is_unread : IsUnread recovered.runs.items nothing_read
+  unfolding recovered vec_of nothing_read
+  is_unread = record { runs_are = refl; next = refl; kept = refl }
+
+  marked : AreMarkedFrom 0 recovered.runs.items
   unfolding recovered vec_of
-  unread-of entries are = record { entries = are; next = refl; kept = refl }
+  marked = go_on is.layout.slots 0 entries.0 (entries.1).runs_are (entries.1).marks_are
 
   read_ordered : IsOrdered recovered.chains
   unfolding recovered
@@ -373,13 +381,14 @@ unfolding all_synced
 open-answers alloc tells old mark header h floors sound low is =
     let r : Recovered = recovered alloc header (image_of old.areas) h floors is in
     let settles = opens_all tells old sound low in
-    let made = entries-made 0 (runs_of is.layout.slots) (runs_ranged alloc header (image_of old.areas) h floors is) in (
-      opened_on mark r (record { runs = made.0; next = []; kept = [] }) (all_synced old),
+    let archive = nothing_read alloc header (image_of old.areas) h floors is in (
+      opened_on mark r archive (all_synced old),
       record {
         recovered = r;
         read = λ told. read_from alloc header (image_of old.areas) h floors is;
         new_is = refl;
-        unread = unread-of alloc header (image_of old.areas) h floors is made.0 made.1;
+        marked = marked alloc header (image_of old.areas) h floors is;
+        unread = is_unread alloc header (image_of old.areas) h floors is;
         ordered = read_ordered alloc header (image_of old.areas) h floors is;
         settled = λ told. refl;
         left = settles_left tells old (all_synced old) settles;
