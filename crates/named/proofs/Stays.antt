@@ -19,10 +19,10 @@ use Rattle.recovery.specs.ReadsImage.{IsOpening}
 use Rattle.store.specs.Values.{StoreValue}
 use Rattle.store.specs.Opens.{Opens}
 use Rattle.named.specs.Named.{IsNamed, IsLeft, IsGivenUpIn, LeavesNamed, WritesBehind, IsTyped, bytes_in}
-use Rattle.named.specs.Laws.{IsCall, Began, Aborted, Submitting, Redeeming, Pumped, Archiving, Reclaiming, JobPumped, Viewed, AskedAt, AskedScan, AskedRows, AskedScanRows, AreCalls, end_of, IsGivenUpAmong, StaysNamed, HasNamed}
+use Rattle.named.specs.Laws.{IsCall, Began, Aborted, Submitting, Redeeming, Pumped, Archiving, Reclaiming, RaisingFloor, JobPumped, Viewed, AskedAt, AskedScan, AskedRows, AskedScanRows, AreCalls, end_of, IsGivenUpAmong, StaysNamed, HasNamed}
 use Rattle.named.proofs.Places.{same_left, left_twice}
 use Rattle.named.proofs.Naming.{LeavesAll, leaves_named, leaves_itself, behind_by}
-use Rattle.named.proofs.Calls.{began, aborted, redeemed, submitted, archiving, reclaiming, asked}
+use Rattle.named.proofs.Calls.{began, aborted, redeemed, submitted, archiving, reclaiming, raising_floor, asked}
 use Rattle.named.proofs.Pumping.{pumped}
 use Rattle.named.proofs.Jobs.{job_pumped}
 
@@ -68,6 +68,7 @@ call_leaves tells old new typed behind call = by_call call
     by_call (Pumped answer is) = all (pumped tells old new answer is typed behind)
     by_call (Archiving upto answer is) = all (archiving tells old new upto answer is behind)
     by_call (Reclaiming answer is) = all (reclaiming tells old new answer is typed behind)
+    by_call (RaisingFloor time answer is) = all (raising_floor tells old new time answer is behind)
     by_call (JobPumped answer is) = job_pumped tells old new answer is typed behind
     by_call (Viewed same) = all (leaves_itself tells old new same, subst WritesBehind (sym same) behind)
     by_call (AskedAt view key time answer is) = all (asked tells old new view time _ _ _ _ answer is behind)
