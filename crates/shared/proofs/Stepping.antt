@@ -1,10 +1,12 @@
 -- What was seen, as the machine steps.
-use Rattle.std.proofs.Common.{◌≡◌, ℕ, ◌==◌, ◌&&◌, nat_lt, Bool, true, false, cond, List, [], ◌∷◌, ◌++◌, length, take, drop, Result, Ok, Err, refl, sym, ap, ◌∙◌, subst, append_assoc}
+use Rattle.std.proofs.Common.{◌≡◌, ℕ, ◌≤◌, ◌==◌, ◌&&◌, nat_lt, Bool, true, false, cond, List, [], ◌∷◌, ◌++◌, length, take, drop, Option, None, Some, Result, Ok, Err, refl, sym, ap, ◌∙◌, subst, append_assoc, arith}
 use Rattle.std.proofs.lemmas.List.{append-nil, take-append-drop}
 use Rattle.history.specs.Histories.{Commit, History}
-use Rattle.history.specs.Machine.{Machine, Gate, Shut, Due, MayBeOpen, OfGroup, OfFloor}
+use Rattle.history.specs.Floors.{Raising}
+use Rattle.history.specs.Machine.{Machine, IsMachine, Gate, Shut, Due, MayBeOpen, OfGroup, OfFloor}
 use Rattle.history.specs.Steps.{Event, Step, Run, GroupBegan}
 use Rattle.history.specs.Submissions.{Submission, commit_made}
+use Rattle.history.proofs.Machines.{run-floors}
 use Rattle.image.specs.Values.{Value, IsValue}
 use Rattle.group.specs.declared.answers.Did.{Did}
 use Rattle.group.specs.declared.answers.Did.TheVariants as did
@@ -15,11 +17,12 @@ use Rattle.group.specs.declared.answers.Submitted.TheVariants as submitted
 use Rattle.group.specs.declared.answers.SubmitFault.{SubmitFault}
 use Rattle.group.specs.declared.answers.SubmitFault.TheVariants as refused
 use Rattle.store.specs.declared.job.JobDid.{JobDid}
-use Rattle.standing.specs.Laws.{event_of, begins_in, ends_in, job_ends_in}
+use Rattle.store.specs.declared.job.JobDid.TheVariants as job_did
+use Rattle.standing.specs.Laws.{event_of, begins_in, ends_in, floor_ends, job_breaks_in, job_ends_in}
 use Rattle.shared.specs.Reached.{Reached, stepped}
-use Rattle.shared.specs.Seen.{Seen, seen_of, order_of, IsLater}
-use Rattle.shared.specs.Shared.{published_seen, queued_seen, count_in}
-use Rattle.shared.proofs.Fronts.{front-same}
+use Rattle.shared.specs.Seen.{Seen, seen_of, order_of, IsFrontOf, IsLater}
+use Rattle.shared.specs.Shared.{published_seen, queued_seen, raised_seen, job_seen, is_done, count_in}
+use Rattle.shared.proofs.Fronts.{front-same, later-same}
 
 pub follows : (start m n : Machine Value) (events : List (Event Value)) → Reached start m → Run IsValue m events n → Reached start n
 follows start m n [] reached run = subst (λ (x : Machine Value). Reached start x) (sym run) reached
@@ -28,12 +31,13 @@ follows start m n (e ∷ es) reached run = follows start run.0 n es (stepped e r
 -- ---- what comes next is later
 
 pub later-queued : (s : Seen) (c : Commit Value) → IsLater s (queued_seen s c)
-later-queued s c = record { published = front-same s.published; order = (c ∷ [], sym (append_assoc s.published s.queue (c ∷ []))) }
+later-queued s c = record { published = front-same s.published; order = (c ∷ [], sym (append_assoc s.published s.queue (c ∷ []))); floors = λ relation. omega arith }
 
 pub later-published : (s : Seen) (count : ℕ) → IsLater s (published_seen s count)
 later-published s count = record {
   published = (take count s.queue, refl);
   order = ([], append_assoc s.published (take count s.queue) (drop count s.queue) ∙ ap (λ (l : History Value). s.published ++ l) (take-append-drop count s.queue) ∙ sym (append-nil (order_of s)));
+  floors = λ relation. omega arith;
 }
 
 -- ---- a submit
@@ -57,7 +61,7 @@ submit-seen m after s (Err refused.Stranger) step = ap seen_of step.1.2
 -- ---- a step of a group
 
 pub published-none : (s : Seen) → s ≡ published_seen s 0
-published-none s = ap (λ (h : History Value). record { published = h; queue = s.queue }) (sym (append-nil s.published))
+published-none s = ap (λ (h : History Value). record s { published = h }) (sym (append-nil s.published))
 
 abbrev pub pump_seen : Result Did PumpFault → Seen → Seen
 pump_seen r s = published_seen s (count_in r)
@@ -86,8 +90,43 @@ pump-seen m n r run = by-group ((m.group == 0) && nat_lt 0 (length m.queue)) run
 
 -- ---- a step of a job
 
-pub job-seen : (m n : Machine Value) (r : Result JobDid PumpFault) → Run IsValue m (job_ends_in r) n → seen_of n ≡ seen_of m
-job-seen m n (Ok what) run = ap seen_of run
+same-seen : (b : Bool) (s : Seen) → cond b s s ≡ s
+same-seen true s = refl
+same-seen false s = refl
+
+floor-seen : (m n : Machine Value) (what : JobDid) (o : Option Raising) → Run IsValue m (floor_ends what o) n → seen_of n ≡ job_seen (Ok what) o (seen_of m)
+floor-seen m n what None run = ap seen_of run ∙ sym (same-seen (is_done (Ok what)) (seen_of m))
+floor-seen m n job_did.Idle (Some r) run = ap seen_of run
+floor-seen m n job_did.WroteRun (Some r) run = ap seen_of run
+floor-seen m n job_did.RunSynced (Some r) run = ap seen_of run
+floor-seen m n job_did.WroteExtent (Some r) run = ap seen_of run
+floor-seen m n job_did.HeapSynced (Some r) run = ap seen_of run
+floor-seen m n job_did.BodyWritten (Some r) run = ap seen_of run
+floor-seen m n job_did.BodySynced (Some r) run = ap seen_of run.2 ∙ ap seen_of run.1.3
+floor-seen m n job_did.GateWritten (Some r) run = ap seen_of run.2 ∙ ap seen_of run.1.2
+floor-seen m n job_did.JobDone (Some r) run = ap seen_of run.2 ∙ ap seen_of run.1.3
+
+job_broken-seen : (m n : Machine Value) (gate : Gate) → Run IsValue m (job_breaks_in gate) n → seen_of n ≡ seen_of m
+job_broken-seen m n Shut run = ap seen_of run.2 ∙ ap seen_of run.1.1
+job_broken-seen m n (Due OfGroup) run = ap seen_of run.2 ∙ ap seen_of run.1.1
+job_broken-seen m n (Due OfFloor) run = ap seen_of run.2.2 ∙ ap seen_of run.2.1.1 ∙ ap seen_of run.1.2
+job_broken-seen m n (MayBeOpen change) run = ap seen_of run.2 ∙ ap seen_of run.1.1
+
+pub job-seen : (m n : Machine Value) (r : Result JobDid PumpFault) → Run IsValue m (job_ends_in m r) n → seen_of n ≡ job_seen r m.raising (seen_of m)
+job-seen m n (Ok what) run = floor-seen m n what m.raising run
 job-seen m n (Err pump.Busy) run = ap seen_of run
 job-seen m n (Err pump.NoMemory) run = ap seen_of run
-job-seen m n (Err pump.Failed) run = ap seen_of run.2 ∙ ap seen_of run.1.1
+job-seen m n (Err pump.Failed) run = job_broken-seen m n m.gate run
+
+-- floors alone are raised, and none goes back
+raised-later : (s n : Seen) (b : Bool) (o : Option Raising) → n ≡ cond b (raised_seen o s) s → ((relation : ℕ) → s.floors relation ≤ n.floors relation) → IsLater s n
+raised-later s n true None is floors = subst (λ (x : Seen). IsLater s x) (sym is) (later-same s)
+raised-later s n true (Some r) is floors = record {
+  published = subst (λ (h : History Value). IsFrontOf s.published h) (sym (ap (λ (x : Seen). x.published) is)) (front-same s.published);
+  order = subst (λ (h : History Value). IsFrontOf (order_of s) h) (sym (ap order_of is)) (front-same (order_of s));
+  floors = floors;
+}
+raised-later s n false o is floors = subst (λ (x : Seen). IsLater s x) (sym is) (later-same s)
+
+pub later-job : (m n : Machine Value) (r : Result JobDid PumpFault) → IsMachine IsValue m → Run IsValue m (job_ends_in m r) n → IsLater (seen_of m) (seen_of n)
+later-job m n r legal run = raised-later (seen_of m) (seen_of n) (is_done r) m.raising (job-seen m n r run) (λ relation. run-floors IsValue m n (job_ends_in m r) relation legal run)
