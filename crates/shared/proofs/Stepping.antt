@@ -130,3 +130,12 @@ raised-later s n false o is floors = subst (λ (x : Seen). IsLater s x) (sym is)
 
 pub later-job : (m n : Machine Value) (r : Result JobDid PumpFault) → IsMachine IsValue m → Run IsValue m (job_ends_in m r) n → IsLater (seen_of m) (seen_of n)
 later-job m n r legal run = raised-later (seen_of m) (seen_of n) (is_done r) m.raising (job-seen m n r run) (λ relation. run-floors IsValue m n (job_ends_in m r) relation legal run)
+
+-- a floor that is raised leaves the commits alone
+pub raised-published : (o : Option Raising) (s : Seen) → (raised_seen o s).published ≡ s.published
+raised-published None s = refl
+raised-published (Some r) s = refl
+
+pub raised-order : (o : Option Raising) (s : Seen) → order_of (raised_seen o s) ≡ order_of s
+raised-order None s = refl
+raised-order (Some r) s = refl
