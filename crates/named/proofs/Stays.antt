@@ -8,7 +8,6 @@ use Rattle.disk.specs.declared.area.Area.{Area}
 use Rattle.disk.specs.declared.area.Area.TheVariants.{Status, Heap, Archive}
 use Rattle.extents.specs.declared.usage.Usage.{Usage}
 use Rattle.extents.specs.Usages.{IsKept}
-use Rattle.wire.specs.declared.slot.Run.{Run}
 use Rattle.image.specs.Reading.{Reading}
 use Rattle.status.specs.declared.header.Header.{Header}
 use Rattle.status.specs.Rules.{row_end}
@@ -48,7 +47,7 @@ opened_names tells disk mark v opens told =
       record {
         slots = ap (λ (s : StoreValue). s.log.used) opens.new_is ∙ (read.is).used;
         extents = subst (λ (us : List Usage). AllByRecursion (λ (e : Extent). IsKept us e.number) (live read.layout)) (sym usages) kept;
-        runs = ap (λ (s : StoreValue). s.runs_end) opens.new_is ∙ ap (λ (rs : List Run). row_end 0 rs) (read.is).runs;
+        runs = ap (λ (s : StoreValue). s.runs_end) opens.new_is ∙ ap (row_end 0) ((read.is).runs).runs_are;
       },
     )
 
