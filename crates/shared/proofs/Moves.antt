@@ -463,7 +463,7 @@ pub record JobPumped (tells : Bool) (start : Machine Value) (m : Machine Value) 
   pub run : MatchBool m.failed ((r ≡ Err pump.Failed) × (after ≡ m)) (Run IsValue m (job_ends_in m r) after)
   pub stands : Stands tells new after
   pub reached : Reached start after
-  pub seen : seen_of after ≡ job_seen r m.raising (seen_of m)
+  pub seen : seen_of after ≡ job_seen r (raising_of old.job) (seen_of m)
   pub later : IsLater (seen_of m) (seen_of after)
   pub left : Leaves old.transactions new.transactions
   pub goes : GoesOn tells old new
@@ -477,7 +477,7 @@ job-pumped tells start m old new r reached stands sound pumps = by-failure m.fai
       run = subst (λ (b : Bool). MatchBool b ((r ≡ Err pump.Failed) × (m ≡ m)) (Run IsValue m (job_ends_in m r) m)) (sym is) (did.0, refl);
       stands = did.1;
       reached = reached;
-      seen = subst (λ (x : Result JobDid PumpFault). seen_of m ≡ job_seen x m.raising (seen_of m)) (sym did.0) refl;
+      seen = subst (λ (x : Result JobDid PumpFault). seen_of m ≡ job_seen x (raising_of old.job) (seen_of m)) (sym did.0) refl;
       later = later-same (seen_of m);
       left = pumped-leaves tells old new r pumps;
       goes = job-pump-goes tells old new r m stands pumps;
@@ -487,30 +487,24 @@ job-pumped tells start m old new r reached stands sound pumps = by-failure m.fai
       run = subst (λ (b : Bool). MatchBool b ((r ≡ Err pump.Failed) × (did.0 ≡ m)) (Run IsValue m (job_ends_in m r) did.0)) (sym is) did.1;
       stands = did.2;
       reached = follows start m did.0 (job_ends_in m r) reached did.1;
-      seen = job-seen m did.0 r did.1;
-      later = later-job m did.0 r stands.machine did.1;
+      seen = job-seen m did.0 old.job r stands.raises did.1;
+      later = later-job m did.0 old.job r stands.machine stands.raises did.1;
       left = pumped-leaves tells old new r pumps;
       goes = job-pump-goes tells old new r m stands pumps;
     }
-
--- the floor in the making is that of the store's job
-pub job-raising : (tells : Bool) (start : Machine Value) (brand : ℕ) (table : TableId) (v : StoreValue) (shares : ℕ) (at : TableId) (pass : SightValue) (h : IsShared tells start brand table v shares at pass) (raising : Option Raising) → raising_of v.job ≡ raising → h.state.raising ≡ raising
-job-raising tells start brand table v shares at pass h raising is = h.stands.raises ∙ is
 
 -- what the pass is to see next is later
 pub job-later : (tells : Bool) (start : Machine Value) (brand : ℕ) (table : TableId) (old new : StoreValue) (shares : ℕ) (at : TableId) (pass : SightValue) (r : Result JobDid PumpFault) (h : IsShared tells start brand table old shares at pass) (raising : Option Raising)
     → raising_of old.job ≡ raising → JobPumped tells start h.state old new r → IsLater pass.seen (job_seen r raising pass.seen)
 job-later tells start brand table old new shares at pass r h raising is p =
-    let made = job-raising tells start brand table old shares at pass h raising is in
-    let first : IsLater (seen_of h.state) (job_seen r h.state.raising (seen_of h.state)) = subst (λ (s : Seen). IsLater (seen_of h.state) s) p.seen p.later in
-    let next : IsLater (seen_of h.state) (job_seen r raising (seen_of h.state)) = subst (λ (o : Option Raising). IsLater (seen_of h.state) (job_seen r o (seen_of h.state))) made first in
+    let first : IsLater (seen_of h.state) (job_seen r (raising_of old.job) (seen_of h.state)) = subst (λ (s : Seen). IsLater (seen_of h.state) s) p.seen p.later in
+    let next : IsLater (seen_of h.state) (job_seen r raising (seen_of h.state)) = subst (λ (o : Option Raising). IsLater (seen_of h.state) (job_seen r o (seen_of h.state))) is first in
     subst (λ (s : Seen). IsLater s (job_seen r raising s)) (sym h.seen) next
 
 -- once the pass has gone on
 pub job-keeps : (tells : Bool) (start : Machine Value) (brand : ℕ) (table : TableId) (old new : StoreValue) (shares : ℕ) (at at' : TableId) (pass pass' : SightValue) (r : Result JobDid PumpFault) (h : IsShared tells start brand table old shares at pass) (raising : Option Raising) → raising_of old.job ≡ raising
     → JobPumped tells start h.state old new r → at' ≡ at → pass'.writes ≡ true → pass'.seen ≡ job_seen r raising pass.seen → pass'.archive ≡ pass.archive → IsShared tells start brand table new shares at' pass'
 job-keeps tells start brand table old new shares at at' pass pass' r h raising is p same on seen archive =
-    let made = job-raising tells start brand table old shares at pass h raising is in
     let rises : last h.state.published ≤ last p.after.published = last-seen (seen_of h.state) (seen_of p.after) p.stands.machine.history p.later in
     record {
       state = p.after;
@@ -520,7 +514,7 @@ job-keeps tells start brand table old new shares at at' pass pass' r h raising i
       told = ap told_count p.left.heads ∙ h.told;
       none_waits = ap (λ (l : List CommitHead). told_after (last p.after.published) l) p.left.heads ∙ after-later (last h.state.published) (last p.after.published) old.transactions.heads rises h.none_waits;
       cell = same ∙ h.cell;
-      seen = seen ∙ ap (job_seen r raising) h.seen ∙ ap (λ (o : Option Raising). job_seen r o (seen_of h.state)) (sym made) ∙ sym p.seen;
+      seen = seen ∙ ap (job_seen r raising) h.seen ∙ ap (λ (o : Option Raising). job_seen r o (seen_of h.state)) (sym is) ∙ sym p.seen;
       archive = known archive (archive-then pass.archive (archive_seen tells old) (archive_seen tells new) h.archive (archive-on tells old new p.goes));
       writes = on;
     }

@@ -4,7 +4,7 @@ use Rattle.atomic_table.specs.Seated.{TableId}
 use Rattle.history.specs.declared.key.Key.{Key}
 use Rattle.history.specs.declared.key.KeyWrite.{KeyWrite}
 use Rattle.history.specs.FloorStarts as floor_starts
-use Rattle.history.specs.Floors.{Raising, raised}
+use Rattle.history.specs.Floors.{Raising}
 use Rattle.history.specs.Histories.{Commit, History, IsHistory, last, state}
 use Rattle.history.specs.Machine.{Machine}
 use Rattle.history.specs.Steps.{Step, Run, FloorStarted, FloorRefused, floor_started}
@@ -43,11 +43,11 @@ use Rattle.shared.specs.declared.committed.CommitFault.{CommitFault}
 use Rattle.shared.specs.Archives.{ArchiveSeen, IsArchiveLater, ReadsArchive, archive_seen}
 use Rattle.shared.specs.Counts.{told_count, told_after}
 use Rattle.shared.specs.Reached.{Reached}
-use Rattle.shared.specs.Seen.{Seen, SightValue, seen_of, order_of, IsFrontOf}
+use Rattle.shared.specs.Seen.{Seen, SightValue, seen_of, order_of, HasFloor, IsFrontOf}
 
 -- ---- the value under the lock
 
--- The store stands for a state that steps of the machine lead to. The commits for which Done was answered since opening are those in the shares, and none of them waits. The pass is the cell's writer, and has seen all commits and the floors; what it knows of the archive is there still.
+-- The store stands for a state that steps of the machine lead to. The commits for which Done was answered since opening are those in the shares, and none of them waits. The pass is the cell's writer, and has seen all commits and the floor; what it knows of the archive is there still.
 pub record IsShared (tells : Bool) (start : Machine Value) (brand : ℕ) (table : TableId) (store : StoreValue) (shares : ℕ) (at : TableId) (pass : SightValue) : Type 0 where
   pub state : Machine Value
   pub stands : Stands tells store state
@@ -100,10 +100,10 @@ is_done (Ok job_did.BodySynced) = false
 is_done (Ok job_did.GateWritten) = false
 is_done (Err why) = false
 
--- the floor in the making, if there is one, was raised
+-- the floor in the making, if there is one, was raised, as a store's job raises it, for every relation
 abbrev pub raised_seen : Option Raising → Seen → Seen
 raised_seen None s = s
-raised_seen (Some r) s = record s { floors = raised r.scope r.floor s.floors }
+raised_seen (Some r) s = record s { floor = r.floor }
 
 -- what is to be seen after a step of a job, by the floor that was in the making
 abbrev pub job_seen : Result JobDid PumpFault → Option Raising → Seen → Seen
@@ -118,11 +118,12 @@ HasCommitAt h time = (c : Commit Value) × Contains h c × (c.time ≡ time)
 
 -- ---- views and transactions
 
--- the view stands for the published history that was seen, with the floors of then, and this archive has its runs
+-- the view stands for the published history that was seen and the floor of then, and this archive has its runs
 pub record Shows (start : Machine Value) (brand : ℕ) (archive : ArchiveSeen) (view : ViewValue) (seen : Seen) : Type 0 where
   pub machine : Machine Value
   pub reached : Reached start machine
   pub seen_is : seen ≡ seen_of machine
+  pub floor : HasFloor machine seen.floor
   pub mark : view.mark ≡ brand
   pub stands : ViewStands view machine.published machine.floors
   pub reads : ReadsArchive archive view machine.published machine.floors
