@@ -147,12 +147,3 @@ raised-later s n false o is floor = subst (λ (x : Seen). IsLater s x) (sym is) 
 
 pub later-job : (m n : Machine Value) (job : Option Job) (r : Result JobDid PumpFault) → IsMachine IsValue m → m.raising ≡ raising_of job → Run IsValue m (job_ends_in m r) n → IsLater (seen_of m) (seen_of n)
 later-job m n job r legal is run = raised-later (seen_of m) (seen_of n) (is_done r) (raising_of job) (job-seen m n job r is run) (run-floors IsValue m n (job_ends_in m r) 0 legal run)
-
--- a floor that is raised leaves the commits alone
-pub raised-published : (o : Option Raising) (s : Seen) → (raised_seen o s).published ≡ s.published
-raised-published None s = refl
-raised-published (Some r) s = refl
-
-pub raised-order : (o : Option Raising) (s : Seen) → order_of (raised_seen o s) ≡ order_of s
-raised-order None s = refl
-raised-order (Some r) s = refl

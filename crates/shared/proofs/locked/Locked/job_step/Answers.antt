@@ -1,27 +1,26 @@
-use Rattle.std.proofs.Common.{subst, sym}
+use Rattle.std.proofs.Common.{rules, subst, sym, ◌∙◌}
 use Rattle.history.specs.Histories.{IsHistory}
 use Rattle.image.specs.Values.{IsValue}
 use Rattle.shared.specs.Seen.{Seen, order_of}
 use Rattle.shared.proofs.Moves.{job-pumped, job-later, job-keeps}
 use Rattle.shared.proofs.locked.Locked.job_step.Goals as goal
 
-pub note_job-requires-clause-later : goal.note_job-requires-clause-later
-note_job-requires-clause-later g c =
+pub note_job-requires : goal.note_job-requires
+note_job-requires g c =
     let h = c.self.invariant in
     let p = job-pumped _ _ _ _ _ _ h.reached h.stands c.job_pump-did.ensures.sound c.job_pump-did.ensures.is in
-    job-later _ _ _ _ _ _ _ _ _ _ h _ c.requires.raising p
-
-pub note_job-requires-clause-legal : goal.note_job-requires-clause-legal
-note_job-requires-clause-legal g c =
-    let h = c.self.invariant in
-    subst (λ (s : Seen). IsHistory IsValue (order_of s)) (sym h.seen) h.stands.machine.history
+    let cell = h.cell ∙ sym c.requires.1.1.1.0 in
+    let writes = h.writes in
+    let later = job-later _ _ _ _ _ _ _ _ _ _ h _ c.requires.1.1.1.1 p in
+    let legal = subst (λ (s : Seen). IsHistory IsValue (order_of s)) (sym h.seen) h.stands.machine.history in
+    search rules
 
 pub invariant_of-self : goal.invariant_of-self
 invariant_of-self g c =
     let h = c.self.invariant in
     let p = job-pumped _ _ _ _ _ _ h.reached h.stands c.job_pump-did.ensures.sound c.job_pump-did.ensures.is in
     let n = c.note_job.ensures in
-    job-keeps _ _ _ _ _ _ _ _ _ _ _ _ h _ c.requires.raising p n.cell n.writes n.seen n.archive
+    job-keeps _ _ _ _ _ _ _ _ _ _ _ _ h _ c.requires.1.1.1.1 p n.cell n.writes n.seen n.archive
 
 pub returns : goal.returns
 returns g c =
