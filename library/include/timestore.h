@@ -93,8 +93,9 @@ enum {
     TS_DAMAGED = -18,       /* a: the place of what breaks a rule, in bytes */
     TS_NOT_A_STORE = -19,
     TS_BUSY = -20,          /* one slot is in the writing at a time: pump the other one; ts_open: the handle is full */
-    TS_JOB_BUSY = -21,      /* an archive or a reclaim is being made */
-    TS_NOTHING_TO_DO = -22, /* all versions that ended by then are archived; all that is archived is reclaimed */
+    TS_JOB_BUSY = -21,      /* an archive, a reclaim or a floor is being made */
+    TS_NOTHING_TO_DO = -22, /* all versions that ended by then are archived; all that is archived is reclaimed;
+                               the floor is as late */
     TS_ARCHIVE_FULL = -23,
     TS_BAD_SLOTS = -24,     /* a store has 16 to 65,536 slots */
     TS_IN_USE = -25,        /* a: the least open snapshot */
@@ -204,7 +205,12 @@ int32_t ts_archive(ts *h, uint64_t upto, ts_info *info);
    views keep what they have. TS_IN_USE while an open transaction reads below that. */
 int32_t ts_reclaim(ts *h, ts_info *info);
 
-/* The next step of the archive or the reclaim that is being made; a: what it did. */
+/* Begins to raise the floor to a time: once it is done views that are taken answer TS_BEFORE_KEPT before it,
+   and an archive leaves out what ended by then. Open views keep what they have. TS_IN_USE while an open
+   transaction reads before it. */
+int32_t ts_floor(ts *h, uint64_t time, ts_info *info);
+
+/* The next step of the archive, the reclaim or the floor that is being made; a: what it did. */
 int32_t ts_job_pump(ts *h, ts_info *info);
 
 #ifdef __cplusplus

@@ -36,7 +36,7 @@ int32_t ts_file_job_pump(ts_file *file, ts_info *info);
    until the next call of this function or of ts_file_close. */
 int32_t ts_file_archive(ts_file *file, const uint8_t **at, size_t *len);
 
-/* All steps of all commits that wait, and of the archive or the reclaim that is being made. */
+/* All steps of all commits that wait, and of the archive, the reclaim or the floor that is being made. */
 int32_t ts_file_flush(ts_file *file);
 int32_t ts_file_job(ts_file *file);
 

@@ -98,7 +98,8 @@ def _prototypes() -> dict[str, list[Any]]:
         "ts_between": [handle, u64, u16, u64, u64, u64, *lent, *rows],
         "ts_scan_between": [handle, u64, u16, u64, u64, *lent, *rows],
         "ts_times_of": [handle, u64, buf, size, info], "ts_archive": [handle, u64, info],
-        "ts_reclaim": [handle, info], "ts_file_archive": [buf, ctypes.POINTER(buf), ctypes.POINTER(size)],
+        "ts_reclaim": [handle, info], "ts_floor": [handle, u64, info],
+        "ts_file_archive": [buf, ctypes.POINTER(buf), ctypes.POINTER(size)],
         "ts_file_format": [text, ctypes.c_uint32], "ts_file_open": [text, ctypes.POINTER(buf), info],
         "ts_file_pump": [buf, info], "ts_file_job_pump": [buf, info], "ts_file_flush": [buf],
         "ts_file_job": [buf], "ts_file_refuse": [buf, u64],
@@ -273,6 +274,15 @@ class Store:
         """Begins that, of which `job_pump` takes each step."""
         self._ask(_library.ts_reclaim)
 
+    def raise_floor(self, time: Time) -> None:
+        """Raises the floor to a time: views that are taken then answer `BeforeKept` at an earlier one."""
+        self.floor_start(time)
+        _ask(_library.ts_file_job(self._of_file()))
+
+    def floor_start(self, time: Time) -> None:
+        """Begins that, of which `job_pump` takes each step."""
+        self._ask(_library.ts_floor, micros(time))
+
     def _archive(self) -> tuple[ctypes.c_void_p, ctypes.c_size_t]:
         """The archive, which stays mapped until the next such call."""
         at, size = ctypes.c_void_p(), ctypes.c_size_t()
@@ -280,7 +290,7 @@ class Store:
         return at, size
 
     def job_pump(self) -> int:
-        """One step of the archive or the reclaim that is being made: what it did, 0 where there is none."""
+        """One step of the job that is being made: what it did, 0 where there is none."""
         _ask(_library.ts_file_job_pump(self._of_file(), self._info))
         return self._info.a
 

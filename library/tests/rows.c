@@ -28,6 +28,7 @@ static void test_closed(void) {
     CHECK(TS_CLOSED, ts_close(&h));
     CHECK(TS_NOT_A_STORE, ts_open(&h, none, 0, none, 0, none, 0, 1, &info));
     CHECK(TS_CLOSED, ts_last(&h, &info));
+    CHECK(TS_CLOSED, ts_floor(&h, 1, &info));
     CHECK(TS_BAD_SLOTS, ts_format(15, none, 0, &info));
     CHECK(TS_BAD_SLOTS, ts_format(65537, none, 0, &info));
     CHECK(TS_SMALL, ts_format(16, none, 0, &info));
@@ -80,6 +81,7 @@ static void test_pending(ts_file *file) {
     CHECK(TS_PENDING, ts_last(h, &info));
     CHECK(TS_PENDING, ts_submit(h, open, 9, 0, &info));
     CHECK(TS_PENDING, ts_archive(h, 50, &info));
+    CHECK(TS_PENDING, ts_floor(h, 50, &info));
     HOLDS(has_text(h, view.a, 7, 100, "a"));
     uint8_t value[16];
     CHECK(TS_OK, ts_get(h, open, 1, 7, value, sizeof value, &info));
@@ -223,7 +225,48 @@ static void test_reclaim(ts_file *file) {
     CHECK(TS_OK, ts_end(h, old.a));
 }
 
-/* After a reclaim the store opens, and answers over the archive. */
+/* A floor, refused and raised: a view from before it answers as it did, and one from after it not below it. */
+static void test_floor(ts_file *file) {
+    ts *h = ts_file_store(file);
+    ts_info info, old, view;
+    ts_row rows[8];
+    uint8_t out[64];
+    const uint8_t *archive;
+    size_t len;
+    CHECK(TS_NOTHING_TO_DO, ts_floor(h, 0, &info));
+    CHECK(TS_NOT_YET, ts_floor(h, 402, &info));
+    HOLDS(info.a == 401);
+    uint64_t open = begun(h);
+    HOLDS(commit_text(file, 10, "e", 9, 500) == 500);
+    CHECK(TS_IN_USE, ts_floor(h, 402, &info));
+    HOLDS(info.a == 401);
+    CHECK(TS_OK, ts_abort(h, open));
+    CHECK(TS_OK, ts_view(h, &old));
+    CHECK(TS_OK, ts_floor(h, 300, &info));
+    CHECK(TS_JOB_BUSY, ts_floor(h, 301, &info));
+    CHECK(TS_JOB_BUSY, ts_archive(h, 500, &info));
+    CHECK(TS_OK, ts_last(h, &info));
+    HOLDS(info.a == 500 && info.b == 0);
+    CHECK(TS_OK, ts_file_job(file));
+    CHECK(TS_OK, ts_last(h, &info));
+    HOLDS(info.a == 500 && info.b == 300);
+    CHECK(TS_NOTHING_TO_DO, ts_floor(h, 300, &info));
+    CHECK(TS_OK, ts_view(h, &view));
+    CHECK(TS_OK, ts_file_archive(file, &archive, &len));
+    CHECK(TS_BEFORE_KEPT, ts_recent(h, view.a, 1, 7, 299, out, sizeof out, &info));
+    HOLDS(info.a == 300);
+    CHECK(TS_BEFORE_KEPT, ts_at(h, view.a, 1, 7, 299, archive, len, out, sizeof out, &info));
+    HOLDS(info.a == 300);
+    CHECK(TS_BEFORE_KEPT, ts_between(h, view.a, 1, 7, 299, 401, archive, len, rows, 8, out, sizeof out, &info));
+    CHECK(TS_OK, ts_at(h, view.a, 1, 7, 300, archive, len, out, sizeof out, &info));
+    HOLDS(info.a == 3 && out[2] == 'a');
+    CHECK(TS_OK, ts_at(h, old.a, 1, 7, 299, archive, len, out, sizeof out, &info));
+    HOLDS(info.a == 3 && out[2] == 'a');
+    CHECK(TS_OK, ts_end(h, view.a));
+    CHECK(TS_OK, ts_end(h, old.a));
+}
+
+/* After a reclaim and a floor the store opens, and answers over the archive. */
 static void test_reopened(ts_file *file) {
     ts *h = ts_file_store(file);
     ts_info info, view;
@@ -232,8 +275,9 @@ static void test_reopened(ts_file *file) {
     size_t len;
     CHECK(TS_OK, ts_view(h, &view));
     CHECK(TS_OK, ts_file_archive(file, &archive, &len));
-    CHECK(TS_OK, ts_at(h, view.a, 1, 7, 150, archive, len, out, sizeof out, &info));
+    CHECK(TS_OK, ts_at(h, view.a, 1, 7, 300, archive, len, out, sizeof out, &info));
     HOLDS(out[2] == 'a');
+    CHECK(TS_BEFORE_KEPT, ts_at(h, view.a, 1, 7, 299, archive, len, out, sizeof out, &info));
     CHECK(TS_OK, ts_end(h, view.a));
 }
 
@@ -254,9 +298,10 @@ int main(int argc, char **argv) {
     test_rows(file);
     test_archive(file);
     test_reclaim(file);
+    test_floor(file);
     ts_file_close(file);
     CHECK(TS_OK, ts_file_open(argv[1], &file, &info));
-    HOLDS(info.a == 401);
+    HOLDS(info.a == 500 && info.b == 300);
     HOLDS(now_has(ts_file_store(file), 7, 401, "d"));
     test_reopened(file);
     ts_file_close(file);

@@ -15,6 +15,7 @@ use Rattle.relay.specs.declared.device_call.DeviceCall.TheVariants.{Write, Sync}
 use Rattle.snapshot.specs.Txn.{TxnValue}
 use Rattle.store.specs.Archives.{StartsArchive}
 use Rattle.store.specs.Calls.{Begins, Aborts, Submits, Redeems, IsTimesOf, IsViewOf, last, floor}
+use Rattle.store.specs.Floors.{StartsFloor}
 use Rattle.store.specs.Jobs.{PumpsJob}
 use Rattle.store.specs.Opens.{Opens}
 use Rattle.store.specs.Pumps.{Pumps}
@@ -115,6 +116,10 @@ ArchivesEngine upto old new = WhileSettled old new ((answer : Result (Unit {0}) 
 -- the same of a reclaim
 abbrev pub ReclaimsEngine : Engine → Engine → Type 0
 ReclaimsEngine old new = WhileSettled old new ((answer : Result (Unit {0}) StartFault) × StartsReclaim old.store answer new.store × (new.standing ≡ old.standing))
+
+-- and of a floor
+abbrev pub RaisesEngine : ℕ → Engine → Engine → Type 0
+RaisesEngine time old new = WhileSettled old new ((answer : Result (Unit {0}) StartFault) × StartsFloor old.store time answer new.store × (new.standing ≡ old.standing))
 
 -- the number that is told names a view of what is published
 abbrev pub GivesView : Engine → Engine → Code → Info → Type 0

@@ -1,10 +1,10 @@
-//! Archives and reclaims.
+//! Archives, reclaims and floors.
 use crate::code::{Code, Info};
 use crate::codes::{job_number, pump_code, start_code};
 use crate::engine::Engine;
 
 impl Engine {
-    ghost use Rattle.embedded.specs.Engines.{ArchivesEngine, ReclaimsEngine, PumpsJobOf};
+    ghost use Rattle.embedded.specs.Engines.{ArchivesEngine, ReclaimsEngine, RaisesEngine, PumpsJobOf};
 
     /// Begins an archive of what ended by a time.
     pub fn archive(&mut self, upto: u64, info: &mut Info) -> Code
@@ -27,6 +27,19 @@ impl Engine {
             return code;
         }
         match self.store.reclaim_start() {
+            Ok(()) => Code::Ok,
+            Err(fault) => start_code(fault, info),
+        }
+    }
+
+    /// Begins to raise the floor to a time.
+    pub fn floor(&mut self, time: u64, info: &mut Info) -> Code
+        ensures { RaisesEngine time self.old self.new }
+    {
+        if let Some(code) = self.stopped() {
+            return code;
+        }
+        match self.store.floor_start(time) {
             Ok(()) => Code::Ok,
             Err(fault) => start_code(fault, info),
         }

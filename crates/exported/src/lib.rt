@@ -4,7 +4,7 @@
 ghost use Rattle.std.specs.Prelude.{◌≡◌, None, Some};
 ghost use Rattle.history.specs.Key.{key_of};
 ghost use Rattle.embedded.specs.Codes.{code_number, AnswersOn};
-ghost use Rattle.embedded.specs.Engines.{OnHandle, StaysSame, KeepsStore, MayAbort, HasCalled, OpensHandle, BeginsEngine, SubmitsEngine, RedeemsEngine, PumpsEngine, PumpsJobOf, ArchivesEngine, ReclaimsEngine, TellsTimes, TellsCall, TellsLabels};
+ghost use Rattle.embedded.specs.Engines.{OnHandle, StaysSame, KeepsStore, MayAbort, HasCalled, OpensHandle, BeginsEngine, SubmitsEngine, RedeemsEngine, PumpsEngine, PumpsJobOf, ArchivesEngine, ReclaimsEngine, RaisesEngine, TellsTimes, TellsCall, TellsLabels};
 ghost use Rattle.embedded.specs.Queries.{Sees, SeesScan, AsksRecent, AsksAt, AsksScanAt, AsksRows, AsksScanRows};
 
 use embedded::{Call, Code, Engine, Handle, Info, Row};
@@ -456,6 +456,18 @@ pub extern "C" fn ts_reclaim(alloc: Global, handle: &mut Handle, info: &mut Info
         return Code::Closed.number();
     };
     let code = engine.reclaim(info);
+    put_back(handle, engine, code)
+}
+
+/// Begins to raise the floor to a time.
+#[unsafe(no_mangle)]
+pub extern "C" fn ts_floor(alloc: Global, handle: &mut Handle, time: u64, info: &mut Info) -> i32
+    ensures { OnHandle (RaisesEngine time) handle.old.engine handle.new.engine }
+{
+    let Some(mut engine) = handle.take(alloc) else {
+        return Code::Closed.number();
+    };
+    let code = engine.floor(time, info);
     put_back(handle, engine, code)
 }
 

@@ -35,6 +35,7 @@ use Rattle.store.specs.Calls as asking
 use Rattle.store.specs.Calls.{Begins, Aborts, Submits, Redeems, Finds, OrStranger}
 use Rattle.store.specs.Archives.{StartsArchive, BeginsRun, refusal_now, with_archive}
 use Rattle.store.specs.Reclaims.{StartsReclaim, BeginsReclaim, reclaim_refusal, with_reclaim}
+use Rattle.store.specs.Floors.{StartsFloor, floor_refusal, with_floor}
 use Rattle.store.specs.declared.job.StartFault.{StartFault}
 use Rattle.named.specs.Named.{WritesBehind, IsTyped}
 use Rattle.named.proofs.Places.{same_left}
@@ -146,6 +147,21 @@ reclaiming tells old new answer starts typed behind = by_refusal (reclaim_refusa
   where
     by_refusal : (o : Option StartFault) → MatchOption o (BeginsReclaim old answer new) (λ why. (answer ≡ Err why) × (new ≡ old)) → LeavesAll tells old new × WritesBehind new
     by_refusal None is = begins_reclaim tells old new answer is (all_back (IsOut old.transactions.usages) (flat_map numbers_of old.transactions.queue) old.transactions.reserved ((typed.order).out).each) behind
+    by_refusal (Some why) is = (leaves_itself tells old new is.1, behind_by new old.job old.runs_end (ap (λ (v : StoreValue). v.job) is.1) (ap (λ (v : StoreValue). v.runs_end) is.1) behind)
+
+-- ---- a floor begins
+
+pub raising_floor : (tells : Bool) (old new : StoreValue) (time : ℕ) (answer : Result (Unit {0}) StartFault) → StartsFloor old time answer new → WritesBehind old → LeavesAll tells old new × WritesBehind new
+raising_floor tells old new time answer starts behind = by_refusal (floor_refusal old time) starts
+  where
+    by_refusal : (o : Option StartFault) → MatchOption o ((answer ≡ Ok tt) × (new ≡ with_floor old time)) (λ why. (answer ≡ Err why) × (new ≡ old)) → LeavesAll tells old new × WritesBehind new
+    by_refusal None is = (
+      disk_stays tells old new
+          (named_by old new (kept_same old.transactions.usages new.transactions.usages (ap (λ (v : StoreValue). v.transactions.usages) is.1))
+          (omega (arith, ap (λ (v : StoreValue). v.log.used) is.1)) (omega (arith, ap (λ (v : StoreValue). v.runs_end) is.1)))
+          (ap (λ (v : StoreValue). v.disk) is.1),
+      behind_by new (with_floor old time).job old.runs_end (ap (λ (v : StoreValue). v.job) is.1) (ap (λ (v : StoreValue). v.runs_end) is.1) tt,
+    )
     by_refusal (Some why) is = (leaves_itself tells old new is.1, behind_by new old.job old.runs_end (ap (λ (v : StoreValue). v.job) is.1) (ap (λ (v : StoreValue). v.runs_end) is.1) behind)
 
 -- ---- queries

@@ -29,7 +29,7 @@ use Rattle.store.specs.Pumps.{disk_answer}
 use Rattle.store.specs.Jobs.{PumpsJob, TakesJobStep, Stores, WritesOrSyncs, WritesRun, AnchorsOrSync, WritesAnchors, SyncsStored, BeginsJobSlot, TurnsJob, IsJobTurned, JobTurnFails, JobMoves, with_job, job_fails, first_turn, slot_taken, made_ready, piece_of, behind_piece}
 use Rattle.store.specs.declared.job.Job.{Job}
 use Rattle.store.specs.declared.job.JobWork.{JobWork}
-use Rattle.store.specs.declared.job.JobWork.TheVariants.{Archive as ArchiveWork, Reclaim}
+use Rattle.store.specs.declared.job.JobWork.TheVariants.{Archive as ArchiveWork, Reclaim, Floor}
 use Rattle.store.specs.declared.job.JobStage.{JobStage}
 use Rattle.store.specs.declared.job.JobStage.TheVariants as stages
 use Rattle.store.specs.declared.job.JobDid.{JobDid}
@@ -136,6 +136,7 @@ anchors_or_sync tells (Some number) v new anchors source written stage result fo
 stores : (tells : Bool) (work : JobWork) (stage : JobStage) (v new : StoreValue) (result : Result JobDid PumpFault) → Goes tells v → IsBehindRuns v.runs_end work → Stores tells work (record { work = work; stage = stage }) v result new → Ends tells v new
 stores tells (ArchiveWork run writer) stage v new result goes behind is = run_or_sync tells writer.left v new run writer stage result goes behind is
 stores tells (Reclaim anchors source written) stage v new result goes behind is = anchors_or_sync tells (slice_get v.transactions.reserved written) v new anchors source written stage result refl goes is
+stores tells (Floor time) stage v new result goes behind is = absurd is
 
 -- ---- the slot
 
@@ -183,6 +184,13 @@ archived t run writer stage v new what number behind is = record {
   behind = behind_by new None (run.start + run.len) (ap (λ (s : StoreValue). s.job) is.2) (ap (λ (s : StoreValue). s.runs_end) is.2) tt;
 }
 
+floored : (t : TurnState) (time : ℕ) (stage : JobStage) (v new : StoreValue) (what : JobDid) → t.number ≡ v.log.used → IsJobTurned slots.GateWritten t (record { work = Floor time; stage = stage }) v what new → Named v new
+floored t time stage v new what number is = record {
+  named = λ area k named. inl (named_by v new (kept_same v.transactions.usages new.transactions.usages (ap (λ (s : StoreValue). s.transactions.usages) is.2)) (omega (arith, ap (λ (s : StoreValue). s.log.used) is.2, number))
+      (omega (arith, ap (λ (s : StoreValue). s.runs_end) is.2)) area k named);
+  behind = behind_by new None v.runs_end (ap (λ (s : StoreValue). s.job) is.2) (ap (λ (s : StoreValue). s.runs_end) is.2) tt;
+}
+
 -- a step on the way of the slot
 on_its_way : (v new : StoreValue) (job : Job) (t : TurnState) → IsBehindRuns v.runs_end job.work → new ≡ with_job v (record job { stage = stages.Turning t }) new → Named v new
 on_its_way v new job t behind is = goes_on v new (record job { stage = stages.Turning t }) behind is
@@ -194,6 +202,7 @@ turned slots.BodyWritten t work stage v new what out number there behind is = on
 turned slots.BodySynced t work stage v new what out number there behind is = on_its_way v new (record { work = work; stage = stage }) (record t { stage = slots.GateWritten }) behind is.1
 turned slots.GateWritten t (ArchiveWork run writer) stage v new what out number there behind is = archived t run writer stage v new what number behind is
 turned slots.GateWritten t (Reclaim anchors source written) stage v new what out number there behind is = reclaimed t anchors source written stage v new what out number there is
+turned slots.GateWritten t (Floor time) stage v new what out number there behind is = floored t time stage v new what number is
 turned slots.Opened t work stage v new what out number there behind is = absurd is
 
 answered : (t : TurnState) (work : JobWork) (stage : JobStage) (v new : StoreValue) (result : Result JobDid PumpFault) → AreOut v.transactions.usages v.transactions.reserved → t.number ≡ v.log.used → v.job ≡ Some (record { work = work; stage = stage }) → IsBehindRuns v.runs_end work
@@ -227,6 +236,7 @@ record IsReady (v ready : StoreValue) : Type 0 where
 is_ready : (work : JobWork) (v : StoreValue) → IsReady v (slot_taken (made_ready work v))
 is_ready (ArchiveWork run writer) v = record { usages = refl; reserved = refl; times = refl; used = refl; runs_end = refl; job = refl; disk = refl }
 is_ready (Reclaim anchors source written) v = record { usages = refl; reserved = refl; times = refl; used = refl; runs_end = refl; job = refl; disk = refl }
+is_ready (Floor time) v = record { usages = refl; reserved = refl; times = refl; used = refl; runs_end = refl; job = refl; disk = refl }
 
 ready_goes : (tells : Bool) (v ready : StoreValue) → IsReady v ready → Goes tells v → Goes tells ready
 ready_goes tells v ready is goes = record {

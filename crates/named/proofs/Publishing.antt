@@ -27,13 +27,13 @@ use Rattle.store.specs.Pumps.{Pumps, TakesStep, WritesExtent, MayBeginSlot, Turn
 use Rattle.store.specs.Jobs.{PumpsJob, TakesJobStep, WritesOrSyncs, AnchorsOrSync, BeginsJobSlot, IsJobTurned}
 use Rattle.store.specs.Archives.{ArchiveJob, job_of}
 use Rattle.store.specs.declared.job.Job.{Job}
-use Rattle.store.specs.declared.job.JobWork.TheVariants.{Reclaim}
+use Rattle.store.specs.declared.job.JobWork.TheVariants.{Reclaim, Floor}
 use Rattle.store.specs.declared.job.JobStage.{JobStage}
 use Rattle.store.specs.declared.job.JobStage.TheVariants as stages
 use Rattle.store.specs.declared.job.JobDid.{JobDid}
 use Rattle.store.specs.declared.job.JobDid.TheVariants as did
 use Rattle.named.specs.Named.{IsTyped}
-use Rattle.named.specs.Laws.{HasPublished, HasArchived, HasAnchored}
+use Rattle.named.specs.Laws.{HasPublished, HasArchived, HasAnchored, NamesNoMore}
 use Rattle.standing.proofs.Retired.{reserved-kept}
 use Rattle.named.proofs.Naming.{kept_published, others_of, grouped_usages, grouped_queue}
 
@@ -189,3 +189,42 @@ reclaim_by_failed tells false v new anchors source written stage there works typ
 
 pub anchors_named : (tells : Bool) (old new : StoreValue) (anchors : Anchors) (source : Sourced) (written : ℕ) (stage : JobStage) → IsTyped tells old → old.job ≡ Some (reclaim_of anchors source written stage) → PumpsJob tells old (Ok did.JobDone) new → HasAnchored old new
 anchors_named tells old new anchors source written stage typed there pumps = reclaim_by_failed tells old.transactions.failed old new anchors source written stage there refl typed pumps
+
+-- ---- a floor
+
+abbrev floor_of : ℕ → JobStage → Job
+floor_of time stage = record { work = Floor time; stage = stage }
+
+floor_turned : (at : SlotStage) (t : TurnState) (time : ℕ) (stage : JobStage) (v new : StoreValue) → t.number ≡ v.log.used → IsJobTurned at t (floor_of time stage) v did.JobDone new → NamesNoMore v new
+floor_turned slots.Begun t time stage v new number is = absurd (let wrong = is.0 in cc)
+floor_turned slots.BodyWritten t time stage v new number is = absurd (let wrong = is.0 in cc)
+floor_turned slots.BodySynced t time stage v new number is = absurd (let wrong = is.0 in cc)
+floor_turned slots.GateWritten t time stage v new number is = record {
+  slots = omega (arith, ap (λ (s : StoreValue). s.log.used) is.2, number);
+  usages = ap (λ (s : StoreValue). s.transactions.usages) is.2;
+  runs = ap (λ (s : StoreValue). s.runs_end) is.2;
+}
+floor_turned slots.Opened t time stage v new number is = absurd is
+
+floor_begun_none : (tells : Bool) (v new : StoreValue) (time : ℕ) (stage : JobStage) (b : Bool)
+    → MatchBool b ((◌≡◌ {A = Result JobDid PumpFault} (Ok did.JobDone) (Err fault.Busy)) × (new ≡ v)) (BeginsJobSlot tells (floor_of time stage) v (Ok did.JobDone) new) → ⊥
+floor_begun_none tells v new time stage true is = let wrong = is.0 in cc
+floor_begun_none tells v new time stage false (inl is) = absurd is.0
+floor_begun_none tells v new time stage false (inr is) = let wrong : ◌≡◌ {A = JobDid} did.JobDone did.BodyWritten = is.answer.0 in cc
+
+floor_takes : (tells : Bool) (stage : JobStage) (v new : StoreValue) (time : ℕ) → MatchOption (turn_in stage) (Unit {0}) (λ t. t.number ≡ v.log.used) → TakesJobStep tells stage (floor_of time stage) v (Ok did.JobDone) new → NamesNoMore v new
+floor_takes tells stages.Writing v new time number is = absurd is
+floor_takes tells stages.Stored v new time number is = absurd (floor_begun_none tells v new time stages.Stored (is_some v.turn) is)
+floor_takes tells (stages.Turning t) v new time number is = floor_turned t.stage t time (stages.Turning t) v new number is.answer
+
+floor_by_failed : (tells b : Bool) (v new : StoreValue) (time : ℕ) (stage : JobStage) → v.job ≡ Some (floor_of time stage) → v.transactions.failed ≡ b → IsTyped tells v
+    → MatchBool b ((◌≡◌ {A = Result JobDid PumpFault} (Ok did.JobDone) (Err fault.Failed)) × (new ≡ v)) (MatchOption v.job ((◌≡◌ {A = Result JobDid PumpFault} (Ok did.JobDone) (Ok did.Idle)) × (new ≡ v)) (λ j. TakesJobStep tells j.stage j v (Ok did.JobDone) new)) → NamesNoMore v new
+floor_by_failed tells true v new time stage there failed typed is = absurd (let wrong = is.0 in cc)
+floor_by_failed tells false v new time stage there works typed is =
+    let number = job_number v (turn_of v.job) (((typed.in_step).turns works).job) in
+    floor_takes tells stage v new time
+    (subst (λ (o : Option Job). MatchOption (turn_of o) (Unit {0}) (λ (t : TurnState). t.number ≡ v.log.used)) there number)
+    (subst (λ (o : Option Job). MatchOption o ((◌≡◌ {A = Result JobDid PumpFault} (Ok did.JobDone) (Ok did.Idle)) × (new ≡ v)) (λ (j : Job). TakesJobStep tells j.stage j v (Ok did.JobDone) new)) there is)
+
+pub floor_names_no_more : (tells : Bool) (old new : StoreValue) (time : ℕ) (stage : JobStage) → IsTyped tells old → old.job ≡ Some (floor_of time stage) → PumpsJob tells old (Ok did.JobDone) new → NamesNoMore old new
+floor_names_no_more tells old new time stage typed there pumps = floor_by_failed tells old.transactions.failed old new time stage there refl typed pumps

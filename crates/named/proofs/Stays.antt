@@ -8,7 +8,6 @@ use Rattle.disk.specs.declared.area.Area.{Area}
 use Rattle.disk.specs.declared.area.Area.TheVariants.{Status, Heap, Archive}
 use Rattle.extents.specs.declared.usage.Usage.{Usage}
 use Rattle.extents.specs.Usages.{IsKept}
-use Rattle.wire.specs.declared.slot.Run.{Run}
 use Rattle.image.specs.Reading.{Reading}
 use Rattle.status.specs.declared.header.Header.{Header}
 use Rattle.status.specs.Rules.{row_end}
@@ -19,10 +18,10 @@ use Rattle.recovery.specs.ReadsImage.{IsOpening}
 use Rattle.store.specs.Values.{StoreValue}
 use Rattle.store.specs.Opens.{Opens}
 use Rattle.named.specs.Named.{IsNamed, IsLeft, IsGivenUpIn, LeavesNamed, WritesBehind, IsTyped, bytes_in}
-use Rattle.named.specs.Laws.{IsCall, Began, Aborted, Submitting, Redeeming, Pumped, Archiving, Reclaiming, JobPumped, Viewed, AskedAt, AskedScan, AskedRows, AskedScanRows, AreCalls, end_of, IsGivenUpAmong, StaysNamed, HasNamed}
+use Rattle.named.specs.Laws.{IsCall, Began, Aborted, Submitting, Redeeming, Pumped, Archiving, Reclaiming, RaisingFloor, JobPumped, Viewed, AskedAt, AskedScan, AskedRows, AskedScanRows, AreCalls, end_of, IsGivenUpAmong, StaysNamed, HasNamed}
 use Rattle.named.proofs.Places.{same_left, left_twice}
 use Rattle.named.proofs.Naming.{LeavesAll, leaves_named, leaves_itself, behind_by}
-use Rattle.named.proofs.Calls.{began, aborted, redeemed, submitted, archiving, reclaiming, asked}
+use Rattle.named.proofs.Calls.{began, aborted, redeemed, submitted, archiving, reclaiming, raising_floor, asked}
 use Rattle.named.proofs.Pumping.{pumped}
 use Rattle.named.proofs.Jobs.{job_pumped}
 
@@ -48,7 +47,7 @@ opened_names tells disk mark v opens told =
       record {
         slots = ap (λ (s : StoreValue). s.log.used) opens.new_is ∙ (read.is).used;
         extents = subst (λ (us : List Usage). AllByRecursion (λ (e : Extent). IsKept us e.number) (live read.layout)) (sym usages) kept;
-        runs = ap (λ (s : StoreValue). s.runs_end) opens.new_is ∙ ap (λ (rs : List Run). row_end 0 rs) (read.is).runs;
+        runs = ap (λ (s : StoreValue). s.runs_end) opens.new_is ∙ ap (row_end 0) ((read.is).runs).runs_are;
       },
     )
 
@@ -68,6 +67,7 @@ call_leaves tells old new typed behind call = by_call call
     by_call (Pumped answer is) = all (pumped tells old new answer is typed behind)
     by_call (Archiving upto answer is) = all (archiving tells old new upto answer is behind)
     by_call (Reclaiming answer is) = all (reclaiming tells old new answer is typed behind)
+    by_call (RaisingFloor time answer is) = all (raising_floor tells old new time answer is behind)
     by_call (JobPumped answer is) = job_pumped tells old new answer is typed behind
     by_call (Viewed same) = all (leaves_itself tells old new same, subst WritesBehind (sym same) behind)
     by_call (AskedAt view key time answer is) = all (asked tells old new view time _ _ _ _ answer is behind)

@@ -33,11 +33,12 @@ use Rattle.wire.specs.declared.slot.Anchors.{Anchors}
 use Rattle.store.specs.Calls.{Begins, Aborts, Submits, Redeems, AnswersAtView, AnswersScanAt, AnswersRows, AnswersScanRows}
 use Rattle.store.specs.Archives.{ArchiveJob, job_of, StartsArchive}
 use Rattle.store.specs.Reclaims.{StartsReclaim}
+use Rattle.store.specs.Floors.{StartsFloor}
 use Rattle.store.specs.Pumps.{Pumps}
 use Rattle.store.specs.Jobs.{PumpsJob}
 use Rattle.store.specs.Opens.{Opens}
 use Rattle.store.specs.declared.job.JobStage.{JobStage}
-use Rattle.store.specs.declared.job.JobWork.TheVariants.{Reclaim}
+use Rattle.store.specs.declared.job.JobWork.TheVariants.{Reclaim, Floor}
 use Rattle.store.specs.declared.job.StartFault.{StartFault}
 use Rattle.store.specs.declared.job.JobDid.{JobDid}
 use Rattle.store.specs.declared.job.JobDid.TheVariants as did
@@ -52,6 +53,7 @@ pub data IsCall (tells : Bool) (old new : StoreValue) : Type 0 where
   Pumped : (answer : Result Did PumpFault) → Pumps tells old answer new → IsCall tells old new
   Archiving : (upto : ℕ) (answer : Result (Unit {0}) StartFault) → StartsArchive old upto answer new → IsCall tells old new
   Reclaiming : (answer : Result (Unit {0}) StartFault) → StartsReclaim old answer new → IsCall tells old new
+  RaisingFloor : (time : ℕ) (answer : Result (Unit {0}) StartFault) → StartsFloor old time answer new → IsCall tells old new
   JobPumped : (answer : Result JobDid PumpFault) → PumpsJob tells old answer new → IsCall tells old new
   -- a view, its end, or the times of a label
   Viewed : new ≡ old → IsCall tells old new
@@ -138,3 +140,13 @@ pub record HasAnchored (old new : StoreValue) : Type 0 where
 abbrev pub AnchorsNamed : Type 0
 AnchorsNamed = (tells : Bool) (old new : StoreValue) (anchors : Anchors) (source : Sourced) (written : ℕ) (stage : JobStage) → IsTyped tells old → old.job ≡ Some (record { work = Reclaim anchors source written; stage = stage })
     → PumpsJob tells old (Ok did.JobDone) new → HasAnchored old new
+
+-- a floor's slot names nothing, and nothing more is named but the slot itself
+pub record NamesNoMore (old new : StoreValue) : Type 0 where
+  pub slots : new.log.used ≡ old.log.used + 1
+  pub usages : new.transactions.usages ≡ old.transactions.usages
+  pub runs : new.runs_end ≡ old.runs_end
+
+abbrev pub FloorNamesNoMore : Type 0
+FloorNamesNoMore = (tells : Bool) (old new : StoreValue) (time : ℕ) (stage : JobStage) → IsTyped tells old → old.job ≡ Some (record { work = Floor time; stage = stage })
+    → PumpsJob tells old (Ok did.JobDone) new → NamesNoMore old new

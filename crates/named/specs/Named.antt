@@ -14,7 +14,7 @@ use Rattle.wire.specs.declared.slot.Anchors.{Anchors}
 use Rattle.store.specs.Values.{StoreValue, IsInStep}
 use Rattle.store.specs.declared.job.JobStage.{JobStage}
 use Rattle.store.specs.declared.job.JobWork.{JobWork}
-use Rattle.store.specs.declared.job.JobWork.TheVariants.{Archive, Reclaim}
+use Rattle.store.specs.declared.job.JobWork.TheVariants.{Archive, Reclaim, Floor}
 
 -- the place lies in an extent that is kept
 pub record IsInKept (v : StoreValue) (k : ℕ) : Type 0 where
@@ -59,10 +59,11 @@ pub record LeavesNamed (tells : Bool) (old new : StoreValue) : Type 0 where
   pub left : IsTrue tells → (area : Area) (k : ℕ) → IsNamed old area k → IsLeft k (area_of old.disk.areas area) (area_of new.disk.areas area)
   pub named : (area : Area) (k : ℕ) → IsNamed old area k → IsNamed new area k ⊎ IsGivenUpIn old new area k
 
--- a run lies behind the runs of the log, and is written there; a reclaim writes no run
+-- a run lies behind the runs of the log, and is written there; a reclaim and a floor write no run
 abbrev pub IsBehindRuns : ℕ → JobWork → Type 0
 IsBehindRuns end (Archive run writer) = (end ≤ run.start) × (end ≤ writer.at)
 IsBehindRuns end (Reclaim anchors source written) = Unit {0}
+IsBehindRuns end (Floor time) = Unit {0}
 
 -- so it is of the job
 abbrev pub WritesBehind : StoreValue → Type 0

@@ -9,6 +9,7 @@ use Rattle.transactions.specs.Values.{TransactionsValue}
 use Rattle.store.specs.Values.{StoreValue}
 use Rattle.store.specs.Archives.{refusal_now, BeginsRun, StartsArchive}
 use Rattle.store.specs.Reclaims.{reclaim_refusal, BeginsReclaim, StartsReclaim}
+use Rattle.store.specs.Floors.{floor_refusal, with_floor, StartsFloor}
 use Rattle.store.specs.Jobs.{PumpsJob, TakesJobStep, Stores, WritesOrSyncs, AnchorsOrSync, BeginsJobSlot, TurnsJob, IsJobTurned, JobMoves, work_done, slot_opened, made_ready, first_turn, slot_taken}
 use Rattle.archive.specs.Pieces.{InWriting}
 use Rattle.vacuum.specs.Anchors.{Sourced}
@@ -16,7 +17,7 @@ use Rattle.wire.specs.declared.slot.Anchors.{Anchors}
 use Rattle.wire.specs.declared.slot.Run.{Run as WireRun}
 use Rattle.store.specs.declared.job.Job.{Job}
 use Rattle.store.specs.declared.job.JobWork.{JobWork}
-use Rattle.store.specs.declared.job.JobWork.TheVariants.{Archive, Reclaim}
+use Rattle.store.specs.declared.job.JobWork.TheVariants.{Archive, Reclaim, Floor}
 use Rattle.store.specs.declared.job.JobStage.{JobStage}
 use Rattle.store.specs.declared.job.JobStage.TheVariants as stages
 use Rattle.store.specs.declared.job.JobDid.{JobDid}
@@ -55,6 +56,13 @@ reclaim-leaves old new r starts = by-refusal (reclaim_refusal old) starts
     by-refusal None is = begins r is
     by-refusal (Some why) is = nothing-left old new is.1
 
+pub floor-leaves : (old new : StoreValue) (floor : ℕ) (r : Result (Unit {0}) StartFault) → StartsFloor old floor r new → Leaves old.transactions new.transactions
+floor-leaves old new floor r starts = by-refusal (floor_refusal old floor) starts
+  where
+    by-refusal : (o : Option StartFault) → MatchOption o ((r ≡ Ok tt) × (new ≡ with_floor old floor)) (λ why. (r ≡ Err why) × (new ≡ old)) → Leaves old.transactions new.transactions
+    by-refusal None is = same-leaves old.transactions _ new (record { mark = refl; opened = refl; heads = refl }) is.1
+    by-refusal (Some why) is = nothing-left old new is.1
+
 -- ---- a step
 
 moves-leave : (what : JobDid) (made refused : Job) (old new : StoreValue) (r : Result JobDid PumpFault) → JobMoves what made refused old r new → Leaves old.transactions new.transactions
@@ -64,6 +72,7 @@ moves-leave what made refused old new (Err why) is = same-leaves old.transaction
 done-leaves : (work : JobWork) (turn : TurnState) (old new : StoreValue) → Leaves old.transactions (slot_opened (work_done work old) turn new).transactions
 done-leaves (Archive run writer) turn old new = record { mark = refl; opened = refl; heads = refl }
 done-leaves (Reclaim anchors source written) turn old new = record { mark = refl; opened = refl; heads = refl }
+done-leaves (Floor floor) turn old new = record { mark = refl; opened = refl; heads = refl }
 
 turned-leave : (stage : SlotStage) (turn : TurnState) (j : Job) (old new : StoreValue) (what : JobDid) → IsJobTurned stage turn j old what new → Leaves old.transactions new.transactions
 turned-leave slots.Begun turn j old new what is = same-leaves old.transactions _ new (record { mark = refl; opened = refl; heads = refl }) is.1
@@ -87,12 +96,14 @@ anchors-leave tells (Some number) anchors source written j old new r is = moves-
 stores-leave : (tells : Bool) (work : JobWork) (j : Job) (old new : StoreValue) (r : Result JobDid PumpFault) → Stores tells work j old r new → Leaves old.transactions new.transactions
 stores-leave tells (Archive run writer) j old new r is = write-leaves tells writer.left run writer j old new r is
 stores-leave tells (Reclaim anchors source written) j old new r is = anchors-leave tells _ anchors source written j old new r is
+stores-leave tells (Floor floor) j old new r is = absurd is
 
 begun-leaves : (tells : Bool) (work : JobWork) (j : Job) (old new : StoreValue) (r : Result JobDid PumpFault) → TurnsJob tells j (first_turn old j) (slot_taken (made_ready work old)) r new → Leaves old.transactions new.transactions
 begun-leaves tells (Archive run writer) j old new r is = turn-leaves tells j (first_turn old j) (slot_taken old) new r is
 begun-leaves tells (Reclaim anchors source written) j old new r is =
     let left = turn-leaves tells j (first_turn old j) (slot_taken (made_ready (Reclaim anchors source written) old)) new r is in
     record { mark = left.mark; opened = left.opened; heads = left.heads }
+begun-leaves tells (Floor floor) j old new r is = turn-leaves tells j (first_turn old j) (slot_taken old) new r is
 
 job-leaves : (tells : Bool) (s : JobStage) (j : Job) (old new : StoreValue) (r : Result JobDid PumpFault) → TakesJobStep tells s j old r new → Leaves old.transactions new.transactions
 job-leaves tells stages.Writing j old new r is = stores-leave tells j.work j old new r is

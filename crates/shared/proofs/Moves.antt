@@ -1,5 +1,5 @@
 -- What one call of the store leaves under the lock.
-use Rattle.std.proofs.Common.{◌≡◌, ℕ, ◌+◌, ◌<◌, ◌^◌, ◌≤◌, ◌==◌, nat_le, Bool, true, false, cond, List, [], ◌∷◌, ◌++◌, length, Result, Ok, Err, MatchBool, refl, sym, ap, ◌∙◌, subst, arith}
+use Rattle.std.proofs.Common.{◌≡◌, ℕ, ◌+◌, ◌<◌, ◌^◌, ◌≤◌, ◌==◌, nat_le, Bool, true, false, cond, List, [], ◌∷◌, ◌++◌, length, Option, Result, Ok, Err, MatchBool, refl, sym, ap, ◌∙◌, subst, arith}
 use Rattle.std.specs.Prelude.{IsTrue}
 use Rattle.std.proofs.lemmas.List.{append-nil}
 use Rattle.std.proofs.lemmas.Bool.Decides.{nat_tests}
@@ -7,8 +7,9 @@ use Rattle.atomic_table.specs.Seated.{TableId}
 use Rattle.disk.specs.Areas.{AreSound}
 use Rattle.history.specs.declared.key.KeyWrite.{KeyWrite}
 use Rattle.history.specs.Histories.{Commit, History, last}
+use Rattle.history.specs.Floors.{Raising}
 use Rattle.history.specs.Machine.{Machine, commit_order}
-use Rattle.history.specs.Steps.{Step, Run, Began, Aborted, Decided, begun}
+use Rattle.history.specs.Steps.{Step, Run, Began, Aborted, Decided, FloorStarted, begun, floor_started}
 use Rattle.history.specs.Submissions as submissions
 use Rattle.history.specs.Submissions.{Submission, commit_made}
 use Rattle.history.proofs.Histories.{last_after-append}
@@ -44,29 +45,32 @@ use Rattle.store.specs.Calls.{Finds, OrStranger}
 use Rattle.store.specs.Pumps.{Pumps}
 use Rattle.store.specs.Archives.{StartsArchive}
 use Rattle.store.specs.Reclaims.{StartsReclaim}
+use Rattle.store.specs.Floors.{StartsFloor}
 use Rattle.store.specs.Jobs.{PumpsJob}
 use Rattle.store.specs.declared.job.JobDid.{JobDid}
 use Rattle.store.specs.declared.job.StartFault.{StartFault}
+use Rattle.store.specs.declared.job.StartFault.TheVariants as fault
 use Rattle.standing.specs.Standing.{StandsInMemory}
+use Rattle.standing.specs.Calls.{raising_to, StartsOn}
 use Rattle.standing.specs.Homes.{GoesOn}
 use Rattle.standing.specs.Laws.{submission_of, event_of, begins_in, ends_in, job_ends_in}
-use Rattle.standing.specs.Stands.{Stands}
+use Rattle.standing.specs.Stands.{Stands, raising_of}
 use Rattle.standing.proofs.Memory.{last-is}
 use Rattle.standing.proofs.Submitting.{order-last}
 use Rattle.standing.proofs.Calling.{begin-stands, abort-stands, submit-stands, redeem-stands}
-use Rattle.standing.proofs.Whole.{pump-stands, pump-goes, job-pump-stands, job-pump-goes, archive-start-stands, archive-start-goes, reclaim-start-stands, reclaim-start-goes, rest-goes}
+use Rattle.standing.proofs.Whole.{pump-stands, pump-goes, job-pump-stands, job-pump-goes, archive-start-stands, archive-start-goes, reclaim-start-stands, reclaim-start-goes, floor-start-stands, floor-start-goes, rest-goes}
 use Rattle.standing.proofs.Asking.{query-stands}
 use Rattle.shared.specs.Archives.{ArchiveSeen, IsArchiveLater, archive_seen, no_archive}
 use Rattle.shared.specs.Counts.{told_count, told_after}
 use Rattle.shared.specs.Reached.{Reached, opened, stepped}
 use Rattle.shared.specs.Seen.{Seen, SightValue, seen_of, IsLater}
-use Rattle.shared.specs.Shared.{IsShared, Submits, SubmitSays, SubmitHappens, queued_seen, count_in, noted, done_in}
+use Rattle.shared.specs.Shared.{IsShared, Submits, SubmitSays, SubmitHappens, FloorSays, FloorHappens, queued_seen, job_seen, count_in, noted, done_in}
 use Rattle.shared.proofs.Archives.{archive-same, archive-then, archive-first, archive-on}
 use Rattle.shared.proofs.Counting.{told-push, after-push, told-redeemed, after-redeemed, after-later, none-after}
-use Rattle.shared.proofs.Fronts.{last-seen}
-use Rattle.shared.proofs.Leaving.{pump-leaves}
-use Rattle.shared.proofs.JobLeaving.{start-leaves, reclaim-leaves, pumped-leaves}
-use Rattle.shared.proofs.Stepping.{follows, later-published, submit_seen, submit-seen, pump_seen, pump-seen, published-none, job-seen}
+use Rattle.shared.proofs.Fronts.{last-seen, later-same}
+use Rattle.shared.proofs.Leaving.{Leaves, pump-leaves}
+use Rattle.shared.proofs.JobLeaving.{start-leaves, reclaim-leaves, floor-leaves, pumped-leaves}
+use Rattle.shared.proofs.Stepping.{follows, later-published, submit_seen, submit-seen, pump_seen, pump-seen, published-none, job-seen, later-job}
 
 -- what is known of an archive, by another name
 pub known : {a b c : ArchiveSeen} → b ≡ a → IsArchiveLater a c → IsArchiveLater b c
@@ -424,38 +428,96 @@ reclaim-keeps tells start brand table old new shares at pass r h starts =
     let left = reclaim-leaves old new r starts in
     quiet tells start brand table old new shares at pass h h.state (reclaim-start-stands tells old new r h.state h.stands starts) (reclaim-start-goes tells old new r h.state h.stands starts) h.reached refl left.mark left.heads
 
+-- a floor begins, or is refused
+pub floor-begins : (tells : Bool) (start : Machine Value) (brand : ℕ) (table : TableId) (old new : StoreValue) (shares : ℕ) (at : TableId) (pass : SightValue) (floor : ℕ) (r : Result (Unit {0}) StartFault) → IsShared tells start brand table old shares at pass → StartsFloor old floor r new
+    → IsShared tells start brand table new shares at pass × FloorHappens start floor r
+floor-begins tells start brand table old new shares at pass floor r h starts =
+    let did = by-answer r (floor-start-stands tells old new floor r h.state h.stands starts) in (did.0, (h.state, h.reached, did.1))
+  where
+    left : Leaves old.transactions new.transactions
+    left = floor-leaves old new floor r starts
+
+    goes : GoesOn tells old new
+    goes = floor-start-goes tells old new floor r h.state h.stands starts
+
+    same : Stands tells new h.state → IsShared tells start brand table new shares at pass
+    same stands = quiet tells start brand table old new shares at pass h h.state stands goes h.reached refl left.mark left.heads
+
+    by-answer : (x : Result (Unit {0}) StartFault) → StartsOn tells h.state (raising_to floor) x new → IsShared tells start brand table new shares at pass × FloorSays h.state (raising_to floor) x
+    by-answer (Ok done) did = (
+      quiet tells start brand table old new shares at pass h (floor_started h.state (raising_to floor)) did.1 goes (stepped (FloorStarted (raising_to floor)) h.reached did.0) refl left.mark left.heads,
+      did.0,
+    )
+    by-answer (Err fault.NothingToDo) did = (same did.1, did.0)
+    by-answer (Err (fault.NotYet time)) did = (same did.1, did.0)
+    by-answer (Err (fault.InUse snapshot)) did = (same did.1, did.0)
+    by-answer (Err fault.Failed) did = (same did.1, did.0)
+    by-answer (Err fault.JobBusy) did = (same did, tt)
+    by-answer (Err fault.StatusFull) did = (same did, tt)
+    by-answer (Err fault.ArchiveFull) did = absurd did
+    by-answer (Err fault.HeapFull) did = absurd did
+    by-answer (Err fault.NoMemory) did = absurd did
+
 pub record JobPumped (tells : Bool) (start : Machine Value) (m : Machine Value) (old new : StoreValue) (r : Result JobDid PumpFault) : Type 0 where
   pub after : Machine Value
-  pub run : MatchBool m.failed ((r ≡ Err pump.Failed) × (after ≡ m)) (Run IsValue m (job_ends_in r) after)
+  pub run : MatchBool m.failed ((r ≡ Err pump.Failed) × (after ≡ m)) (Run IsValue m (job_ends_in m r) after)
   pub stands : Stands tells new after
   pub reached : Reached start after
-  pub seen : seen_of after ≡ seen_of m
+  pub seen : seen_of after ≡ job_seen r (raising_of old.job) (seen_of m)
+  pub later : IsLater (seen_of m) (seen_of after)
+  pub left : Leaves old.transactions new.transactions
+  pub goes : GoesOn tells old new
 
 pub job-pumped : (tells : Bool) (start : Machine Value) (m : Machine Value) (old new : StoreValue) (r : Result JobDid PumpFault) → Reached start m → Stands tells old m → (IsTrue tells → AreSound new.disk.areas) → PumpsJob tells old r new → JobPumped tells start m old new r
 job-pumped tells start m old new r reached stands sound pumps = by-failure m.failed refl (job-pump-stands tells old new r m stands sound pumps)
   where
-    by-failure : (b : Bool) → m.failed ≡ b → MatchBool b ((r ≡ Err pump.Failed) × Stands tells new m) ((after : Machine Value) × Run IsValue m (job_ends_in r) after × Stands tells new after) → JobPumped tells start m old new r
+    by-failure : (b : Bool) → m.failed ≡ b → MatchBool b ((r ≡ Err pump.Failed) × Stands tells new m) ((after : Machine Value) × Run IsValue m (job_ends_in m r) after × Stands tells new after) → JobPumped tells start m old new r
     by-failure true is did = record {
       after = m;
-      run = subst (λ (b : Bool). MatchBool b ((r ≡ Err pump.Failed) × (m ≡ m)) (Run IsValue m (job_ends_in r) m)) (sym is) (did.0, refl);
+      run = subst (λ (b : Bool). MatchBool b ((r ≡ Err pump.Failed) × (m ≡ m)) (Run IsValue m (job_ends_in m r) m)) (sym is) (did.0, refl);
       stands = did.1;
       reached = reached;
-      seen = refl;
+      seen = subst (λ (x : Result JobDid PumpFault). seen_of m ≡ job_seen x (raising_of old.job) (seen_of m)) (sym did.0) refl;
+      later = later-same (seen_of m);
+      left = pumped-leaves tells old new r pumps;
+      goes = job-pump-goes tells old new r m stands pumps;
     }
     by-failure false is did = record {
       after = did.0;
-      run = subst (λ (b : Bool). MatchBool b ((r ≡ Err pump.Failed) × (did.0 ≡ m)) (Run IsValue m (job_ends_in r) did.0)) (sym is) did.1;
+      run = subst (λ (b : Bool). MatchBool b ((r ≡ Err pump.Failed) × (did.0 ≡ m)) (Run IsValue m (job_ends_in m r) did.0)) (sym is) did.1;
       stands = did.2;
-      reached = follows start m did.0 (job_ends_in r) reached did.1;
-      seen = job-seen m did.0 r did.1;
+      reached = follows start m did.0 (job_ends_in m r) reached did.1;
+      seen = job-seen m did.0 old.job r stands.raises did.1;
+      later = later-job m did.0 old.job r stands.machine stands.raises did.1;
+      left = pumped-leaves tells old new r pumps;
+      goes = job-pump-goes tells old new r m stands pumps;
     }
 
-pub job-keeps : (tells : Bool) (start : Machine Value) (brand : ℕ) (table : TableId) (old new : StoreValue) (shares : ℕ) (at : TableId) (pass : SightValue) (r : Result JobDid PumpFault) → IsShared tells start brand table old shares at pass → (IsTrue tells → AreSound new.disk.areas) → PumpsJob tells old r new
-    → IsShared tells start brand table new shares at pass
-job-keeps tells start brand table old new shares at pass r h sound pumps =
-    let p = job-pumped tells start h.state old new r h.reached h.stands sound pumps in
-    let left = pumped-leaves tells old new r pumps in
-    quiet tells start brand table old new shares at pass h p.after p.stands (job-pump-goes tells old new r h.state h.stands pumps) p.reached p.seen left.mark left.heads
+-- what the pass is to see next is later
+pub job-later : (tells : Bool) (start : Machine Value) (brand : ℕ) (table : TableId) (old new : StoreValue) (shares : ℕ) (at : TableId) (pass : SightValue) (r : Result JobDid PumpFault) (h : IsShared tells start brand table old shares at pass) (raising : Option Raising)
+    → raising_of old.job ≡ raising → JobPumped tells start h.state old new r → IsLater pass.seen (job_seen r raising pass.seen)
+job-later tells start brand table old new shares at pass r h raising is p =
+    let first : IsLater (seen_of h.state) (job_seen r (raising_of old.job) (seen_of h.state)) = subst (λ (s : Seen). IsLater (seen_of h.state) s) p.seen p.later in
+    let next : IsLater (seen_of h.state) (job_seen r raising (seen_of h.state)) = subst (λ (o : Option Raising). IsLater (seen_of h.state) (job_seen r o (seen_of h.state))) is first in
+    subst (λ (s : Seen). IsLater s (job_seen r raising s)) (sym h.seen) next
+
+-- once the pass has gone on
+pub job-keeps : (tells : Bool) (start : Machine Value) (brand : ℕ) (table : TableId) (old new : StoreValue) (shares : ℕ) (at at' : TableId) (pass pass' : SightValue) (r : Result JobDid PumpFault) (h : IsShared tells start brand table old shares at pass) (raising : Option Raising) → raising_of old.job ≡ raising
+    → JobPumped tells start h.state old new r → at' ≡ at → pass'.writes ≡ true → pass'.seen ≡ job_seen r raising pass.seen → pass'.archive ≡ pass.archive → IsShared tells start brand table new shares at' pass'
+job-keeps tells start brand table old new shares at at' pass pass' r h raising is p same on seen archive =
+    let rises : last h.state.published ≤ last p.after.published = last-seen (seen_of h.state) (seen_of p.after) p.stands.machine.history p.later in
+    record {
+      state = p.after;
+      stands = p.stands;
+      reached = p.reached;
+      mark = p.left.mark ∙ h.mark;
+      told = ap told_count p.left.heads ∙ h.told;
+      none_waits = ap (λ (l : List CommitHead). told_after (last p.after.published) l) p.left.heads ∙ after-later (last h.state.published) (last p.after.published) old.transactions.heads rises h.none_waits;
+      cell = same ∙ h.cell;
+      seen = seen ∙ ap (job_seen r raising) h.seen ∙ ap (λ (o : Option Raising). job_seen r o (seen_of h.state)) (sym is) ∙ sym p.seen;
+      archive = known archive (archive-then pass.archive (archive_seen tells old) (archive_seen tells new) h.archive (archive-on tells old new p.goes));
+      writes = on;
+    }
 
 -- ---- queries
 

@@ -199,19 +199,19 @@ module _ (start : Machine Value) (brand : ℕ) (archive : ArchiveSeen) (view : V
       → OfSeen start v.seen (λ m. SaysRecent v.shown time (answers.at_answer m.published m.floors key time) (answer_copied r))
   recent-says key time r says =
       subst (λ (x : ViewMoment). OfSeen start x.seen (λ m. SaysRecent x.shown time (answers.at_answer m.published m.floors key time) (answer_copied r))) is
-      (s.machine, s.reached, s.seen_is, recent-answered view s.machine.published s.machine.floors key time (answer_copied r) s.stands (copied view key time r says))
+      (s.machine, s.reached, s.seen_is, s.floor, recent-answered view s.machine.published s.machine.floors key time (answer_copied r) s.stands (copied view key time r says))
 
   pub scan-says : (relation time : ℕ) (r : Result (Vec (ℕ × Value) Global) QueryFault) → MatchResult r (λ found. (view.reclaimed ≤ time) × AnswersAt view time found.items (scanned relation time view.state)) (RefusesRecentScan view time)
       → OfSeen start v.seen (λ m. RecallsScan v.shown m.published m.floors relation time r)
   scan-says relation time r says =
-      subst (λ (x : ViewMoment). OfSeen start x.seen (λ m. RecallsScan x.shown m.published m.floors relation time r)) is (s.machine, s.reached, s.seen_is, scan-recalled view s.machine.published s.machine.floors relation time r s.stands says)
+      subst (λ (x : ViewMoment). OfSeen start x.seen (λ m. RecallsScan x.shown m.published m.floors relation time r)) is (s.machine, s.reached, s.seen_is, s.floor, scan-recalled view s.machine.published s.machine.floors relation time r s.stands says)
 
   pub between-says : (key : Key) (a b : ℕ) (r : Result (Vec (Version Value) Global) QueryFault) → MatchResult r (λ rows. (view.reclaimed ≤ a) × AnswersBetween view a b rows.items (rows_in view.state a b key)) (RefusesRecentRows view a b)
       → OfSeen start v.seen (λ m. RecallsBetween v.shown m.published m.floors key a b r)
   between-says key a b r says =
-      subst (λ (x : ViewMoment). OfSeen start x.seen (λ m. RecallsBetween x.shown m.published m.floors key a b r)) is (s.machine, s.reached, s.seen_is, between-recalled view s.machine.published s.machine.floors key a b r s.stands says)
+      subst (λ (x : ViewMoment). OfSeen start x.seen (λ m. RecallsBetween x.shown m.published m.floors key a b r)) is (s.machine, s.reached, s.seen_is, s.floor, between-recalled view s.machine.published s.machine.floors key a b r s.stands says)
 
   pub scan_between-says : (relation a b : ℕ) (r : Result (Vec (ℕ × Version Value) Global) QueryFault) → MatchResult r (λ rows. (view.reclaimed ≤ a) × AnswersBetween view a b rows.items (scanned_rows relation a b view.state)) (RefusesRecentRows view a b)
       → OfSeen start v.seen (λ m. RecallsScanBetween v.shown m.published m.floors relation a b r)
   scan_between-says relation a b r says =
-      subst (λ (x : ViewMoment). OfSeen start x.seen (λ m. RecallsScanBetween x.shown m.published m.floors relation a b r)) is (s.machine, s.reached, s.seen_is, scan_between-recalled view s.machine.published s.machine.floors relation a b r s.stands says)
+      subst (λ (x : ViewMoment). OfSeen start x.seen (λ m. RecallsScanBetween x.shown m.published m.floors relation a b r)) is (s.machine, s.reached, s.seen_is, s.floor, scan_between-recalled view s.machine.published s.machine.floors relation a b r s.stands says)

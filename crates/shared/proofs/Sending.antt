@@ -137,7 +137,7 @@ source_send = view_send source.the_row _ _ _ _ source_inside
 work_send : IsSend JobWork.the_row
 work_send = variants_send JobWork.enum (
   (search (sendable, run.the_send), (search (sendable, run_writer.the_send, walk_send), tt)),
-  ((search (sendable, anchors.the_send), (search (sendable, source_send), (search sendable, tt))), tt),
+  ((search (sendable, anchors.the_send), (search (sendable, source_send), (search sendable, tt))), ((search sendable, tt), tt)),
 )
 
 job_send : IsSend Job.the_row

@@ -1,10 +1,12 @@
 -- What was seen, as the machine steps.
-use Rattle.std.proofs.Common.{◌≡◌, ℕ, ◌==◌, ◌&&◌, nat_lt, Bool, true, false, cond, List, [], ◌∷◌, ◌++◌, length, take, drop, Result, Ok, Err, refl, sym, ap, ◌∙◌, subst, append_assoc}
+use Rattle.std.proofs.Common.{◌≡◌, ℕ, ◌≤◌, ◌==◌, ◌&&◌, nat_lt, Bool, true, false, cond, List, [], ◌∷◌, ◌++◌, length, take, drop, Option, None, Some, Result, Ok, Err, refl, sym, ap, ◌∙◌, subst, append_assoc, arith}
 use Rattle.std.proofs.lemmas.List.{append-nil, take-append-drop}
 use Rattle.history.specs.Histories.{Commit, History}
-use Rattle.history.specs.Machine.{Machine, Gate, Shut, Due, MayBeOpen, OfGroup, OfFloor}
+use Rattle.history.specs.Floors.{Raising}
+use Rattle.history.specs.Machine.{Machine, IsMachine, Gate, Shut, Due, MayBeOpen, OfGroup, OfFloor}
 use Rattle.history.specs.Steps.{Event, Step, Run, GroupBegan}
 use Rattle.history.specs.Submissions.{Submission, commit_made}
+use Rattle.history.proofs.Machines.{run-floors}
 use Rattle.image.specs.Values.{Value, IsValue}
 use Rattle.group.specs.declared.answers.Did.{Did}
 use Rattle.group.specs.declared.answers.Did.TheVariants as did
@@ -14,12 +16,18 @@ use Rattle.group.specs.declared.answers.Submitted.{Submitted}
 use Rattle.group.specs.declared.answers.Submitted.TheVariants as submitted
 use Rattle.group.specs.declared.answers.SubmitFault.{SubmitFault}
 use Rattle.group.specs.declared.answers.SubmitFault.TheVariants as refused
+use Rattle.store.specs.declared.job.Job.{Job}
+use Rattle.store.specs.declared.job.JobWork.{JobWork}
+use Rattle.store.specs.declared.job.JobWork.TheVariants.{Archive, Reclaim, Floor}
 use Rattle.store.specs.declared.job.JobDid.{JobDid}
-use Rattle.standing.specs.Laws.{event_of, begins_in, ends_in, job_ends_in}
+use Rattle.store.specs.declared.job.JobDid.TheVariants as job_did
+use Rattle.standing.specs.Laws.{event_of, begins_in, ends_in, floor_ends_in, floor_ends, job_breaks_in, job_ends_in}
+use Rattle.standing.specs.Calls.{raising_to}
+use Rattle.standing.specs.Stands.{raising_by, raising_of}
 use Rattle.shared.specs.Reached.{Reached, stepped}
-use Rattle.shared.specs.Seen.{Seen, seen_of, order_of, IsLater}
-use Rattle.shared.specs.Shared.{published_seen, queued_seen, count_in}
-use Rattle.shared.proofs.Fronts.{front-same}
+use Rattle.shared.specs.Seen.{Seen, seen_of, order_of, IsFrontOf, IsLater}
+use Rattle.shared.specs.Shared.{published_seen, queued_seen, raised_seen, job_seen, is_done, count_in}
+use Rattle.shared.proofs.Fronts.{front-same, later-same}
 
 pub follows : (start m n : Machine Value) (events : List (Event Value)) → Reached start m → Run IsValue m events n → Reached start n
 follows start m n [] reached run = subst (λ (x : Machine Value). Reached start x) (sym run) reached
@@ -28,12 +36,13 @@ follows start m n (e ∷ es) reached run = follows start run.0 n es (stepped e r
 -- ---- what comes next is later
 
 pub later-queued : (s : Seen) (c : Commit Value) → IsLater s (queued_seen s c)
-later-queued s c = record { published = front-same s.published; order = (c ∷ [], sym (append_assoc s.published s.queue (c ∷ []))) }
+later-queued s c = record { published = front-same s.published; order = (c ∷ [], sym (append_assoc s.published s.queue (c ∷ []))); floor = omega arith }
 
 pub later-published : (s : Seen) (count : ℕ) → IsLater s (published_seen s count)
 later-published s count = record {
   published = (take count s.queue, refl);
   order = ([], append_assoc s.published (take count s.queue) (drop count s.queue) ∙ ap (λ (l : History Value). s.published ++ l) (take-append-drop count s.queue) ∙ sym (append-nil (order_of s)));
+  floor = omega arith;
 }
 
 -- ---- a submit
@@ -57,7 +66,7 @@ submit-seen m after s (Err refused.Stranger) step = ap seen_of step.1.2
 -- ---- a step of a group
 
 pub published-none : (s : Seen) → s ≡ published_seen s 0
-published-none s = ap (λ (h : History Value). record { published = h; queue = s.queue }) (sym (append-nil s.published))
+published-none s = ap (λ (h : History Value). record s { published = h }) (sym (append-nil s.published))
 
 abbrev pub pump_seen : Result Did PumpFault → Seen → Seen
 pump_seen r s = published_seen s (count_in r)
@@ -86,8 +95,55 @@ pump-seen m n r run = by-group ((m.group == 0) && nat_lt 0 (length m.queue)) run
 
 -- ---- a step of a job
 
-pub job-seen : (m n : Machine Value) (r : Result JobDid PumpFault) → Run IsValue m (job_ends_in r) n → seen_of n ≡ seen_of m
-job-seen m n (Ok what) run = ap seen_of run
-job-seen m n (Err pump.Busy) run = ap seen_of run
-job-seen m n (Err pump.NoMemory) run = ap seen_of run
-job-seen m n (Err pump.Failed) run = ap seen_of run.2 ∙ ap seen_of run.1.1
+same-seen : (b : Bool) (s : Seen) → cond b s s ≡ s
+same-seen true s = refl
+same-seen false s = refl
+
+-- of a floor's job, which raises that of every relation
+floor-seen : (m n : Machine Value) (what : JobDid) (time : ℕ) → Run IsValue m (floor_ends_in what (raising_to time)) n → seen_of n ≡ job_seen (Ok what) (Some (raising_to time)) (seen_of m)
+floor-seen m n job_did.Idle time run = ap seen_of run
+floor-seen m n job_did.WroteRun time run = ap seen_of run
+floor-seen m n job_did.RunSynced time run = ap seen_of run
+floor-seen m n job_did.WroteExtent time run = ap seen_of run
+floor-seen m n job_did.HeapSynced time run = ap seen_of run
+floor-seen m n job_did.BodyWritten time run = ap seen_of run
+floor-seen m n job_did.BodySynced time run = ap seen_of run.2 ∙ ap seen_of run.1.3
+floor-seen m n job_did.GateWritten time run = ap seen_of run.2 ∙ ap seen_of run.1.2
+floor-seen m n job_did.JobDone time run = ap seen_of run.2 ∙ ap seen_of run.1.3
+
+unchanged-seen : (m n : Machine Value) (what : JobDid) → n ≡ m → seen_of n ≡ job_seen (Ok what) None (seen_of m)
+unchanged-seen m n what run = ap seen_of run ∙ sym (same-seen (is_done (Ok what)) (seen_of m))
+
+work-seen : (m n : Machine Value) (what : JobDid) (work : JobWork) → Run IsValue m (floor_ends what (raising_by work)) n → seen_of n ≡ job_seen (Ok what) (raising_by work) (seen_of m)
+work-seen m n what (Archive run writer) ran = unchanged-seen m n what ran
+work-seen m n what (Reclaim anchors source written) ran = unchanged-seen m n what ran
+work-seen m n what (Floor time) ran = floor-seen m n what time ran
+
+done-seen : (m n : Machine Value) (what : JobDid) (job : Option Job) → Run IsValue m (floor_ends what (raising_of job)) n → seen_of n ≡ job_seen (Ok what) (raising_of job) (seen_of m)
+done-seen m n what None ran = unchanged-seen m n what ran
+done-seen m n what (Some job) ran = work-seen m n what job.work ran
+
+job_broken-seen : (m n : Machine Value) (gate : Gate) → Run IsValue m (job_breaks_in gate) n → seen_of n ≡ seen_of m
+job_broken-seen m n Shut run = ap seen_of run.2 ∙ ap seen_of run.1.1
+job_broken-seen m n (Due OfGroup) run = ap seen_of run.2 ∙ ap seen_of run.1.1
+job_broken-seen m n (Due OfFloor) run = ap seen_of run.2.2 ∙ ap seen_of run.2.1.1 ∙ ap seen_of run.1.2
+job_broken-seen m n (MayBeOpen change) run = ap seen_of run.2 ∙ ap seen_of run.1.1
+
+pub job-seen : (m n : Machine Value) (job : Option Job) (r : Result JobDid PumpFault) → m.raising ≡ raising_of job → Run IsValue m (job_ends_in m r) n → seen_of n ≡ job_seen r (raising_of job) (seen_of m)
+job-seen m n job (Ok what) is run = done-seen m n what job (subst (λ (o : Option Raising). Run IsValue m (floor_ends what o) n) is run)
+job-seen m n job (Err pump.Busy) is run = ap seen_of run
+job-seen m n job (Err pump.NoMemory) is run = ap seen_of run
+job-seen m n job (Err pump.Failed) is run = job_broken-seen m n m.gate run
+
+-- the floor alone is raised
+raised-later : (s n : Seen) (b : Bool) (o : Option Raising) → n ≡ cond b (raised_seen o s) s → s.floor ≤ n.floor → IsLater s n
+raised-later s n true None is floor = subst (λ (x : Seen). IsLater s x) (sym is) (later-same s)
+raised-later s n true (Some r) is floor = record {
+  published = subst (λ (h : History Value). IsFrontOf s.published h) (sym (ap (λ (x : Seen). x.published) is)) (front-same s.published);
+  order = subst (λ (h : History Value). IsFrontOf (order_of s) h) (sym (ap order_of is)) (front-same (order_of s));
+  floor = floor;
+}
+raised-later s n false o is floor = subst (λ (x : Seen). IsLater s x) (sym is) (later-same s)
+
+pub later-job : (m n : Machine Value) (job : Option Job) (r : Result JobDid PumpFault) → IsMachine IsValue m → m.raising ≡ raising_of job → Run IsValue m (job_ends_in m r) n → IsLater (seen_of m) (seen_of n)
+later-job m n job r legal is run = raised-later (seen_of m) (seen_of n) (is_done r) (raising_of job) (job-seen m n job r is run) (run-floors IsValue m n (job_ends_in m r) 0 legal run)

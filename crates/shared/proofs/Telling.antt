@@ -42,6 +42,7 @@ shows tells start brand table v shares at pass archive seen (Ok w) h known same 
       machine = h.state;
       reached = h.reached;
       seen_is = same ∙ h.seen;
+      floor = λ relation. sym (h.stands.memory.floors relation) ∙ h.stands.memory.floors 0 ∙ ap (λ (s : Seen). s.floor) (sym (same ∙ h.seen));
       mark = ap (λ (x : ViewValue). x.mark) of ∙ h.mark;
       stands = is.0;
       reads = subst (λ (a : ArchiveSeen). ReadsArchive a w h.state.published h.state.floors) (sym known) (reads-taken tells v w h.state.published h.state.floors is.1);

@@ -1,34 +1,40 @@
--- What was seen of a machine's commits.
-use Rattle.std.specs.Prelude.{◌≡◌, ◌++◌, Bool, true, false, []}
+-- What was seen of a machine's commits and of its floor, which is that of every relation.
+use Rattle.std.specs.Prelude.{ℕ, ◌≡◌, ◌≤◌, ◌++◌, Bool, true, false, []}
 use Rattle.history.specs.Histories.{History}
 use Rattle.history.specs.Machine.{Machine}
 use Rattle.image.specs.Values.{Value}
 use Rattle.shared.specs.Archives.{ArchiveSeen, IsArchiveLater, no_archive}
 
--- the published commits, and those that wait behind them
+-- the published commits, those that wait behind them, and the floor of what is kept
 pub record Seen : Type 0 where
   pub published : History Value
   pub queue : History Value
+  pub floor : ℕ
 
 abbrev pub nothing : Seen
-nothing = record { published = []; queue = [] }
+nothing = record { published = []; queue = []; floor = 0 }
 
 -- the commit order
 abbrev pub order_of : Seen → History Value
 order_of s = s.published ++ s.queue
 
 abbrev pub seen_of : Machine Value → Seen
-seen_of m = record { published = m.published; queue = m.queue }
+seen_of m = record { published = m.published; queue = m.queue; floor = m.floors 0 }
+
+-- each relation has this floor
+abbrev pub HasFloor : Machine Value → ℕ → Type 0
+HasFloor m floor = (relation : ℕ) → m.floors relation ≡ floor
 
 abbrev pub IsFrontOf : History Value → History Value → Type 0
 IsFrontOf front whole = (rest : History Value) × (whole ≡ front ++ rest)
 
--- commits were published from the front of the queue and added behind it, and nothing else
+-- commits were published from the front of the queue and added behind it, the floor was raised, and nothing else
 pub record IsLater (old new : Seen) : Type 0 where
   pub published : IsFrontOf old.published new.published
   pub order : IsFrontOf (order_of old) (order_of new)
+  pub floor : old.floor ≤ new.floor
 
--- the commits that were seen, and what is known of the archive
+-- the commits and the floor that were seen, and what is known of the archive
 pub record Known : Type 0 where
   pub seen : Seen
   pub archive : ArchiveSeen

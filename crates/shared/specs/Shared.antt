@@ -3,9 +3,11 @@ use Rattle.std.specs.Prelude.{◌≡◌, ℕ, ◌+◌, ◌++◌, Bool, true, fal
 use Rattle.atomic_table.specs.Seated.{TableId}
 use Rattle.history.specs.declared.key.Key.{Key}
 use Rattle.history.specs.declared.key.KeyWrite.{KeyWrite}
+use Rattle.history.specs.FloorStarts as floor_starts
+use Rattle.history.specs.Floors.{Raising}
 use Rattle.history.specs.Histories.{Commit, History, IsHistory, last, state}
 use Rattle.history.specs.Machine.{Machine}
-use Rattle.history.specs.Steps.{Step, Run}
+use Rattle.history.specs.Steps.{Step, Run, FloorStarted, FloorRefused, floor_started}
 use Rattle.history.specs.Submissions.{commit_made}
 use Rattle.image.specs.Values.{Value, IsValue}
 use Rattle.snapshot.specs.Txn.{TxnValue, at_snapshot}
@@ -26,6 +28,10 @@ use Rattle.group.specs.declared.answers.SubmitFault.TheVariants as refused
 use Rattle.timequery.specs.View.{ViewValue}
 use Rattle.store.specs.Values.{StoreValue}
 use Rattle.store.specs.declared.job.JobDid.{JobDid}
+use Rattle.store.specs.declared.job.JobDid.TheVariants as job_did
+use Rattle.store.specs.declared.job.StartFault.{StartFault}
+use Rattle.store.specs.declared.job.StartFault.TheVariants as start_fault
+use Rattle.standing.specs.Calls.{raising_to}
 use Rattle.standing.specs.Homes.{ViewStands}
 use Rattle.standing.specs.Laws.{submission_of, event_of, begins_in, ends_in, job_ends_in}
 use Rattle.standing.specs.Stands.{Stands}
@@ -37,11 +43,11 @@ use Rattle.shared.specs.declared.committed.CommitFault.{CommitFault}
 use Rattle.shared.specs.Archives.{ArchiveSeen, IsArchiveLater, ReadsArchive, archive_seen}
 use Rattle.shared.specs.Counts.{told_count, told_after}
 use Rattle.shared.specs.Reached.{Reached}
-use Rattle.shared.specs.Seen.{Seen, SightValue, seen_of, order_of, IsFrontOf}
+use Rattle.shared.specs.Seen.{Seen, SightValue, seen_of, order_of, HasFloor, IsFrontOf}
 
 -- ---- the value under the lock
 
--- The store stands for a state that steps of the machine lead to. The commits for which Done was answered since opening are those in the shares, and none of them waits. The pass is the cell's writer, and has seen all commits; what it knows of the archive is there still.
+-- The store stands for a state that steps of the machine lead to. The commits for which Done was answered since opening are those in the shares, and none of them waits. The pass is the cell's writer, and has seen all commits and the floor; what it knows of the archive is there still.
 pub record IsShared (tells : Bool) (start : Machine Value) (brand : ℕ) (table : TableId) (store : StoreValue) (shares : ℕ) (at : TableId) (pass : SightValue) : Type 0 where
   pub state : Machine Value
   pub stands : Stands tells store state
@@ -58,11 +64,11 @@ pub record IsShared (tells : Bool) (start : Machine Value) (brand : ℕ) (table 
 
 -- the history before, with a group of the queue published
 abbrev pub published_seen : Seen → ℕ → Seen
-published_seen s count = record { published = s.published ++ take count s.queue; queue = drop count s.queue }
+published_seen s count = record s { published = s.published ++ take count s.queue; queue = drop count s.queue }
 
 -- a commit was queued
 abbrev pub queued_seen : Seen → Commit Value → Seen
-queued_seen s commit = record { published = s.published; queue = s.queue ++ commit ∷ [] }
+queued_seen s commit = record s { queue = s.queue ++ commit ∷ [] }
 
 -- how many commits a step of a group published
 abbrev pub count_in : Result Did PumpFault → ℕ
@@ -81,6 +87,28 @@ noted (Ok (submitted.ReadOnly at)) s label writes = s
 noted (Ok (submitted.Queued ticket)) s label writes = queued_seen s (record { time = ticket.time; label = label; writes = writes })
 noted (Err why) s label writes = s
 
+-- whether a job was done
+abbrev pub is_done : Result JobDid PumpFault → Bool
+is_done (Ok job_did.JobDone) = true
+is_done (Ok job_did.Idle) = false
+is_done (Ok job_did.WroteRun) = false
+is_done (Ok job_did.RunSynced) = false
+is_done (Ok job_did.WroteExtent) = false
+is_done (Ok job_did.HeapSynced) = false
+is_done (Ok job_did.BodyWritten) = false
+is_done (Ok job_did.BodySynced) = false
+is_done (Ok job_did.GateWritten) = false
+is_done (Err why) = false
+
+-- the floor in the making, if there is one, was raised, as a store's job raises it, for every relation
+abbrev pub raised_seen : Option Raising → Seen → Seen
+raised_seen None s = s
+raised_seen (Some r) s = record s { floor = r.floor }
+
+-- what is to be seen after a step of a job, by the floor that was in the making
+abbrev pub job_seen : Result JobDid PumpFault → Option Raising → Seen → Seen
+job_seen result raising s = if is_done result then raised_seen raising s else s
+
 -- this was seen of a state that steps lead to
 abbrev pub SeenReached : Machine Value → Seen → Type 0
 SeenReached start seen = (m : Machine Value) × Reached start m × (seen ≡ seen_of m)
@@ -90,11 +118,12 @@ HasCommitAt h time = (c : Commit Value) × Contains h c × (c.time ≡ time)
 
 -- ---- views and transactions
 
--- the view stands for the published history that was seen, and this archive has its runs
+-- the view stands for the published history that was seen and the floor of then, and this archive has its runs
 pub record Shows (start : Machine Value) (brand : ℕ) (archive : ArchiveSeen) (view : ViewValue) (seen : Seen) : Type 0 where
   pub machine : Machine Value
   pub reached : Reached start machine
   pub seen_is : seen ≡ seen_of machine
+  pub floor : HasFloor machine seen.floor
   pub mark : view.mark ≡ brand
   pub stands : ViewStands view machine.published machine.floors
   pub reads : ReadsArchive archive view machine.published machine.floors
@@ -149,7 +178,26 @@ pub record JobHappens (start : Machine Value) (result : Result JobDid PumpFault)
   pub before : Machine Value
   pub after : Machine Value
   pub reached : Reached start before
-  pub run : MatchBool before.failed ((result ≡ Err pump.Failed) × (after ≡ before)) (Run IsValue before (job_ends_in result) after)
+  pub run : MatchBool before.failed ((result ≡ Err pump.Failed) × (after ≡ before)) (Run IsValue before (job_ends_in before result) after)
+
+-- ---- floors
+
+-- a floor begins, or it is refused as the machine says; or another job runs, or the log has no slot for it
+abbrev pub FloorSays : Machine Value → Raising → Result (Unit {0}) StartFault → Type 0
+FloorSays m r (Ok done) = Step IsValue m (FloorStarted r) (floor_started m r)
+FloorSays m r (Err start_fault.NothingToDo) = Step IsValue m (FloorRefused r floor_starts.NothingToDo) m
+FloorSays m r (Err (start_fault.NotYet time)) = Step IsValue m (FloorRefused r (floor_starts.NotYet time)) m
+FloorSays m r (Err (start_fault.InUse snapshot)) = Step IsValue m (FloorRefused r (floor_starts.InUse snapshot)) m
+FloorSays m r (Err start_fault.Failed) = m.failed ≡ true
+FloorSays m r (Err start_fault.JobBusy) = Unit {0}
+FloorSays m r (Err start_fault.StatusFull) = Unit {0}
+FloorSays m r (Err start_fault.ArchiveFull) = ⊥
+FloorSays m r (Err start_fault.HeapFull) = ⊥
+FloorSays m r (Err start_fault.NoMemory) = ⊥
+
+-- at a state that steps lead to the machine does this
+abbrev pub FloorHappens : Machine Value → ℕ → Result (Unit {0}) StartFault → Type 0
+FloorHappens start floor result = (m : Machine Value) × Reached start m × FloorSays m (raising_to floor) result
 
 -- ---- tickets
 

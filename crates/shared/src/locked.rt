@@ -1,24 +1,27 @@
 //! The value under the lock.
-ghost use Rattle.std.specs.Prelude.{◌≡◌, ◌+◌, ◌<◌, [], true, length, List, IfOk};
+ghost use Rattle.std.specs.Prelude.{◌≡◌, ◌+◌, ◌<◌, [], true, length, List, Option, IfOk};
 ghost use Rattle.crossbeam_utils.specs.Seq.{cell_view};
 ghost use Rattle.history.specs.declared.key.KeyWrite.{KeyWrite};
 ghost use Rattle.history.specs.Answers as answers;
+ghost use Rattle.history.specs.Floors.{Raising};
 ghost use Rattle.history.specs.Machine.{Machine};
 ghost use Rattle.image.specs.Values.{Value};
 ghost use Rattle.standing.specs.Homes.{IsSure};
 ghost use Rattle.standing.specs.Laws.{SaysAt, SaysScanAt, SaysBetween, SaysScanBetween};
-ghost use Rattle.standing.specs.Stands.{Stands};
+ghost use Rattle.standing.specs.Stands.{Stands, raising_of};
 ghost use Rattle.shared.specs.Archives.{no_archive};
 ghost use Rattle.shared.specs.Counts.{told_count, unredeemed};
 ghost use Rattle.shared.specs.Moments.{OfSeen};
 ghost use Rattle.shared.specs.Reached.{Reached};
 ghost use Rattle.shared.specs.Seen.{IsLater, seen_of};
-ghost use Rattle.shared.specs.Shared.{BeginHappens, SubmitHappens, SeenReached, PumpHappens, JobHappens, RedeemSays, done_in};
+ghost use Rattle.shared.specs.Shared.{BeginHappens, SubmitHappens, SeenReached, PumpHappens, JobHappens, FloorHappens, RedeemSays, done_in};
 
 use crate::cell::{PublishedCell, WriterPass};
 use crate::moment::Moment;
 use crate::naming::Opening;
-use crate::noting::{count_done, is_job_move, is_move, note_archive, note_published, note_queued};
+use crate::noting::{
+    count_done, is_job_move, is_move, note_archive, note_job, note_published, note_queued,
+};
 use crate::observer::Observer;
 use crate::shared_view::{SharedView, taken_at};
 use chains::SharedValue;
@@ -153,10 +156,23 @@ impl<D: Disk, L: Opening> Locked<D, L> {
         self.store.reclaim_start()
     }
 
-    pub(crate) fn job_pump(&mut self) -> Result<JobDid, PumpFault>
+    pub(crate) fn floor_start(&mut self, floor: u64) -> Result<(), StartFault>
+        ensures { FloorHappens L.start floor result }
+    {
+        self.store.floor_start(floor)
+    }
+
+    /// One step of the job that runs. Where it raises the floor, the writer's pass has seen it before
+    /// the lock is given up.
+    pub(crate) fn job_pump<R: Wait>(
+        &mut self,
+        rt: &R,
+        cell: &PublishedCell,
+    ) -> Result<JobDid, PumpFault>
+        requires { cell.now.table.shared.table_id ≡ L.table }
         ensures { JobHappens L.start result }
     {
-        let did = self.store.job_pump();
+        let did = self.job_step(rt, cell);
         self.moves = self.moves.wrapping_add(u64::from(is_job_move(&did)));
         did
     }
@@ -306,6 +322,18 @@ impl<D: Disk, L: Opening> Locked<D, L> {
     pub(crate) fn stop(&mut self) {
         self.moves = self.moves.wrapping_add(1);
         self.stopping = true;
+    }
+
+    // The floor in the making stays known once the job is done.
+    fn job_step<R: Wait>(&mut self, rt: &R, cell: &PublishedCell) -> Result<JobDid, PumpFault>
+        ghost raising: { Option Raising }
+        requires cell { cell.now.table.shared.table_id ≡ L.table }
+        requires raising { raising_of self.old.job ≡ raising }
+        ensures { JobHappens L.start result }
+    {
+        let did = self.store.job_pump();
+        note_job(rt, cell, &mut self.writer, &did);
+        did
     }
 
     // The writes stay known once the transaction is over.

@@ -1,15 +1,16 @@
 //! What the writer's pass notes of the store's answers.
-ghost use Rattle.std.specs.Prelude.{◌≡◌, true, List};
+ghost use Rattle.std.specs.Prelude.{◌≡◌, true, List, Option};
 ghost use Rattle.crossbeam_utils.specs.Seq.{cell_view};
 ghost use Rattle.history.specs.declared.key.KeyWrite.{KeyWrite};
+ghost use Rattle.history.specs.Floors.{Raising};
 ghost use Rattle.history.specs.Histories.{IsHistory, last};
 ghost use Rattle.image.specs.Values.{Value, IsValue};
 ghost use Rattle.shared.specs.Archives.{IsArchiveLater, archive_seen};
-ghost use Rattle.shared.specs.Seen.{order_of};
-ghost use Rattle.shared.specs.Shared.{published_seen, queued_seen, count_in, noted, done_in};
+ghost use Rattle.shared.specs.Seen.{IsLater, order_of};
+ghost use Rattle.shared.specs.Shared.{published_seen, queued_seen, raised_seen, job_seen, is_done, count_in, noted, done_in};
 
 use crate::cell::{PublishedCell, WriterPass};
-use crate::observer::{go_on, publish_next, queue_next};
+use crate::observer::{go_on, publish_next, queue_next, raise_next};
 use disk::Disk;
 use std::marker::Brand;
 use std::sync::Wait;
@@ -82,6 +83,29 @@ pub(crate) fn note_published<R: Wait>(
     }
 }
 
+/// Where the store answered that a job is done, and the job was a floor's, the writer's pass has seen
+/// the floor.
+pub(crate) fn note_job<R: Wait>(
+    rt: &R,
+    cell: &PublishedCell,
+    writer: &mut WriterPass,
+    did: &Result<JobDid, PumpFault>,
+)
+    ghost raising: { Option Raising }
+    requires cell { writer.old.table_id ≡ cell.now.table.shared.table_id }
+    requires writes { (cell_view writer.old).writes ≡ true }
+    requires later { IsLater (cell_view writer.old).seen (job_seen did.now raising (cell_view writer.old).seen) }
+    requires legal { IsHistory IsValue (order_of (cell_view writer.old).seen) }
+    ensures cell { writer.new.table_id ≡ writer.old.table_id }
+    ensures writes { (cell_view writer.new).writes ≡ true }
+    ensures seen { (cell_view writer.new).seen ≡ job_seen did.now raising (cell_view writer.old).seen }
+    ensures archive { (cell_view writer.new).archive ≡ (cell_view writer.old).archive }
+{
+    if is_done(did) {
+        raise_next(rt, cell, writer);
+    }
+}
+
 /// The writer's pass knows the archive of the store as it is now.
 pub(crate) fn note_archive<D: Disk, R: Wait>(
     rt: &R,
@@ -119,6 +143,24 @@ fn published_in(did: &Result<Did, PumpFault>) -> u32
 /// Whether some ticket may now have another answer.
 pub(crate) fn is_move(did: &Result<Did, PumpFault>) -> bool {
     matches!(did, Ok(Did::Published(_)) | Err(PumpFault::Failed))
+}
+
+// Whether a job was done.
+fn is_done(did: &Result<JobDid, PumpFault>) -> bool
+    ensures { result ≡ is_done did.now }
+{
+    match did {
+        Ok(JobDid::JobDone) => true,
+        Ok(JobDid::Idle) => false,
+        Ok(JobDid::WroteRun) => false,
+        Ok(JobDid::RunSynced) => false,
+        Ok(JobDid::WroteExtent) => false,
+        Ok(JobDid::HeapSynced) => false,
+        Ok(JobDid::BodyWritten) => false,
+        Ok(JobDid::BodySynced) => false,
+        Ok(JobDid::GateWritten) => false,
+        Err(_) => false,
+    }
 }
 
 /// Whether some step of a group may now have another answer.

@@ -12,7 +12,7 @@ ghost use Rattle.shared.specs.Counts.{unredeemed};
 ghost use Rattle.shared.specs.Moments.{OfSeen, begun_txn};
 ghost use Rattle.shared.specs.Reached.{Reached};
 ghost use Rattle.shared.specs.Seen.{IsLater};
-ghost use Rattle.shared.specs.Shared.{BeginHappens, SubmitHappens, SeenReached, PumpHappens, JobHappens, RedeemSays, WaitSays, CommitHappens, changed, done_in, commits_in};
+ghost use Rattle.shared.specs.Shared.{BeginHappens, SubmitHappens, SeenReached, PumpHappens, JobHappens, FloorHappens, RedeemSays, WaitSays, CommitHappens, changed, done_in, commits_in};
 
 use crate::cell::PublishedCell;
 use crate::change::Change;
@@ -166,12 +166,19 @@ impl<D: Disk, L: Opening> SharedStore<D, L> {
         self.locked.lock(rt).reclaim_start()
     }
 
-    /// One step of the job that runs.
+    /// Begins to raise the floor to a time in microseconds since 1970: views that are taken once it is
+    /// raised answer `BeforeKept` below it, and those that were taken before answer as they did.
+    pub fn floor_start<R: Wait>(&self, rt: &R, floor: u64) -> Result<(), StartFault>
+        ensures { FloorHappens L.start floor result }
+    {
+        self.locked.lock(rt).floor_start(floor)
+    }
 
+    /// One step of the job that runs.
     pub fn job_pump<R: Wait>(&self, rt: &R) -> Result<JobDid, PumpFault>
         ensures { JobHappens L.start result }
     {
-        let did = self.locked.lock(rt).job_pump();
+        let did = self.locked.lock(rt).job_pump(rt, &self.cell);
         if is_job_move(&did) {
             self.moved.notify_all();
         }
@@ -200,8 +207,8 @@ impl<D: Disk, L: Opening> SharedStore<D, L> {
     }
 
     /// The value of a key at a time, as the view's moment knows it: from memory, and below the reclaim
-    /// mark of that moment from the archive too, which is read under the lock. `BeforeKept` comes first,
-    /// then `NotYet`; `Device`, `NoMemory` and `Damaged` where they are met.
+    /// mark of that moment from the archive too, which is read under the lock. `BeforeKept`, below the
+    /// floor of that moment, comes first, then `NotYet`; `Device`, `NoMemory` and `Damaged` where they are met.
     pub fn at<R: Wait>(
         &self,
         rt: &R,

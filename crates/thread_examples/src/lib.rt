@@ -6,6 +6,8 @@ mod counted_disk;
 #[cfg(test)]
 mod device_calls;
 #[cfg(test)]
+mod floored;
+#[cfg(test)]
 mod moved_view;
 #[cfg(test)]
 mod noted;

@@ -57,7 +57,8 @@ fn watch<L: Opening, R: Wait + Abort>(
     carried
 }
 
-/// A hundred commits of the key, each published before the next, and then a vacuum of all that ended.
+/// A hundred commits of the key, each published before the next, a vacuum of all that ended, and then a
+/// floor at the last one.
 fn change<D: Disk, L: Opening, R: Wait + Abort>(
     rt: &R,
     alloc: Global,
@@ -74,6 +75,8 @@ fn change<D: Disk, L: Opening, R: Wait + Abort>(
     assert_eq!(rt; store.archive_start(rt, last), Ok(()));
     pump_job(rt, store);
     assert_eq!(rt; store.reclaim_start(rt), Ok(()));
+    pump_job(rt, store);
+    assert_eq!(rt; store.floor_start(rt, last), Ok(()));
     pump_job(rt, store);
     done.store(true, Ordering::SeqCst);
     me

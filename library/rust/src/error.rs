@@ -48,15 +48,16 @@ pub enum Error {
     NotAStore,
     /// One slot is in the writing at a time.
     Busy,
-    /// An archive is being made.
+    /// An archive, a reclaim or a floor is being made.
     JobBusy,
-    /// All versions that ended by then are archived.
+    /// All versions that ended by then are archived, or all that is archived is reclaimed, or the floor
+    /// is as late.
     NothingToDo,
     /// The archive is full.
     ArchiveFull,
     /// A store has 16 to 65,536 slots.
     BadSlots,
-    /// A transaction reads below the mark; the least snapshot is named.
+    /// A transaction reads below the mark or the floor; the least snapshot is named.
     InUse(u64),
     /// The answer needs the archive.
     NeedsArchive,

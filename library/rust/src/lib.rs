@@ -155,6 +155,19 @@ impl Store {
         Ok(())
     }
 
+    /// Raises the floor to a time: views that are taken then answer `BeforeKept` at an earlier one.
+    pub fn raise_floor(&self, time: u64) -> Result<()> {
+        self.ask(|h, info| unsafe { raw::ts_floor(h, time, info) })?;
+        // SAFETY: the file is open.
+        asked(unsafe { raw::ts_file_job(self.file) }, Info::default())?;
+        Ok(())
+    }
+
+    /// The floor: history before this time may be gone; 0 for none.
+    pub fn floor(&self) -> Result<u64> {
+        Ok(self.ask(|h, info| unsafe { raw::ts_last(h, info) })?.1.b)
+    }
+
     // The archive, which stays mapped until the next such call.
     fn archive_area(&self) -> Result<(*const u8, usize)> {
         let (mut at, mut len) = (std::ptr::null(), 0);

@@ -1,4 +1,4 @@
-use Rattle.named.proofs.Publishing.{group_named, run_named, anchors_named}
+use Rattle.named.proofs.Publishing.{group_named, run_named, anchors_named, floor_names_no_more}
 use Rattle.named.proofs.slots_name.Goals as goal
 
 pub returns-clause-group : goal.returns-clause-group
@@ -9,3 +9,6 @@ returns-clause-job c = run_named
 
 pub returns-clause-anchors : goal.returns-clause-anchors
 returns-clause-anchors c = anchors_named
+
+pub returns-clause-floor : goal.returns-clause-floor
+returns-clause-floor c = floor_names_no_more
