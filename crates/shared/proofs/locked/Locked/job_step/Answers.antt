@@ -1,6 +1,8 @@
-use Rattle.std.proofs.Common.{rules, subst, sym, ◌∙◌}
+use Rattle.std.proofs.Common.{rules, ap, subst, sym, ◌∙◌}
 use Rattle.history.specs.Histories.{IsHistory}
 use Rattle.image.specs.Values.{IsValue}
+use Rattle.store.specs.Values.{StoreValue}
+use Rattle.standing.specs.Stands.{raising_of}
 use Rattle.shared.specs.Seen.{Seen, order_of}
 use Rattle.shared.proofs.Moves.{job-pumped, job-later, job-keeps}
 use Rattle.shared.proofs.locked.Locked.job_step.Goals as goal
@@ -11,7 +13,8 @@ note_job-requires g c =
     let p = job-pumped _ _ _ _ _ _ h.reached h.stands c.job_pump-did.ensures.sound c.job_pump-did.ensures.is in
     let cell = h.cell ∙ sym c.requires.1.1.1.0 in
     let writes = h.writes in
-    let later = job-later _ _ _ _ _ _ _ _ _ _ h _ c.requires.1.1.1.1 p in
+    let raising = ap (λ (v : StoreValue). raising_of v.job) c.self.view_is ∙ c.requires.1.1.1.1 in
+    let later = job-later _ _ _ _ _ _ _ _ _ _ h _ raising p in
     let legal = subst (λ (s : Seen). IsHistory IsValue (order_of s)) (sym h.seen) h.stands.machine.history in
     search rules
 
@@ -20,7 +23,8 @@ invariant_of-self g c =
     let h = c.self.invariant in
     let p = job-pumped _ _ _ _ _ _ h.reached h.stands c.job_pump-did.ensures.sound c.job_pump-did.ensures.is in
     let n = c.note_job.ensures in
-    job-keeps _ _ _ _ _ _ _ _ _ _ _ _ h _ c.requires.1.1.1.1 p n.cell n.writes n.seen n.archive
+    let raising = ap (λ (v : StoreValue). raising_of v.job) c.self.view_is ∙ c.requires.1.1.1.1 in
+    job-keeps _ _ _ _ _ _ _ _ _ _ _ _ h _ raising p n.cell n.writes n.seen n.archive
 
 pub returns : goal.returns
 returns g c =
