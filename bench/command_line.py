@@ -15,7 +15,7 @@ LIMITS = ("16 to 65536", "65536 extents of 8 KiB", "1 to 1024 keys", "1 to 16 fi
           "1 to 9223372036854775807", "status full", "heap full", "Exit status: 0 done, 1 refused, 2 words that are no command")
 LINES = ("begin NAME", "put NAME REL REC F..", "del NAME REL REC", "get NAME REL REC", "submit NAME LABEL TIME", "abort NAME",
          "pump", "flush", "redeem NAME", "at REL REC TIME", "between REL REC TIME TIME", "scan REL TIME", "times LABEL",
-         "archive TIME", "job", "finish", "reopen")
+         "archive TIME", "reclaim", "floor TIME", "job", "finish", "reopen")
 
 
 def helps(program):
