@@ -2,11 +2,13 @@
 from __future__ import annotations
 
 import base64
+import functools
 import gzip
 import os
 import signal
 import subprocess
 import tempfile
+import time
 from collections.abc import Callable, Iterable
 from dataclasses import dataclass
 
@@ -99,6 +101,16 @@ def format_store(program: str, folder: str, slots: int) -> None:
     said = command(program, "format", folder, "--slots", str(slots))
     if said != (0, [f"formatted {slots}"]):
         raise Failure(f"format answers {said}")
+
+
+@functools.cache
+def seconds_to_begin(program: str) -> float:
+    """What the program takes for a script without lines."""
+    with tempfile.TemporaryDirectory(prefix="torture-") as folder:
+        format_store(program, folder, 16)
+        began = time.monotonic()
+        run(program, folder, [])
+        return time.monotonic() - began
 
 
 def has_rows(line: str) -> bool:

@@ -27,7 +27,7 @@ from collections.abc import Callable, Iterable, Iterator
 
 import image
 import machine
-from machine import Commit, Machine, Transaction
+from machine import Front, Machine, Transaction
 from program import AREAS, PATIENCE, Areas, Failure, Session, format_store, read_areas, report, run, use_memory, write_areas
 from scripts import check_left, questions
 
@@ -42,7 +42,6 @@ HOWS = {"growth": ("before",), "input": MOVES, "output": MOVES, "read": MOVES, "
 HARMLESS = ("short", "interrupted")
 # a refused growth may pass here alone: in the cache of the archive's blocks, and where room for a list of known length is asked ahead
 PASSES = ("at", "between", "scan", "times", "reopen")
-LATEST = (1 << 63) - 1
 
 EXAMPLE = """begin t
 put t 1 7 61
@@ -145,6 +144,78 @@ between 2 1 0 161
 scan 1 119
 """.splitlines()
 
+# floors beside commits, archives and reclaims; each reason why one is not raised
+FLOORS = """begin a
+put a 1 7 61
+put a 1 8 -
+submit a 1 100
+flush
+begin b
+put b 1 7 62
+del b 1 8
+submit b 2 110
+flush
+floor 111
+begin c
+floor 110
+job
+begin d
+put d 1 7 63
+submit d 3 120
+flush
+floor 109
+job
+archive 110
+job
+put c 1 9 64
+submit c 4 125
+pump
+pump
+job
+flush
+at 1 7 109
+at 1 7 110
+between 1 7 105 126
+between 1 7 110 126
+scan 1 100
+scan 1 110
+floor 110
+floor 126
+begin e
+begin f
+put f 2 1 65
+submit f 5 130
+flush
+archive 120
+finish
+floor 126
+abort e
+floor 126
+job
+pump
+finish
+reclaim
+finish
+at 1 8 126
+at 1 7 125
+scan 1 126
+reopen
+at 1 7 125
+between 1 7 126 131
+floor 126
+archive 130
+floor 130
+finish
+floor 130
+finish
+reclaim
+finish
+reopen
+at 1 7 129
+at 1 7 130
+scan 2 130
+""".splitlines()
+
 # what stands before a command is tried
 BEFORE = """begin a
 put a 1 7 61
@@ -163,9 +234,13 @@ begin d
 put d 1 7 63
 submit d 4 130
 flush
+floor 105
+finish
 """.splitlines()
-SCRIPTS = {"example": EXAMPLE, "wide": WIDE}
-COMMANDS = {"at": "at {} 1 7 100", "between": "between {} 1 7 100 131", "dump": "dump {}", "vacuum": "vacuum {} 120", "format": "format {} --slots 16"}
+SCRIPTS = {"example": EXAMPLE, "wide": WIDE, "floors": FLOORS}
+COMMANDS = {"at": "at {} 1 7 105", "between": "between {} 1 7 105 131", "dump": "dump {}", "vacuum": "vacuum {} 120", "format": "format {} --slots 16"}
+# an opening syncs each area
+OPENING_SYNCS = len(AREAS)
 
 
 # no call goes wrong
@@ -202,7 +277,8 @@ class Case:
 
     def __init__(self, program: str, folder: str, start: Areas, wrong: Wrong) -> None:
         self.program, self.wrong, self.folder = program, wrong, folder
-        self.small, self.order, self.least = Machine(), [], 0
+        self.small = Machine(slots=image.header(start["status"]))
+        self.front = self.small.front()
         self.done: list[int] = []
         write_areas(folder, start)
         self.session = Session(program, folder, wrong.environment)
@@ -237,10 +313,9 @@ class Case:
 
     def may_be_left(self, before: Machine) -> None:
         """A stop now leaves what was published before the line, what is published now, or a front between."""
-        self.least = len(before.published)
-        after = self.small.with_group() if self.small.turn == "gate written" else self.small.published
-        first = before.with_group() if before.turn == "gate written" else before.published
-        self.order = max(first, after, key=len)
+        first, then = before.front(), self.small.front()
+        order = max(first.order, then.order, key=len)
+        self.front = Front(order, range(len(before.published), len(order) + 1), (*first.floors, *then.floors))
 
     def lines(self, script: Iterable[str]) -> str:
         outcome, before = "no change", self.small
@@ -344,7 +419,7 @@ class Case:
         """The store writes nothing more, each ticket that is not published is in doubt, and it reads on."""
         self.small = small = before
         self.publish_groups()
-        for line in ("begin zz", "pump", "job", "flush", "finish", "archive 1", "reclaim"):
+        for line in ("begin zz", "pump", "job", "flush", "finish", "archive 1", "reclaim", "floor 1"):
             self.session.expect(line, ["refused: failed"], "after failed, ")
         for name, what in list(small.names.items()):
             if isinstance(what, Transaction):
@@ -354,7 +429,7 @@ class Case:
                 published = what <= machine.last(small.published)
                 self.session.expect(f"redeem {name}", [f"done {what}" if published else "in doubt"], "after failed, ")
                 self.done += [what] * published
-        lines, _ = questions(small.published)
+        lines, _ = questions(small.published, small.floor)
         for line in lines[1:]:
             self.session.expect(line, small.answer(line) or [], "after failed, ")
         self.session.end_well()
@@ -362,19 +437,21 @@ class Case:
     def publish_groups(self) -> None:
         """A line of several groups may have published the first ones: how many is asked."""
         small = self.small
-        said = self.session.ask(f"at 1 1 {LATEST}")
+        said = self.session.ask(f"at 1 1 {machine.LATEST + 1}")
         group = small.group or machine.GROUP_MOST
         while small.queue and said != [f"refused: not yet {machine.last(small.published)}"]:
             small.published, small.queue, group = small.published + small.queue[:group], small.queue[group:], machine.GROUP_MOST
         if said != [f"refused: not yet {machine.last(small.published)}"]:
             raise self.failure(f"after failed, the last commit is {said}", said, ["that of a whole group"])
-        self.least, self.order = len(small.published), small.published + small.queue[:group]
+        order = small.published + small.queue[:group]
+        floors = (small.floor, small.job.upto) if small.job and small.job.kind == "floor" else (small.floor,)
+        self.front = Front(order, (len(small.published), len(order)), floors)
 
     def look(self) -> None:
         """The store is opened again: a front of the commits, with each that was done."""
-        found = check_left(self.program, read_areas(self.folder), self.order, self.least, f"{self.wrong}: opened again")
-        if [it for it in self.done if it > machine.last(self.order[:found])]:
-            raise Failure(f"opened again with {found} commits, and {self.done} were done")
+        left = check_left(self.program, read_areas(self.folder), self.front, f"{self.wrong}: opened again")
+        if [it for it in self.done if it > machine.last(left.published)]:
+            raise Failure(f"opened again with {len(left.published)} commits, and {self.done} were done")
 
 
 def cases_of(counts: dict[str, int], every: int) -> Iterator[What]:
@@ -433,7 +510,7 @@ class Refusals:
     def command(self, name: str, words: str) -> None:
         """A command with each of its calls refused; then the same again."""
         folder = os.path.join(self.folder, "store")
-        start, history = self.stored()
+        start, small = self.stored()
         self.begin(name, folder, start)
         nothing = self.wrong()
         status, usual = self.do(words, folder, nothing)
@@ -446,7 +523,7 @@ class Refusals:
         for what in cases_of(counts, self.every):
             wrong = self.wrong(what)
             self.begin(name, folder, start)
-            if not self.guard(f"command {name}", wrong, lambda: self.one_command(name, words, folder, wrong, usual, history)):
+            if not self.guard(f"command {name}", wrong, lambda: self.one_command(name, words, folder, wrong, usual, small.front())):
                 return
 
     def begin(self, name: str, folder: str, start: Areas) -> None:
@@ -456,7 +533,7 @@ class Refusals:
         else:
             write_areas(folder, start)
 
-    def stored(self) -> tuple[Areas, list[Commit]]:
+    def stored(self) -> tuple[Areas, Machine]:
         folder = os.path.join(self.folder, "stored")
         if not os.path.exists(folder):
             write_areas(folder, self.formatted())
@@ -464,14 +541,14 @@ class Refusals:
         small = Machine()
         for line in BEFORE:
             small.answer(line)
-        return read_areas(folder), small.published
+        return read_areas(folder), small
 
     def do(self, words: str, folder: str, wrong: Wrong) -> tuple[int, list[str]]:
         done = subprocess.run([self.program, *words.format(folder).split(" ")], stdout=subprocess.PIPE, stderr=subprocess.PIPE, text=True, env=wrong.environment, timeout=PATIENCE)
         self.complaint = done.stderr
         return done.returncode, done.stdout.splitlines()
 
-    def one_command(self, name: str, words: str, folder: str, wrong: Wrong, usual: list[str], history: list[Commit]) -> str:
+    def one_command(self, name: str, words: str, folder: str, wrong: Wrong, usual: list[str], front: Front) -> str:
         status, said = self.do(words, folder, wrong)
         if not wrong.came():
             raise Failure(f"{words} {wrong}: the call never came")
@@ -483,7 +560,7 @@ class Refusals:
             outcome = self.refused(name, wrong, status, said, usual)
             self.same_again(name, words, folder, usual)
         if name != "format":
-            check_left(self.program, read_areas(folder), history, len(history), f"after {words} {wrong}")
+            check_left(self.program, read_areas(folder), front, f"after {words} {wrong}")
         return outcome
 
     def refused(self, name: str, wrong: Wrong, status: int, said: list[str], usual: list[str]) -> str:

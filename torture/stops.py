@@ -4,6 +4,7 @@ from __future__ import annotations
 import random
 import tempfile
 from collections import Counter
+from collections.abc import Iterable, Iterator
 
 import image
 import machine
@@ -23,20 +24,25 @@ DEEPEST = 2
 Loose = tuple[str, int, int]
 
 
-def changed_range(area: str, before: bytes, after: bytes) -> tuple[int, int] | None:
-    """From where to where a device call wrote: all of its extent or slot's bytes that differ."""
-    if before == after:
-        return None
-    shared = min(len(before), len(after))
-    low = next((at for at in range(shared) if before[at] != after[at]), shared)
-    if area == "heap":
-        low -= low % image.EXTENT
-        return low, low + image.EXTENT
-    high = len(after)
-    if len(before) == len(after):
-        while before[high - 1] == after[high - 1]:
-            high -= 1
-    return low, high
+def step_name(said: str) -> str:
+    return "published" if said.startswith("published") else said
+
+
+def written(said: str, before: Areas, after: Areas) -> Loose | None:
+    """Where the device call of a step wrote: in the first closed slot all but its gate, or the gate; an extent; behind the last run."""
+    log = image.read_log(before["status"])
+    slot = image.slot_at(len(log.slots))
+    if said == "body written":
+        return "status", slot + 1, slot + image.SLOT
+    if said == "gate written":
+        return "status", slot, slot + 1
+    if said == "wrote run":
+        return "archive", log.end, len(after["archive"])
+    if said == "wrote extent":
+        old, new = before["heap"], after["heap"]
+        place = next((at for at in range(0, len(new), image.EXTENT) if new[at: at + image.EXTENT] != old[at: at + image.EXTENT]), None)
+        return None if place is None else ("heap", place, place + image.EXTENT)
+    return None
 
 
 class Stops:
@@ -47,18 +53,19 @@ class Stops:
         self.loose: list[Loose] = []
 
     def called(self, after: Areas, said: str) -> None:
+        """After one step, which may have written nowhere else."""
+        place = written(said, self.now, after)
         for area in AREAS:
-            place = changed_range(area, self.now[area], after[area])
-            if place:
-                self.loose.append((area, *place))
-        self.now = dict(after)
-        synced = SYNCED.get(said.split(" ")[0] if said.startswith("published") else said)
-        if synced:
-            self.firm[synced] = after[synced]
-            self.loose = [it for it in self.loose if it[0] != synced]
+            low, high = place[1:] if place and place[0] == area else (0, 0)
+            old = self.now[area] + bytes(max(0, low - len(self.now[area])))
+            if old[:low] != after[area][:low] or old[high:] != after[area][high:]:
+                raise Failure(f"{said} has written in the {area} file elsewhere than from {low} to {high}")
+        self.loose += [place] if place else []
+        synced = SYNCED.get(step_name(said))
+        self.synced(after, [synced] if synced else [])
 
-    def synced(self, after: Areas, areas: tuple[str, ...]) -> None:
-        """After a line of many calls, whose last one synced these."""
+    def synced(self, after: Areas, areas: Iterable[str]) -> None:
+        """After calls of which the last one of each of these areas synced it."""
         self.now = dict(after)
         self.firm.update({area: after[area] for area in areas})
         self.loose = [it for it in self.loose if it[0] not in areas]
@@ -78,18 +85,30 @@ class Stops:
 
     def left(self, chance: random.Random) -> Areas:
         """One image that a stop may leave."""
-        areas = {}
-        for area in AREAS:
-            data = bytearray(self.firm[area])
-            for _, low, high in (it for it in self.loose if it[0] == area):
-                torn = self.torn(self.now[area][low:high], bytes(data[low:high]), chance)
-                if torn is None:
-                    continue
-                if len(data) < low:
-                    data.extend(bytes(low - len(data)))
-                data[low: low + len(torn)] = torn
-            areas[area] = bytes(data)
-        return areas
+        torn = [self.torn(self.now[area][low:high], self.firm[area][low:high], chance) for area, low, high in self.loose]
+        return self.with_loose(torn, bytes([chance.choice(FILLINGS)]) * chance.choice((0, 0, 0, chance.randrange(2 * image.EXTENT))))
+
+    def with_loose(self, torn: list[bytes | None], behind: bytes = b"") -> Areas:
+        """What is synced, with these bytes where was written since (None: nothing of a write), and others behind the end of each file."""
+        areas = {area: bytearray(self.firm[area] + behind) for area in AREAS}
+        for (area, low, _), piece in zip(self.loose, torn):
+            data = areas[area]
+            if piece is not None:
+                data.extend(bytes(max(0, low - len(data))))
+                data[low: low + len(piece)] = piece
+        return {area: bytes(data) for area, data in areas.items()}
+
+    def each_left(self) -> Iterator[Areas]:
+        """Images that a stop may leave: all of what was written since the syncs, nothing of it, and with each filling all of it torn, or half of the last write."""
+        new = [self.now[area][low:high] for area, low, high in self.loose]
+        yield self.with_loose([*new])
+        if not self.loose:
+            return
+        yield self.with_loose([None] * len(new))
+        half = len(new[-1]) // 2
+        for filling in (bytes([it]) for it in FILLINGS):
+            yield self.with_loose([filling * len(it) for it in new], filling * 100)
+            yield self.with_loose([*new[:-1], new[-1][:half] + filling * (len(new[-1]) - half)])
 
 
 class Play:
@@ -125,43 +144,54 @@ class Play:
         upto = self.chance.choice((newest, self.chance.randrange(newest + 3)))
         wanted = small.vacuum(upto)
         status, said = command(self.program, "vacuum", folder, str(upto))
-        if said != wanted or status != (0 if wanted[0].startswith("archived") else 1):
+        if said != wanted or status != any(it.startswith("refused") for it in wanted):
             raise Failure(f"vacuum {upto}: answered {said} with status {status}, and not {wanted}", Shown(start, [], wanted, {}, f"vacuum DIR {upto}"))
         self.tried["vacuums"] += 1
-        check_left(self.program, read_areas(folder), small.published, len(small.published), f"after vacuum {upto}")
+        check_left(self.program, read_areas(folder), small.front(), f"after vacuum {upto}")
 
     def line(self, session: Session, small: Machine, stops: Stops) -> None:
         line = some_line(self.chance, small, BY_STEPS)
+        areas = areas_of(line, small)
         wanted = small.answer(line)
         if wanted is not None:
             session.expect(line, wanted)
-            if line in ("flush", "finish"):
-                stops.synced(read_areas(session.folder), AREAS)
+            # where it meets another's slot, its own is not begun
+            stops.synced(read_areas(session.folder), [it for it in areas if it != "status" or wanted == ["idle"]])
             return
-        said = session.step(line, small.pumped if line == "pump" else small.jobbed)
-        stops.called(read_areas(session.folder), said)
-        if said != "idle" and self.has_stops:
+        said = follow(session, small, stops, line)
+        if said not in ("idle", "refused: busy") and self.has_stops:
             self.stop(small, stops, f"a stop after {line} answered {said}")
-            self.tried[f"stops, {said.split(' ')[0] if said.startswith('published') else said}"] += 1
+            self.tried[f"stops, {step_name(said)}"] += 1
 
     def stop(self, small: Machine, stops: Stops, where: str) -> None:
-        """What a stop may leave opens as what is published or, while the group's gate is in the writing, as that with the whole group."""
-        order = small.with_group() if small.turn == "gate written" else small.published
+        """What a stop may leave opens as what is published or, while a gate is in the writing, as that with the whole group or the floor."""
         areas = stops.left(self.chance)
-        found = check_left(self.program, areas, order, len(small.published), where)
-        if found not in (len(small.published), len(order)):
-            raise Failure(f"{where}: {found} commits are left, and the group has {len(small.published) + 1} to {len(order)}")
+        again = check_left(self.program, areas, small.front(), where)
         self.tried["images"] += 1
         if self.depth < DEEPEST and self.chance.random() < SECOND_STOPS:
-            self.play_on(areas, order[:found])
+            self.play_on(areas, again)
 
-    def play_on(self, areas: Areas, order: list[machine.Commit]) -> None:
+    def play_on(self, areas: Areas, again: Machine) -> None:
         """Goes on with what a stop left, and stops again."""
         with tempfile.TemporaryDirectory(prefix="torture-") as folder:
             write_areas(folder, areas)
-            again = Machine(order)
-            _, again.archived, again.reclaimed, _ = image.read(*(areas[area] for area in AREAS))
             deeper = Play(self.program, self.chance, self.depth + 1)
             deeper.play(folder, again, 40)
         self.tried += deeper.tried
         self.tried["second stops"] += 1
+
+
+def areas_of(line: str, small: Machine) -> tuple[str, ...]:
+    """The areas that a line of many steps syncs, if it comes to its end."""
+    if line == "flush" and small.queue:
+        return "heap", "status"
+    if line == "finish" and small.job:
+        return {"archive": ("archive", "status"), "reclaim": ("heap", "status"), "floor": ("status",)}[small.job.kind]
+    return ()
+
+
+def follow(session: Session, small: Machine, stops: Stops, line: str) -> str:
+    """Feeds one `pump` or `job`, and notes what it wrote."""
+    said = session.step(line, small.pumped if line == "pump" else small.jobbed)
+    stops.called(read_areas(session.folder), said)
+    return said
