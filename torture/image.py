@@ -3,6 +3,7 @@ from __future__ import annotations
 
 from collections.abc import Callable, Iterator, Mapping
 from dataclasses import dataclass, field
+from datetime import datetime, timedelta
 from typing import Any
 
 from machine import LATEST, Commit, Fields, History, Key, all_versions
@@ -148,6 +149,23 @@ def read_log(status: bytes) -> Log:
     return log
 
 
+def dump(status: bytes) -> list[str]:
+    """The text of a log."""
+    lines = [f"header {header(status)}"]
+    log = read_log(status)
+    for number, (kind, body) in enumerate(log.slots):
+        lines.append(f"slot {number} {kind}" if kind == "commit" else " ".join([f"slot {number} {kind}", *map(str, body)]))
+        lines += [f"member {' '.join(map(str, it))} {instant(it[1])}" for it in body] if kind == "commit" else []
+    return [*lines, f"used {len(log.slots)} of {header(status)}"]
+
+
+def instant(time: int) -> str:
+    try:
+        return (datetime(1970, 1, 1) + timedelta(seconds=time // 1_000_000)).strftime("%Y-%m-%dT%H:%M:%SZ")
+    except OverflowError:
+        return "-"
+
+
 # ---- the heap
 
 
@@ -266,13 +284,16 @@ class Image:
     log: Log
     history: list[Commit]
     anchors: Anchors
+    # the extents of the live chains
+    live: frozenset[int]
 
 
 def read(areas: Mapping[str, bytes]) -> Image:
     """Refused where the files don't open."""
     log = read_log(areas["status"])
     mark, first, extents, records = log.anchors()
-    history, taken = [], set()
+    history: list[Commit] = []
+    taken: set[int] = set()
     olds = chain(areas["heap"], first, extents, records, lambda data, at: anchor(data, at, mark), taken)
     if olds is None:
         raise damaged("heap", first)
@@ -289,7 +310,7 @@ def read(areas: Mapping[str, bytes]) -> Image:
     for run in runs(log):
         if run.start + run.length > len(areas["archive"]):
             raise damaged("archive", run.start)
-    return Image(header(areas["status"]), log, history, {key: (since, fields_of(value)) for key, (since, value) in olds})
+    return Image(header(areas["status"]), log, history, {key: (since, fields_of(value)) for key, (since, value) in olds}, frozenset(taken))
 
 
 # ---- runs

@@ -39,7 +39,8 @@ def written(said: str, before: Areas, after: Areas) -> Loose | None:
     if said == "wrote run":
         return "archive", log.end, len(after["archive"])
     if said == "wrote extent":
-        old, new = before["heap"], after["heap"]
+        new = after["heap"]
+        old = before["heap"].ljust(len(new), b"\0")
         place = next((at for at in range(0, len(new), image.EXTENT) if new[at: at + image.EXTENT] != old[at: at + image.EXTENT]), None)
         return None if place is None else ("heap", place, place + image.EXTENT)
     return None
@@ -52,17 +53,18 @@ class Stops:
         self.firm, self.now = dict(areas), dict(areas)
         self.loose: list[Loose] = []
 
-    def called(self, after: Areas, said: str) -> None:
-        """After one step, which may have written nowhere else."""
+    def called(self, after: Areas, said: str) -> str | None:
+        """After one step; why, if it has written elsewhere than it may."""
         place = written(said, self.now, after)
         for area in AREAS:
             low, high = place[1:] if place and place[0] == area else (0, 0)
-            old = self.now[area] + bytes(max(0, low - len(self.now[area])))
+            old = self.now[area].ljust(low, b"\0")
             if old[:low] != after[area][:low] or old[high:] != after[area][high:]:
-                raise Failure(f"{said} has written in the {area} file elsewhere than from {low} to {high}")
+                return f"{said} has written in the {area} file elsewhere than from {low} to {high}"
         self.loose += [place] if place else []
         synced = SYNCED.get(step_name(said))
         self.synced(after, [synced] if synced else [])
+        return None
 
     def synced(self, after: Areas, areas: Iterable[str]) -> None:
         """After calls of which the last one of each of these areas synced it."""
@@ -193,5 +195,7 @@ def areas_of(line: str, small: Machine) -> tuple[str, ...]:
 def follow(session: Session, small: Machine, stops: Stops, line: str) -> str:
     """Feeds one `pump` or `job`, and notes what it wrote."""
     said = session.step(line, small.pumped if line == "pump" else small.jobbed)
-    stops.called(read_areas(session.folder), said)
+    why = stops.called(read_areas(session.folder), said)
+    if why:
+        raise session.failure(f"{line}: {why}", [said], [f"another step: {why}"])
     return said

@@ -30,9 +30,10 @@ from collections.abc import Iterator
 
 import forged
 import machine
-import refusals
+import wrong
 from machine import Commit, Front, Machine
 from program import AREAS, Areas, Failure, Session, format_store, read_areas, report, seconds_to_begin, use_memory
+from refused_scripts import Case
 from scripts import BY_LINES, a_vacuum, check_left, key_text, questions, some_fields, some_key, some_line
 from stops import Play
 
@@ -233,7 +234,7 @@ def forge(areas: dict[str, bytearray], chance: random.Random) -> None:
 # ---- refused calls
 
 
-def drawn(chance: random.Random, case: refusals.Case, count: int, opened: Counter) -> Iterator[str]:
+def drawn(chance: random.Random, case: Case, count: int, opened: Counter) -> Iterator[str]:
     """Random lines; and how many calls there were of each class before the second one."""
     yield "times 0"
     opened.update(case.wrong.counts())
@@ -248,18 +249,18 @@ def refused_case(program: str, chance: random.Random, folder: str) -> Counter:
     formatted, store = os.path.join(folder, "formatted"), os.path.join(folder, "store")
     os.makedirs(formatted)
     format_store(program, formatted, 256)
-    start, library = read_areas(formatted), refusals.library_for(folder)
-    nothing = refusals.Wrong(library, folder)
-    first = refusals.Case(program, store, start, nothing)
+    start, library = read_areas(formatted), wrong.library_for(folder)
+    nothing = wrong.Wrong(library, folder)
+    first = Case(program, store, start, nothing)
     opened: Counter = Counter()
     first.play(drawn(chance, first, 60, opened))
     counts, tried = nothing.counts(), Counter()
     for _ in range(10):
-        kind = chance.choices(refusals.CLASSES, [often * (counts[it] > 0) for it, often in zip(refusals.CLASSES, REFUSED)])[0]
+        kind = chance.choices(wrong.CLASSES, [often * (counts[it] > 0) for it, often in zip(wrong.CLASSES, REFUSED)])[0]
         # mostly behind the opening
         least = opened[kind] if counts[kind] > opened[kind] and chance.random() < 0.9 else 0
-        what = (kind, chance.randrange(least, counts[kind]) + 1, chance.choice(refusals.HOWS[kind]))
-        outcome = refusals.Case(program, store, start, refusals.Wrong(library, folder, what)).play(first.session.lines)
+        what = (kind, chance.randrange(least, counts[kind]) + 1, chance.choice(wrong.HOWS[kind]))
+        outcome = Case(program, store, start, wrong.Wrong(library, folder, what)).play(first.session.lines)
         tried += Counter({f"{kind} {outcome}": 1, "images": 1})
     return tried
 
@@ -297,7 +298,7 @@ def main() -> int:
     given = words.parse_args()
     use_memory()
     program, began, seed = os.path.abspath(given.program), time.time(), given.seed
-    kinds = [given.only] if given.only else [it for it in KINDS if it != "refused" or refusals.has_compiler()]
+    kinds = [given.only] if given.only else [it for it in KINDS if it != "refused" or wrong.has_compiler()]
     tried, cases, failed = {kind: Counter() for kind in kinds}, Counter(), 0
     while time.time() < began + 60 * given.minutes and failed < FAILURES_MOST:
         for kind in kinds:

@@ -1,0 +1,226 @@
+#!/usr/bin/env python3
+"""A job with commits between its steps, stopped before, within and after each device call; what is left then reclaims, commits, and is
+stopped again at each device call of that.
+
+    between.py PROGRAM [--only archive|reclaim|floor] [--every N] [--jobs N]
+
+A record has three versions and a deletion. Before each step of the job a commit is begun, and pumped until it is published or meets the
+job's slot. What a stop may leave is all that was written since the syncs, nothing of it, all of it torn or half of the last write, torn
+to bytes 00, c7 and ff; a stop before a call leaves what one after the call before it may leave. Each image is opened and asked at every
+time, and compared with the list of write sets (machine.py) and with a plain reader (image.py). With --every N one image of N is tried at
+the first stop and at the second one. The status is 1 where one fails; a script is left that shows it (`sh SCRIPT PROGRAM`).
+"""
+from __future__ import annotations
+
+import argparse
+import hashlib
+import os
+import sys
+import tempfile
+import time
+from collections import Counter
+from collections.abc import Iterator
+from concurrent.futures import ProcessPoolExecutor
+from dataclasses import dataclass
+
+import image
+from machine import Front, Machine
+from program import Areas, Failure, Session, format_store, read_areas, report, use_memory, write_areas
+from scripts import check_left
+from stops import Stops, follow
+
+SLOTS = 16
+# a record with three versions and a deletion
+VERSIONS = ["begin a", "put a 1 7 61", "submit a 1 100", "flush", "begin b", "put b 1 7 62", "submit b 2 110", "flush",
+            "begin c", "del c 1 7", "submit c 3 120", "flush", "begin d", "put d 1 7 63", "submit d 4 130", "flush"]
+TIMES = range(99, 139)
+
+
+@dataclass(frozen=True)
+class Kind:
+    """A job: what stands before it, its start, the device calls of it and the commits between, the slots behind the first four, and the job that comes next."""
+
+    before: list[str]
+    start: str
+    calls: int
+    slots: str
+    then: str
+
+
+KINDS = {
+    "archive": Kind([], "archive 120", 37, "commit commit commit archived commit commit", "reclaim"),
+    "reclaim": Kind(["archive 110", "finish"], "reclaim", 37, "archived commit commit commit reclaimed commit commit", "floor 120"),
+    "floor": Kind([], "floor 115", 23, "commit floor commit commit", "archive 120"),
+}
+FAILURES_MOST = 20
+
+
+@dataclass(frozen=True)
+class Left:
+    """An image that a stop may leave, and of what front it has to be one."""
+
+    where: str
+    areas: Areas
+    front: Front
+
+    def key(self) -> bytes:
+        text = hashlib.sha256(repr((self.front.counts, self.front.floors, len(self.front.order))).encode())
+        for area, data in self.areas.items():
+            text.update(f"{area} {len(data)} ".encode() + data)
+        return text.digest()
+
+
+def lefts(where: str, stops: Stops, small: Machine) -> Iterator[Left]:
+    for number, areas in enumerate(stops.each_left()):
+        yield Left(f"{where}, image {number}", areas, small.front())
+
+
+class Walk:
+    """A script of steps on a store, and what a stop may leave after each of its device calls."""
+
+    def __init__(self, program: str, folder: str, small: Machine) -> None:
+        self.session, self.small, self.calls = Session(program, folder), small, 0
+        self.stops = Stops(self.session.start)
+
+    def tell(self, *lines: str) -> None:
+        for line in lines:
+            self.session.expect(line, self.small.answer(line) or [])
+
+    def step(self, line: str) -> Iterator[Left]:
+        """One step; nothing is made where its way is barred or at the end."""
+        said = follow(self.session, self.small, self.stops, line)
+        if said not in ("idle", "refused: busy"):
+            self.calls += 1
+            yield from lefts(f"call {self.calls}, {line} answered {said}", self.stops, self.small)
+
+    def steps(self, line: str) -> Iterator[Left]:
+        calls = -1
+        while calls != self.calls:
+            calls = self.calls
+            yield from self.step(line)
+
+    def commit(self, number: int, key: str, fields: str) -> Iterator[Left]:
+        self.tell(f"begin t{number}", f"put t{number} {key} {fields}", f"submit t{number} {10 + number} 0")
+        yield from self.steps("pump")
+
+    def job_between_commits(self, start: str) -> Iterator[Left]:
+        yield from lefts("before the first call", self.stops, self.small)
+        self.tell(start)
+        number = 0
+        while self.small.job:
+            number += 1
+            yield from self.commit(number, f"1 {100 + number}", "65")
+            yield from self.step("job")
+        yield from self.steps("pump")
+
+    def job_and_commit(self, start: str) -> Iterator[Left]:
+        """The next job, if there is one to be done, and a commit, which takes the least extent that is free."""
+        yield from lefts("opened", self.stops, self.small)
+        self.tell(start)
+        yield from self.steps("job")
+        live = image.read(self.stops.now).live
+        yield from self.commit(0, "1 7", "64")
+        self.session.end_well()
+        first = [it[2] for it in image.read(self.stops.now).log.members()][-1]
+        if first != min(set(range(1, len(live) + 2)) - live):
+            raise self.session.failure(f"the commit takes extent {first}, and {sorted(live)} are live", None, [])
+
+
+class Between:
+    """Tries images in a process of its own."""
+
+    program: str
+    kind: Kind
+    every: int
+    seen: set[bytes]
+
+    @classmethod
+    def begin(cls, program: str, kind: Kind, every: int) -> None:
+        use_memory()
+        cls.program, cls.kind, cls.every, cls.seen = program, kind, every, set()
+
+    @classmethod
+    def one(cls, left: Left) -> tuple[Counter, Failure | None]:
+        """Opens what a first stop left, goes on, and opens what a second one leaves."""
+        tried = Counter()
+        try:
+            small = check_left(cls.program, left.areas, left.front, left.where, TIMES)
+            tried["first"] += 1
+            with tempfile.TemporaryDirectory(prefix="between-") as folder:
+                write_areas(folder, left.areas)
+                for number, again in enumerate(cls.second(folder, small)):
+                    if number % cls.every == 0 and again.key() not in cls.seen:
+                        cls.seen.add(again.key())
+                        check_left(cls.program, again.areas, again.front, f"{left.where}; then {again.where}", TIMES)
+                        tried["second"] += 1
+            return tried, None
+        except Failure as why:
+            return tried, why
+
+    @classmethod
+    def second(cls, folder: str, small: Machine) -> Iterator[Left]:
+        walk = Walk(cls.program, folder, small)
+        try:
+            yield from walk.job_and_commit(cls.kind.then)
+        finally:
+            walk.session.kill()
+
+
+def first_stops(program: str, kind: Kind) -> list[Left]:
+    """What a stop may leave at each call of a job with commits between, each image once."""
+    small = Machine(slots=SLOTS)
+    with tempfile.TemporaryDirectory(prefix="between-") as folder:
+        format_store(program, folder, SLOTS)
+        before = Walk(program, folder, small)
+        before.tell(*VERSIONS, *kind.before)
+        before.session.end_well()
+        small.reopened()
+        walk = Walk(program, folder, small)
+        try:
+            found = {left.key(): left for left in walk.job_between_commits(kind.start)}
+            walk.session.end_well()
+        finally:
+            walk.session.kill()
+        slots = [name for name, _ in image.read_log(read_areas(folder)["status"]).slots]
+    if (walk.calls, slots) != (kind.calls, ["commit"] * 4 + kind.slots.split(" ")):
+        raise Failure(f"{kind.start}: {walk.calls} device calls and the slots {slots}")
+    return list(found.values())
+
+
+def try_kind(program: str, name: str, every: int, jobs: int) -> tuple[Counter, int]:
+    kind, tried, bad = KINDS[name], Counter(), 0
+    try:
+        images = first_stops(program, kind)[::every]
+    except Failure as why:
+        report(f"{name} with commits between", why)
+        return tried, 1
+    with ProcessPoolExecutor(jobs, initializer=Between.begin, initargs=(program, kind, every)) as pool:
+        for one, why in pool.map(Between.one, images):
+            tried += one
+            if why:
+                bad += 1
+                if bad <= FAILURES_MOST:
+                    report(f"{name} with commits between", why)
+    print(f"{name}: {kind.calls} device calls; {tried['first']} images of a first stop and {tried['second']} of a second one", flush=True)
+    return tried, bad
+
+
+def main() -> int:
+    words = argparse.ArgumentParser(description=__doc__, formatter_class=argparse.RawDescriptionHelpFormatter)
+    words.add_argument("program")
+    words.add_argument("--only", choices=KINDS)
+    words.add_argument("--every", type=int, default=1, help="of the images one of so many (1)")
+    words.add_argument("--jobs", type=int, default=2, help="images tried at once (2)")
+    given = words.parse_args()
+    use_memory()
+    began, tried, bad = time.time(), Counter(), 0
+    for name in [given.only] if given.only else KINDS:
+        found, failed = try_kind(os.path.abspath(given.program), name, given.every, given.jobs)
+        tried, bad = tried + found, bad + failed
+    count, seconds = tried.total(), time.time() - began
+    print(f"{count} images in {seconds:.0f} s, {count / seconds:.0f} a second; {bad} failed")
+    return 1 if bad else 0
+
+
+if __name__ == "__main__":
+    sys.exit(main())
