@@ -39,8 +39,8 @@ class Shown:
     def script(self, title: str) -> str:
         """A script of its own: `sh SCRIPT PROGRAM` shows where the program's answers differ."""
         rows = ["#!/bin/sh", f"# {title}", "# usage: sh THIS PROGRAM" + (" REFUSE.SO (made of torture/refuse.c)" if self.environment else ""), 'dir=$(mktemp -d) && mkdir "$dir/store" || exit 2']
-        for area in AREAS:
-            text = base64.b64encode(gzip.compress(self.areas[area], mtime=0)).decode()
+        for area, data in self.areas.items():
+            text = base64.b64encode(gzip.compress(data, mtime=0)).decode()
             rows.append(f"echo {text} | base64 -d | gzip -d > \"$dir/store/{area}\"")
         for name, lines in (("script", self.lines), ("wanted", self.wanted)):
             rows += [f"cat > \"$dir/{name}\" <<'END'", *lines, "END"]
@@ -79,9 +79,9 @@ def read_areas(folder: str) -> Areas:
 
 def write_areas(folder: str, areas: Areas) -> None:
     os.makedirs(folder, exist_ok=True)
-    for area in AREAS:
+    for area, data in areas.items():
         with open(os.path.join(folder, area), "wb") as it:
-            it.write(areas[area])
+            it.write(data)
 
 
 def run(program: str, folder: str, lines: Iterable[str]) -> tuple[int, list[str]]:

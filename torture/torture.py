@@ -197,7 +197,7 @@ def forged_case(program: str, chance: random.Random, folder: str) -> Counter:
         else:
             for _ in range(chance.choice((1, 1, 1, 2))):
                 forge(areas, chance)
-        said = forged.check(program, {area: bytes(areas[area]) for area in AREAS}, "forged", keys)
+        said = forged.check(program, {area: bytes(areas[area]) for area in AREAS}, "forged", keys, chance.random() < 0.2)
         tried += Counter({said: 1, "images": 1})
     return tried
 
