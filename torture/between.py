@@ -25,9 +25,9 @@ from dataclasses import dataclass
 
 import image
 from machine import Front, Machine
-from program import Areas, Failure, Session, format_store, read_areas, report, use_memory, write_areas
+from program import Areas, Failure, format_store, read_areas, report, use_memory, write_areas
 from scripts import check_left
-from stops import Stops, follow
+from stops import Stops, Traced, step, tell
 
 SLOTS = 16
 # a record with three versions and a deletion
@@ -79,16 +79,16 @@ class Walk:
     """A script of steps on a store, and what a stop may leave after each of its device calls."""
 
     def __init__(self, program: str, folder: str, small: Machine) -> None:
-        self.session, self.small, self.calls = Session(program, folder), small, 0
+        self.session, self.small, self.calls = Traced(program, folder), small, 0
         self.stops = Stops(self.session.start)
 
     def tell(self, *lines: str) -> None:
         for line in lines:
-            self.session.expect(line, self.small.answer(line) or [])
+            tell(self.session, self.small, self.stops, line)
 
     def step(self, line: str) -> Iterator[Left]:
         """One step; nothing is made where its way is barred or at the end."""
-        said = follow(self.session, self.small, self.stops, line)
+        said = step(self.session, self.small, self.stops, line)
         if said not in ("idle", "refused: busy"):
             self.calls += 1
             yield from lefts(f"call {self.calls}, {line} answered {said}", self.stops, self.small)

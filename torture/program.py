@@ -38,14 +38,15 @@ class Shown:
 
     def script(self, title: str) -> str:
         """A script of its own: `sh SCRIPT PROGRAM` shows where the program's answers differ."""
-        rows = ["#!/bin/sh", f"# {title}", "# usage: sh THIS PROGRAM" + (" REFUSE.SO (made of torture/refuse.c)" if self.environment else ""), 'dir=$(mktemp -d) && mkdir "$dir/store" || exit 2']
+        refuses = {name: value for name, value in self.environment.items() if name.startswith("REFUSE_") and name != "REFUSE_COUNTS"} if self.environment.get("REFUSE_CLASS") else {}
+        rows = ["#!/bin/sh", f"# {title}", "# usage: sh THIS PROGRAM" + (" REFUSE.SO (made of torture/refuse.c)" if refuses else ""), 'dir=$(mktemp -d) && mkdir "$dir/store" || exit 2']
         for area, data in self.areas.items():
             text = base64.b64encode(gzip.compress(data, mtime=0)).decode()
             rows.append(f"echo {text} | base64 -d | gzip -d > \"$dir/store/{area}\"")
         for name, lines in (("script", self.lines), ("wanted", self.wanted)):
             rows += [f"cat > \"$dir/{name}\" <<'END'", *lines, "END"]
         # fed line by line, as the test did: so it asks for memory at the same places
-        prefix = "".join(f"{name}={value} " for name, value in self.environment.items() if name.startswith("REFUSE_") and name != "REFUSE_COUNTS")
+        prefix = "".join(f"{name}={value} " for name, value in refuses.items())
         prefix = f'env {prefix}LD_PRELOAD="$2" ' if prefix else ""
         rows.append(f'while IFS= read -r line; do printf "%s\\n" "$line"; sleep 0.01; done < "$dir/script" | {prefix}"$1" {self.words.replace("DIR", chr(34) + "$dir/store" + chr(34))} | diff - "$dir/wanted"')
         return "\n".join(rows) + "\n"

@@ -26,19 +26,19 @@ from machine import Machine
 from program import Areas, Failure, format_store, read_areas, report, run, use_memory, write_areas
 from refused_commands import BEFORE, COMMANDS, Command
 from refused_scripts import SCRIPTS, Case
-from wrong import NONE, What, Wrong, cases_of, has_compiler, library_for
+from wrong import NONE, What, Wrong, cases_of, has_compiler
 
 FAILURES_MOST = 20
 
 
 class Refusals:
-    def __init__(self, program: str, library: str, folder: str, every: int) -> None:
-        self.program, self.library, self.folder, self.every = program, library, folder, every
+    def __init__(self, program: str, folder: str, every: int) -> None:
+        self.program, self.folder, self.every = program, folder, every
         self.tried: Counter = Counter()
         self.bad = 0
 
     def wrong(self, what: What = NONE) -> Wrong:
-        return Wrong(self.library, self.folder, what)
+        return Wrong(self.folder, what)
 
     def guard(self, name: str, what: Wrong, case: Callable[[], str]) -> bool:
         """Runs one case; whether to go on."""
@@ -110,7 +110,7 @@ def main() -> int:
         return 0
     began = time.time()
     with tempfile.TemporaryDirectory(prefix="refusals-") as folder:
-        all_of = Refusals(os.path.abspath(given.program), library_for(folder), folder, given.every)
+        all_of = Refusals(os.path.abspath(given.program), folder, given.every)
         for name in [it for it in SCRIPTS if given.only in (None, it)]:
             all_of.script(name)
         for name in [it for it in COMMANDS if given.only in (None, it)]:

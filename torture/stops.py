@@ -8,10 +8,12 @@ from collections.abc import Iterable, Iterator
 
 import image
 import machine
-from machine import Machine
+from machine import SLOT_STEPS, Machine
 from program import AREAS, Areas, Failure, Session, Shown, command, read_areas, write_areas
 from scripts import BY_STEPS, check_left, some_line
+from wrong import Call, Wrong, has_compiler
 
+# the area that a step syncs; the others write
 SYNCED = {"heap synced": "heap", "body synced": "status", "published": "status", "run synced": "archive", "job done": "status"}
 FILLINGS = (0x00, 0xC7, 0xFF)
 # lines between two ends of a session, and how often a vacuum stands between
@@ -20,30 +22,59 @@ VACUUMS = 0.5
 SECOND_STOPS = 0.02
 DEEPEST = 2
 
-# an area, and from where to where a device call wrote in it
-Loose = tuple[str, int, int]
-
 
 def step_name(said: str) -> str:
     return "published" if said.startswith("published") else said
 
 
-def written(said: str, before: Areas, after: Areas) -> Loose | None:
-    """Where the device call of a step wrote: in the first closed slot all but its gate, or the gate; an extent; behind the last run."""
+def call_of(said: str, before: Areas, after: Areas) -> Call | None:
+    """The device call of a step, as the files show it: of the first closed slot all but the gate, or the gate; an extent; behind the last run."""
     log = image.read_log(before["status"])
     slot = image.slot_at(len(log.slots))
+    if step_name(said) in SYNCED:
+        return Call("sync", SYNCED[step_name(said)])
     if said == "body written":
-        return "status", slot + 1, slot + image.SLOT
+        return Call("write", "status", slot + 1, slot + image.SLOT)
     if said == "gate written":
-        return "status", slot, slot + 1
+        return Call("write", "status", slot, slot + 1)
     if said == "wrote run":
-        return "archive", log.end, len(after["archive"])
+        return Call("write", "archive", log.end, len(after["archive"]))
     if said == "wrote extent":
         new = after["heap"]
         old = before["heap"].ljust(len(new), b"\0")
-        place = next((at for at in range(0, len(new), image.EXTENT) if new[at: at + image.EXTENT] != old[at: at + image.EXTENT]), None)
-        return None if place is None else ("heap", place, place + image.EXTENT)
+        place = next((at for at in range(0, len(new), image.EXTENT) if new[at: at + image.EXTENT] != old[at: at + image.EXTENT]), 0)
+        return Call("write", "heap", place, place + image.EXTENT)
     return None
+
+
+def is_of(call: Call, shown: Call) -> bool:
+    """Whether a device call that was made is the one that the files show: a run has pieces, and an extent may be written as it was."""
+    if shown.area == "archive":
+        return (call.kind, call.area) == (shown.kind, shown.area) and (call.kind == "sync" or shown.low <= call.low < call.high <= shown.high)
+    if shown.area == "heap" and shown.kind == "write":
+        return (call.kind, call.area) == ("write", "heap") and call.low % image.EXTENT == 0 and call.high == call.low + image.EXTENT
+    return call == shown
+
+
+class Traced(Session):
+    """A session whose device calls are written down, where there is a compiler for what does that."""
+
+    def __init__(self, program: str, folder: str) -> None:
+        self.trace = Wrong(folder) if has_compiler() else None
+        super().__init__(program, folder, self.trace.environment if self.trace else None)
+        self.expect("times 0", self.times())
+        calls = self.calls()
+        firsts = [it.kind for it in calls[: len(AREAS)]]
+        if self.trace and ({it.area for it in calls[: len(AREAS)]} != set(AREAS) or firsts != ["sync"] * len(AREAS) or any(it.kind != "read" for it in calls[len(AREAS):])):
+            raise self.failure(f"opening makes the calls {calls}, and not three syncs before it reads", None, [])
+
+    def times(self) -> list[str]:
+        """The commits with label 0 of the files."""
+        found = image.read(self.start).history
+        return [" ".join(["times", *(str(it.time) for it in found if it.label == 0)])]
+
+    def calls(self) -> list[Call]:
+        return self.trace.calls() if self.trace else []
 
 
 class Stops:
@@ -51,26 +82,27 @@ class Stops:
 
     def __init__(self, areas: Areas) -> None:
         self.firm, self.now = dict(areas), dict(areas)
-        self.loose: list[Loose] = []
+        self.loose: list[Call] = []
 
-    def called(self, after: Areas, said: str) -> str | None:
-        """After one step; why, if it has written elsewhere than it may."""
-        place = written(said, self.now, after)
+    def called(self, after: Areas, calls: Iterable[Call]) -> str | None:
+        """After some device calls; why, if bytes have changed where none of them wrote."""
+        calls = list(calls)
         for area in AREAS:
-            low, high = place[1:] if place and place[0] == area else (0, 0)
-            old = self.now[area].ljust(low, b"\0")
-            if old[:low] != after[area][:low] or old[high:] != after[area][high:]:
-                return f"{said} has written in the {area} file elsewhere than from {low} to {high}"
-        self.loose += [place] if place else []
-        synced = SYNCED.get(step_name(said))
-        self.synced(after, [synced] if synced else [])
-        return None
-
-    def synced(self, after: Areas, areas: Iterable[str]) -> None:
-        """After calls of which the last one of each of these areas synced it."""
+            old, new = self.now[area], after[area]
+            unwritten = bytearray(new)
+            for call in calls:
+                if (call.kind, call.area) == ("write", area):
+                    unwritten[call.low: call.high] = old[call.low: call.high].ljust(call.high - call.low, b"\0")
+            if unwritten != old.ljust(len(new), b"\0"):
+                return f"the {area} file has changed where none of {calls} wrote"
         self.now = dict(after)
-        self.firm.update({area: after[area] for area in areas})
-        self.loose = [it for it in self.loose if it[0] not in areas]
+        for call in calls:
+            if call.kind == "write":
+                self.loose.append(call)
+            elif call.kind == "sync":
+                self.firm[call.area] = after[call.area]
+                self.loose = [it for it in self.loose if it.area != call.area]
+        return None
 
     @staticmethod
     def torn(new: bytes, old: bytes, chance: random.Random) -> bytes | None:
@@ -87,22 +119,22 @@ class Stops:
 
     def left(self, chance: random.Random) -> Areas:
         """One image that a stop may leave."""
-        torn = [self.torn(self.now[area][low:high], self.firm[area][low:high], chance) for area, low, high in self.loose]
+        torn = [self.torn(self.now[it.area][it.low:it.high], self.firm[it.area][it.low:it.high], chance) for it in self.loose]
         return self.with_loose(torn, bytes([chance.choice(FILLINGS)]) * chance.choice((0, 0, 0, chance.randrange(2 * image.EXTENT))))
 
     def with_loose(self, torn: list[bytes | None], behind: bytes = b"") -> Areas:
         """What is synced, with these bytes where was written since (None: nothing of a write), and others behind the end of each file."""
         areas = {area: bytearray(self.firm[area] + behind) for area in AREAS}
-        for (area, low, _), piece in zip(self.loose, torn):
-            data = areas[area]
+        for call, piece in zip(self.loose, torn):
+            data = areas[call.area]
             if piece is not None:
-                data.extend(bytes(max(0, low - len(data))))
-                data[low: low + len(piece)] = piece
+                data.extend(bytes(max(0, call.low - len(data))))
+                data[call.low: call.low + len(piece)] = piece
         return {area: bytes(data) for area, data in areas.items()}
 
     def each_left(self) -> Iterator[Areas]:
         """Images that a stop may leave: all of what was written since the syncs, nothing of it, and with each filling all of it torn, or half of the last write."""
-        new = [self.now[area][low:high] for area, low, high in self.loose]
+        new = [self.now[it.area][it.low:it.high] for it in self.loose]
         yield self.with_loose([*new])
         if not self.loose:
             return
@@ -128,13 +160,13 @@ class Play:
                 self.vacuum(folder, small)
 
     def session(self, folder: str, small: Machine, count: int) -> None:
-        session = Session(self.program, folder)
+        session = Traced(self.program, folder)
         stops = Stops(session.start)
         try:
             for _ in range(count):
                 self.line(session, small, stops)
             if self.chance.random() < 0.5:
-                session.expect("reopen", small.reopened())
+                tell(session, small, stops, "reopen")
             session.end_well()
             small.reopened()
         finally:
@@ -151,16 +183,12 @@ class Play:
         self.tried["vacuums"] += 1
         check_left(self.program, read_areas(folder), small.front(), f"after vacuum {upto}")
 
-    def line(self, session: Session, small: Machine, stops: Stops) -> None:
+    def line(self, session: Traced, small: Machine, stops: Stops) -> None:
         line = some_line(self.chance, small, BY_STEPS)
-        areas = areas_of(line, small)
-        wanted = small.answer(line)
-        if wanted is not None:
-            session.expect(line, wanted)
-            # where it meets another's slot, its own is not begun
-            stops.synced(read_areas(session.folder), [it for it in areas if it != "status" or wanted == ["idle"]])
+        if line not in ("pump", "job"):
+            tell(session, small, stops, line)
             return
-        said = follow(session, small, stops, line)
+        said = step(session, small, stops, line)
         if said not in ("idle", "refused: busy") and self.has_stops:
             self.stop(small, stops, f"a stop after {line} answered {said}")
             self.tried[f"stops, {step_name(said)}"] += 1
@@ -183,19 +211,45 @@ class Play:
         self.tried["second stops"] += 1
 
 
-def areas_of(line: str, small: Machine) -> tuple[str, ...]:
+def areas_of(line: str, small: Machine) -> set[str]:
     """The areas that a line of many steps syncs, if it comes to its end."""
+    synced = ("heap synced", "run synced", *SLOT_STEPS)
     if line == "flush" and small.queue:
-        return "heap", "status"
+        return {"status"} if small.turn in synced and small.group == len(small.queue) else {"heap", "status"}
     if line == "finish" and small.job:
-        return {"archive": ("archive", "status"), "reclaim": ("heap", "status"), "floor": ("status",)}[small.job.kind]
-    return ()
+        data = {"archive": {"archive"}, "reclaim": {"heap"}, "floor": set()}[small.job.kind]
+        return {"status"} if small.job.step in synced else {"status", *data}
+    return set(AREAS) if line == "reopen" else set()
 
 
-def follow(session: Session, small: Machine, stops: Stops, line: str) -> str:
-    """Feeds one `pump` or `job`, and notes what it wrote."""
+def tell(session: Traced, small: Machine, stops: Stops, line: str) -> None:
+    """Feeds a line whose answer is known. Only one of many steps makes device calls."""
+    areas = areas_of(line, small)
+    wanted = small.answer(line) or []
+    session.expect(line, wanted)
+    # where it meets another's slot, its own is not begun
+    shown = [Call("sync", it) for it in sorted(areas) if it != "status" or wanted[0] != "refused: busy"]
+    made = [it for it in session.calls() if it.kind != "read"]
+    if session.trace and {it.area for it in made} != {it.area for it in shown}:
+        raise session.failure(f"{line}: makes the calls {made}, and syncs {shown}", wanted, ["other calls"])
+    changed(session, stops, line, wanted, made or shown)
+
+
+def step(session: Traced, small: Machine, stops: Stops, line: str) -> str:
+    """Feeds one `pump` or `job`, which makes one device call, or none where its way is barred or at its end."""
     said = session.step(line, small.pumped if line == "pump" else small.jobbed)
-    why = stops.called(read_areas(session.folder), said)
-    if why:
-        raise session.failure(f"{line}: {why}", [said], [f"another step: {why}"])
+    shown = call_of(said, stops.now, read_areas(session.folder))
+    made = [it for it in session.calls() if it.kind != "read"]
+    if session.trace and (len(made) != (shown is not None) or shown and not is_of(made[0], shown)):
+        raise session.failure(f"{line}: answered {said}, and makes the calls {made}, not {shown}", [said], ["other calls"])
+    changed(session, stops, line, [said], made or ([shown] if shown else []))
     return said
+
+
+def changed(session: Traced, stops: Stops, line: str, said: list[str], calls: list[Call]) -> None:
+    """Notes what was called; without a trace the files have changed where a line of many steps wrote, too."""
+    if not session.trace and line not in ("pump", "job"):
+        stops.now = read_areas(session.folder)
+    why = stops.called(read_areas(session.folder), calls)
+    if why:
+        raise session.failure(f"{line}: {why}", said, ["no change"])

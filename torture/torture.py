@@ -249,8 +249,7 @@ def refused_case(program: str, chance: random.Random, folder: str) -> Counter:
     formatted, store = os.path.join(folder, "formatted"), os.path.join(folder, "store")
     os.makedirs(formatted)
     format_store(program, formatted, 256)
-    start, library = read_areas(formatted), wrong.library_for(folder)
-    nothing = wrong.Wrong(library, folder)
+    start, nothing = read_areas(formatted), wrong.Wrong(folder)
     first = Case(program, store, start, nothing)
     opened: Counter = Counter()
     first.play(drawn(chance, first, 60, opened))
@@ -260,7 +259,7 @@ def refused_case(program: str, chance: random.Random, folder: str) -> Counter:
         # mostly behind the opening
         least = opened[kind] if counts[kind] > opened[kind] and chance.random() < 0.9 else 0
         what = (kind, chance.randrange(least, counts[kind]) + 1, chance.choice(wrong.HOWS[kind]))
-        outcome = Case(program, store, start, wrong.Wrong(library, folder, what)).play(first.session.lines)
+        outcome = Case(program, store, start, wrong.Wrong(folder, what)).play(first.session.lines)
         tried += Counter({f"{kind} {outcome}": 1, "images": 1})
     return tried
 
