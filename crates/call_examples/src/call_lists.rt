@@ -95,6 +95,11 @@ fn is_archive(answers: &[Answer], place: usize, expected: Result<(), StartFault>
     matches!(answers.get(place), Some(Answer::Archive(began)) if *began == expected)
 }
 
+/// Whether the answer at a place is this of a floor that was to begin.
+fn is_floor(answers: &[Answer], place: usize, expected: Result<(), StartFault>) -> bool {
+    matches!(answers.get(place), Some(Answer::Floor(began)) if *began == expected)
+}
+
 /// A put of the value in the transaction that a place holds.
 fn put<'a>(transaction: usize, fields: &'a [&'a [u8]]) -> Call<'a> {
     Call::Put {
@@ -394,6 +399,88 @@ fn an_archive_goes_on_beside_a_commit(rt: HostRuntime) -> Result<(), Fail> {
     ] {
         assert!(rt; is_pumped(&answers, place, expected), "{place}");
     }
+    Ok(())
+}
+
+/// Places 9 to 19: a transaction and a view, and a commit at 101 behind them.
+const BEHIND_A_READER: [Call<'static>; 11] = [
+    Call::Begin,
+    Call::View,
+    Call::Begin,
+    Call::Put {
+        transaction: 11,
+        key: SEVEN,
+        fields: &FIELDS,
+    },
+    Call::Submit {
+        transaction: 11,
+        label: 9,
+        now: 100,
+    },
+    Call::Pump,
+    Call::Pump,
+    Call::Pump,
+    Call::Pump,
+    Call::Pump,
+    Call::Pump,
+];
+
+/// Floors that are begun, steps of the one that is, and views that are asked before it.
+const FLOORS: [Call<'static>; 13] = [
+    Call::Floor { floor: 102 },
+    Call::Floor { floor: 101 },
+    Call::Floor { floor: 100 },
+    Call::Floor { floor: 100 },
+    Call::JobPump,
+    Call::JobPump,
+    Call::JobPump,
+    Call::JobPump,
+    Call::Floor { floor: 100 },
+    Call::At {
+        view: 10,
+        key: SEVEN,
+        time: 99,
+    },
+    Call::View,
+    Call::At {
+        view: 30,
+        key: SEVEN,
+        time: 99,
+    },
+    Call::At {
+        view: 30,
+        key: SEVEN,
+        time: 100,
+    },
+];
+
+#[test]
+fn a_floor_bars_later_views_and_no_reader(rt: HostRuntime) -> Result<(), Fail> {
+    let alloc = rt.alloc();
+    let mut calls = Vec::new(alloc);
+    calls.extend_from_slice(&BEHIND_A_READER)?;
+    calls.extend_from_slice(&FLOORS)?;
+    let (answers, left) = answers_after_a_commit(alloc, &calls)?;
+    assert_eq!(rt; (answers.len(), left), (33, 5));
+    for (place, expected) in [
+        (20, Err(StartFault::NotYet(101))),
+        (21, Err(StartFault::InUse(100))),
+        (22, Ok(())),
+        (23, Err(StartFault::JobBusy)),
+        (28, Err(StartFault::NothingToDo)),
+    ] {
+        assert!(rt; is_floor(&answers, place, expected), "{place}");
+    }
+    assert!(rt; is_job_step(&answers, 24, JobDid::BodyWritten));
+    assert!(rt; is_job_step(&answers, 27, JobDid::JobDone));
+    assert!(rt; matches!(answers.get(29), Some(Answer::At(Ok(None)))));
+    assert!(rt;
+        matches!(
+            answers.get(31),
+            Some(Answer::At(Err(QueryFault::BeforeKept(100))))
+        )
+    );
+    assert!(rt; matches!(answers.get(32), Some(Answer::At(Ok(Some(_))))));
     Ok(())
 }
 

@@ -201,6 +201,8 @@ const HELP: [(&str, &[&str]); 6] = [
             "scan REL TIME",
             "times LABEL",
             "archive TIME",
+            "reclaim",
+            "floor TIME",
             "job",
             "finish",
             "reopen",
@@ -245,6 +247,7 @@ const HELP: [(&str, &[&str]); 6] = [
             "<DIR>",
             "header SLOTS",
             "member LABEL TIME EXTENT EXTENTS RECORDS INSTANT",
+            "slot N floor TIME",
         ],
     ),
 ];

@@ -107,6 +107,20 @@ fn an_archive_names_its_time(rt: HostRuntime) {
 }
 
 #[test]
+fn a_floor_names_its_time(rt: HostRuntime) {
+    for (text, time) in [
+        ("floor 120", 120),
+        ("floor 1970-01-01T00:00:01Z", 1_000_000),
+        ("floor 18446744073709551615", u64::MAX),
+    ] {
+        assert!(rt;
+            matches!(line(text), Some(Line::Floor(floor)) if floor == time),
+            "{text}"
+        );
+    }
+}
+
+#[test]
 fn a_line_of_no_form_asks_for_nothing(rt: HostRuntime) {
     let lines = [
         "",
@@ -158,6 +172,12 @@ fn a_line_of_no_form_asks_for_nothing(rt: HostRuntime) {
         "ARCHIVE 100",
         "job 1",
         "finish 100",
+        "floor",
+        "floor ",
+        "floor soon",
+        "floor 18446744073709551616",
+        "floor 100 7",
+        "FLOOR 100",
     ];
     for text in lines {
         assert!(rt; line(text).is_none(), "{text}");

@@ -56,7 +56,7 @@ use Rattle.recovery.specs.Walk.{claimed}
 use Rattle.recovery.specs.Chains.{live_named}
 use Rattle.recovery.specs.HeapReads.{numbers_in, live_of}
 use Rattle.recovery.specs.Anchored.{anchor_writes}
-use Rattle.recovery.specs.ReadsImage.{KeepsOnly, IsReadAs, IsReadFrom}
+use Rattle.recovery.specs.ReadsImage.{IsOpening, KeepsOnly, IsReadAs, IsReadFrom}
 use Rattle.recovery.specs.Settling.{IsSync, Settles, last_moment}
 use Rattle.recovery.proofs.Claims.{free_all, kept_all, still_free}
 use Rattle.recovery.proofs.AnchorChains.{ordered_anchors, anchored_writes, keys_of}
@@ -219,9 +219,12 @@ module _ (alloc : Global) (header : Header) (image : Image) (h : History Value) 
   runs_ranged : AllByRecursion wire.IsRun (runs_of is.layout.slots)
   runs_ranged = runs_in_range header.profile is.layout.slots (λ n slot at. (is.held.log.opens.each_spelled n slot at).in_range)
 
+  opening : IsOpening header image (unread_layout is.layout) (unread is.reading)
+  opening = stands_opening header image is.layout is.reading h floors is.laid is.held is.stands is.profile_built is.built
+
   -- each floor of the log is of every relation
   floors_cover : AllByRecursion (λ (s : Slot). CoversAll s.body) is.layout.slots
-  floors_cover = rules_cover header.profile is.layout.slots is.held.log.opens.rules
+  floors_cover = rules_cover header.profile is.layout.slots opening.opens.log.rules
 
   -- its runs, each with what stood before its slot
   entries : (runs : List RunEntry) × AreEntriesOf is.layout.slots runs
@@ -306,7 +309,7 @@ module _ (alloc : Global) (header : Header) (image : Image) (h : History Value) 
   read_from = record {
     layout = unread_layout is.layout;
     reading = unread is.reading;
-    opening = stands_opening header image is.layout is.reading h floors is.laid is.held is.stands is.profile_built is.built;
+    opening = opening;
     is = read_as;
   }
 

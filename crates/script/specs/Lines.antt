@@ -70,6 +70,11 @@ abbrev pub archive_of : List Text → Option Line
 archive_of (time ∷ []) = option_map (λ t. line.Archive t) (time_in time)
 archive_of _ = None
 
+-- the time that the floor is raised to
+abbrev pub floor_of : List Text → Option Line
+floor_of (time ∷ []) = option_map (λ t. line.Floor t) (time_in time)
+floor_of _ = None
+
 -- a line of its command alone
 abbrev pub alone : Line → List Text → Option Line
 alone found [] = Some found
@@ -93,10 +98,11 @@ line_of (command ∷ rest) =
     else (if bytes_eq command (codes "times") then times_of rest
     else (if bytes_eq command (codes "archive") then archive_of rest
     else (if bytes_eq command (codes "reclaim") then alone line.Reclaim rest
+    else (if bytes_eq command (codes "floor") then floor_of rest
     else (if bytes_eq command (codes "job") then alone line.Job rest
     else (if bytes_eq command (codes "finish") then alone line.Finish rest
     else (if bytes_eq command (codes "reopen") then alone line.Reopen rest
-    else None)))))))))))))))))
+    else None))))))))))))))))))
 
 -- what a line of the script asks for, if it has such a form
 abbrev pub said : Text → Option Line

@@ -43,7 +43,9 @@ pub enum Line<'a> {
     Archive(u64),
     /// Begins a reclaim of what is archived.
     Reclaim,
-    /// Takes one step of the archive or reclaim that is being made.
+    /// Begins to raise the floor to a time: what stood before it need not be kept.
+    Floor(u64),
+    /// Takes one step of the archive, the reclaim or the floor that is being made.
     Job,
     /// Takes steps of it until nothing is left to do, or one is refused.
     Finish,
@@ -172,6 +174,16 @@ fn archive<'a>(mut words: Words<'a>) -> Option<Line<'a>>
     Some(Line::Archive(read_time(upto)?))
 }
 
+fn floor<'a>(mut words: Words<'a>) -> Option<Line<'a>>
+    ensures { result ≡ told.floor_of words.entry }
+{
+    let floor = words.next()?;
+    if !words.is_empty() {
+        return None;
+    }
+    Some(Line::Floor(read_time(floor)?))
+}
+
 /// A line of its command alone.
 fn alone<'a>(found: Line<'a>, words: Words<'_>) -> Option<Line<'a>>
     ensures { result ≡ told.alone found.entry words.entry }
@@ -215,6 +227,8 @@ fn read<'a>(command: &[u8], words: Words<'a>) -> Option<Line<'a>>
         archive(words)
     } else if is(command, "reclaim") {
         alone(Line::Reclaim, words)
+    } else if is(command, "floor") {
+        floor(words)
     } else if is(command, "job") {
         alone(Line::Job, words)
     } else if is(command, "finish") {

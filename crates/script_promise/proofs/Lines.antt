@@ -13,7 +13,7 @@ use Rattle.timequery.specs.declared.fault.QueryFault.{QueryFault}
 use Rattle.timequery.specs.declared.fault.QueryFault.TheVariants as query
 use Rattle.script.specs.declared.line.Line.{Line}
 use Rattle.script.specs.declared.line.Line.TheVariants as line
-use Rattle.session.specs.Session.{State, KeepsNames, StepsGroup, StepsJob, PumpStep, TakesSteps, Flushes, JobStep, TakesJobSteps, Finishes, ArchiveStep, ReclaimStep, AtStep, ScanStep, BetweenStep, TimesStep}
+use Rattle.session.specs.Session.{State, KeepsNames, StepsGroup, StepsJob, PumpStep, TakesSteps, Flushes, JobStep, TakesJobSteps, Finishes, ArchiveStep, ReclaimStep, FloorStep, AtStep, ScanStep, BetweenStep, TimesStep}
 use Rattle.session.specs.Session as session
 use Rattle.session.specs.Texts.{Text}
 use Rattle.session.specs.declared.fault.Fault.TheVariants as fault
@@ -34,6 +34,7 @@ use Rattle.run.specs.Moments.{Moment, IsAtMoment, with_answer}
 use Rattle.run.specs.Promise.{Chain}
 use Rattle.run.specs.Runs.{Goes}
 use Rattle.run.proofs.Archiving.{start-goes, reclaim-goes, start-few, reclaim-few, pumped-goes, pumped-few}
+use Rattle.run.proofs.FloorCalls.{floor-goes, floor-few}
 use Rattle.run.proofs.Pumping.{pump-goes, pump-few}
 use Rattle.run.proofs.Views.{asked-few, view-goes, at-goes, scan_at-goes, between-goes, end-goes, times-goes}
 use Rattle.script_promise.specs.ScriptMoments.{ScriptMoment, held_of, moment_of, with_reply}
@@ -100,7 +101,7 @@ flush-line tells m is r new f names =
     (record { steps = f.steps; ended = f.answer; calls = refl; answers = refl; go_on = group-go_on tells f.steps m.state.store f.mid f.before; ends = f.ends; reply = f.reply })
     did.end did.chain new.store did.held did.is (did.done ∙ silent r _ m.done f.reply (pumped-silent f.answer m.done)) new refl (through (held_of new) xs did.held (kept m new names) did.among)
 
--- ---- archives
+-- ---- jobs
 
 started-silent : (o : Result (Unit {0}) StartFault) (done : List ℕ) → with_reply (session.started o) done ≡ done
 started-silent (Ok u) done = refl
@@ -115,6 +116,11 @@ pub reclaim-line : (tells : Bool) (m : ScriptMoment) → IsScriptMoment tells m 
 reclaim-line tells m is r new step names =
     by-call tells m is line.Reclaim r call.Reclaim (answer.Reclaim step.0) (step.0, refl, step.2) (silent r _ m.done step.2 (started-silent step.0 m.done))
     new.store (held_of m.state ++ held.Nothing ∷ []) (reclaim-goes tells m.state.store new.store (held_of m.state) step.0 step.1) (reclaim-few m.state.store new.store step.0 step.1) new refl (kept-more m new names)
+
+pub floor-line : (tells : Bool) (m : ScriptMoment) → IsScriptMoment tells m → (floor : ℕ) (r : Reply) (new : State) → FloorStep m.state.store floor r new.store → KeepsNames m.state new → LeadsTo tells (line.Floor floor) r m new
+floor-line tells m is floor r new step names =
+    by-call tells m is (line.Floor floor) r (call.Floor floor) (answer.Floor step.0) (step.0, refl, step.2) (silent r _ m.done step.2 (started-silent step.0 m.done))
+    new.store (held_of m.state ++ held.Nothing ∷ []) (floor-goes tells m.state.store new.store (held_of m.state) floor step.0 step.1) (floor-few m.state.store new.store floor step.0 step.1) new refl (kept-more m new names)
 
 worked-silent : (o : Result JobDid PumpFault) (done : List ℕ) → with_reply (session.worked o) done ≡ done
 worked-silent (Ok step) done = refl

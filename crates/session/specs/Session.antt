@@ -29,6 +29,7 @@ use Rattle.store.specs.Values.{StoreValue}
 use Rattle.store.specs.Pumps.{Pumps}
 use Rattle.store.specs.Archives.{StartsArchive}
 use Rattle.store.specs.Reclaims.{StartsReclaim}
+use Rattle.store.specs.Floors.{StartsFloor}
 use Rattle.store.specs.Jobs.{PumpsJob}
 use Rattle.store.specs.declared.job.StartFault.{StartFault}
 use Rattle.store.specs.declared.job.JobDid.{JobDid}
@@ -229,6 +230,9 @@ ArchiveStep old upto r new = (answer : Result (Unit {0}) StartFault) × StartsAr
 abbrev pub ReclaimStep : StoreValue → Reply → StoreValue → Type 0
 ReclaimStep old r new = (answer : Result (Unit {0}) StartFault) × StartsReclaim old answer new × (r ≡ started answer)
 
+abbrev pub FloorStep : StoreValue → ℕ → Reply → StoreValue → Type 0
+FloorStep old time r new = (answer : Result (Unit {0}) StartFault) × StartsFloor old time answer new × (r ≡ started answer)
+
 abbrev pub worked : Result JobDid PumpFault → Reply
 worked (Ok step) = reply.JobDid step
 worked (Err f) = reply.Refused (fault.Pump f)
@@ -355,6 +359,7 @@ Step tells old (line.Scan relation time) r new = ScanStep tells old.store relati
 Step tells old (line.Times label) r new = TimesStep old.store label r × (new ≡ old)
 Step tells old (line.Archive upto) r new = ArchiveStep old.store upto r new.store × KeepsNames old new
 Step tells old line.Reclaim r new = ReclaimStep old.store r new.store × KeepsNames old new
+Step tells old (line.Floor time) r new = FloorStep old.store time r new.store × KeepsNames old new
 Step tells old line.Job r new = JobStep tells old.store r new.store × KeepsNames old new
 Step tells old line.Finish r new = Finishes tells old.store r new.store × KeepsNames old new
 Step tells old line.Reopen r new = Reopens tells old r new

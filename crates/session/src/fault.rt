@@ -26,7 +26,7 @@ pub enum Fault {
     Submit(#[from] SubmitFault),
     #[error("the step is refused: {0:?}")]
     Pump(#[from] PumpFault),
-    #[error("no archive begins: {0:?}")]
+    #[error("no job begins: {0:?}")]
     Start(#[from] StartFault),
     #[error("the query is refused: {0:?}")]
     Query(#[from] QueryFault),

@@ -29,9 +29,9 @@ pub enum Reply {
     InDoubt,
     /// What a step of the commits that are queued did.
     Did(Did),
-    /// An archive began.
+    /// An archive, a reclaim or a floor began.
     Started,
-    /// What a step of the archive that is being made did.
+    /// What a step of it did.
     JobDid(JobDid),
     /// The times of the commits with a label.
     Times(Vec<u64>),

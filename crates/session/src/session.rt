@@ -113,14 +113,14 @@ fn flush<D: Disk>(store: &mut Store<D>) -> Reply
     }
 }
 
-/// Whether a step found no archive to go on with.
+/// Whether a step found no job to go on with.
 fn is_job_idle(step: JobDid) -> bool
     ensures { IsTrue result ↔ (step ≡ JobDid.Idle) }
 {
     matches!(step, JobDid::Idle)
 }
 
-/// Takes steps of the archive that is being made until nothing is left to do, or one is refused.
+/// Takes steps of the job that runs until nothing is left to do, or one is refused.
 fn finish<D: Disk>(store: &mut Store<D>) -> Reply
     ensures { told.Finishes D.tells store.old result store.new }
 {
@@ -536,6 +536,16 @@ impl<D: Disk> Session<D> {
         }
     }
 
+    fn raise_floor(&mut self, floor: u64) -> Reply
+        ensures steps { told.FloorStep self.old.store floor result self.new.store }
+        ensures names { told.KeepsNames self.old self.new }
+    {
+        match self.store.floor_start(floor) {
+            Ok(()) => Reply::Started,
+            Err(fault) => Reply::Refused(Fault::Start(fault)),
+        }
+    }
+
     fn job(&mut self) -> Reply
         ensures steps { told.JobStep D.tells self.old.store result self.new.store }
         ensures names { told.KeepsNames self.old self.new }
@@ -574,6 +584,7 @@ impl<D: Disk> Session<D> {
             Line::Times(label) => Some(self.times(label)),
             Line::Archive(upto) => Some(self.archive(upto)),
             Line::Reclaim => Some(self.reclaim()),
+            Line::Floor(floor) => Some(self.raise_floor(floor)),
             Line::Job => Some(self.job()),
             Line::Finish => Some(self.finish()),
             Line::Reopen => None,

@@ -146,7 +146,7 @@ pub fn write_step<W: Write>(output: &mut W, step: Did) -> io::Result<()>
     }
 }
 
-/// Writes the line of a step of an archive.
+/// Writes the line of a step of a job.
 pub fn write_job_step<W: Write>(output: &mut W, step: JobDid) -> io::Result<()>
     ensures { OnOk result (Appends (W.contents output.old) (W.contents output.new) (told.job_step_text step)) }
 {

@@ -11,7 +11,7 @@ ghost use Rattle.snapshot.specs.TxnFaults.{IsOfValue};
 
 use crate::scan::overlay;
 use crate::write_set::{place_of, place_with_room, put_at, remove_write};
-use chains::{Bound, Frozen, SharedValue};
+use chains::{Frozen, SharedValue};
 use history::{Key, KeyWrite};
 use std::alloc::{AllocError, Global};
 use std::marker::Model;
@@ -152,12 +152,8 @@ impl Txn {
     pub fn scan(&self, alloc: Global, relation: u16) -> Result<Vec<(u64, SharedValue)>, AllocError>
         ensures { IfOk result (λ found. IsScan (seen_by self.now) relation found.items) }
     {
-        let first = Key {
-            relation,
-            record: 0,
-        };
         // The versions are in the order of their keys.
-        let _least = self.frozen.least(Bound::From(first));
+        let _none = self.frozen.is_empty();
         let published = self.frozen.scan(alloc, relation, self.snapshot)?;
         overlay(alloc, relation, &published, &self.writes)
     }

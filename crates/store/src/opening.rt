@@ -9,11 +9,9 @@ ghost use Rattle.store.specs.Opens.{Opens, OpenRefuses, times_of};
 use crate::store::Store;
 use crate::store_archive::StoreArchive;
 use archive::RunEntry;
-use chains::Bound;
 use disk::Disk;
 use extents::ChainTimes;
 use group::CommitHead;
-use history::Key;
 use recovery::{CommitName, LiveChain, OpenFault, Recovered, read_image};
 use status::StatusLog;
 use std::alloc::{AllocError, Global};
@@ -111,12 +109,8 @@ impl<D: Disk> Store<D> {
         };
         let log = StatusLog::new(&header, used);
         let slots = log.slots();
-        let first = Key {
-            relation: 0,
-            record: 0,
-        };
         // The versions are in the order of their keys.
-        let _least = chains.least(Bound::From(first));
+        let _none = chains.is_empty();
         Ok(Store {
             alloc,
             transactions: Transactions::of_recovered(

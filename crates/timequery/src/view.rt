@@ -10,7 +10,7 @@ ghost use Rattle.timequery.specs.View.{RefusesTime, RefusesScan, RefusesInterval
 use crate::fault::QueryFault;
 use crate::runs::Runs;
 use archive::RunEntry;
-use chains::{Bound, Frozen, SharedValue};
+use chains::{Frozen, SharedValue};
 use history::{Key, Version};
 use std::alloc::Global;
 use std::marker::Model;
@@ -44,12 +44,8 @@ impl View {
     pub fn new(mark: u64, last: u64, floor: u64, state: Frozen) -> Self
         ensures { result ≡ record { mark = mark; last = last; floor = floor; reclaimed = 0; runs = []; state = state } }
     {
-        let first = Key {
-            relation: 0,
-            record: 0,
-        };
         // The versions are in the order of their keys, and of each key in that of their times.
-        let _least = state.least(Bound::From(first));
+        let _none = state.is_empty();
         View {
             mark,
             last,

@@ -3,7 +3,8 @@
 /// The limits of a store, and what its full slots or heap mean.
 pub const LIMITS: &str = "Limits:
   slots      16 to 65536, chosen when the store is made. A group of 1 to 16
-             commits takes one, an archive takes one, none is used again
+             commits takes one, an archive, a reclaim or a floor takes one,
+             none is used again
   heap       65536 extents of 8 KiB; each commit takes one or more
   commits    write 1 to 1024 keys each
   keys       a relation, 0 to 65535, and a record, 0 to 18446744073709551615
@@ -24,17 +25,17 @@ What the system refused is told on standard error.";
 /// Of `format`.
 pub const FORMAT: &str =
     "The folder must be there, and hold no store. A group of 1 to 16 commits takes
-one slot, and so does an archive; a slot is not used again. Each slot takes 512
-bytes from the start. A store of 65536 slots takes 65536 groups, and its heap as
-many extents of 8 KiB; one that is full answers `refused: status full` to each
-further commit.";
+one slot, and so does an archive, a reclaim or a floor; a slot is not used again.
+Each slot takes 512 bytes from the start. A store of 65536 slots takes 65536
+groups, and its heap as many extents of 8 KiB; one that is full answers
+`refused: status full` to each further commit.";
 
 /// Of `run`.
 pub const RUN: &str = "A line has one command, words parted by one space:
   begin NAME, put NAME REL REC F.., del NAME REL REC, get NAME REL REC,
   submit NAME LABEL TIME, abort NAME, pump, flush, redeem NAME,
   at REL REC TIME, between REL REC TIME TIME, scan REL TIME, times LABEL,
-  archive TIME, job, finish, reopen
+  archive TIME, reclaim, floor TIME, job, finish, reopen
 
 NAME is 1 to 16 of a to z and 0 to 9, at most 64 at once. F is a field of 0 to
 255 bytes in lower-case hexadecimal, `-` if empty, 1 to 16 of them. REL is 0 to
@@ -44,16 +45,17 @@ NAME is 1 to 16 of a to z and 0 to 9, at most 64 at once. F is a field of 0 to
 Each line is answered, before the next is waited for. A refused line is answered
 by `refused: ` and the reason, and the script goes on: its status is 0 at the end
 of the input. A line of no such form ends it with status 1.
-  status full   no slot is left for a commit or an archive
+  status full   no slot is left for a commit, an archive, a reclaim or a floor
   heap full     no extents of 8 KiB are left for the commit
 The store is this process's alone until it ends.";
 
 /// Of `at` and `between`.
 pub const TIMES: &str =
     "A time is microseconds since 1970, or the text YYYY-MM-DDTHH:MM:SSZ. One after
-the last commit is refused: `not yet` and the time of that commit. A value is 1 to
-16 fields in hexadecimal, `-` for an empty one. The store is opened for this
-alone: where another process has it open, the answer is `refused: device`.";
+the last commit is refused: `not yet` and the time of that commit; so is one before
+the floor: `before kept` and the floor. A value is 1 to 16 fields in hexadecimal,
+`-` for an empty one. The store is opened for this alone: where another process has
+it open, the answer is `refused: device`.";
 
 /// Of `vacuum`.
 pub const VACUUM: &str =
@@ -75,6 +77,7 @@ pub const DUMP: &str = "The store is not opened, and nothing is written. The lin
   member LABEL TIME EXTENT EXTENTS RECORDS INSTANT
   slot N archived UPTO START LENGTH RECORDS
   slot N reclaimed UPTO EXTENT EXTENTS RECORDS
+  slot N floor TIME
   used N of SLOTS: when all are used, commits are refused by `status full`";
 
 /// Of `stress`.

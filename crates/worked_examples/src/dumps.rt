@@ -1,6 +1,7 @@
 //! Logs as text.
 use crate::bytes::{change, cut};
 use crate::dialogue::{FOUR_COMMITS, converses, new_store, stored, stored_by_parts, told};
+use crate::floors::RAISED;
 use disk::{Area, Disk, MemDisk};
 use shell::Action;
 use std::alloc::Global;
@@ -83,6 +84,33 @@ member 4 130 4 1 1 1970-01-01T00:00:00Z
 slot 4 archived 120 0 74 2
 slot 5 reclaimed 120 0 0 0
 used 6 of 16
+",
+        0,
+    )?;
+    Ok(())
+}
+
+#[test]
+fn a_floor_behind_a_reclaim(rt: HostRuntime) -> Result<(), Fail> {
+    let alloc = rt.alloc();
+    let disk = stored_by_parts(&rt, alloc, 16, &[(FOUR_COMMITS, 1), (RAISED, 1)])?;
+    let _disk = dumps(
+        &rt,
+        alloc,
+        disk,
+        "header 16
+slot 0 commit
+member 1 100 1 1 1 1970-01-01T00:00:00Z
+slot 1 commit
+member 2 110 2 1 1 1970-01-01T00:00:00Z
+slot 2 commit
+member 3 120 3 1 1 1970-01-01T00:00:00Z
+slot 3 commit
+member 4 130 4 1 1 1970-01-01T00:00:00Z
+slot 4 archived 120 0 74 2
+slot 5 reclaimed 120 0 0 0
+slot 6 floor 120
+used 7 of 16
 ",
         0,
     )?;

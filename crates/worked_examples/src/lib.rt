@@ -21,6 +21,8 @@ mod dumps;
 #[cfg(test)]
 mod files;
 #[cfg(test)]
+mod floors;
+#[cfg(test)]
 mod fronts;
 #[cfg(test)]
 mod groups;

@@ -1,5 +1,6 @@
 //! The command `vacuum`: what it archives and reclaims, and where it stops.
 use crate::dialogue::{FOUR_COMMITS, answers, converses, stored, stored_by_parts, told};
+use crate::floors::FROM_115;
 use disk::{Disk, Fault, FaultDisk, MemDisk};
 use shell::Action;
 use std::alloc::Global;
@@ -41,6 +42,16 @@ fn what_ended_is_archived_and_its_space_reclaimed(rt: HostRuntime) -> Result<(),
         log.ends_with("slot 4 archived 120 0 74 2\nslot 5 reclaimed 120 0 0 0\nused 6 of 16\n")
     );
     let _disk = converses(&rt, alloc, disk, ROWS)?;
+    Ok(())
+}
+
+#[test]
+fn what_ended_by_the_floor_is_not_archived(rt: HostRuntime) -> Result<(), Fail> {
+    let alloc = rt.alloc();
+    let disk = stored(&rt, alloc, FOUR_COMMITS)?;
+    let disk = converses(&rt, alloc, disk, "floor 115 | started\nfinish | idle\n")?;
+    let disk = vacuums(&rt, alloc, disk, "120", "archived 1\nreclaimed 0\n", 0)?;
+    let _disk = converses(&rt, alloc, disk, FROM_115)?;
     Ok(())
 }
 
