@@ -34,6 +34,8 @@ SLOTS = 16
 VERSIONS = ["begin a", "put a 1 7 61", "submit a 1 100", "flush", "begin b", "put b 1 7 62", "submit b 2 110", "flush",
             "begin c", "del c 1 7", "submit c 3 120", "flush", "begin d", "put d 1 7 63", "submit d 4 130", "flush"]
 TIMES = range(99, 139)
+# two of these do not go into one extent
+LARGE = " ".join(["ab" * 255] * 16)
 
 
 @dataclass(frozen=True)
@@ -99,8 +101,8 @@ class Walk:
             calls = self.calls
             yield from self.step(line)
 
-    def commit(self, number: int, key: str, fields: str) -> Iterator[Left]:
-        self.tell(f"begin t{number}", f"put t{number} {key} {fields}", f"submit t{number} {10 + number} 0")
+    def commit(self, number: int, *records: str) -> Iterator[Left]:
+        self.tell(f"begin t{number}", *(f"put t{number} {it}" for it in records), f"submit t{number} {10 + number} 0")
         yield from self.steps("pump")
 
     def job_between_commits(self, start: str) -> Iterator[Left]:
@@ -109,21 +111,21 @@ class Walk:
         number = 0
         while self.small.job:
             number += 1
-            yield from self.commit(number, f"1 {100 + number}", "65")
+            yield from self.commit(number, f"1 {100 + number} 65")
             yield from self.step("job")
         yield from self.steps("pump")
 
     def job_and_commit(self, start: str) -> Iterator[Left]:
-        """The next job, if there is one to be done, and a commit, which takes the least extent that is free."""
+        """The next job, if there is one to be done, and a commit of four extents, which takes the least that are free."""
         yield from lefts("opened", self.stops, self.small)
         self.tell(start)
         yield from self.steps("job")
         live = image.read(self.stops.now).live
-        yield from self.commit(0, "1 7", "64")
+        yield from self.commit(0, "1 7 64", *(f"2 {record} {LARGE}" for record in range(4)))
         self.session.end_well()
-        first = [it[2] for it in image.read(self.stops.now).log.members()][-1]
-        if first != min(set(range(1, len(live) + 2)) - live):
-            raise self.session.failure(f"the commit takes extent {first}, and {sorted(live)} are live", None, [])
+        taken, free = image.read(self.stops.now).live - live, sorted({*range(1, len(live) + 5)} - live)
+        if taken != {*free[:4]}:
+            raise self.session.failure(f"the commit takes the extents {sorted(taken)}, where {free[:4]} are free", None, [])
 
 
 class Between:
