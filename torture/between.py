@@ -2,13 +2,13 @@
 """A job with commits between its steps, stopped before, within and after each device call; what is left then reclaims, commits, and is
 stopped again at each device call of that.
 
-    between.py PROGRAM [--only archive|reclaim|floor] [--every N] [--jobs N]
+    between.py PROGRAM [--only archive|reclaim|floor] [--seconds S] [--jobs N]
 
 A record has three versions and a deletion. Before each step of the job a commit is begun, and pumped until it is published or meets the
 job's slot. What a stop may leave is all that was written since the syncs, nothing of it, all of it torn or half of the last write, torn
 to bytes 00, c7 and ff; a stop before a call leaves what one after the call before it may leave. Each image is opened and asked at every
-time, and compared with the list of write sets (machine.py) and with a plain reader (image.py). With --every N one image of N is tried at
-the first stop and at the second one. The status is 1 where one fails; a script is left that shows it (`sh SCRIPT PROGRAM`).
+time, and compared with the list of write sets (machine.py) and with a plain reader (image.py). With --seconds it ends after so many; the
+images of the first stop are then spread over all of them. The status is 1 where one fails; a script is left that shows it.
 """
 from __future__ import annotations
 
@@ -17,7 +17,6 @@ import hashlib
 import os
 import sys
 import tempfile
-import time
 from collections import Counter
 from collections.abc import Iterator
 from concurrent.futures import ProcessPoolExecutor
@@ -25,9 +24,10 @@ from dataclasses import dataclass
 
 import image
 from machine import Front, Machine
-from program import Areas, Failure, format_store, read_areas, report, use_memory, write_areas
+from program import Areas, Failure, Until, format_store, read_areas, report, spread, use_memory, write_areas
 from scripts import check_left
 from stops import Stops, Traced, step, tell
+from wrong import has_compiler, library
 
 SLOTS = 16
 # a record with three versions and a deletion
@@ -132,38 +132,41 @@ class Between:
     """Tries images in a process of its own."""
 
     program: str
-    kind: Kind
-    every: int
+    until: Until
     seen: set[bytes]
 
     @classmethod
-    def begin(cls, program: str, kind: Kind, every: int) -> None:
+    def begin(cls, program: str, until: Until) -> None:
         use_memory()
-        cls.program, cls.kind, cls.every, cls.seen = program, kind, every, set()
+        cls.program, cls.until, cls.seen = program, until, set()
 
     @classmethod
-    def one(cls, left: Left) -> tuple[Counter, Failure | None]:
+    def one(cls, first: tuple[str, Left]) -> tuple[Counter, Failure | None]:
         """Opens what a first stop left, goes on, and opens what a second one leaves."""
-        tried = Counter()
+        (name, left), tried = first, Counter()
+        if cls.until.is_over():
+            return tried, None
         try:
-            small = check_left(cls.program, left.areas, left.front, left.where, TIMES)
-            tried["first"] += 1
+            small = check_left(cls.program, left.areas, left.front, f"{name}, {left.where}", TIMES)
+            tried[name, "first"] += 1
             with tempfile.TemporaryDirectory(prefix="between-") as folder:
                 write_areas(folder, left.areas)
-                for number, again in enumerate(cls.second(folder, small)):
-                    if number % cls.every == 0 and again.key() not in cls.seen:
-                        cls.seen.add(again.key())
-                        check_left(cls.program, again.areas, again.front, f"{left.where}; then {again.where}", TIMES)
-                        tried["second"] += 1
+                for again in cls.second(folder, small, KINDS[name].then):
+                    check_left(cls.program, again.areas, again.front, f"{name}, {left.where}; then {again.where}", TIMES)
+                    tried[name, "second"] += 1
             return tried, None
         except Failure as why:
             return tried, why
 
     @classmethod
-    def second(cls, folder: str, small: Machine) -> Iterator[Left]:
+    def second(cls, folder: str, small: Machine, start: str) -> Iterator[Left]:
+        """What a second stop leaves, each image once."""
         walk = Walk(cls.program, folder, small)
         try:
-            yield from walk.job_and_commit(cls.kind.then)
+            for left in walk.job_and_commit(start):
+                if left.key() not in cls.seen and not cls.until.is_over():
+                    cls.seen.add(left.key())
+                    yield left
         finally:
             walk.session.kill()
 
@@ -189,21 +192,14 @@ def first_stops(program: str, kind: Kind) -> list[Left]:
     return list(found.values())
 
 
-def try_kind(program: str, name: str, every: int, jobs: int) -> tuple[Counter, int]:
-    kind, tried, bad = KINDS[name], Counter(), 0
-    try:
-        images = first_stops(program, kind)[::every]
-    except Failure as why:
-        report(f"{name} with commits between", why)
-        return tried, 1
-    with ProcessPoolExecutor(jobs, initializer=Between.begin, initargs=(program, kind, every)) as pool:
-        for one, why in pool.map(Between.one, images):
+def try_all(program: str, firsts: list[tuple[str, Left]], jobs: int, until: Until) -> tuple[Counter, int]:
+    tried, bad = Counter(), 0
+    with ProcessPoolExecutor(jobs, initializer=Between.begin, initargs=(program, until)) as pool:
+        for one, why in pool.map(Between.one, spread(firsts)):
             tried += one
-            if why:
-                bad += 1
-                if bad <= FAILURES_MOST:
-                    report(f"{name} with commits between", why)
-    print(f"{name}: {kind.calls} device calls; {tried['first']} images of a first stop and {tried['second']} of a second one", flush=True)
+            bad += why is not None
+            if why and bad <= FAILURES_MOST:
+                report("a job with commits between", why)
     return tried, bad
 
 
@@ -211,16 +207,22 @@ def main() -> int:
     words = argparse.ArgumentParser(description=__doc__, formatter_class=argparse.RawDescriptionHelpFormatter)
     words.add_argument("program")
     words.add_argument("--only", choices=KINDS)
-    words.add_argument("--every", type=int, default=1, help="of the images one of so many (1)")
+    words.add_argument("--seconds", type=float, help="for how long (until all is tried)")
     words.add_argument("--jobs", type=int, default=2, help="images tried at once (2)")
     given = words.parse_args()
     use_memory()
-    began, tried, bad = time.time(), Counter(), 0
-    for name in [given.only] if given.only else KINDS:
-        found, failed = try_kind(os.path.abspath(given.program), name, given.every, given.jobs)
-        tried, bad = tried + found, bad + failed
-    count, seconds = tried.total(), time.time() - began
-    print(f"{count} images in {seconds:.0f} s, {count / seconds:.0f} a second; {bad} failed")
+    program, until, kinds = os.path.abspath(given.program), Until(given.seconds), [given.only] if given.only else [*KINDS]
+    if has_compiler():
+        library()
+    try:
+        firsts = [(name, left) for name in kinds for left in first_stops(program, KINDS[name])]
+    except Failure as why:
+        report("a job with commits between", why)
+        return 1
+    tried, bad = try_all(program, firsts, given.jobs, until)
+    for name in kinds:
+        print(f"{name}: {KINDS[name].calls} device calls; {tried[name, 'first']} images of a first stop and {tried[name, 'second']} of a second one")
+    print(f"{tried.total()} images in {until.seconds():.0f} s, {tried.total() / until.seconds():.0f} a second; {bad} failed")
     return 1 if bad else 0
 
 

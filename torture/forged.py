@@ -2,19 +2,20 @@
 """Files that no store left: each check of opening broken by a byte, and pairs of them; every byte of a small store's log, extents
 and runs set to other values; each file cut at every length.
 
-    forged.py PROGRAM [--every N] [--only KIND] [--jobs N] [--table]
+    forged.py PROGRAM [--only KIND] [--seconds S] [--jobs N] [--table]
 
 What is to be answered is computed by a plain reader of the format (image.py, homes.py), which shares nothing with the program: that
 the files open, and then every record at every time; or which check is the first to fail. KIND: table, pairs, log, extents, runs, cuts.
-The status is 1 where an answer is another one; the change is printed. --table prints the checks, their changes and answers.
+The status is 1 where an answer is another one; a script is left that shows it. With --seconds it ends after so many: first comes the
+table, then of each kind one image after the other, spread over all of them. --table prints the checks, their changes and answers.
 """
 from __future__ import annotations
 
 import argparse
+import itertools
 import os
 import sys
 import tempfile
-import time
 from collections import Counter
 from collections.abc import Iterator
 from concurrent.futures import ProcessPoolExecutor
@@ -23,7 +24,7 @@ import image
 import machine
 from homes import Files
 from machine import Key
-from program import AREAS, Areas, Failure, Shown, command, format_store, read_areas, report, run, use_memory, write_areas
+from program import AREAS, Areas, Failure, Shown, Until, command, format_store, read_areas, report, run, spread, use_memory, write_areas
 
 # two commits in a slot, a delta, a deletion, two extents of one chain, anchors, two runs and two floors
 LARGE = " ".join(["cd" * 255] * 16)
@@ -72,6 +73,9 @@ flush
 # an area, a place in it, and what is written there; None: the area is cut off there
 Change = tuple[str, int, "bytes | None"]
 VALUES = (0x00, 0x37, 0xC7, 0xFF)
+# images that are tried by a process before the time is looked at
+AT_ONCE = 16
+FAILURES_MOST = 20
 
 
 Answer = tuple[int, list[str]]
@@ -322,15 +326,18 @@ def cuts(small: Small) -> Iterator[Forgery]:
 KINDS = ("table", "pairs", "log", "extents", "runs", "cuts")
 
 
-def forgeries(small: Small, kind: str, every: int, zeros: int) -> Iterator[Forgery]:
-    """Those of a kind, or one of so many."""
-    found = {"table": lambda: tabled(small), "pairs": lambda: pairs(small), "cuts": lambda: cuts(small),
-             "log": lambda: bytes_of(small, "bytes of the log", "status", list(range(len(small.areas["status"])))),
-             "extents": lambda: bytes_of(small, "bytes of live extents", "heap", in_extents(small, zeros)),
-             "runs": lambda: bytes_of(small, "bytes of runs", "archive", list(range(len(small.areas["archive"]))))}[kind]()
-    for number, it in enumerate(found):
-        if kind == "table" or number % every == 0:
-            yield it
+def forgeries(small: Small, kind: str, zeros: int) -> Iterator[Forgery]:
+    status, archive = (list(range(len(small.areas[area]))) for area in ("status", "archive"))
+    return {"table": lambda: tabled(small), "pairs": lambda: pairs(small), "cuts": lambda: cuts(small),
+            "log": lambda: bytes_of(small, "bytes of the log", "status", status),
+            "extents": lambda: bytes_of(small, "bytes of live extents", "heap", in_extents(small, zeros)),
+            "runs": lambda: bytes_of(small, "bytes of runs", "archive", archive)}[kind]()
+
+
+def in_turns(kinds: list[list[Forgery]]) -> Iterator[Forgery]:
+    """One of each kind after the other, each spread over its kind."""
+    for some in itertools.zip_longest(*(spread(it) for it in kinds)):
+        yield from (it for it in some if it is not None)
 
 
 def why_refused(areas: Areas) -> str:
@@ -376,18 +383,22 @@ def print_table(small: Small) -> None:
         print(f"{name}: {change}: {answer}")
 
 
-def try_all(program: str, small: Small, given: argparse.Namespace) -> tuple[Counter, int]:
+def try_all(program: str, small: Small, given: argparse.Namespace, until: Until) -> tuple[Counter, int]:
     tried: Counter = Counter()
     bad = 0
     kinds = [given.only] if given.only else KINDS
+    images = [list(forgeries(small, kind, given.zeros)) for kind in kinds]
+    firsts = images.pop(0) if kinds[0] == "table" else []
+    all_of = iter([*firsts, *in_turns(images)])
     with ProcessPoolExecutor(given.jobs, initializer=Trier.begin, initargs=(program, small)) as pool:
-        images = [it for kind in kinds for it in forgeries(small, kind, given.every, given.zeros)]
-        for kind, said, why in pool.map(Trier.one, images, chunksize=32):
-            tried[kind, said] += 1
-            if why:
-                bad += 1
-                if bad <= 20:
+        while some := list(itertools.islice(all_of, AT_ONCE * given.jobs)):
+            for kind, said, why in pool.map(Trier.one, some, chunksize=AT_ONCE // 4):
+                tried[kind, said] += 1
+                if why:
+                    bad += 1
                     report("a forged image", why)
+            if until.is_over() or bad >= FAILURES_MOST:
+                break
     return tried, bad
 
 
@@ -402,23 +413,22 @@ def say(tried: Counter) -> None:
 def main() -> int:
     words = argparse.ArgumentParser(description=__doc__, formatter_class=argparse.RawDescriptionHelpFormatter)
     words.add_argument("program")
-    words.add_argument("--every", type=int, default=1, help="of pairs, bytes and cuts one of so many (1)")
+    words.add_argument("--seconds", type=float, help="for how long (until all is tried)")
     words.add_argument("--zeros", type=int, default=64, help="of the zeros of an extent one of so many (64)")
     words.add_argument("--only", choices=KINDS)
     words.add_argument("--jobs", type=int, default=2, help="images tried at once (2)")
     words.add_argument("--table", action="store_true", help="print the table of checks")
     given = words.parse_args()
     use_memory()
-    program, began = os.path.abspath(given.program), time.time()
+    program, until = os.path.abspath(given.program), Until(given.seconds)
     with tempfile.TemporaryDirectory(prefix="forged-store-") as folder:
         small = Small(program, folder)
     if given.table:
         print_table(small)
         return 0
-    tried, bad = try_all(program, small, given)
+    tried, bad = try_all(program, small, given, until)
     say(tried)
-    count, seconds = sum(tried.values()), time.time() - began
-    print(f"{count} images in {seconds:.0f} s, {count / seconds:.0f} a second; {bad} failed")
+    print(f"{tried.total()} images in {until.seconds():.0f} s, {tried.total() / until.seconds():.0f} a second; {bad} failed")
     return 1 if bad else 0
 
 

@@ -59,7 +59,8 @@ def make_program(folder: str, program: str) -> bool:
     made = os.path.join(folder, "made")
     os.makedirs(made)
     with open(os.path.join(folder, "log"), "wb") as log:
-        words = ["rt", "try", "--steps", "1", "--seconds", "1", "--", "--help"]
+        # a run that takes long enough to take the program meanwhile
+        words = ["rt", "try", "--steps", "1", "--seconds", "60", "--", "stress", "8", "0", "1000"]
         process = subprocess.Popen(words, cwd=os.path.join(folder, "crates", "timestore"), stdin=subprocess.DEVNULL, stdout=log, stderr=log, env={**os.environ, "TMPDIR": made}, start_new_session=True)
         taken, until = False, time.monotonic() + PATIENCE
         while not taken and time.monotonic() < until:

@@ -9,11 +9,13 @@ import signal
 import subprocess
 import tempfile
 import time
-from collections.abc import Callable, Iterable
+from collections.abc import Callable, Iterable, Sequence
 from dataclasses import dataclass
+from typing import TypeVar
 
 AREAS = ("status", "heap", "archive")
 Areas = dict[str, bytes]
+Item = TypeVar("Item")
 # a run of the program that takes longer is a failure, in seconds
 PATIENCE = 60
 MEMORY = "/dev/shm"
@@ -23,6 +25,25 @@ def use_memory() -> None:
     """Lets the stores of the tests lie in memory, if there is a file system for that: a sync then costs nothing."""
     if "TMPDIR" not in os.environ and os.access(MEMORY, os.W_OK) and not os.statvfs(MEMORY).f_flag & os.ST_NOEXEC:
         tempfile.tempdir = MEMORY
+
+
+class Until:
+    """When to end: after some seconds, or never."""
+
+    def __init__(self, seconds: float | None) -> None:
+        self.began, self.end = time.monotonic(), time.monotonic() + (seconds if seconds else 1e9)
+
+    def is_over(self) -> bool:
+        return time.monotonic() > self.end
+
+    def seconds(self) -> float:
+        """Since it began."""
+        return time.monotonic() - self.began
+
+
+def spread(items: Sequence[Item], stride: int = 97) -> list[Item]:
+    """The items in an order of which each front is spread over all of them."""
+    return [it for start in range(stride) for it in items[start::stride]]
 
 
 @dataclass

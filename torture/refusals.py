@@ -2,15 +2,15 @@
 """Each call that the program makes of the system, refused: every growth, read, length, write, sync, opening and lock of a
 script and of each command, one at a time; reads and writes that move one byte or are interrupted.
 
-    refusals.py PROGRAM [--only NAME] [--every N]
+    refusals.py PROGRAM [--only NAME] [--seconds S]
 
 A library (refuse.c) stands between the program and the system, counts the calls and lets one go wrong. Each answer is
 compared with the small machine's (machine.py): at the call that went wrong the refusal that docs/USING.md names, then the
 same line again as where nothing is refused; after a refused write or sync `failed`, every ticket that was not published in
 doubt, and queries as before. Then the store is opened again: a front of the commits with each that was answered done.
 
-With --every N one growth of N is refused, and each call of the files in one way, for a short run. The status is 1 where a
-case fails; the script that shows it is named.
+With --seconds it ends after so many: first comes each call of the files that is not made, and then the others, spread over all
+of them. The status is 1 where a case fails; the script that shows it is named.
 """
 from __future__ import annotations
 
@@ -18,58 +18,61 @@ import argparse
 import os
 import sys
 import tempfile
-import time
 from collections import Counter
 from collections.abc import Callable
 
 from machine import Machine
-from program import Areas, Failure, format_store, read_areas, report, run, use_memory, write_areas
+from program import Areas, Failure, Until, format_store, read_areas, report, run, spread, use_memory, write_areas
 from refused_commands import BEFORE, COMMANDS, Command
 from refused_scripts import SCRIPTS, Case
-from wrong import NONE, What, Wrong, cases_of, has_compiler
+from wrong import NONE, What, Wrong, cases_of, has_compiler, is_first
 
 FAILURES_MOST = 20
 
 
 class Refusals:
-    def __init__(self, program: str, folder: str, every: int) -> None:
-        self.program, self.folder, self.every = program, folder, every
+    def __init__(self, program: str, folder: str, until: Until) -> None:
+        self.program, self.folder, self.until = program, folder, until
         self.tried: Counter = Counter()
         self.bad = 0
 
     def wrong(self, what: What = NONE) -> Wrong:
         return Wrong(self.folder, what)
 
-    def guard(self, name: str, what: Wrong, case: Callable[[], str]) -> bool:
-        """Runs one case; whether to go on."""
+    def guard(self, name: str, play: Callable[[Wrong], str], wrong: Wrong) -> None:
+        """Runs one case."""
         try:
-            outcome = case()
+            outcome = play(wrong)
         except Failure as why:
             report(name, why)
             self.bad += 1
             outcome = "FAILED"
-        self.tried[name, what.kind, what.how, outcome] += 1
-        return self.bad < FAILURES_MOST
+        self.tried[name, wrong.kind, wrong.how, outcome] += 1
 
-    def each(self, name: str, play: Callable[[Wrong], str]) -> None:
-        """Once with nothing refused, and then each call."""
+    def cases(self, name: str, play: Callable[[Wrong], str]) -> list[What]:
+        """Plays it with nothing refused: the calls that can be."""
         nothing = self.wrong()
-        if not self.guard(name, nothing, lambda: play(nothing)) or self.bad:
-            return
+        self.guard(name, play, nothing)
         counts = nothing.counts()
         print(f"{name}: " + ", ".join(f"{count} of {kind}" for kind, count in counts.items()), flush=True)
-        for what in cases_of(counts, self.every):
-            wrong = self.wrong(what)
-            if not self.guard(name, wrong, lambda: play(wrong)):
+        return cases_of(counts)
+
+    def all(self, names: list[str]) -> None:
+        plays = {name: self.script(name) if name in SCRIPTS else self.command(name) for name in names}
+        cases = [(name, what) for name, play in plays.items() for what in self.cases(name, play)]
+        firsts = [it for it in cases if is_first(it[1])]
+        for name, what in [*firsts, *spread([it for it in cases if not is_first(it[1])])]:
+            if self.until.is_over() or self.bad >= FAILURES_MOST:
                 return
+            self.guard(name, plays[name], self.wrong(what))
 
-    def script(self, name: str) -> None:
+    def script(self, name: str) -> Callable[[Wrong], str]:
         start, folder = self.formatted(), os.path.join(self.folder, "store")
-        self.each(f"script {name}", lambda wrong: Case(self.program, folder, start, wrong).play(SCRIPTS[name]))
+        return lambda wrong: Case(self.program, folder, start, wrong).play(SCRIPTS[name])
 
-    def command(self, name: str) -> None:
+    def command(self, name: str) -> Callable[[Wrong], str]:
         one = Command(self.program, name, os.path.join(self.folder, "store"), *self.stored())
-        self.each(f"command {name}", lambda wrong: one.play(wrong, self.wrong()))
+        return lambda wrong: one.play(wrong, self.wrong)
 
     def formatted(self) -> Areas:
         folder = os.path.join(self.folder, "formatted")
@@ -102,23 +105,20 @@ def main() -> int:
     words = argparse.ArgumentParser(description=__doc__, formatter_class=argparse.RawDescriptionHelpFormatter)
     words.add_argument("program")
     words.add_argument("--only", choices=[*SCRIPTS, *COMMANDS])
-    words.add_argument("--every", type=int, default=1, help="of the growths and of the other ways one of so many (1)")
+    words.add_argument("--seconds", type=float, help="for how long (until all is tried)")
     given = words.parse_args()
     use_memory()
     if not has_compiler():
         print("no C compiler: refused calls are left out")
         return 0
-    began = time.time()
+    until = Until(given.seconds)
     with tempfile.TemporaryDirectory(prefix="refusals-") as folder:
-        all_of = Refusals(os.path.abspath(given.program), folder, given.every)
-        for name in [it for it in SCRIPTS if given.only in (None, it)]:
-            all_of.script(name)
-        for name in [it for it in COMMANDS if given.only in (None, it)]:
-            all_of.command(name)
-        if given.every == 1:
+        all_of = Refusals(os.path.abspath(given.program), folder, until)
+        all_of.all([given.only] if given.only else [*SCRIPTS, *COMMANDS])
+        if given.seconds is None:
             all_of.say()
-    count, seconds = sum(all_of.tried.values()), time.time() - began
-    print(f"{count} calls went wrong in {seconds:.0f} s, {count / seconds:.0f} a second; {all_of.bad} failed")
+    count = all_of.tried.total()
+    print(f"{count} calls went wrong in {until.seconds():.0f} s, {count / until.seconds():.0f} a second; {all_of.bad} failed")
     return 1 if all_of.bad else 0
 
 

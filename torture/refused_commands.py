@@ -5,6 +5,7 @@ import copy
 import os
 import shutil
 import subprocess
+from collections.abc import Callable
 
 import image
 from machine import Machine
@@ -77,7 +78,7 @@ class Command:
     def failure(self, wrong: Wrong, why: str, wanted: list[str]) -> Failure:
         return Failure(f"{self.words} {wrong}: {why}", Shown(self.start, [], wanted, wrong.environment, self.words))
 
-    def play(self, wrong: Wrong, nothing: Wrong) -> str:
+    def play(self, wrong: Wrong, nothing: Callable[[], Wrong]) -> str:
         """One call goes wrong; says how it went."""
         self.begin()
         (status, said), usual = self.do(wrong), self.usual()
@@ -89,7 +90,7 @@ class Command:
             outcome = "no change"
         else:
             outcome = self.refused(wrong, status, said, usual)
-            self.again(wrong, nothing)
+            self.again(wrong, nothing())
         return outcome
 
     def refused(self, wrong: Wrong, status: int, said: list[str], usual: list[str]) -> str:

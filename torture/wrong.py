@@ -9,7 +9,6 @@ import shutil
 import struct
 import subprocess
 import tempfile
-from collections.abc import Iterator
 from dataclasses import dataclass
 
 from program import AREAS
@@ -78,13 +77,14 @@ class Wrong:
         return f"{self.kind} {self.at} {self.how}"
 
 
-def cases_of(counts: dict[str, int], every: int) -> Iterator[What]:
-    """Each call, or one of so many; of the files' calls each is refused in any case."""
-    for kind in CLASSES:
-        for how in HOWS[kind]:
-            each = kind in ON_FILES and how == "before" or counts[kind] <= every
-            for at in range(1, counts[kind] + 1, 1 if each else every):
-                yield kind, at, how
+def cases_of(counts: dict[str, int]) -> list[What]:
+    """Each call and how it goes wrong."""
+    return [(kind, at + 1, how) for kind in CLASSES for how in HOWS[kind] for at in range(counts[kind])]
+
+
+def is_first(what: What) -> bool:
+    """Whether it is one to try first: a call on the files that is not made."""
+    return what[0] in ON_FILES and what[2] == "before"
 
 
 def has_compiler() -> bool:
