@@ -60,7 +60,7 @@ class Shown:
     def script(self, title: str) -> str:
         """A script of its own: `sh SCRIPT PROGRAM` shows where the program's answers differ."""
         refuses = {name: value for name, value in self.environment.items() if name.startswith("REFUSE_") and name != "REFUSE_COUNTS"} if self.environment.get("REFUSE_CLASS") else {}
-        rows = ["#!/bin/sh", f"# {title}", "# usage: sh THIS PROGRAM" + (" REFUSE.SO (made of torture/refuse.c)" if refuses else ""), 'dir=$(mktemp -d) && mkdir "$dir/store" || exit 2']
+        rows = ["#!/bin/sh", f"# {title}", "# usage: sh THIS PROGRAM" + (" REFUSE.SO (cc -shared -fPIC -o REFUSE.SO torture/refuse.c)" if refuses else ""), 'dir=$(mktemp -d) && mkdir "$dir/store" || exit 2']
         for area, data in self.areas.items():
             text = base64.b64encode(gzip.compress(data, mtime=0)).decode()
             rows.append(f"echo {text} | base64 -d | gzip -d > \"$dir/store/{area}\"")
@@ -88,7 +88,7 @@ def report(title: str, why: Failure) -> None:
         fd, place = tempfile.mkstemp(prefix="torture-", suffix=".sh", dir="/tmp")
         with os.fdopen(fd, "w", encoding="utf-8") as it:
             it.write(why.shown.script(f"{title}: {str(why)[:200]}".replace("\n", " ")))
-        print(f"  to see it: sh {place} PROGRAM", flush=True)
+        print(f"  to see it: sh {place} PROGRAM" + (" REFUSE.SO" if why.shown.environment.get("REFUSE_CLASS") else ""), flush=True)
 
 
 def read_areas(folder: str) -> Areas:

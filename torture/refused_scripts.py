@@ -90,6 +90,7 @@ finish
 redeem g
 redeem h
 at 1 7 105
+at 1 9 105
 between 1 7 0 141
 scan 2 100
 scan 2 140
