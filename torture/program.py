@@ -4,6 +4,7 @@ from __future__ import annotations
 import base64
 import functools
 import gzip
+import math
 import os
 import signal
 import subprocess
@@ -41,9 +42,11 @@ class Until:
         return time.monotonic() - self.began
 
 
-def spread(items: Sequence[Item], stride: int = 97) -> list[Item]:
-    """The items in an order of which each front is spread over all of them."""
-    return [it for start in range(stride) for it in items[start::stride]]
+def spread(items: Sequence[Item]) -> list[Item]:
+    """The items in an order of which each front is spread over all of them: by steps of the golden section."""
+    count = len(items)
+    step = next(it for it in range(int(0.618 * count) or 1, count + 2) if math.gcd(it, count) == 1)
+    return [items[at * step % count] for at in range(count)]
 
 
 @dataclass

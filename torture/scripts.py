@@ -82,7 +82,7 @@ def a_vacuum(chance: random.Random, small: Machine) -> list[str]:
     """Lines that raise the floor, archive and reclaim, or some of these, no transaction being open, and ask below the marks."""
     opened = [name for name, it in small.names.items() if isinstance(it, Transaction)]
     jobs = [f"floor {some_moment(chance, small)}"] if chance.random() < 0.4 else []
-    jobs += [f"archive {machine.last(small.published)}", "reclaim"] if chance.random() < 0.9 else []
+    jobs += [f"archive {chance.choice((machine.last(small.published), some_moment(chance, small)))}", "reclaim"] if chance.random() < 0.9 else []
     return [*(f"abort {name}" for name in opened), *(line for job in jobs for line in (job, "finish")), *(question(chance, small) for _ in range(4))]
 
 

@@ -10,15 +10,16 @@ import image
 import machine
 from machine import SLOT_STEPS, Machine
 from program import AREAS, Areas, Failure, Session, Shown, command, read_areas, write_areas
-from scripts import BY_STEPS, check_left, some_line
+from scripts import BY_STEPS, a_vacuum, check_left, some_line
 from wrong import Call, Wrong, has_compiler
 
 # the area that a step syncs; the others write
 SYNCED = {"heap synced": "heap", "body synced": "status", "published": "status", "run synced": "archive", "job done": "status"}
 FILLINGS = (0x00, 0xC7, 0xFF)
-# lines between two ends of a session, and how often a vacuum stands between
-SESSION = 50
+# lines between two ends of a session, how often a vacuum stands between, and how often one stands behind a line
+SESSIONS = (20, 60, 200)
 VACUUMS = 0.5
+OWN_VACUUMS = 0.04
 SECOND_STOPS = 0.02
 DEEPEST = 2
 
@@ -154,8 +155,9 @@ class Play:
 
     def play(self, folder: str, small: Machine, count: int) -> None:
         while count > 0:
-            self.session(folder, small, min(count, SESSION))
-            count -= SESSION
+            lines = min(count, self.chance.choice(SESSIONS))
+            self.session(folder, small, lines)
+            count -= lines
             if self.chance.random() < VACUUMS:
                 self.vacuum(folder, small)
 
@@ -165,6 +167,8 @@ class Play:
         try:
             for _ in range(count):
                 self.line(session, small, stops)
+                for line in a_vacuum(self.chance, small) if self.chance.random() < OWN_VACUUMS else []:
+                    tell(session, small, stops, line)
             if self.chance.random() < 0.5:
                 tell(session, small, stops, "reopen")
             session.end_well()
@@ -212,13 +216,15 @@ class Play:
 
 
 def areas_of(line: str, small: Machine) -> set[str]:
-    """The areas that a line of many steps syncs, if it comes to its end."""
+    """The areas that a line of many steps syncs; where another's slot is in the writing, its own is not begun."""
     synced = ("heap synced", "run synced", *SLOT_STEPS)
+    is_barred = small.turn in SLOT_STEPS if line == "finish" else small.job is not None and small.job.is_in_slot()
     if line == "flush" and small.queue:
-        return {"status"} if small.turn in synced and small.group == len(small.queue) else {"heap", "status"}
+        is_done = small.turn in synced and (is_barred or len(small.queue) == small.group)
+        return (set() if is_done else {"heap"}) | (set() if is_barred else {"status"})
     if line == "finish" and small.job:
         data = {"archive": {"archive"}, "reclaim": {"heap"}, "floor": set()}[small.job.kind]
-        return {"status"} if small.job.step in synced else {"status", *data}
+        return (set() if small.job.step in synced else data) | (set() if is_barred else {"status"})
     return set(AREAS) if line == "reopen" else set()
 
 
@@ -227,8 +233,7 @@ def tell(session: Traced, small: Machine, stops: Stops, line: str) -> None:
     areas = areas_of(line, small)
     wanted = small.answer(line) or []
     session.expect(line, wanted)
-    # where it meets another's slot, its own is not begun
-    shown = [Call("sync", it) for it in sorted(areas) if it != "status" or wanted[0] != "refused: busy"]
+    shown = [Call("sync", it) for it in sorted(areas)]
     made = [it for it in session.calls() if it.kind != "read"]
     if session.trace and {it.area for it in made} != {it.area for it in shown}:
         raise session.failure(f"{line}: makes the calls {made}, and syncs {shown}", wanted, ["other calls"])
