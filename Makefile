@@ -6,12 +6,12 @@ STORE = crates/store_bench/out/store_bench
 # The most processor minutes that the gate may take: what three hours on four cores hold, with a little to spare. It is to stay under 330 on a machine at rest; four checks side by side on four cores take a third more, and a slower machine more than that.
 BUDGET = 680
 
-.PHONY: demo test more-edits build try examples bench trials torture hostile rates lib install library-test library-bench
+.PHONY: demo test more-edits build try examples bench trials torture torture-short hostile planted rates lib install library-test library-bench
 
 test:
 	@command -v rt >/dev/null || { echo "the Rattle kit's command rt is not on PATH" >&2; exit 1; }
 	bench/gate_cost.py --limit $(BUDGET) rt ci
-	if [ -x $(PROGRAM) ]; then torture/torture.py $(PROGRAM) --minutes 1; fi
+	if [ -x $(PROGRAM) ]; then $(MAKE) torture-short; fi
 
 more-edits:
 	bench/more_edits.py $(CRATES)
@@ -41,16 +41,29 @@ trials: build
 	bench/two_processes.py $(PROGRAM)
 	bench/system_calls.py $(PROGRAM)
 
-# Random scripts, stops at each device call, kills, full disks and forged images, compared with a small machine and a plain reader.
-# `make torture MINUTES=10 SEED=1`
+# docs/TORTURE.md. Random scripts, stops at each device call, kills, full disks, forged files and refused calls, compared with a small machine
+# and a plain reader. `make torture MINUTES=10 SEED=1`
 torture: build
 	torture/torture.py $(PROGRAM) --minutes $(or $(MINUTES),10) --seed $(or $(SEED),1)
 
-# Each call of the system refused in turn; each check of opening broken, and pairs of them; each byte of a small store; kills, full disks, folders without rights.
+# A part of all of it, in a minute and a half, of the program as it was built.
+torture-short:
+	torture/refusals.py $(PROGRAM) --seconds 25
+	torture/forged.py $(PROGRAM) --seconds 20
+	torture/between.py $(PROGRAM) --seconds 20
+	torture/torture.py $(PROGRAM) --minutes 0.4
+
+# Each call of the system refused in turn; each check of opening broken, and pairs of them; each byte of a small store; a job with commits
+# between stopped at each device call, and again; kills, full disks, folders without rights.
 hostile: build
 	torture/refusals.py $(PROGRAM)
 	torture/forged.py $(PROGRAM)
+	torture/between.py $(PROGRAM)
 	torture/files.py $(PROGRAM)
+
+# Faults planted one at a time in a copy of the sources, and the test that finds each.
+planted:
+	torture/planted.py $(NAMES)
 
 # Lines a second; and, where valgrind is there, instructions a line, which do not depend on what else the machine does.
 rates: build

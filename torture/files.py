@@ -143,7 +143,7 @@ class Files:
     def played(self, chance: random.Random) -> Areas:
         folder = tempfile.mkdtemp(dir=self.folder)
         format_store(self.program, folder, 64)
-        Play(self.program, chance, has_stops=False).play(folder, Machine(), 100)
+        Play(self.program, chance, has_stops=False).play(folder, Machine(slots=64), 100)
         return read_areas(folder)
 
     # ---- file systems
@@ -170,18 +170,17 @@ class Files:
 
     def full_disk(self, place: str, chance: random.Random) -> None:
         format_store(self.program, place, 64)
-        session, small = Session(self.program, place), Machine()
+        session, small = Session(self.program, place), Machine(slots=64)
         try:
-            failed = write_on(session, small, chance)
-            if failed:
+            small, front = write_on(session, small, chance)
+            if front:
                 session.expect("begin u", ["refused: failed"])
             session.end_well()
         finally:
             session.kill()
-        self.tried["file systems filled" if failed else "file systems with room"] += 1
-        order = [*small.published, *small.queue]
+        self.tried["file systems filled" if front else "file systems with room"] += 1
         subprocess.run(["mount", "-o", "remount,size=4m", place], check=True)
-        check_left(self.program, read_areas(place), order, len(small.published), "after a full file system")
+        check_left(self.program, read_areas(place), front or small.front(), "after a full file system")
 
     def read_only_disk(self) -> None:
         place = self.mounted("size=1m")

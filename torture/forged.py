@@ -2,19 +2,20 @@
 """Files that no store left: each check of opening broken by a byte, and pairs of them; every byte of a small store's log, extents
 and runs set to other values; each file cut at every length.
 
-    forged.py PROGRAM [--every N] [--only KIND] [--jobs N] [--table]
+    forged.py PROGRAM [--only KIND] [--seconds S] [--jobs N] [--table]
 
 What is to be answered is computed by a plain reader of the format (image.py, homes.py), which shares nothing with the program: that
 the files open, and then every record at every time; or which check is the first to fail. KIND: table, pairs, log, extents, runs, cuts.
-The status is 1 where an answer is another one; the change is printed. --table prints the checks, their changes and answers.
+The status is 1 where an answer is another one; a script is left that shows it. With --seconds it ends after so many: first comes the
+table, then of each kind one image after the other, spread over all of them. --table prints the checks, their changes and answers.
 """
 from __future__ import annotations
 
 import argparse
+import itertools
 import os
 import sys
 import tempfile
-import time
 from collections import Counter
 from collections.abc import Iterator
 from concurrent.futures import ProcessPoolExecutor
@@ -23,9 +24,9 @@ import image
 import machine
 from homes import Files
 from machine import Key
-from program import AREAS, Areas, Failure, Shown, format_store, read_areas, report, run, use_memory, write_areas
+from program import AREAS, Areas, Failure, Shown, Until, command, format_store, read_areas, report, run, spread, use_memory, write_areas
 
-# two commits in a slot, a delta, a deletion, two extents of one chain, anchors and two runs
+# two commits in a slot, a delta, a deletion, two extents of one chain, anchors, two runs and two floors
 LARGE = " ".join(["cd" * 255] * 16)
 SCRIPT = f"""begin a
 put a 1 7 61 62
@@ -39,6 +40,8 @@ put c 2 1 64 65 66
 submit b 2 110
 submit c 2 0
 flush
+floor 105
+finish
 begin d
 del d 1 7
 put d 2 1 64 67 66
@@ -55,6 +58,8 @@ submit e 4 130
 flush
 archive 125
 finish
+floor 107
+finish
 begin f
 put f 3 1 {LARGE}
 put f 3 2 {LARGE}
@@ -68,37 +73,51 @@ flush
 # an area, a place in it, and what is written there; None: the area is cut off there
 Change = tuple[str, int, "bytes | None"]
 VALUES = (0x00, 0x37, 0xC7, 0xFF)
+# images that are tried by a process before the time is looked at
+AT_ONCE = 16
+FAILURES_MOST = 20
 
 
-def history_of(script: list[str]) -> list[machine.Commit]:
-    """The commits of a script, by its lines alone."""
-    small = machine.Machine()
-    for line in script:
-        small.answer(line)
-    return small.published
+Answer = tuple[int, list[str]]
 
 
-def check(program: str, areas: Areas, what: str, keys: list[Key]) -> str:
-    """Opens the files and asks; says how they were answered."""
+def asked_of(areas: Areas, keys: list[Key]) -> tuple[list[str], Answer, str]:
+    """Lines that ask files for all that they say, the status and the answers, and how the files are."""
     try:
         files = Files(areas)
-        lines = files.questions(keys)
-        wanted = [[f"last {files.newest} floor 0"], *(files.answer(line) for line in lines)]
-        status, outcome = 0, "opens" if files.is_sound() else "opens, a run is damaged"
     except image.Refused as why:
-        lines, wanted, status = [], [[f"refused: {why}"]], 1
-        outcome = str(why) if str(why) == "not a store" else str(why).rsplit(" ", 1)[0]
-    lines = ["reopen", *lines]
-    flat = [it for said in wanted for it in said]
+        return ["reopen"], (1, [f"refused: {why}"]), str(why) if str(why) == "not a store" else str(why).rsplit(" ", 1)[0]
+    lines = files.questions(keys)
+    wanted = [f"last {files.newest} floor {files.floor}", *(said for line in lines for said in files.answer(line))]
+    return ["reopen", *lines], (0, wanted), "opens" if files.is_sound() else "opens, a run is damaged"
+
+
+def dumped(status: bytes) -> Answer:
+    try:
+        return 0, image.dump(status)
+    except image.Refused as why:
+        return 1, [f"refused: {why}"]
+
+
+def differing(found: Answer, wanted: Answer) -> str:
+    differs = next(((a, b) for a, b in zip(found[1] + ["nothing"], wanted[1] + ["nothing"]) if a != b), ("as it should", "that"))
+    return f"answers {differs[0]} with status {found[0]}, and not {differs[1]} with status {wanted[0]}"
+
+
+def check(program: str, areas: Areas, what: str, keys: list[Key], has_dump: bool = False) -> str:
+    """Opens the files and asks, and has their log printed; says how they are."""
+    lines, wanted, outcome = asked_of(areas, keys)
     with tempfile.TemporaryDirectory(prefix="forged-") as folder:
         write_areas(folder, areas)
         found = run(program, folder, lines)
-        if found != (status, flat):
-            differs = next(((a, b) for a, b in zip(found[1] + ["nothing"], flat + ["nothing"]) if a != b), ("as it should", "that"))
-            why = f"{what}: answers {differs[0]} with status {found[0]}, and not {differs[1]} with status {status}"
-            raise Failure(why, Shown(areas, lines, flat, {}))
+        if found != wanted:
+            raise Failure(f"{what}: {differing(found, wanted)}", Shown(areas, lines, wanted[1], {}))
+        if has_dump:
+            found, wanted = command(program, "dump", folder), dumped(areas["status"])
+            if found != wanted:
+                raise Failure(f"{what}: dump {differing(found, wanted)}", Shown(areas, [], wanted[1], {}, "dump DIR"))
         if read_areas(folder) != areas:
-            raise Failure(f"{what}: opening and questions have changed a file")
+            raise Failure(f"{what}: opening and questions have changed a file", Shown(areas, lines, wanted[1], {}))
     return outcome
 
 
@@ -126,12 +145,15 @@ class Small:
         if status or any(it.startswith("refused") for it in said):
             raise Failure(f"the script answers {said}")
         self.areas = read_areas(folder)
-        self.history = history_of(SCRIPT)
-        why = image.why_not(self.areas, self.history)
-        if why:
-            raise Failure(f"the plain reader finds {why}")
-        self.keys = sorted({key for it in self.history for key in it.writes})
-        self.found, _, _ = image.log(self.areas["status"], 16)
+        whole = machine.Machine(slots=16)
+        for line in SCRIPT:
+            whole.answer(line)
+        read = image.read(self.areas)
+        why = image.why_not(self.areas, read, whole.published)
+        if why or read.log.floor != whole.floor:
+            raise Failure(f"the plain reader finds {why or read.log.floor}")
+        self.keys = sorted({key for it in whole.published for key in it.writes})
+        self.found, self.live = read.log.slots, read.live
         self.kinds = [kind for kind, _ in self.found]
 
     def body(self, kind: str, which: int = -1) -> tuple[int, tuple]:
@@ -163,7 +185,7 @@ def header_checks() -> list[Check]:
 
 def slot_checks(small: Small) -> list[Check]:
     """The form of a slot, and the log's rules."""
-    last, (archived, run), (reclaimed, anchors) = len(small.found) - 1, small.body("archived"), small.body("reclaimed")
+    last, (archived, run), (reclaimed, anchors), (floor, _) = len(small.found) - 1, small.body("archived"), small.body("reclaimed"), small.body("floor")
     changes = [(0, name, place, data) for name, place, data in [
         ("kind 0", 1, b"\0"), ("kind 5", 1, b"\5"), ("no members", 2, b"\0"), ("17 members", 2, b"\x11"), ("byte 3", 3, b"\1"), ("another number", 4, b"\1"),
         ("time 0", 16, word(0, 8)), ("time 2^63", 16, word(1 << 63, 8)), ("first extent 0", 24, word(0, 4)), ("first extent 65,537", 24, word(65537, 4)),
@@ -177,9 +199,21 @@ def slot_checks(small: Small) -> list[Check]:
     changes += [(reclaimed, f"a reclaim {name}", place, data) for name, place, data in [
         ("with a member", 2, b"\1"), ("up to another time", 8, word(110, 8)), ("without a first extent", 16, word(0, 4)), ("without extents", 20, word(0, 4)),
         ("with more extents than records", 20, word(anchors[3] + 1, 4)), ("without records", 24, word(0, 4)), ("with a byte behind it", 28, b"\1")]]
-    changes += [(last + 1, "the gate behind the log opened", 0, b"\xc7"), (last + 1, "a floor, which is not built", 0, b"\xc7\4\0\0" + word(last + 1, 4) + word(100, 8))]
+    changes += [(floor, f"a floor {name}", place, data) for name, place, data in [
+        ("with a member", 2, b"\1"), ("with byte 3", 3, b"\1"), ("of another number", 4, word(floor + 1, 4)), ("at 0", 8, word(0, 8)), ("at 2^63", 8, word(1 << 63, 8)),
+        ("not later", 8, word(105, 8)), ("past the last commit", 8, word(131, 8)), ("with a byte behind it", 16, b"\1"), ("with a last byte", 511, b"\1")]]
+    changes += [(last + 1, "the gate behind the log opened", 0, b"\xc7"), (last + 1, "a floor of another slot behind the log", 0, b"\xc7\4\0\0" + word(last, 4) + word(120, 8))]
     rows: list[Check] = [(f"slot {number}: {name}", ("status", slot(number, place), data), f"damaged status {number}") for number, name, place, data in changes]
     return rows + [("a gate two behind the log opened", ("status", slot(last + 2, 0), b"\xc7"), None), ("the last gate closed", ("status", slot(last, 0), b"\x37"), None)]
+
+
+def floor_changes(small: Small) -> list[Check]:
+    """Floors that keep the log's rules: what is refused by them, and a run with what ended by a floor before it."""
+    first, second, behind = small.body("floor", 0)[0], small.body("floor")[0], len(small.found)
+    between = small.areas["status"][slot(first, 16): slot(second, 8)]
+    changes = [("a floor behind the log", slot(behind, 0), b"\xc7\4\0\0" + word(behind, 4) + word(120, 8)), ("a floor at the last commit behind the log", slot(behind, 0), b"\xc7\4\0\0" + word(behind, 4) + word(141, 8)),
+               ("a later floor", slot(second, 8), word(130, 8)), ("a floor later than a run's versions", slot(first, 8), word(110, 8) + between + word(111, 8))]
+    return [(f"floors: {name}", ("status", place, data), None) for name, place, data in changes]
 
 
 def extent_checks(small: Small, name: str, number: int) -> list[Check]:
@@ -234,7 +268,7 @@ def table(small: Small) -> list[Check]:
     """Each check of opening in its order."""
     _, run = small.body("archived")
     cuts: list[Check] = [("the archive cut in its last run", ("archive", run[1] + run[2] - 1, None), f"damaged archive {run[1]}"), ("the archive cut to nothing", ("archive", 0, None), "damaged archive 0")]
-    return header_checks() + slot_checks(small) + chain_checks(small) + cuts
+    return header_checks() + slot_checks(small) + floor_changes(small) + chain_checks(small) + cuts
 
 
 def overlap(a: Change, b: Change) -> bool:
@@ -274,21 +308,10 @@ def bytes_of(small: Small, kind: str, area: str, places: list[int]) -> Iterator[
             yield kind, f"{area} {place} := {value:02x}", [(area, place, bytes([value]))], None
 
 
-def live_extents(small: Small) -> list[int]:
-    _, _, reclaimed, _ = image.read(*(small.areas[area] for area in AREAS))
-    heads, numbers = [small.body("reclaimed")[1][1:3]], []
-    heads += [(it[2], it[3]) for kind, body in small.found if kind == "commit" for it in body if it[1] > reclaimed]
-    for number, extents in heads:
-        for _ in range(extents):
-            numbers.append(number)
-            number = image.u(small.areas["heap"], heap_at(number, 4), 4)
-    return numbers
-
-
 def in_extents(small: Small, every: int) -> list[int]:
     """The bytes of the live extents: the front and what is used, and of the zeros behind it one of so many."""
     places = []
-    for number in live_extents(small):
+    for number in sorted(small.live):
         used = 16 + image.u(small.areas["heap"], heap_at(number, 8), 4)
         places += [heap_at(number, place) for place in range(image.EXTENT) if place < min(used + 2, 160) or place % every == every - 1]
     return places
@@ -303,20 +326,23 @@ def cuts(small: Small) -> Iterator[Forgery]:
 KINDS = ("table", "pairs", "log", "extents", "runs", "cuts")
 
 
-def forgeries(small: Small, kind: str, every: int, zeros: int) -> Iterator[Forgery]:
-    """Those of a kind, or one of so many."""
-    found = {"table": lambda: tabled(small), "pairs": lambda: pairs(small), "cuts": lambda: cuts(small),
-             "log": lambda: bytes_of(small, "bytes of the log", "status", list(range(len(small.areas["status"])))),
-             "extents": lambda: bytes_of(small, "bytes of live extents", "heap", in_extents(small, zeros)),
-             "runs": lambda: bytes_of(small, "bytes of runs", "archive", list(range(len(small.areas["archive"]))))}[kind]()
-    for number, it in enumerate(found):
-        if kind == "table" or number % every == 0:
-            yield it
+def forgeries(small: Small, kind: str, zeros: int) -> Iterator[Forgery]:
+    status, archive = (list(range(len(small.areas[area]))) for area in ("status", "archive"))
+    return {"table": lambda: tabled(small), "pairs": lambda: pairs(small), "cuts": lambda: cuts(small),
+            "log": lambda: bytes_of(small, "bytes of the log", "status", status),
+            "extents": lambda: bytes_of(small, "bytes of live extents", "heap", in_extents(small, zeros)),
+            "runs": lambda: bytes_of(small, "bytes of runs", "archive", archive)}[kind]()
+
+
+def in_turns(kinds: list[list[Forgery]]) -> Iterator[Forgery]:
+    """One of each kind after the other, each spread over its kind."""
+    for some in itertools.zip_longest(*(spread(it) for it in kinds)):
+        yield from (it for it in some if it is not None)
 
 
 def why_refused(areas: Areas) -> str:
     try:
-        image.read(*(areas[area] for area in AREAS))
+        image.read(areas)
     except image.Refused as why:
         return str(why)
     return "nothing"
@@ -338,7 +364,7 @@ class Trier:
         kind, what, changes, answer = forgery
         try:
             areas = cls.small.changed(changes)
-            said = check(cls.program, areas, what, cls.small.keys)
+            said = check(cls.program, areas, what, cls.small.keys, all(area == "status" for area, _, _ in changes))
             if answer is not None and why_refused(areas) != answer:
                 raise Failure(f"{what}: the plain reader says {why_refused(areas)}, and the table {answer}")
             return kind, said, None
@@ -350,24 +376,29 @@ def print_table(small: Small) -> None:
     for name, (area, place, data), _ in table(small):
         change = f"{area} cut to {place} bytes" if data is None else f"{area} {place} := {data[:24].hex()}" + (" .." if len(data) > 24 else "")
         try:
-            answer = f"opens, last {Files(small.changed([(area, place, data)])).newest}"
+            files = Files(small.changed([(area, place, data)]))
+            answer = f"opens, last {files.newest} floor {files.floor}" + ("" if files.is_sound() else ", a run is damaged")
         except image.Refused as why:
             answer = str(why)
         print(f"{name}: {change}: {answer}")
 
 
-def try_all(program: str, small: Small, given: argparse.Namespace) -> tuple[Counter, int]:
+def try_all(program: str, small: Small, given: argparse.Namespace, until: Until) -> tuple[Counter, int]:
     tried: Counter = Counter()
     bad = 0
     kinds = [given.only] if given.only else KINDS
+    images = [list(forgeries(small, kind, given.zeros)) for kind in kinds]
+    firsts = images.pop(0) if kinds[0] == "table" else []
+    all_of = iter([*firsts, *in_turns(images)])
     with ProcessPoolExecutor(given.jobs, initializer=Trier.begin, initargs=(program, small)) as pool:
-        images = [it for kind in kinds for it in forgeries(small, kind, given.every, given.zeros)]
-        for kind, said, why in pool.map(Trier.one, images, chunksize=32):
-            tried[kind, said] += 1
-            if why:
-                bad += 1
-                if bad <= 20:
+        while some := list(itertools.islice(all_of, AT_ONCE * given.jobs)):
+            for kind, said, why in pool.map(Trier.one, some, chunksize=AT_ONCE // 4):
+                tried[kind, said] += 1
+                if why:
+                    bad += 1
                     report("a forged image", why)
+            if until.is_over() or bad >= FAILURES_MOST:
+                break
     return tried, bad
 
 
@@ -382,23 +413,22 @@ def say(tried: Counter) -> None:
 def main() -> int:
     words = argparse.ArgumentParser(description=__doc__, formatter_class=argparse.RawDescriptionHelpFormatter)
     words.add_argument("program")
-    words.add_argument("--every", type=int, default=1, help="of pairs, bytes and cuts one of so many (1)")
+    words.add_argument("--seconds", type=float, help="for how long (until all is tried)")
     words.add_argument("--zeros", type=int, default=64, help="of the zeros of an extent one of so many (64)")
     words.add_argument("--only", choices=KINDS)
     words.add_argument("--jobs", type=int, default=2, help="images tried at once (2)")
     words.add_argument("--table", action="store_true", help="print the table of checks")
     given = words.parse_args()
     use_memory()
-    program, began = os.path.abspath(given.program), time.time()
+    program, until = os.path.abspath(given.program), Until(given.seconds)
     with tempfile.TemporaryDirectory(prefix="forged-store-") as folder:
         small = Small(program, folder)
     if given.table:
         print_table(small)
         return 0
-    tried, bad = try_all(program, small, given)
+    tried, bad = try_all(program, small, given, until)
     say(tried)
-    count, seconds = sum(tried.values()), time.time() - began
-    print(f"{count} images in {seconds:.0f} s, {count / seconds:.0f} a second; {bad} failed")
+    print(f"{tried.total()} images in {until.seconds():.0f} s, {tried.total() / until.seconds():.0f} a second; {bad} failed")
     return 1 if bad else 0
 
 

@@ -6,7 +6,7 @@ from dataclasses import dataclass
 import image
 import machine
 from machine import Key, Version
-from program import AREAS, Areas
+from program import Areas
 
 HEAD = 26
 RECORD_LEAST, RECORD_MOST = 28, 4123
@@ -19,14 +19,10 @@ class Damaged(Exception):
 
 
 @dataclass(frozen=True)
-class Run:
+class Run(image.Run):
+    """A run whose records are found one at a time."""
+
     archive: bytes
-    start: int
-    length: int
-    records: int
-    # a version of the run ends later than the one, and not later than the other
-    above: int
-    upto: int
 
     def number_at(self, place: int, size: int) -> int:
         return image.u(self.archive, self.start + place, size)
@@ -122,9 +118,11 @@ class Files:
     """What files say. image.Refused where they don't open."""
 
     def __init__(self, areas: Areas) -> None:
-        history, self.archived, self.reclaimed, anchors = image.read(*(bytes(areas[area]) for area in AREAS))
-        self.newest, self.named = machine.last(history), [(it.time, it.label) for it in history]
-        standing = dict(anchors)
+        self.image = image.read(areas)
+        log, history = self.image.log, self.image.history
+        self.newest, self.floor, self.archived, self.reclaimed = log.newest, log.floor, log.archived, log.reclaimed
+        self.named = [(it.time, it.label) for it in history]
+        standing = dict(self.image.anchors)
         self.versions: list[tuple[Key, int, int | None, str]] = []
         for commit in history:
             for key, fields in sorted((commit.writes or {}).items()):
@@ -135,17 +133,8 @@ class Files:
                     standing[key] = (commit.time, fields)
         self.versions += [(key, since, None, fields) for key, (since, fields) in standing.items()]
         self.versions.sort(key=lambda it: it[:2])
-        self.runs = self.runs_of(bytes(areas["status"]), bytes(areas["archive"]))
-
-    @staticmethod
-    def runs_of(status: bytes, archive: bytes) -> list[Run]:
-        found, above = [], 0
-        for kind, body in image.log(status, image.header(status))[0]:
-            if kind == "archived":
-                upto, start, length, records = body
-                found.append(Run(archive, start, length, records, above, upto))
-                above = upto
-        return found
+        self.archive = areas["archive"]
+        self.runs = [Run(it.upto, it.start, it.length, it.records, it.above, self.archive) for it in image.runs(log)]
 
     def memory(self, a: int, b: int, above: int = 0) -> list[tuple[Key, Version]]:
         """The parts from a to b of the versions in memory that end later than a time."""
@@ -153,8 +142,9 @@ class Files:
         return [(key, part) for key, part in parts if part[0] < part[1]]
 
     def at(self, key: Key, time: int) -> list[str]:
-        if time > self.newest:
-            return [f"refused: not yet {self.newest}"]
+        refused = machine.refusal(self.newest, self.floor, time, time + 1)
+        if refused:
+            return refused
         found = [part[2] for one, part in self.memory(time, time + 1) if one == key]
         for run in self.runs if time < self.reclaimed and not found else []:
             value = run.find(key, time) if time < run.upto else None
@@ -163,15 +153,18 @@ class Files:
         return [f"value {found[0]}"] if found else ["none"]
 
     def between(self, key: Key, a: int, b: int) -> list[str]:
-        """Of an interval that is not empty, and ends one behind the last commit at the latest."""
+        refused = machine.refusal(self.newest, self.floor, a, b)
+        if refused:
+            return refused
         below = a < self.reclaimed
         rows = [row for run in self.runs if below and a < run.upto for row in run.rows(key, a, b)]
         rows += [part for one, part in self.memory(a, b, self.archived if below else 0) if one == key]
         return [f"{start} {stop} {fields}" for start, stop, fields in rows] + [f"rows {len(rows)}"]
 
     def scan(self, relation: int, time: int) -> list[str]:
-        if time > self.newest:
-            return [f"refused: not yet {self.newest}"]
+        refused = machine.refusal(self.newest, self.floor, time, time + 1)
+        if refused:
+            return refused
         below = time < self.reclaimed
         rows = [(record, 0, part) for run in self.runs if below and time < run.upto for record, part in run.scan(relation, time, time + 1)]
         rows += [(key[1], 1, part) for key, part in self.memory(time, time + 1, self.archived if below else 0) if key[0] == relation]
@@ -195,21 +188,17 @@ class Files:
     def questions(self, keys: list[Key]) -> list[str]:
         """Lines that ask for all that the files say, and for these keys."""
         times = [it for _, start, stop, _ in self.versions for it in (start, start - 1, stop or self.newest)]
-        times += [it for run in self.runs for it in (run.upto, run.upto - 1)]
+        times += [it for run in self.runs for it in (run.upto, run.upto - 1)] + [self.floor, self.floor - 1]
         moments = sorted({0, self.newest, *(it for it in times if 0 <= it <= self.newest)})
         keys = sorted({*keys, *(it[0] for it in self.versions)})
         lines = [f"times {label}" for label in sorted({label for _, label in self.named})]
         for relation, record in keys:
             lines += [f"at {relation} {record} {moment}" for moment in moments]
-            lines += [f"between {relation} {record} {moment} {self.newest + 1}" for moment in moments[:: max(1, len(moments) // 4)]]
+            lines += [f"between {relation} {record} {moment} {self.newest + 1}" for moment in sorted({self.floor, *moments[:: max(1, len(moments) // 4)]})]
         for relation in sorted({key[0] for key in keys}):
             lines += [f"scan {relation} {moment}" for moment in moments]
         return lines
 
     def is_sound(self) -> bool:
         """Whether every run keeps the rules of its form."""
-        return all(records is not None for _, records in image.runs(*self.log_and_archive()))
-
-    def log_and_archive(self) -> tuple[list, bytes]:
-        bodies = [("archived", (run.upto, run.start, run.length, run.records)) for run in self.runs]
-        return bodies, self.runs[0].archive if self.runs else b""
+        return all(image.run_records(self.archive, run) is not None for run in image.runs(self.image.log))

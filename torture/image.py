@@ -1,23 +1,27 @@
 """A plain reader of a store's three files, by the checks of docs/FORMAT.md, written apart from the program's."""
 from __future__ import annotations
 
-from collections.abc import Callable
+from collections.abc import Callable, Iterator, Mapping
+from dataclasses import dataclass, field
+from datetime import datetime, timedelta
 from typing import Any
 
-from machine import Commit, Fields, History, Key, versions
+from machine import LATEST, Commit, Fields, History, Key, all_versions
 
 EXTENT = 8192
 BODY = EXTENT - 16
-TOP = 1 << 63
 SLOT = 512
+OPEN = 0xC7
 
 Value = tuple[bytes, ...]
 # of a commit slot the members (label, time, first extent, extents, records); of an archive upto, start, length, records;
-# of a reclaim upto, first extent, extents, records
+# of a reclaim upto, first extent, extents, records; of a floor its time
 Slot = tuple[str, Any]
 # a record's key, what it says of it, and where the next one begins
 Read = tuple[Key, Any, int]
 RunRecord = tuple[Key, int, int, Fields]
+# of a key that has a value at the reclaim mark: since when, and its fields
+Anchors = dict[Key, tuple[int, Fields]]
 
 
 class Refused(Exception):
@@ -37,12 +41,16 @@ def header(status: bytes) -> int:
     if len(status) < 512 or status[:8] != b"NOOVER01" or u(status, 8, 4) != 1 or any(status[16:512]):
         raise Refused("not a store")
     slots = u(status, 12, 4)
-    if not 16 <= slots <= 65536 or len(status) < 512 + slots * SLOT:
+    if not 16 <= slots <= 65536 or len(status) < slot_at(slots):
         raise Refused("not a store")
     return slots
 
 
 # ---- the log
+
+
+def slot_at(number: int) -> int:
+    return 512 + SLOT * number
 
 
 def commit_slot(slot: bytes) -> tuple[list[tuple[int, ...]], int] | None:
@@ -53,7 +61,7 @@ def commit_slot(slot: bytes) -> tuple[list[tuple[int, ...]], int] | None:
     for place in range(slot[2]):
         at = 8 + 28 * place
         label, time, first, extents, records = u(slot, at, 8), u(slot, at + 8, 8), u(slot, at + 16, 4), u(slot, at + 20, 4), u(slot, at + 24, 4)
-        if not (before < time < TOP and 1 <= first <= 65536 and 1 <= records <= 1024 and 1 <= extents <= records):
+        if not (before < time <= LATEST and 1 <= first <= 65536 and 1 <= records <= 1024 and 1 <= extents <= records):
             return None
         members.append((label, time, first, extents, records))
         before = time
@@ -62,22 +70,26 @@ def commit_slot(slot: bytes) -> tuple[list[tuple[int, ...]], int] | None:
 
 def archived_slot(slot: bytes) -> tuple[tuple[int, ...], int] | None:
     upto, start, length, records = u(slot, 8, 8), u(slot, 16, 8), u(slot, 24, 8), u(slot, 32, 8)
-    if slot[2] or not 1 <= upto < TOP or not 36 * records <= length <= 4131 * records or start + length >= TOP:
+    if slot[2] or not 1 <= upto <= LATEST or not 36 * records <= length <= 4131 * records or start + length > LATEST:
         return None
     return (upto, start, length, records), 40
 
 
 def reclaimed_slot(slot: bytes) -> tuple[tuple[int, ...], int] | None:
     upto, first, extents, records = u(slot, 8, 8), u(slot, 16, 4), u(slot, 20, 4), u(slot, 24, 4)
-    if slot[2] or not 1 <= upto < TOP:
+    if slot[2] or not 1 <= upto <= LATEST:
         return None
     if (first or extents or records) and not (1 <= first <= 65536 and 1 <= extents <= 65536 and extents <= records):
         return None
     return (upto, first, extents, records), 28
 
 
-# kind 4, a floor, is of the format, and no version of the program builds it yet
-KINDS: dict[int, tuple[str, Callable[[bytes], Any]]] = {1: ("commit", commit_slot), 2: ("archived", archived_slot), 3: ("reclaimed", reclaimed_slot)}
+def floor_slot(slot: bytes) -> tuple[tuple[int, ...], int] | None:
+    floor = u(slot, 8, 8)
+    return None if slot[2] or not 1 <= floor <= LATEST else ((floor,), 16)
+
+
+KINDS: dict[int, tuple[str, Callable[[bytes], Any]]] = {1: ("commit", commit_slot), 2: ("archived", archived_slot), 3: ("reclaimed", reclaimed_slot), 4: ("floor", floor_slot)}
 
 
 def form(slot: bytes, number: int) -> Slot | None:
@@ -89,30 +101,69 @@ def form(slot: bytes, number: int) -> Slot | None:
     return kind, read[0]
 
 
-def log(status: bytes, slots: int) -> tuple[list[Slot], int, int]:
-    """The open slots before the first closed gate, and the marks of the archive and of the reclaims."""
-    found: list[Slot] = []
-    newest, archived, reclaimed, end = 0, 0, 0, 0
-    for number in range(slots):
-        at = 512 + SLOT * number
-        if status[at] != 0xC7:
-            break
-        said = form(status[at: at + SLOT], number)
-        if said is None:
-            raise damaged("status", number)
-        kind, body = said
+@dataclass
+class Log:
+    """The open slots before the first closed gate; the last commit's time, the marks, the floor, and where the next run begins."""
+
+    slots: list[Slot] = field(default_factory=list)
+    newest: int = 0
+    archived: int = 0
+    reclaimed: int = 0
+    floor: int = 0
+    end: int = 0
+
+    def takes(self, slot: Slot) -> bool:
+        """Adds a slot, if it keeps the log's rules."""
+        kind, body = slot
         if kind == "commit":
-            keeps, newest = body[0][1] > newest, body[-1][1]
+            keeps, self.newest = body[0][1] > self.newest, body[-1][1]
         elif kind == "archived":
-            keeps = archived < body[0] <= newest and body[1] == end
-            archived, end = body[0], body[1] + body[2]
+            keeps = self.archived < body[0] <= self.newest and body[1] == self.end
+            self.archived, self.end = body[0], body[1] + body[2]
+        elif kind == "reclaimed":
+            keeps = self.reclaimed < body[0] == self.archived
+            self.reclaimed = body[0]
         else:
-            keeps = body[0] == archived and body[0] > reclaimed
-            reclaimed = body[0]
-        if not keeps:
+            keeps = self.floor < body[0] <= self.newest
+            self.floor = body[0]
+        self.slots.append(slot)
+        return keeps
+
+    def members(self) -> Iterator[tuple[int, ...]]:
+        return (member for kind, body in self.slots if kind == "commit" for member in body)
+
+    def anchors(self) -> tuple[int, ...]:
+        """The last reclaim: its mark, and the first extent, the extents and the records of its chain."""
+        return ([(0, 0, 0, 0)] + [body for kind, body in self.slots if kind == "reclaimed"])[-1]
+
+
+def read_log(status: bytes) -> Log:
+    log = Log()
+    for number in range(header(status)):
+        at = slot_at(number)
+        if status[at] != OPEN:
+            break
+        slot = form(status[at: at + SLOT], number)
+        if slot is None or not log.takes(slot):
             raise damaged("status", number)
-        found.append(said)
-    return found, archived, reclaimed
+    return log
+
+
+def dump(status: bytes) -> list[str]:
+    """The text of a log."""
+    lines = [f"header {header(status)}"]
+    log = read_log(status)
+    for number, (kind, body) in enumerate(log.slots):
+        lines.append(f"slot {number} {kind}" if kind == "commit" else " ".join([f"slot {number} {kind}", *map(str, body)]))
+        lines += [f"member {' '.join(map(str, it))} {instant(it[1])}" for it in body] if kind == "commit" else []
+    return [*lines, f"used {len(log.slots)} of {header(status)}"]
+
+
+def instant(time: int) -> str:
+    try:
+        return (datetime(1970, 1, 1) + timedelta(seconds=time // 1_000_000)).strftime("%Y-%m-%dT%H:%M:%SZ")
+    except OverflowError:
+        return "-"
 
 
 # ---- the heap
@@ -140,7 +191,7 @@ def anchor(data: bytes, at: int, mark: int) -> Read | None:
     return key, (since, tuple(taken[0])), taken[1]
 
 
-def record(data: bytes, at: int, before: dict[Key, Value | None]) -> Read | None:
+def record(data: bytes, at: int, before: Mapping[Key, Value | None]) -> Read | None:
     """One record of a chain, over the key's value before it: the key, its value (None: gone) and where the next one begins."""
     if at + 11 > len(data):
         return None
@@ -177,76 +228,114 @@ def is_delta(old: Value, new: Value) -> bool:
     return 13 + changed < 12 + sum(1 + len(it) for it in new)
 
 
-def chain(heap: bytes, first: int, extents: int, records: int, read: Callable[[bytes, int], Read | None], taken: set[int]) -> list[tuple[Key, Any]] | None:
+def extent_of(heap: bytes, number: int) -> tuple[int, bytes] | None:
+    """The number of the next extent of the chain, and the bytes of records; None where the extent breaks its form."""
+    extent = heap[(number - 1) * EXTENT: number * EXTENT] if number >= 1 else b""
+    own, following, used, zero = (u(extent, at, 4) for at in (0, 4, 8, 12))
+    if len(extent) < EXTENT or own != number or zero or not 1 <= used <= BODY or any(extent[16 + used:]):
+        return None
+    return following, extent[16: 16 + used]
+
+
+def records_in(data: bytes, reader: Callable[[bytes, int], Read | None]) -> list[Read] | None:
+    """The records of an extent, or None where one breaks its form."""
+    at, found = 0, []
+    while at < len(data):
+        one = reader(data, at)
+        if one is None:
+            return None
+        found.append(one)
+        at = one[2]
+    return found
+
+
+def chain(heap: bytes, first: int, extents: int, records: int, reader: Callable[[bytes, int], Read | None], taken: set[int]) -> list[tuple[Key, Any]] | None:
     """What is read of each key of a chain, or None where a check fails."""
-    writes, number, previous, room = [], first, None, None
+    writes: list[tuple[Key, Any]] = []
+    number, room = first, 0
     for place in range(extents):
-        start = (number - 1) * EXTENT
-        if number in taken or number < 1 or start + EXTENT > len(heap):
-            return None
+        extent = extent_of(heap, number) if number not in taken else None
         taken.add(number)
-        extent = heap[start: start + EXTENT]
-        own, following, used, zero = (u(extent, at, 4) for at in (0, 4, 8, 12))
-        if own != number or zero or not 1 <= used <= BODY or any(extent[16 + used:]):
+        if extent is None or (extent[0] == 0) != (place == extents - 1):
             return None
-        if (following == 0) != (place == extents - 1):
+        found = records_in(extent[1], reader)
+        # packed: the first record of an extent had no room in the one before
+        if found is None or found[0][2] <= room:
             return None
-        data, at = extent[16: 16 + used], 0
-        while at < used:
-            found = read(data, at)
-            if found is None:
-                return None
-            key, value, end = found
-            # packed: the first record of an extent had no room in the one before
-            if at == 0 and room is not None and end - at <= room:
-                return None
-            if previous is not None and key <= previous:
-                return None
-            writes.append((key, value))
-            previous, at = key, end
-        room, number = BODY - used, following
-    return writes if len(writes) == records else None
+        writes += [(key, what) for key, what, _ in found]
+        number, room = extent[0], BODY - len(extent[1])
+    keys = [key for key, _ in writes]
+    rise = all(one < other for one, other in zip(keys, keys[1:]))
+    return writes if rise and len(writes) == records else None
 
 
 def fields_of(value: Value | None) -> Fields:
     return None if value is None else " ".join(it.hex() or "-" for it in value)
 
 
-def anchors_of(found: list[Slot]) -> tuple[int, ...]:
-    """Those of the last reclaim: its mark, first extent, extents and records."""
-    return ([(0, 0, 0, 0)] + [body for kind, body in found if kind == "reclaimed"])[-1]
+# ---- the whole
 
 
-def read(status: bytes, heap: bytes, archive: bytes) -> tuple[list[Commit], int, int, dict[Key, tuple[int, Fields]]]:
-    """The history that the files stand for, its marks and its anchors; Refused where they don't open.
+@dataclass(frozen=True)
+class Image:
+    """What files stand for: of the commits up to the reclaim mark there are the times and labels alone (their writes are None)."""
 
-    Of the commits up to the reclaim mark there are the times and labels alone (their writes are None);
-    of each key that has a value at the mark there is an anchor, its time and its fields."""
-    slots = header(status)
-    found, archived, reclaimed = log(status, slots)
-    mark, first, extents, records = anchors_of(found)
-    history, taken = [], set()
-    olds = chain(heap, first, extents, records, lambda data, at: anchor(data, at, mark), taken)
+    slots: int
+    log: Log
+    history: list[Commit]
+    anchors: Anchors
+    # the extents of the live chains
+    live: frozenset[int]
+
+
+def read(areas: Mapping[str, bytes]) -> Image:
+    """Refused where the files don't open."""
+    log = read_log(areas["status"])
+    mark, first, extents, records = log.anchors()
+    history: list[Commit] = []
+    taken: set[int] = set()
+    olds = chain(areas["heap"], first, extents, records, lambda data, at: anchor(data, at, mark), taken)
     if olds is None:
         raise damaged("heap", first)
-    values = {key: value for key, (_, value) in olds}
-    for kind, body in found:
-        for label, time, first, extents, records in body if kind == "commit" else []:
-            if time <= reclaimed:
-                history.append(Commit(time, label, None))
-                continue
-            writes = chain(heap, first, extents, records, lambda data, at: record(data, at, values), taken)
-            if writes is None:
-                raise damaged("heap", first)
-            values.update(writes)
-            history.append(Commit(time, label, {key: fields_of(value) for key, value in writes}))
-    for kind, body in found:
-        if kind == "archived" and body[1] + body[2] > len(archive):
-            raise damaged("archive", body[1])
-    return history, archived, reclaimed, {key: (since, fields_of(value)) for key, (since, value) in olds}
+    values: dict[Key, Value | None] = {key: value for key, (_, value) in olds}
+    for label, time, first, extents, records in log.members():
+        if time <= mark:
+            history.append(Commit(time, label, None))
+            continue
+        writes = chain(areas["heap"], first, extents, records, lambda data, at: record(data, at, values), taken)
+        if writes is None:
+            raise damaged("heap", first)
+        values.update(writes)
+        history.append(Commit(time, label, {key: fields_of(value) for key, value in writes}))
+    for run in runs(log):
+        if run.start + run.length > len(areas["archive"]):
+            raise damaged("archive", run.start)
+    return Image(header(areas["status"]), log, history, {key: (since, fields_of(value)) for key, (since, value) in olds}, frozenset(taken))
 
 
 # ---- runs
+
+
+@dataclass(frozen=True)
+class Run:
+    """A run as its slot names it; its versions end later than the marks before the slot, and not later than it goes up to."""
+
+    upto: int
+    start: int
+    length: int
+    records: int
+    above: int
+
+
+def runs(log: Log) -> list[Run]:
+    """The runs that a log names, in its order."""
+    found, above = [], 0
+    for kind, body in log.slots:
+        if kind == "archived":
+            found.append(Run(*body, above))
+        if kind in ("archived", "floor"):
+            above = max(above, body[0])
+    return found
 
 
 def run_record(data: bytes, at: int, end: int) -> tuple[Key, int, int, Value, int] | None:
@@ -259,15 +348,16 @@ def run_record(data: bytes, at: int, end: int) -> tuple[Key, int, int, Value, in
     return (u(data, at, 2), u(data, at + 2, 8)), u(data, at + 10, 8), u(data, at + 18, 8), tuple(taken[0]), taken[1]
 
 
-def run_records(data: bytes, count: int, above: int, upto: int) -> list[RunRecord] | None:
-    """The records of a run, or None where it breaks its form: its bytes, and the marks that its versions end between."""
-    index, at, found = len(data) - 8 * count, 0, []
-    for number in range(count):
+def run_records(archive: bytes, run: Run) -> list[RunRecord] | None:
+    """The records of a run, or None where it breaks its form."""
+    data, index = archive[run.start: run.start + run.length], run.length - 8 * run.records
+    at, found = 0, []
+    for number in range(run.records):
         one = run_record(data, at, index)
         if one is None or u(data, index + 8 * number, 8) != at:
             return None
         key, start, stop, value, end = one
-        if not (start < stop and above < stop <= upto):
+        if not (start < stop and run.above < stop <= run.upto):
             return None
         if found and not (found[-1][0] < key or (found[-1][0] == key and found[-1][1] < start and found[-1][2] <= start)):
             return None
@@ -276,38 +366,25 @@ def run_records(data: bytes, count: int, above: int, upto: int) -> list[RunRecor
     return found if at == index else None
 
 
-def runs(found: list[Slot], archive: bytes) -> list[tuple[int, list[RunRecord] | None]]:
-    """The runs that a log names, in order: the start of each and its records, or None where it breaks its form."""
-    above, all_runs = 0, []
-    for kind, body in found:
-        if kind == "archived":
-            upto, start, length, records = body
-            all_runs.append((start, run_records(archive[start: start + length], records, above, upto)))
-            above = upto
-    return all_runs
-
-
 # ---- what an image stands for
 
 
-def why_not(areas: dict[str, bytes], history: History) -> str | None:
-    """Why these files don't stand for this history, both homes of its versions looked at; None where they do."""
-    plain, archived, reclaimed, olds = read(areas["status"], areas["heap"], areas["archive"])
-    if [(it.time, it.label) for it in plain] != [(it.time, it.label) for it in history]:
+def why_not(areas: Mapping[str, bytes], image: Image, history: History) -> str | None:
+    """Why these files, as they were read, don't stand for this history, both homes of its versions looked at; None where they do."""
+    log, status = image.log, areas["status"]
+    if [(it.time, it.label) for it in image.history] != [(it.time, it.label) for it in history]:
         return "other times or labels"
-    for mine, its in zip(plain, history):
-        if its.time > reclaimed and mine.writes != its.writes:
+    if any(status[slot_at(number)] == OPEN for number in range(len(log.slots), image.slots)):
+        return "an open gate behind the log"
+    for mine, its in zip(image.history, history):
+        if its.time > log.reclaimed and mine.writes != its.writes:
             return f"other writes at {its.time}"
-    whole = [(key, *it) for key in {key for it in history for key in it.writes} for it in versions(history, key)]
-    standing = {key: (start, fields) for key, start, stop, fields in whole if start <= reclaimed and (stop is None or stop > reclaimed)}
-    if olds != standing:
-        return f"other anchors at {reclaimed}"
-    found, _, _ = log(areas["status"], header(areas["status"]))
-    kept = []
-    for start, records in runs(found, areas["archive"]):
-        if records is None:
-            return f"a malformed run at {start}"
-        kept += records
-    if sorted(kept) != sorted(it for it in whole if it[2] is not None and it[2] <= archived):
-        return f"other versions in the runs up to {archived}"
+    whole = all_versions(history)
+    if image.anchors != {key: (start, fields) for key, start, stop, fields in whole if start <= log.reclaimed and (stop is None or stop > log.reclaimed)}:
+        return f"other anchors at {log.reclaimed}"
+    for run in runs(log):
+        # what ended by a floor before it, or is in an earlier run, is left out
+        wanted = sorted(it for it in whole if it[2] is not None and run.above < it[2] <= run.upto)
+        if run_records(areas["archive"], run) != wanted:
+            return f"other versions in the run at {run.start}"
     return None

@@ -7,6 +7,9 @@ from typing import TypeVar
 
 GROUP_MOST = 16
 NAMES_MOST = 64
+LATEST = (1 << 63) - 1
+# a submit leaves so many slots for jobs
+SPARE_FOR_JOBS = 2
 
 # relation, record
 Key = tuple[int, int]
@@ -33,9 +36,12 @@ History = Sequence[Commit]
 Version = tuple[int, int | None, str]
 
 
+# ---- what a history answers
+
+
 def versions(history: History, key: Key) -> list[Version]:
-    """The versions of a key, oldest first: from, up to (None: it still stands), fields."""
-    found = []
+    """The versions of a key, oldest first."""
+    found: list[Version] = []
     for commit in history:
         if key in commit.writes:
             if found and found[-1][1] is None:
@@ -45,26 +51,36 @@ def versions(history: History, key: Key) -> list[Version]:
     return found
 
 
+def all_versions(history: History) -> list[tuple[Key, int, int | None, str]]:
+    return [(key, *it) for key in sorted({key for it in history for key in it.writes}) for it in versions(history, key)]
+
+
 def last(history: History) -> int:
     return history[-1].time if history else 0
 
 
-def at(history: History, key: Key, time: int) -> list[str]:
+def refusal(newest: int, floor: int, first: int, end: int) -> list[str]:
+    """Why a query from a time to one before an end is refused, the first reason that applies; empty where it is answered."""
+    if min(first, end) < floor:
+        return [f"refused: before kept {floor}"]
+    if end > newest + 1:
+        return [f"refused: not yet {newest}"]
+    return ["refused: empty interval"] if end <= first else []
+
+
+def at(history: History, key: Key, time: int, floor: int = 0) -> list[str]:
     """The line that answers a query at a time."""
-    if time > last(history):
-        return [f"refused: not yet {last(history)}"]
-    for start, end, fields in versions(history, key):
+    refused = refusal(last(history), floor, time, time + 1)
+    for start, end, fields in versions(history, key) if not refused else []:
         if start <= time and (end is None or time < end):
             return [f"value {fields}"]
-    return ["none"]
+    return refused or ["none"]
 
 
-def between(history: History, key: Key, a: int, b: int) -> list[str]:
-    newest = last(history)
-    if b > newest + 1:
-        return [f"refused: not yet {newest}"]
-    if b <= a:
-        return ["refused: empty interval"]
+def between(history: History, key: Key, a: int, b: int, floor: int = 0) -> list[str]:
+    refused = refusal(last(history), floor, a, b)
+    if refused:
+        return refused
     rows = []
     for start, end, fields in versions(history, key):
         low, high = max(a, start), b if end is None else min(b, end)
@@ -73,9 +89,10 @@ def between(history: History, key: Key, a: int, b: int) -> list[str]:
     return rows + [f"rows {len(rows)}"]
 
 
-def scan(history: History, relation: int, time: int) -> list[str]:
-    if time > last(history):
-        return [f"refused: not yet {last(history)}"]
+def scan(history: History, relation: int, time: int, floor: int = 0) -> list[str]:
+    refused = refusal(last(history), floor, time, time + 1)
+    if refused:
+        return refused
     keys = sorted({key for commit in history for key in commit.writes if key[0] == relation})
     found = [(key, at(history, key, time)[0]) for key in keys]
     rows = [f"{key[1]} {said.removeprefix('value ')}" for key, said in found if said != "none"]
@@ -86,12 +103,58 @@ def times(history: History, label: int) -> list[str]:
     return [" ".join(["times", *(str(it.time) for it in history if it.label == label)])]
 
 
+# ---- the steps of a group and of a job
+
+SLOT_STEPS = ("body written", "body synced", "gate written")
+# what may come after a step, and first; each kind of job and the group has its own
+Order = dict[str | None, tuple[str, ...]]
+
+
+def slot_after(step: str | None, end: str) -> Order:
+    """The four calls of a slot behind a step; the last one has an answer of its own."""
+    return {step: ("body written",), "body written": ("body synced",), "body synced": ("gate written",), "gate written": (end,)}
+
+
+NEXT: dict[str, Order] = {
+    "group": {None: ("wrote extent",), "wrote extent": ("wrote extent", "heap synced"), **slot_after("heap synced", "published")},
+    "archive": {None: ("wrote run", "run synced"), "wrote run": ("wrote run", "run synced"), **slot_after("run synced", "job done")},
+    "reclaim": {None: ("wrote extent", "heap synced"), "wrote extent": ("wrote extent", "heap synced"), **slot_after("heap synced", "job done")},
+    "floor": slot_after(None, "job done"),
+}
+
+
+@dataclass
+class Job:
+    """An archive, a reclaim or a floor, up to a time; and its last step."""
+
+    kind: str
+    upto: int
+    step: str | None = None
+
+    def is_in_slot(self) -> bool:
+        return self.step in SLOT_STEPS
+
+    def begins_slot(self) -> bool:
+        return NEXT[self.kind][self.step] == ("body written",)
+
+
+@dataclass(frozen=True)
+class Front:
+    """What a stop may leave: one of these numbers of an order's first commits, and one of these floors."""
+
+    order: History
+    counts: Sequence[int]
+    floors: Sequence[int]
+
+
 class Machine:
     """A store without its disk: what is published, what waits, the open transactions, and how far a group and a job are."""
 
-    def __init__(self, published: History = ()) -> None:
+    def __init__(self, published: History = (), floor: int = 0, slots: int = 1 << 16, used: int = 0) -> None:
         self.published = list(published)
-        self.archived, self.reclaimed = 0, 0
+        self.archived, self.reclaimed, self.floor = 0, 0, floor
+        # the slots of the store, and those of its log
+        self.slots, self.used = slots, used
         self.forget_what_waits()
 
     def forget_what_waits(self) -> None:
@@ -99,14 +162,23 @@ class Machine:
         self.group = 0
         # a transaction that is open, or the time of a ticket
         self.names: dict[str, Transaction | int] = {}
-        # the last step of the group's slot and of the job's: none, or what was answered; and the time that the job goes up to
+        # the last step of the group
         self.turn: str | None = None
-        self.job: str | None = None
-        self.upto: int | None = None
-        self.is_reclaim = False
+        self.job: Job | None = None
 
     def with_group(self) -> list[Commit]:
         return self.published + self.queue[: self.group]
+
+    def front(self) -> Front:
+        """What a stop leaves now: what is published, or that with the group or the floor whose gate is in the writing."""
+        order = self.with_group() if self.turn == "gate written" else list(self.published)
+        has_floor = self.job is not None and self.job.kind == "floor" and self.job.step == "gate written"
+        return Front(order, (len(self.published), len(order)), (self.floor, self.job.upto) if has_floor else (self.floor,))
+
+    def spare(self) -> int:
+        """The slots that no commit, group or job is to have."""
+        in_slot = self.turn in SLOT_STEPS
+        return self.slots - self.used - in_slot - (self.job is not None) - len(self.queue) + (self.group if in_slot else 0)
 
     # ---- transactions
 
@@ -162,7 +234,11 @@ class Machine:
         for key in sorted(txn.writes):
             if any(it.time > txn.snapshot and key in it.writes for it in order):
                 return [f"refused: conflict {key[0]} {key[1]}"]
+        if self.spare() <= SPARE_FOR_JOBS:
+            return ["refused: status full"]
         time = max(last(order) + 1, now)
+        if time > LATEST:
+            return ["refused: clock end"]
         self.queue.append(Commit(time, label, dict(txn.writes)))
         self.names[name] = time
         return ["queued"]
@@ -182,117 +258,126 @@ class Machine:
         del self.names[name]
         return [f"done {time}"]
 
-    # ---- steps: the answers are the store's, and here they are followed
+    # ---- steps: how many extents and pieces there are is the store's to say, and is followed here
 
     def pumped(self, said: str) -> str | None:
         """Follows one step of a group; returns why it may not be answered so, or None."""
         if said == "idle":
             return None if not self.queue else "idle with a commit that waits"
         if said == "refused: busy":
-            return None if self.job in SLOT_STEPS and self.turn is None else "busy without a job's slot in the writing"
+            is_due = self.job is not None and self.job.is_in_slot() and self.turn == "heap synced"
+            return None if is_due else "busy where no slot is to be begun beside a job's"
         if not self.queue:
             return f"{said} with nothing that waits"
-        if not self.group:
-            self.group = min(GROUP_MOST, len(self.queue))
-        if said in SLOT_STEPS:
-            if self.job in SLOT_STEPS:
-                return "two slots in the writing"
-            self.turn = said
-        elif said == f"published {self.group}":
-            if self.turn != "gate written":
-                return "published before the gate is written"
-            self.published, self.queue = self.with_group(), self.queue[self.group:]
-            self.group, self.turn = 0, None
-        elif said not in ("wrote extent", "heap synced"):
-            return f"{said} is no step of a group of {self.group}"
+        self.group = self.group or min(GROUP_MOST, len(self.queue))
+        name = "published" if said == f"published {self.group}" else said
+        if name not in NEXT["group"][self.turn]:
+            return f"{said} is no step of a group of {self.group} after {self.turn}"
+        if name in SLOT_STEPS and self.job is not None and self.job.is_in_slot():
+            return "two slots in the writing"
+        self.turn = name
+        if name == "published":
+            self.publish()
         return None
+
+    def publish(self) -> None:
+        self.published, self.queue = self.with_group(), self.queue[self.group:]
+        self.group, self.turn, self.used = 0, None, self.used + 1
 
     def jobbed(self, said: str) -> str | None:
         """Follows one step of a job."""
         if said == "idle":
-            return None if self.upto is None else "idle with a job that runs"
+            return None if self.job is None else "idle with a job that runs"
+        is_other_in_slot = self.turn in SLOT_STEPS
         if said == "refused: busy":
-            return None if self.turn is not None else "busy without a group's slot in the writing"
-        if self.upto is None:
+            is_due = self.job is not None and self.job.begins_slot() and is_other_in_slot
+            return None if is_due else "busy where no slot is to be begun beside a group's"
+        if self.job is None:
             return f"{said} with no job"
-        if said not in (RECLAIM_STEPS if self.is_reclaim else ARCHIVE_STEPS):
-            return f"{said} is no step of this job"
-        if said in SLOT_STEPS and self.turn is not None:
+        if said not in NEXT[self.job.kind][self.job.step]:
+            return f"{said} is no step of this {self.job.kind} after {self.job.step}"
+        if said in SLOT_STEPS and is_other_in_slot:
             return "two slots in the writing"
-        self.job = said
+        self.job.step = said
         if said == "job done":
             self.end_job()
         return None
 
     def end_job(self) -> None:
-        if self.is_reclaim:
-            self.reclaimed = self.upto
-        else:
-            self.archived = self.upto
-        self.upto, self.job = None, None
+        mark = {"archive": "archived", "reclaim": "reclaimed", "floor": "floor"}[self.job.kind]
+        setattr(self, mark, self.job.upto)
+        self.job, self.used = None, self.used + 1
 
-    def archive(self, upto: int) -> list[str]:
-        if self.upto is not None:
+    # ---- starts of jobs
+
+    def start(self, kind: str, upto: int, now: int, oldest_needed: int) -> list[str]:
+        """Begins a job, unless one runs, it has nothing to do, no commit is as late, a snapshot is older, or there is no slot."""
+        snapshots = [it.snapshot for it in self.names.values() if isinstance(it, Transaction)]
+        if self.job is not None:
             return ["refused: job busy"]
-        if upto <= self.archived:
+        if upto <= now:
             return ["refused: nothing to do"]
         if upto > last(self.published):
             return [f"refused: not yet {last(self.published)}"]
-        self.upto, self.is_reclaim = upto, False
+        if min(snapshots, default=oldest_needed) < oldest_needed:
+            return [f"refused: in use {min(snapshots)}"]
+        if self.spare() < 1:
+            return ["refused: status full"]
+        self.job = Job(kind, upto)
         return ["started"]
+
+    def archive(self, upto: int) -> list[str]:
+        return self.start("archive", upto, self.archived, 0)
 
     def reclaim(self) -> list[str]:
-        if self.upto is not None:
-            return ["refused: job busy"]
-        if self.archived == self.reclaimed:
-            return ["refused: nothing to do"]
-        oldest = min((it.snapshot for it in self.names.values() if isinstance(it, Transaction)), default=self.archived)
-        if oldest < self.archived:
-            return [f"refused: in use {oldest}"]
-        self.upto, self.is_reclaim = self.archived, True
-        return ["started"]
+        return self.start("reclaim", self.archived, self.reclaimed, self.archived)
 
-    def reopened(self) -> list[str]:
-        """What waits is lost, but for a group or a job whose gate is written: the files have it."""
-        if self.turn == "gate written":
-            self.published = self.with_group()
-        if self.job == "gate written":
-            self.end_job()
-        self.forget_what_waits()
-        return [f"last {last(self.published)} floor 0"]
-
+    def raise_floor(self, floor: int) -> list[str]:
+        return self.start("floor", floor, self.floor, floor)
 
     # ---- whole lines
 
     def flush(self) -> list[str]:
         """Pumps to the end: all that waits is published, but where a job's slot is in the writing."""
-        if self.queue and self.job in SLOT_STEPS:
+        while self.queue:
             self.group = self.group or min(GROUP_MOST, len(self.queue))
-            return ["refused: busy"]
-        self.published, self.queue, self.group, self.turn = self.published + self.queue, [], 0, None
+            if self.job is not None and self.job.is_in_slot():
+                self.turn = "heap synced"
+                return ["refused: busy"]
+            self.publish()
         return ["idle"]
 
     def finish(self) -> list[str]:
         """Makes the job to its end, but where a group's slot is in the writing."""
-        if self.upto is not None and self.turn is not None:
+        if self.job is not None and self.turn in SLOT_STEPS:
+            self.job.step = {"archive": "run synced", "reclaim": "heap synced", "floor": None}[self.job.kind]
             return ["refused: busy"]
-        if self.upto is not None:
+        if self.job is not None:
             self.end_job()
         return ["idle"]
 
+    def reopened(self) -> list[str]:
+        """What waits is lost, but for a group or a job whose gate is written: the files have it."""
+        if self.turn == "gate written":
+            self.publish()
+        if self.job is not None and self.job.step == "gate written":
+            self.end_job()
+        self.forget_what_waits()
+        return [f"last {last(self.published)} floor {self.floor}"]
+
     def vacuum(self, upto: int) -> list[str]:
         """The command, on a store that no one has open: what it says."""
+        above = max(self.archived, self.floor)
         said = self.archive(upto)
         if said != ["started"]:
             return said
-        keys = {key for it in self.published for key in it.writes}
-        whole = [it for key in keys for it in versions(self.published, key)]
-        gone = sum(stop is not None and self.archived < stop <= upto for _, stop, _ in whole)
-        stand = sum(start <= upto and (stop is None or stop > upto) for start, stop, _ in whole)
-        self.end_job()
-        self.reclaim()
-        self.end_job()
-        return [f"archived {gone}", f"reclaimed {stand}"]
+        self.finish()
+        whole = all_versions(self.published)
+        gone = sum(stop is not None and above < stop <= upto for _, _, stop, _ in whole)
+        stand = sum(start <= upto and (stop is None or stop > upto) for _, start, stop, _ in whole)
+        said = self.reclaim()
+        self.finish()
+        return [f"archived {gone}", *([f"reclaimed {stand}"] if said == ["started"] else said)]
 
     def answer(self, line: str) -> list[str] | None:
         """What a line answers; None for a step, whose answer is the store's to say, and is followed."""
@@ -305,8 +390,8 @@ class Machine:
             return (self.delete if word == "del" else self.get)(rest[0], (int(rest[1]), int(rest[2])))
         if word == "submit":
             return self.submit(rest[0], int(rest[1]), int(rest[2]))
-        if word == "archive":
-            return self.archive(int(rest[0]))
+        if word in ("archive", "floor"):
+            return (self.archive if word == "archive" else self.raise_floor)(int(rest[0]))
         if word in ("reclaim", "flush", "finish"):
             return getattr(self, word)()
         if word == "reopen":
@@ -316,16 +401,11 @@ class Machine:
     def asked(self, word: str, numbers: list[int]) -> list[str] | None:
         """What a question answers."""
         if word == "at":
-            return at(self.published, (numbers[0], numbers[1]), numbers[2])
+            return at(self.published, (numbers[0], numbers[1]), numbers[2], self.floor)
         if word == "between":
-            return between(self.published, (numbers[0], numbers[1]), numbers[2], numbers[3])
+            return between(self.published, (numbers[0], numbers[1]), numbers[2], numbers[3], self.floor)
         if word == "scan":
-            return scan(self.published, *numbers)
+            return scan(self.published, *numbers, self.floor)
         if word == "times":
             return times(self.published, *numbers)
         return None
-
-
-SLOT_STEPS = ("body written", "body synced", "gate written")
-ARCHIVE_STEPS = ("wrote run", "run synced", *SLOT_STEPS, "job done")
-RECLAIM_STEPS = ("wrote extent", "heap synced", *SLOT_STEPS, "job done")

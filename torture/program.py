@@ -2,16 +2,21 @@
 from __future__ import annotations
 
 import base64
+import functools
 import gzip
+import math
 import os
 import signal
 import subprocess
 import tempfile
-from collections.abc import Callable, Iterable
+import time
+from collections.abc import Callable, Iterable, Sequence
 from dataclasses import dataclass
+from typing import TypeVar
 
 AREAS = ("status", "heap", "archive")
 Areas = dict[str, bytes]
+Item = TypeVar("Item")
 # a run of the program that takes longer is a failure, in seconds
 PATIENCE = 60
 MEMORY = "/dev/shm"
@@ -21,6 +26,27 @@ def use_memory() -> None:
     """Lets the stores of the tests lie in memory, if there is a file system for that: a sync then costs nothing."""
     if "TMPDIR" not in os.environ and os.access(MEMORY, os.W_OK) and not os.statvfs(MEMORY).f_flag & os.ST_NOEXEC:
         tempfile.tempdir = MEMORY
+
+
+class Until:
+    """When to end: after some seconds, or never."""
+
+    def __init__(self, seconds: float | None) -> None:
+        self.began, self.end = time.monotonic(), time.monotonic() + (seconds if seconds else 1e9)
+
+    def is_over(self) -> bool:
+        return time.monotonic() > self.end
+
+    def seconds(self) -> float:
+        """Since it began."""
+        return time.monotonic() - self.began
+
+
+def spread(items: Sequence[Item]) -> list[Item]:
+    """The items in an order of which each front is spread over all of them: by steps of the golden section."""
+    count = len(items)
+    step = next(it for it in range(int(0.618 * count) or 1, count + 2) if math.gcd(it, count) == 1)
+    return [items[at * step % count] for at in range(count)]
 
 
 @dataclass
@@ -36,14 +62,15 @@ class Shown:
 
     def script(self, title: str) -> str:
         """A script of its own: `sh SCRIPT PROGRAM` shows where the program's answers differ."""
-        rows = ["#!/bin/sh", f"# {title}", "# usage: sh THIS PROGRAM" + (" REFUSE.SO (made of torture/refuse.c)" if self.environment else ""), 'dir=$(mktemp -d) && mkdir "$dir/store" || exit 2']
-        for area in AREAS:
-            text = base64.b64encode(gzip.compress(self.areas[area], mtime=0)).decode()
+        refuses = {name: value for name, value in self.environment.items() if name.startswith("REFUSE_") and name != "REFUSE_COUNTS"} if self.environment.get("REFUSE_CLASS") else {}
+        rows = ["#!/bin/sh", f"# {title}", "# usage: sh THIS PROGRAM" + (" REFUSE.SO (cc -shared -fPIC -o REFUSE.SO torture/refuse.c)" if refuses else ""), 'dir=$(mktemp -d) && mkdir "$dir/store" || exit 2']
+        for area, data in self.areas.items():
+            text = base64.b64encode(gzip.compress(data, mtime=0)).decode()
             rows.append(f"echo {text} | base64 -d | gzip -d > \"$dir/store/{area}\"")
         for name, lines in (("script", self.lines), ("wanted", self.wanted)):
             rows += [f"cat > \"$dir/{name}\" <<'END'", *lines, "END"]
         # fed line by line, as the test did: so it asks for memory at the same places
-        prefix = "".join(f"{name}={value} " for name, value in self.environment.items() if name.startswith("REFUSE_") and name != "REFUSE_COUNTS")
+        prefix = "".join(f"{name}={value} " for name, value in refuses.items())
         prefix = f'env {prefix}LD_PRELOAD="$2" ' if prefix else ""
         rows.append(f'while IFS= read -r line; do printf "%s\\n" "$line"; sleep 0.01; done < "$dir/script" | {prefix}"$1" {self.words.replace("DIR", chr(34) + "$dir/store" + chr(34))} | diff - "$dir/wanted"')
         return "\n".join(rows) + "\n"
@@ -64,7 +91,7 @@ def report(title: str, why: Failure) -> None:
         fd, place = tempfile.mkstemp(prefix="torture-", suffix=".sh", dir="/tmp")
         with os.fdopen(fd, "w", encoding="utf-8") as it:
             it.write(why.shown.script(f"{title}: {str(why)[:200]}".replace("\n", " ")))
-        print(f"  to see it: sh {place} PROGRAM", flush=True)
+        print(f"  to see it: sh {place} PROGRAM" + (" REFUSE.SO" if why.shown.environment.get("REFUSE_CLASS") else ""), flush=True)
 
 
 def read_areas(folder: str) -> Areas:
@@ -77,9 +104,9 @@ def read_areas(folder: str) -> Areas:
 
 def write_areas(folder: str, areas: Areas) -> None:
     os.makedirs(folder, exist_ok=True)
-    for area in AREAS:
+    for area, data in areas.items():
         with open(os.path.join(folder, area), "wb") as it:
-            it.write(areas[area])
+            it.write(data)
 
 
 def run(program: str, folder: str, lines: Iterable[str]) -> tuple[int, list[str]]:
@@ -99,6 +126,16 @@ def format_store(program: str, folder: str, slots: int) -> None:
     said = command(program, "format", folder, "--slots", str(slots))
     if said != (0, [f"formatted {slots}"]):
         raise Failure(f"format answers {said}")
+
+
+@functools.cache
+def seconds_to_begin(program: str) -> float:
+    """What the program takes for a script without lines."""
+    with tempfile.TemporaryDirectory(prefix="torture-") as folder:
+        format_store(program, folder, 16)
+        began = time.monotonic()
+        run(program, folder, [])
+        return time.monotonic() - began
 
 
 def has_rows(line: str) -> bool:

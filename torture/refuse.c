@@ -1,6 +1,8 @@
-/* Stands between the program and the system, in its process (LD_PRELOAD): counts its calls by class, and lets the Nth of
- * a class go wrong. The counts lie in a file that is shared with the tests (REFUSE_COUNTS): a word for each class, and
- * one that says whether a call went wrong.
+/* Stands between the program and the system, in its process (LD_PRELOAD): counts its calls by class, writes down those of
+ * a store's files, and lets the Nth of a class go wrong. All this lies in a file of SIZE bytes that is shared with the
+ * tests (REFUSE_COUNTS), in words of 8 bytes: a count for each class; whether a call went wrong; how many calls were
+ * written down; from word FIRST on three for each of these: its class and the file (1 status, 2 heap, 3 archive), its
+ * place, its length.
  *
  * REFUSE_CLASS  growth, input, output, read, length, write, sync, open, lock
  * REFUSE_AT     which call of the class, from 1; 0 for none
@@ -26,7 +28,12 @@ static const char *const NAMES[] = {"growth", "input", "output", "read", "length
 extern void *__libc_malloc(size_t size);
 extern void *__libc_realloc(void *old, size_t size);
 
-static volatile uint64_t none[CLASSES + 1], *counts = none;
+enum { CAME = CLASSES, CALLS, FIRST = 16, SIZE = 1 << 20, MOST = (SIZE / 8 - FIRST) / 3, FILES = 64 };
+static const char *const AREAS[] = {"status", "heap", "archive"};
+
+static volatile uint64_t none[SIZE / 8], *counts = none;
+/* by descriptor: which of a store's files it is, 0 for none */
+static int area_of[FILES];
 static int chosen = -1;
 static uint64_t due;
 static char how = 'b';
@@ -36,7 +43,7 @@ __attribute__((constructor)) static void begin(void)
     const char *file = getenv("REFUSE_COUNTS"), *name = getenv("REFUSE_CLASS"), *at = getenv("REFUSE_AT"), *which = getenv("REFUSE_HOW");
     int fd = file ? (int)syscall(SYS_openat, AT_FDCWD, file, O_RDWR) : -1;
     if (fd >= 0) {
-        void *place = mmap(NULL, 4096, PROT_READ | PROT_WRITE, MAP_SHARED, fd, 0);
+        void *place = mmap(NULL, SIZE, PROT_READ | PROT_WRITE, MAP_SHARED, fd, 0);
         if (place != MAP_FAILED)
             counts = place;
         syscall(SYS_close, fd);
@@ -54,10 +61,22 @@ static int goes_wrong(int class)
     uint64_t count = __atomic_add_fetch(&counts[class], 1, __ATOMIC_SEQ_CST);
     if (class != chosen || count != due)
         return 0;
-    counts[CLASSES] = 1;
+    counts[CAME] = 1;
     if (how == 'k')
         syscall(SYS_kill, syscall(SYS_getpid), SIGKILL);
     return 1;
+}
+
+/* Writes a call on a store's file down. */
+static void note(int class, int fd, uint64_t at, uint64_t size)
+{
+    if (fd < 0 || fd >= FILES || !area_of[fd] || counts[CALLS] >= MOST)
+        return;
+    volatile uint64_t *call = counts + FIRST + 3 * counts[CALLS];
+    call[0] = class | area_of[fd] << 8;
+    call[1] = at;
+    call[2] = size;
+    counts[CALLS]++;
 }
 
 static int refused(int error)
@@ -85,6 +104,7 @@ void *realloc(void *old, size_t size)
 /* A call that moves bytes. */
 static ssize_t moved(int class, long number, int fd, void *bytes, size_t size, off_t at)
 {
+    note(class, fd, at, size);
     if (!goes_wrong(class))
         return syscall(number, fd, bytes, size, at);
     if (how == 's')
@@ -125,8 +145,18 @@ static int made(int class, long number, long a, long b)
     return refused(EIO);
 }
 
-int fsync(int fd) { return made(SYNC, SYS_fsync, fd, 0); }
-int fdatasync(int fd) { return made(SYNC, SYS_fdatasync, fd, 0); }
+int fsync(int fd)
+{
+    note(SYNC, fd, 0, 0);
+    return made(SYNC, SYS_fsync, fd, 0);
+}
+
+int fdatasync(int fd)
+{
+    note(SYNC, fd, 0, 0);
+    return made(SYNC, SYS_fdatasync, fd, 0);
+}
+
 int flock(int fd, int what) { return made(LOCK, SYS_flock, fd, what); }
 
 int statx(int fd, const char *restrict path, int flags, unsigned mask, struct statx *restrict into)
@@ -136,12 +166,25 @@ int statx(int fd, const char *restrict path, int flags, unsigned mask, struct st
     return (int)syscall(SYS_statx, fd, path, flags, mask, into);
 }
 
+/* Which of a store's files has this name, 0 for none. */
+static int area_named(const char *path)
+{
+    const char *slash = strrchr(path, '/');
+    for (int it = 0; it < 3; it++)
+        if (!strcmp(slash ? slash + 1 : path, AREAS[it]))
+            return it + 1;
+    return 0;
+}
+
 static int opened(const char *path, int flags, va_list rest)
 {
     int mode = flags & O_CREAT ? va_arg(rest, int) : 0;
     if (goes_wrong(OPEN))
         return refused(how == 'i' ? EINTR : EIO);
-    return (int)syscall(SYS_openat, AT_FDCWD, path, flags, mode);
+    int fd = (int)syscall(SYS_openat, AT_FDCWD, path, flags, mode);
+    if (fd >= 0 && fd < FILES)
+        area_of[fd] = area_named(path);
+    return fd;
 }
 
 int open(const char *path, int flags, ...)

@@ -3,20 +3,22 @@ from __future__ import annotations
 
 import random
 import tempfile
-from collections.abc import Sequence
+from collections.abc import Iterable, Sequence
 
 import image
 import machine
-from machine import Commit, History, Key, Machine, Transaction
-from program import AREAS, Areas, Failure, Shown, run, write_areas
+from machine import Front, History, Key, Machine, Transaction
+from program import Areas, Failure, Shown, run, write_areas
 
-KINDS = ("begin", "put", "del", "get", "submit", "abort", "redeem", "flush", "finish", "pump", "archive", "reclaim", "job", "ask", "reopen")
+KINDS = ("begin", "put", "del", "get", "submit", "abort", "redeem", "flush", "finish", "pump", "archive", "reclaim", "floor", "job", "ask", "reopen")
 # how often each is drawn: where each step is one of a script's lines, and where a line takes all of them
-BY_STEPS = (8, 12, 3, 2, 10, 1, 3, 4, 1, 18, 4, 4, 16, 2, 0)
-BY_LINES = (6, 9, 2, 2, 8, 1, 3, 8, 6, 2, 5, 6, 2, 8, 1)
+BY_STEPS = (8, 12, 3, 2, 10, 1, 3, 4, 1, 18, 4, 4, 3, 16, 2, 0)
+BY_LINES = (6, 9, 2, 2, 8, 1, 3, 8, 6, 2, 5, 6, 3, 2, 8, 1)
 ASKED = ("at", "between", "scan", "times")
 # of a longer history only so many moments are asked for, evenly; its intervals are asked for whole
 MOMENTS_MOST = 60
+# how often a commit is handed in at the end of all time
+LATE = 0.002
 
 
 def some_fields(chance: random.Random) -> str:
@@ -33,6 +35,13 @@ def key_text(key: Key) -> str:
     return f"{key[0]} {key[1]}"
 
 
+def some_moment(chance: random.Random, small: Machine) -> int:
+    """A time near one of a commit or of the floor, or any up to just behind the last one."""
+    newest = machine.last(small.published)
+    near = [small.floor, newest, small.archived, *(it.time for it in small.published[-8:])]
+    return max(0, chance.choice(near) + chance.randrange(-1, 3)) if chance.random() < 0.8 else chance.randrange(newest + 3)
+
+
 def name_for(kind: str, chance: random.Random, small: Machine) -> str:
     """Mostly a name of the right sort, if there is one."""
     names = [f"t{it}" for it in range(4)]
@@ -41,13 +50,13 @@ def name_for(kind: str, chance: random.Random, small: Machine) -> str:
     return chance.choice(fitting if fitting and chance.random() < 0.95 else names)
 
 
-def question(chance: random.Random, newest: int) -> str:
-    key, moment = some_key(chance), chance.randrange(newest + 3)
+def question(chance: random.Random, small: Machine) -> str:
+    key, moment = some_key(chance), some_moment(chance, small)
     kind = chance.choice(ASKED)
     if kind == "at":
         return f"at {key_text(key)} {moment}"
     if kind == "between":
-        return f"between {key_text(key)} {moment} {chance.randrange(newest + 3)}"
+        return f"between {key_text(key)} {moment} {some_moment(chance, small)}"
     return f"scan {key[0]} {moment}" if kind == "scan" else f"times {chance.randrange(3)}"
 
 
@@ -62,57 +71,74 @@ def some_line(chance: random.Random, small: Machine, weights: Sequence[int]) -> 
     if kind in ("del", "get"):
         return f"{kind} {name} {key_text(key)}"
     if kind == "submit":
-        return f"submit {name} {chance.randrange(3)} {chance.choice((0, 0, newest + chance.randrange(20)))}"
-    if kind == "archive":
-        return f"archive {chance.choice((newest, chance.randrange(newest + 3)))}"
-    return question(chance, newest) if kind == "ask" else kind
+        now = chance.choice((machine.LATEST, machine.LATEST + 1)) if chance.random() < LATE else chance.choice((0, 0, newest + chance.randrange(20)))
+        return f"submit {name} {chance.randrange(3)} {now}"
+    if kind in ("archive", "floor"):
+        return f"{kind} {chance.choice((newest, some_moment(chance, small)))}"
+    return question(chance, small) if kind == "ask" else kind
 
 
 def a_vacuum(chance: random.Random, small: Machine) -> list[str]:
-    """Lines that archive and reclaim, no transaction being open, and ask below the mark."""
+    """Lines that raise the floor, archive and reclaim, or some of these, no transaction being open, and ask below the marks."""
     opened = [name for name, it in small.names.items() if isinstance(it, Transaction)]
-    newest = machine.last(small.published)
-    return [*(f"abort {name}" for name in opened), f"archive {newest}", "finish", "reclaim", "finish", *(question(chance, newest) for _ in range(4))]
+    jobs = [f"floor {some_moment(chance, small)}"] if chance.random() < 0.4 else []
+    jobs += [f"archive {chance.choice((machine.last(small.published), some_moment(chance, small)))}", "reclaim"] if chance.random() < 0.9 else []
+    return [*(f"abort {name}" for name in opened), *(line for job in jobs for line in (job, "finish")), *(question(chance, small) for _ in range(4))]
 
 
 # ---- what is left of a store
 
 
-def questions(history: History) -> tuple[list[str], list[str]]:
-    """Lines that ask for all that a history says, with their answers."""
+def questions(history: History, floor: int = 0, others: Iterable[int] = ()) -> tuple[list[str], list[str]]:
+    """Lines that ask for all that a history says from a floor on, and at other moments, with their answers."""
     keys = sorted({key for it in history for key in it.writes}) or [(1, 1)]
-    moments = [it.time for it in history]
-    moments = sorted({0, *moments, *(it - 1 for it in moments), *(it + 1 for it in moments)})
-    moments = moments[:: -(-len(moments) // MOMENTS_MOST)]
     newest = machine.last(history)
+    moments = [0, *(it.time + by for it in history for by in (-1, 0, 1))]
+    moments = sorted({it for it in moments if it >= floor})
+    moments = sorted({0, floor, max(floor - 1, 0), *moments[:: -(-len(moments) // MOMENTS_MOST) or 1], *others})
     lines = ["reopen"]
     for key in keys:
         lines += [f"at {key_text(key)} {moment}" for moment in moments]
-        lines.append(f"between {key_text(key)} 0 {newest + 1}")
+        lines += [f"between {key_text(key)} {start} {newest + 1}" for start in sorted({0, floor})]
     for relation in sorted({key[0] for key in keys}):
         lines += [f"scan {relation} {moment}" for moment in moments]
     lines += [f"times {label}" for label in sorted({it.label for it in history})]
-    small = Machine(history)
+    small = Machine(history, floor)
     return lines, [said for line in lines for said in small.answer(line) or []]
 
 
-def check_left(program: str, areas: Areas, order: Sequence[Commit], least: int, where: str) -> int:
-    """Files that were left open as a front of this order, of so many commits at least, and answer as it does: how many there are."""
+def check_left(program: str, areas: Areas, front: Front, where: str, others: Iterable[int] = ()) -> Machine:
+    """Files that were left open as one of a front, and answer as it does: the machine of what they stand for."""
+
+    def failure(why: str, lines: list[str], wanted: list[str]) -> Failure:
+        return Failure(f"{where}: {why}", Shown(areas, lines, wanted, {}))
+
+    first = [f"last {machine.last(front.order[:front.counts[0]])} floor {front.floors[0]}"]
     try:
-        plain, _, _, _ = image.read(*(areas[area] for area in AREAS))
+        found = image.read(areas)
     except image.Refused as why:
-        raise Failure(f"{where}: the plain reader is refused: {why}", Shown(areas, ["reopen"], ["last N floor 0"], {})) from None
-    count = len(plain)
-    if not least <= count <= len(order):
-        raise Failure(f"{where}: {count} commits are left, and not {least} to {len(order)}", Shown(areas, ["reopen"], [f"last {machine.last(order[:least])} floor 0"], {}))
-    why = image.why_not(areas, order[:count])
+        raise failure(f"the plain reader is refused: {why}", ["reopen"], first) from None
+    count, floor = len(found.history), found.log.floor
+    if count not in front.counts:
+        raise failure(f"{count} commits are left, and not one of {front.counts}", ["reopen"], first)
+    if floor not in front.floors:
+        raise failure(f"the floor {floor} is left, and not one of {front.floors}", ["reopen"], first)
+    left = front.order[:count]
+    lines, wanted = questions(left, floor, others)
+    why = image.why_not(areas, found, left)
     if why:
-        raise Failure(f"{where}: the plain reader finds {why}", Shown(areas, *questions(order[:count]), {}))
+        raise failure(f"the plain reader finds {why}", lines, wanted)
     with tempfile.TemporaryDirectory(prefix="torture-") as folder:
         write_areas(folder, areas)
-        lines, wanted = questions(order[:count])
         status, said = run(program, folder, lines)
-        if (status, said) != (0, wanted):
-            differs = next((f"{a} and not {b}" for a, b in zip([*said, "nothing"], [*wanted, "nothing"]) if a != b), "as it should")
-            raise Failure(f"{where}: what was left answers {differs}, with status {status}", Shown(areas, lines, wanted, {}))
-    return count
+    if (status, said) != (0, wanted):
+        differs = next((f"{a} and not {b}" for a, b in zip([*said, "nothing"], [*wanted, "nothing"]) if a != b), "as it should")
+        raise failure(f"what was left answers {differs}, with status {status}", lines, wanted)
+    return machine_of(found, left)
+
+
+def machine_of(found: image.Image, history: History) -> Machine:
+    """A machine that goes on with files."""
+    small = Machine(history, found.log.floor, found.slots, len(found.log.slots))
+    small.archived, small.reclaimed = found.log.archived, found.log.reclaimed
+    return small

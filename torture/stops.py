@@ -4,39 +4,78 @@ from __future__ import annotations
 import random
 import tempfile
 from collections import Counter
+from collections.abc import Iterable, Iterator
 
 import image
 import machine
-from machine import Machine
+from machine import SLOT_STEPS, Machine
 from program import AREAS, Areas, Failure, Session, Shown, command, read_areas, write_areas
-from scripts import BY_STEPS, check_left, some_line
+from scripts import BY_STEPS, a_vacuum, check_left, some_line
+from wrong import Call, Wrong, has_compiler
 
+# the area that a step syncs; the others write
 SYNCED = {"heap synced": "heap", "body synced": "status", "published": "status", "run synced": "archive", "job done": "status"}
 FILLINGS = (0x00, 0xC7, 0xFF)
-# lines between two ends of a session, and how often a vacuum stands between
-SESSION = 50
+# lines between two ends of a session, how often a vacuum stands between, and how often one stands behind a line
+SESSIONS = (20, 60, 200)
 VACUUMS = 0.5
+OWN_VACUUMS = 0.04
 SECOND_STOPS = 0.02
 DEEPEST = 2
 
-# an area, and from where to where a device call wrote in it
-Loose = tuple[str, int, int]
+
+def step_name(said: str) -> str:
+    return "published" if said.startswith("published") else said
 
 
-def changed_range(area: str, before: bytes, after: bytes) -> tuple[int, int] | None:
-    """From where to where a device call wrote: all of its extent or slot's bytes that differ."""
-    if before == after:
-        return None
-    shared = min(len(before), len(after))
-    low = next((at for at in range(shared) if before[at] != after[at]), shared)
-    if area == "heap":
-        low -= low % image.EXTENT
-        return low, low + image.EXTENT
-    high = len(after)
-    if len(before) == len(after):
-        while before[high - 1] == after[high - 1]:
-            high -= 1
-    return low, high
+def call_of(said: str, before: Areas, after: Areas) -> Call | None:
+    """The device call of a step, as the files show it: of the first closed slot all but the gate, or the gate; an extent; behind the last run."""
+    log = image.read_log(before["status"])
+    slot = image.slot_at(len(log.slots))
+    if step_name(said) in SYNCED:
+        return Call("sync", SYNCED[step_name(said)])
+    if said == "body written":
+        return Call("write", "status", slot + 1, slot + image.SLOT)
+    if said == "gate written":
+        return Call("write", "status", slot, slot + 1)
+    if said == "wrote run":
+        return Call("write", "archive", log.end, len(after["archive"]))
+    if said == "wrote extent":
+        new = after["heap"]
+        old = before["heap"].ljust(len(new), b"\0")
+        place = next((at for at in range(0, len(new), image.EXTENT) if new[at: at + image.EXTENT] != old[at: at + image.EXTENT]), 0)
+        return Call("write", "heap", place, place + image.EXTENT)
+    return None
+
+
+def is_of(call: Call, shown: Call) -> bool:
+    """Whether a device call that was made is the one that the files show: a run has pieces, and an extent may be written as it was."""
+    if shown.area == "archive":
+        return (call.kind, call.area) == (shown.kind, shown.area) and (call.kind == "sync" or shown.low <= call.low < call.high <= shown.high)
+    if shown.area == "heap" and shown.kind == "write":
+        return (call.kind, call.area) == ("write", "heap") and call.low % image.EXTENT == 0 and call.high == call.low + image.EXTENT
+    return call == shown
+
+
+class Traced(Session):
+    """A session whose device calls are written down, where there is a compiler for what does that."""
+
+    def __init__(self, program: str, folder: str) -> None:
+        self.trace = Wrong(folder) if has_compiler() else None
+        super().__init__(program, folder, self.trace.environment if self.trace else None)
+        self.expect("times 0", self.times())
+        calls = self.calls()
+        firsts = [it.kind for it in calls[: len(AREAS)]]
+        if self.trace and ({it.area for it in calls[: len(AREAS)]} != set(AREAS) or firsts != ["sync"] * len(AREAS) or any(it.kind != "read" for it in calls[len(AREAS):])):
+            raise self.failure(f"opening makes the calls {calls}, and not three syncs before it reads", None, [])
+
+    def times(self) -> list[str]:
+        """The commits with label 0 of the files."""
+        found = image.read(self.start).history
+        return [" ".join(["times", *(str(it.time) for it in found if it.label == 0)])]
+
+    def calls(self) -> list[Call]:
+        return self.trace.calls() if self.trace else []
 
 
 class Stops:
@@ -44,24 +83,27 @@ class Stops:
 
     def __init__(self, areas: Areas) -> None:
         self.firm, self.now = dict(areas), dict(areas)
-        self.loose: list[Loose] = []
+        self.loose: list[Call] = []
 
-    def called(self, after: Areas, said: str) -> None:
+    def called(self, after: Areas, calls: Iterable[Call]) -> str | None:
+        """After some device calls; why, if bytes have changed where none of them wrote."""
+        calls = list(calls)
         for area in AREAS:
-            place = changed_range(area, self.now[area], after[area])
-            if place:
-                self.loose.append((area, *place))
+            old, new = self.now[area], after[area]
+            unwritten = bytearray(new)
+            for call in calls:
+                if (call.kind, call.area) == ("write", area):
+                    unwritten[call.low: call.high] = old[call.low: call.high].ljust(call.high - call.low, b"\0")
+            if unwritten != old.ljust(len(new), b"\0"):
+                return f"the {area} file has changed where none of {calls} wrote"
         self.now = dict(after)
-        synced = SYNCED.get(said.split(" ")[0] if said.startswith("published") else said)
-        if synced:
-            self.firm[synced] = after[synced]
-            self.loose = [it for it in self.loose if it[0] != synced]
-
-    def synced(self, after: Areas, areas: tuple[str, ...]) -> None:
-        """After a line of many calls, whose last one synced these."""
-        self.now = dict(after)
-        self.firm.update({area: after[area] for area in areas})
-        self.loose = [it for it in self.loose if it[0] not in areas]
+        for call in calls:
+            if call.kind == "write":
+                self.loose.append(call)
+            elif call.kind == "sync":
+                self.firm[call.area] = after[call.area]
+                self.loose = [it for it in self.loose if it.area != call.area]
+        return None
 
     @staticmethod
     def torn(new: bytes, old: bytes, chance: random.Random) -> bytes | None:
@@ -78,18 +120,30 @@ class Stops:
 
     def left(self, chance: random.Random) -> Areas:
         """One image that a stop may leave."""
-        areas = {}
-        for area in AREAS:
-            data = bytearray(self.firm[area])
-            for _, low, high in (it for it in self.loose if it[0] == area):
-                torn = self.torn(self.now[area][low:high], bytes(data[low:high]), chance)
-                if torn is None:
-                    continue
-                if len(data) < low:
-                    data.extend(bytes(low - len(data)))
-                data[low: low + len(torn)] = torn
-            areas[area] = bytes(data)
-        return areas
+        torn = [self.torn(self.now[it.area][it.low:it.high], self.firm[it.area][it.low:it.high], chance) for it in self.loose]
+        return self.with_loose(torn, bytes([chance.choice(FILLINGS)]) * chance.choice((0, 0, 0, chance.randrange(2 * image.EXTENT))))
+
+    def with_loose(self, torn: list[bytes | None], behind: bytes = b"") -> Areas:
+        """What is synced, with these bytes where was written since (None: nothing of a write), and others behind the end of each file."""
+        areas = {area: bytearray(self.firm[area] + behind) for area in AREAS}
+        for call, piece in zip(self.loose, torn):
+            data = areas[call.area]
+            if piece is not None:
+                data.extend(bytes(max(0, call.low - len(data))))
+                data[call.low: call.low + len(piece)] = piece
+        return {area: bytes(data) for area, data in areas.items()}
+
+    def each_left(self) -> Iterator[Areas]:
+        """Images that a stop may leave: all of what was written since the syncs, nothing of it, and with each filling all of it torn, or half of the last write."""
+        new = [self.now[it.area][it.low:it.high] for it in self.loose]
+        yield self.with_loose([*new])
+        if not self.loose:
+            return
+        yield self.with_loose([None] * len(new))
+        half = len(new[-1]) // 2
+        for filling in (bytes([it]) for it in FILLINGS):
+            yield self.with_loose([filling * len(it) for it in new], filling * 100)
+            yield self.with_loose([*new[:-1], new[-1][:half] + filling * (len(new[-1]) - half)])
 
 
 class Play:
@@ -101,19 +155,22 @@ class Play:
 
     def play(self, folder: str, small: Machine, count: int) -> None:
         while count > 0:
-            self.session(folder, small, min(count, SESSION))
-            count -= SESSION
+            lines = min(count, self.chance.choice(SESSIONS))
+            self.session(folder, small, lines)
+            count -= lines
             if self.chance.random() < VACUUMS:
                 self.vacuum(folder, small)
 
     def session(self, folder: str, small: Machine, count: int) -> None:
-        session = Session(self.program, folder)
+        session = Traced(self.program, folder)
         stops = Stops(session.start)
         try:
             for _ in range(count):
                 self.line(session, small, stops)
+                for line in a_vacuum(self.chance, small) if self.chance.random() < OWN_VACUUMS else []:
+                    tell(session, small, stops, line)
             if self.chance.random() < 0.5:
-                session.expect("reopen", small.reopened())
+                tell(session, small, stops, "reopen")
             session.end_well()
             small.reopened()
         finally:
@@ -125,43 +182,79 @@ class Play:
         upto = self.chance.choice((newest, self.chance.randrange(newest + 3)))
         wanted = small.vacuum(upto)
         status, said = command(self.program, "vacuum", folder, str(upto))
-        if said != wanted or status != (0 if wanted[0].startswith("archived") else 1):
+        if said != wanted or status != any(it.startswith("refused") for it in wanted):
             raise Failure(f"vacuum {upto}: answered {said} with status {status}, and not {wanted}", Shown(start, [], wanted, {}, f"vacuum DIR {upto}"))
         self.tried["vacuums"] += 1
-        check_left(self.program, read_areas(folder), small.published, len(small.published), f"after vacuum {upto}")
+        check_left(self.program, read_areas(folder), small.front(), f"after vacuum {upto}")
 
-    def line(self, session: Session, small: Machine, stops: Stops) -> None:
+    def line(self, session: Traced, small: Machine, stops: Stops) -> None:
         line = some_line(self.chance, small, BY_STEPS)
-        wanted = small.answer(line)
-        if wanted is not None:
-            session.expect(line, wanted)
-            if line in ("flush", "finish"):
-                stops.synced(read_areas(session.folder), AREAS)
+        if line not in ("pump", "job"):
+            tell(session, small, stops, line)
             return
-        said = session.step(line, small.pumped if line == "pump" else small.jobbed)
-        stops.called(read_areas(session.folder), said)
-        if said != "idle" and self.has_stops:
+        said = step(session, small, stops, line)
+        if said not in ("idle", "refused: busy") and self.has_stops:
             self.stop(small, stops, f"a stop after {line} answered {said}")
-            self.tried[f"stops, {said.split(' ')[0] if said.startswith('published') else said}"] += 1
+            self.tried[f"stops, {step_name(said)}"] += 1
 
     def stop(self, small: Machine, stops: Stops, where: str) -> None:
-        """What a stop may leave opens as what is published or, while the group's gate is in the writing, as that with the whole group."""
-        order = small.with_group() if small.turn == "gate written" else small.published
+        """What a stop may leave opens as what is published or, while a gate is in the writing, as that with the whole group or the floor."""
         areas = stops.left(self.chance)
-        found = check_left(self.program, areas, order, len(small.published), where)
-        if found not in (len(small.published), len(order)):
-            raise Failure(f"{where}: {found} commits are left, and the group has {len(small.published) + 1} to {len(order)}")
+        again = check_left(self.program, areas, small.front(), where)
         self.tried["images"] += 1
         if self.depth < DEEPEST and self.chance.random() < SECOND_STOPS:
-            self.play_on(areas, order[:found])
+            self.play_on(areas, again)
 
-    def play_on(self, areas: Areas, order: list[machine.Commit]) -> None:
+    def play_on(self, areas: Areas, again: Machine) -> None:
         """Goes on with what a stop left, and stops again."""
         with tempfile.TemporaryDirectory(prefix="torture-") as folder:
             write_areas(folder, areas)
-            again = Machine(order)
-            _, again.archived, again.reclaimed, _ = image.read(*(areas[area] for area in AREAS))
             deeper = Play(self.program, self.chance, self.depth + 1)
             deeper.play(folder, again, 40)
         self.tried += deeper.tried
         self.tried["second stops"] += 1
+
+
+def areas_of(line: str, small: Machine) -> set[str]:
+    """The areas that a line of many steps syncs; where another's slot is in the writing, its own is not begun."""
+    synced = ("heap synced", "run synced", *SLOT_STEPS)
+    is_barred = small.turn in SLOT_STEPS if line == "finish" else small.job is not None and small.job.is_in_slot()
+    if line == "flush" and small.queue:
+        is_done = small.turn in synced and (is_barred or len(small.queue) == small.group)
+        return (set() if is_done else {"heap"}) | (set() if is_barred else {"status"})
+    if line == "finish" and small.job:
+        data = {"archive": {"archive"}, "reclaim": {"heap"}, "floor": set()}[small.job.kind]
+        return (set() if small.job.step in synced else data) | (set() if is_barred else {"status"})
+    return set(AREAS) if line == "reopen" else set()
+
+
+def tell(session: Traced, small: Machine, stops: Stops, line: str) -> None:
+    """Feeds a line whose answer is known. Only one of many steps makes device calls."""
+    areas = areas_of(line, small)
+    wanted = small.answer(line) or []
+    session.expect(line, wanted)
+    shown = [Call("sync", it) for it in sorted(areas)]
+    made = [it for it in session.calls() if it.kind != "read"]
+    if session.trace and {it.area for it in made} != {it.area for it in shown}:
+        raise session.failure(f"{line}: makes the calls {made}, and syncs {shown}", wanted, ["other calls"])
+    changed(session, stops, line, wanted, made or shown)
+
+
+def step(session: Traced, small: Machine, stops: Stops, line: str) -> str:
+    """Feeds one `pump` or `job`, which makes one device call, or none where its way is barred or at its end."""
+    said = session.step(line, small.pumped if line == "pump" else small.jobbed)
+    shown = call_of(said, stops.now, read_areas(session.folder))
+    made = [it for it in session.calls() if it.kind != "read"]
+    if session.trace and (len(made) != (shown is not None) or shown and not is_of(made[0], shown)):
+        raise session.failure(f"{line}: answered {said}, and makes the calls {made}, not {shown}", [said], ["other calls"])
+    changed(session, stops, line, [said], made or ([shown] if shown else []))
+    return said
+
+
+def changed(session: Traced, stops: Stops, line: str, said: list[str], calls: list[Call]) -> None:
+    """Notes what was called; without a trace the files have changed where a line of many steps wrote, too."""
+    if not session.trace and line not in ("pump", "job"):
+        stops.now = read_areas(session.folder)
+    why = stops.called(read_areas(session.folder), calls)
+    if why:
+        raise session.failure(f"{line}: {why}", said, ["no change"])

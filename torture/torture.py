@@ -14,6 +14,7 @@ script is left that shows it (`sh SCRIPT PROGRAM`).
 from __future__ import annotations
 
 import argparse
+import copy
 import os
 import random
 import resource
@@ -29,9 +30,10 @@ from collections.abc import Iterator
 
 import forged
 import machine
-import refusals
-from machine import Commit, Machine
-from program import AREAS, Areas, Failure, Session, format_store, read_areas, report, use_memory
+import wrong
+from machine import Commit, Front, Machine
+from program import AREAS, Areas, Failure, Session, format_store, read_areas, report, seconds_to_begin, use_memory
+from refused_scripts import Case
 from scripts import BY_LINES, a_vacuum, check_left, key_text, questions, some_fields, some_key, some_line
 from stops import Play
 
@@ -41,57 +43,79 @@ REFUSED = (8, 1, 1, 3, 2, 6, 6, 1, 1)
 
 
 def stops_case(program: str, chance: random.Random, folder: str) -> Counter:
-    format_store(program, folder, 256)
+    slots = chance.choice((32, 256))
+    format_store(program, folder, slots)
     play = Play(program, chance)
-    play.play(folder, Machine(), 200)
+    play.play(folder, Machine(slots=slots), 200)
     return play.tried
 
 
 # ---- kills
 
 
-def commit_lines(chance: random.Random, number: int, order: list[Commit]) -> list[str]:
-    """The lines of a commit, whose time is its number; now and then of an archive and a reclaim."""
-    key, fields = some_key(chance), bytes(chance.randrange(256) for _ in range(16)).hex()
-    order.append(Commit(number, number, {key: fields}))
-    lines = ["begin t", f"put t {key_text(key)} {fields}", f"submit t {number} 0", "flush", "redeem t"]
-    if chance.random() < 0.1:
-        lines += [f"archive {chance.randrange(1, number + 1)}", "finish"]
-        lines += ["reclaim", "finish"] if chance.random() < 0.7 else []
-    return lines
+class Killed:
+    """A script on a store, until it is killed: what it may have left."""
+
+    def __init__(self, program: str, folder: str, chance: random.Random) -> None:
+        self.session, self.chance = Session(program, folder), chance
+        self.order: list[Commit] = []
+        self.done, self.floor, self.next_floor = 0, 0, 0
+
+    def lines(self, number: int) -> list[str]:
+        """The lines of a commit, whose time is its number; now and then of an archive, a reclaim, a floor."""
+        chance, key = self.chance, some_key(self.chance)
+        fields = bytes(chance.randrange(256) for _ in range(16)).hex()
+        self.order.append(Commit(number, number, {key: fields}))
+        lines = ["begin t", f"put t {key_text(key)} {fields}", f"submit t {number} 0", "flush", "redeem t"]
+        if chance.random() < 0.1:
+            lines += [f"archive {chance.randrange(1, number + 1)}", "finish"]
+            lines += ["reclaim", "finish"] if chance.random() < 0.7 else []
+        if chance.random() < 0.1:
+            lines += [f"floor {chance.randrange(max(1, number - 20), number + 1)}", "finish"]
+        return lines
+
+    def feed(self, line: str) -> bool:
+        """Feeds a line; whether it was answered."""
+        said = self.session.ask(line)
+        if said is None:
+            return False
+        self.done += said[0].startswith("done ")
+        if line.startswith("floor") and said == ["started"]:
+            self.next_floor = int(line.split(" ")[1])
+        if line == "finish":
+            self.floor = self.next_floor
+        return True
+
+    def front(self) -> Front:
+        return Front(self.order, range(self.done, len(self.order) + 1), (self.floor, self.next_floor))
 
 
 def kills_case(program: str, chance: random.Random, folder: str) -> Counter:
     """The program is killed in a script or in a vacuum: a front of the commits is left, with each that it answered done."""
     format_store(program, folder, 4096)
-    order: list[Commit] = []
-    session = Session(program, folder)
-    timer = threading.Timer(0.003 + chance.random() * 0.06, session.process.kill)
+    killed = Killed(program, folder, chance)
+    timer = threading.Timer(seconds_to_begin(program) * (1 + 20 * chance.random()), killed.session.process.kill)
     timer.start()
-    done, alive = 0, True
-    while alive and len(order) < 1200:
-        for line in commit_lines(chance, len(order) + 1, order):
-            said = session.ask(line)
-            alive = said is not None
-            if not alive:
-                break
-            done += said[0].startswith("done ")
+    alive = True
+    while alive and len(killed.order) < 1200:
+        alive = all(killed.feed(line) for line in killed.lines(len(killed.order) + 1))
     timer.cancel()
-    session.kill()
-    found = check_left(program, read_areas(folder), order, done, "killed")
-    tried = Counter({"kills": 1, "images": 1, "commits before them": done})
-    if found:
-        killed_vacuum(program, chance, folder, order[:found])
+    killed.session.kill()
+    left = check_left(program, read_areas(folder), killed.front(), "killed")
+    tried = Counter({"kills": 1, "images": 1, "commits before them": killed.done})
+    if left.published:
+        killed_vacuum(program, chance, folder, left)
         tried += Counter({"kills in a vacuum": 1, "images": 1})
     return tried
 
 
-def killed_vacuum(program: str, chance: random.Random, folder: str, order: list[Commit]) -> None:
-    process = subprocess.Popen([program, "vacuum", folder, str(chance.choice((order[-1].time, chance.randrange(1, len(order) + 1))))], stdout=subprocess.DEVNULL)
-    time.sleep(chance.random() * 0.01)
+def killed_vacuum(program: str, chance: random.Random, folder: str, small: Machine) -> None:
+    newest = machine.last(small.published)
+    process = subprocess.Popen([program, "vacuum", folder, str(chance.choice((newest, chance.randrange(1, newest + 1))))], stdout=subprocess.DEVNULL)
+    time.sleep(seconds_to_begin(program) * (0.5 + 3 * chance.random()))
     process.kill()
     process.wait()
-    check_left(program, read_areas(folder), order, len(order), "killed in a vacuum")
+    check_left(program, read_areas(folder), small.front(), "killed in a vacuum")
 
 
 # ---- a full disk
@@ -106,25 +130,24 @@ def full_case(program: str, chance: random.Random, folder: str) -> Counter:
         signal.signal(signal.SIGXFSZ, signal.SIG_IGN)
         resource.setrlimit(resource.RLIMIT_FSIZE, (limit, limit))
 
-    session, small = Session(program, folder, before=limited), Machine()
+    session, small = Session(program, folder, before=limited), Machine(slots=64)
     try:
-        failed = write_on(session, small, chance)
-        if failed:
+        small, front = write_on(session, small, chance)
+        if front:
             session.expect("redeem t", ["in doubt"] if small.queue else ["refused: name"])
             session.expect("begin u", ["refused: failed"])
-        for line in questions(small.published)[0][1:]:
+        for line in questions(small.published, small.floor)[0][1:]:
             session.expect(line, small.answer(line) or [], "on a full disk, ")
         session.end_well()
     finally:
         session.kill()
-    order = [*small.published, *small.queue]
-    found = check_left(program, read_areas(folder), order, len(small.published), "after a full disk")
-    go_on(program, folder, order[:found])
-    return Counter({"disks filled": failed, "disks with room": not failed, "images": 1})
+    left = check_left(program, read_areas(folder), front or small.front(), "after a full disk")
+    go_on(program, folder, left)
+    return Counter({"disks filled": front is not None, "disks with room": front is None, "images": 1})
 
 
-def write_on(session: Session, small: Machine, chance: random.Random) -> bool:
-    """Commits, archives and reclaims, until one is refused; whether one was."""
+def write_on(session: Session, small: Machine, chance: random.Random) -> tuple[Machine, Front | None]:
+    """Commits, archives, reclaims and floors, until one is refused: what stands, and what may be left then."""
     for number in range(1, 25):
         key, fields = some_key(chance), some_fields(chance)
         for line in ("begin t", f"put t {key_text(key)} {fields}", f"submit t {number} 0"):
@@ -132,28 +155,30 @@ def write_on(session: Session, small: Machine, chance: random.Random) -> bool:
         steps = ["flush", "redeem t"]
         if number % 4 == 0:
             steps += [f"archive {small.archived + 1 + chance.randrange(number - small.archived)}", "finish", "reclaim", "finish"]
+        if number % 4 == 2:
+            steps += [f"floor {chance.randrange(number + 2)}", "finish"]
         for line in steps:
-            before = (small.published, small.queue, small.archived, small.reclaimed)
+            before = copy.deepcopy(small)
             wanted = small.answer(line) or []
             said = session.ask(line)
             if said == ["refused: failed"]:
-                small.published, small.queue, small.archived, small.reclaimed = before
-                return True
+                order = [*before.published, *before.queue]
+                return before, Front(order, range(len(before.published), len(order) + 1), (before.floor, small.floor))
             if said != wanted:
                 raise session.failure(f"{line}: answered {said}, and not {wanted}", said, wanted)
-    return False
+    return small, None
 
 
-def go_on(program: str, folder: str, order: list[Commit]) -> None:
+def go_on(program: str, folder: str, small: Machine) -> None:
     """With room again the store goes on."""
-    session, small = Session(program, folder), Machine(order)
+    session = Session(program, folder)
     try:
         for line in ("begin t", "put t 1 7 61", "submit t 1 0", "flush", "redeem t"):
             session.expect(line, small.answer(line) or [], "with room again, ")
         session.end_well()
     finally:
         session.kill()
-    check_left(program, read_areas(folder), small.published, len(small.published), "with room again")
+    check_left(program, read_areas(folder), small.front(), "with room again")
 
 
 # ---- forged files
@@ -172,7 +197,7 @@ def forged_case(program: str, chance: random.Random, folder: str) -> Counter:
         else:
             for _ in range(chance.choice((1, 1, 1, 2))):
                 forge(areas, chance)
-        said = forged.check(program, {area: bytes(areas[area]) for area in AREAS}, "forged", keys)
+        said = forged.check(program, {area: bytes(areas[area]) for area in AREAS}, "forged", keys, chance.random() < 0.2)
         tried += Counter({said: 1, "images": 1})
     return tried
 
@@ -180,8 +205,9 @@ def forged_case(program: str, chance: random.Random, folder: str) -> Counter:
 def played(program: str, chance: random.Random, folder: str) -> Areas:
     """The files of a store after some lines."""
     os.makedirs(folder, exist_ok=True)
-    format_store(program, folder, 16 * chance.choice((1, 4)))
-    Play(program, chance, has_stops=False).play(folder, Machine(), 60)
+    slots = chance.choice((16, 64))
+    format_store(program, folder, slots)
+    Play(program, chance, has_stops=False).play(folder, Machine(slots=slots), 60)
     return read_areas(folder)
 
 
@@ -208,7 +234,7 @@ def forge(areas: dict[str, bytearray], chance: random.Random) -> None:
 # ---- refused calls
 
 
-def drawn(chance: random.Random, case: refusals.Case, count: int, opened: Counter) -> Iterator[str]:
+def drawn(chance: random.Random, case: Case, count: int, opened: Counter) -> Iterator[str]:
     """Random lines; and how many calls there were of each class before the second one."""
     yield "times 0"
     opened.update(case.wrong.counts())
@@ -223,18 +249,17 @@ def refused_case(program: str, chance: random.Random, folder: str) -> Counter:
     formatted, store = os.path.join(folder, "formatted"), os.path.join(folder, "store")
     os.makedirs(formatted)
     format_store(program, formatted, 256)
-    start, library = read_areas(formatted), refusals.library_for(folder)
-    nothing = refusals.Wrong(library, folder)
-    first = refusals.Case(program, store, start, nothing)
+    start, nothing = read_areas(formatted), wrong.Wrong(folder)
+    first = Case(program, store, start, nothing)
     opened: Counter = Counter()
     first.play(drawn(chance, first, 60, opened))
     counts, tried = nothing.counts(), Counter()
     for _ in range(10):
-        kind = chance.choices(refusals.CLASSES, [often * (counts[it] > 0) for it, often in zip(refusals.CLASSES, REFUSED)])[0]
+        kind = chance.choices(wrong.CLASSES, [often * (counts[it] > 0) for it, often in zip(wrong.CLASSES, REFUSED)])[0]
         # mostly behind the opening
         least = opened[kind] if counts[kind] > opened[kind] and chance.random() < 0.9 else 0
-        what = (kind, chance.randrange(least, counts[kind]) + 1, chance.choice(refusals.HOWS[kind]))
-        outcome = refusals.Case(program, store, start, refusals.Wrong(library, folder, what)).play(first.session.lines)
+        what = (kind, chance.randrange(least, counts[kind]) + 1, chance.choice(wrong.HOWS[kind]))
+        outcome = Case(program, store, start, wrong.Wrong(folder, what)).play(first.session.lines)
         tried += Counter({f"{kind} {outcome}": 1, "images": 1})
     return tried
 
@@ -272,7 +297,7 @@ def main() -> int:
     given = words.parse_args()
     use_memory()
     program, began, seed = os.path.abspath(given.program), time.time(), given.seed
-    kinds = [given.only] if given.only else [it for it in KINDS if it != "refused" or refusals.has_compiler()]
+    kinds = [given.only] if given.only else [it for it in KINDS if it != "refused" or wrong.has_compiler()]
     tried, cases, failed = {kind: Counter() for kind in kinds}, Counter(), 0
     while time.time() < began + 60 * given.minutes and failed < FAILURES_MOST:
         for kind in kinds:
