@@ -84,7 +84,9 @@ pub enum Call<'a> {
     /// Begins a reclaim: the heap and memory are to give up what ended by the archive mark.
     Reclaim,
     /// Begins to raise the floor of every relation to this time, in microseconds since 1970: what ended by it need not be kept.
-    Floor { floor: u64 },
+    Floor {
+        floor: u64,
+    },
     /// The next step of the job that runs.
     JobPump,
 }

@@ -127,18 +127,18 @@ machine-low s [] x there = ⊎_elim (λ (own : s ≡ x). omega (arith, own)) (λ
 machine-low s (t ∷ ss) x there = ⊎_elim
     (λ (own : s ≡ x). (let first = machine-low (min s t) ss (min s t) (Contains-head (min s t) ss (min s t) refl) in omega (arith, own, first)))
     (λ (more : Contains (t ∷ ss) x). ⊎_elim
-        (λ (own : t ≡ x). (let first = machine-low (min s t) ss (min s t) (Contains-head (min s t) ss (min s t) refl) in omega (arith, own, first)))
-        (λ (rest : Contains ss x). machine-low (min s t) ss x (Contains-tail (min s t) ss x rest))
-        (Contains-cons_cases t ss x more))
+    (λ (own : t ≡ x). (let first = machine-low (min s t) ss (min s t) (Contains-head (min s t) ss (min s t) refl) in omega (arith, own, first)))
+    (λ (rest : Contains ss x). machine-low (min s t) ss x (Contains-tail (min s t) ss x rest))
+    (Contains-cons_cases t ss x more))
     (Contains-cons_cases s (t ∷ ss) x there)
 
 machine-there : (s : ℕ) (ss : List ℕ) → Contains (s ∷ ss) (least s ss)
 machine-there s [] = Contains-head s [] s refl
 machine-there s (t ∷ ss) = ⊎_elim
     (λ (own : min s t ≡ least (min s t) ss). ⊎_elim
-        (λ (first : s < t). Contains-head s (t ∷ ss) (least (min s t) ss) (omega (arith, own, first)))
-        (λ (second : t ≤ s). Contains-tail s (t ∷ ss) (least (min s t) ss) (Contains-head t ss (least (min s t) ss) (omega (arith, own, second))))
-        (cases_lt s t))
+    (λ (first : s < t). Contains-head s (t ∷ ss) (least (min s t) ss) (omega (arith, own, first)))
+    (λ (second : t ≤ s). Contains-tail s (t ∷ ss) (least (min s t) ss) (Contains-head t ss (least (min s t) ss) (omega (arith, own, second))))
+    (cases_lt s t))
     (λ (rest : Contains ss (least (min s t) ss)). Contains-tail s (t ∷ ss) (least (min s t) ss) (Contains-tail t ss (least (min s t) ss) rest))
     (Contains-cons_cases (min s t) ss (least (min s t) ss) (machine-there (min s t) ss))
 

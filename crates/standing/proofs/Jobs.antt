@@ -254,7 +254,6 @@ module _ (header : Header) (m : Machine Value) (layout : Layout) (reading : Read
       let order : reclaimed_upto reading ≤ archived_upto reading = let later = may.later in omega (arith, later) in
       subst (λ (n : ℕ). IsLayoutOf header (reclaimed layout (slot_naming (length layout.slots) (OfAnchors a)) n a.extents) (with_anchors reading a.olds)) (sym may.upto)
       (reclaim_laid header layout reading (slot_naming (length layout.slots) (OfAnchors a)) a.entry a.extents a.olds laid refl may.upto order may.chain apart)
-
   laid-by (OfFloor floor) may apart = floor_laid header layout reading (slot_naming (length layout.slots) (OfFloor floor)) None floor laid refl
 
   pub laid-after : IsLayoutOf header after reading-after

@@ -196,7 +196,6 @@ job-free v m c (Reclaim anchors source written) (OfAnchors a) made next =
     let out = reserved-out v.transactions c.inside.order in
     distinct_join (live c.works.log.layout) a.extents c.works.log.laid.heap.apart (joining.distinct-extents a.extents (subst usages.AreDistinct (sym made.1) out.distinct))
     (joining.kept-cross v.transactions.usages (live c.works.log.layout) a.extents c.works.heap.kept (subst (AllByRecursion (IsOut v.transactions.usages)) (sym made.1) out.each))
-
 job-free v m c (ArchiveWork run writer) (OfFloor floor) made next = absurd made
 job-free v m c (Reclaim anchors source written) (OfFloor floor) made next = absurd made
 job-free v m c (FloorWork floor) (OfRun r) made next = absurd made

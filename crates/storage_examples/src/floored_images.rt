@@ -36,8 +36,8 @@ fn put_extent(heap: &mut [u8], at: u16, number: u8, used: u8, kind: u8, rest: &[
 
 /// The only record of the first run, b from 110 to 120, and its index.
 const RUN_BYTES: [u8; 37] = [
-    1, 0, 7, 0, 0, 0, 0, 0, 0, 0, 110, 0, 0, 0, 0, 0, 0, 0, 120, 0, 0, 0, 0, 0, 0, 0, 1, 1, b'b', 0,
-    0, 0, 0, 0, 0, 0, 0,
+    1, 0, 7, 0, 0, 0, 0, 0, 0, 0, 110, 0, 0, 0, 0, 0, 0, 0, 120, 0, 0, 0, 0, 0, 0, 0, 1, 1, b'b',
+    0, 0, 0, 0, 0, 0, 0, 0,
 ];
 
 /// That run: nothing was archived before it, and the floor was 115.
@@ -108,12 +108,13 @@ fn the_last_floor_is_recovered_and_each_run_has_the_one_before_it(
         (found.archived, found.reclaimed, found.floor),
         (130, 0, 130)
     );
+    assert_eq!(rt; found.runs.as_slice(), [FIRST_RUN, SECOND_RUN].as_slice());
     assert_eq!(rt;
-        found.runs.as_slice(),
-        [FIRST_RUN, SECOND_RUN].as_slice()
-    );
-    assert_eq!(rt;
-        (byte_at(&found, 119), byte_at(&found, 125), byte_at(&found, 130)),
+        (
+            byte_at(&found, 119),
+            byte_at(&found, 125),
+            byte_at(&found, 130)
+        ),
         (Some(b'b'), None, Some(b'c'))
     );
     Ok(())
