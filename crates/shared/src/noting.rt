@@ -7,7 +7,7 @@ ghost use Rattle.history.specs.Histories.{IsHistory, last};
 ghost use Rattle.image.specs.Values.{Value, IsValue};
 ghost use Rattle.shared.specs.Archives.{IsArchiveLater, archive_seen};
 ghost use Rattle.shared.specs.Seen.{IsLater, order_of};
-ghost use Rattle.shared.specs.Shared.{published_seen, queued_seen, raised_seen, job_seen, is_done, count_in, noted, done_in};
+ghost use Rattle.shared.specs.Shared.{published_seen, queued_seen, job_seen, is_done, count_in, noted, done_in};
 
 use crate::cell::{PublishedCell, WriterPass};
 use crate::observer::{go_on, publish_next, queue_next, raise_next};
