@@ -73,6 +73,8 @@ flush
 # an area, a place in it, and what is written there; None: the area is cut off there
 Change = tuple[str, int, "bytes | None"]
 VALUES = (0x00, 0x37, 0xC7, 0xFF)
+# of the first record of the first run
+TO_OF_RECORD = 18
 # images that are tried by a process before the time is looked at
 AT_ONCE = 16
 FAILURES_MOST = 20
@@ -213,7 +215,8 @@ def floor_changes(small: Small) -> list[Check]:
     between = small.areas["status"][slot(first, 16): slot(second, 8)]
     changes = [("a floor behind the log", slot(behind, 0), b"\xc7\4\0\0" + word(behind, 4) + word(120, 8)), ("a floor at the last commit behind the log", slot(behind, 0), b"\xc7\4\0\0" + word(behind, 4) + word(141, 8)),
                ("a later floor", slot(second, 8), word(130, 8)), ("a floor later than a run's versions", slot(first, 8), word(110, 8) + between + word(111, 8))]
-    return [(f"floors: {name}", ("status", place, data), None) for name, place, data in changes]
+    rows: list[Check] = [(f"floors: {name}", ("status", place, data), None) for name, place, data in changes]
+    return rows + [("floors: a version in a run that ended by the floor before it", ("archive", TO_OF_RECORD, word(105, 8)), None)]
 
 
 def extent_checks(small: Small, name: str, number: int) -> list[Check]:

@@ -29,6 +29,7 @@ from collections import Counter
 from collections.abc import Iterator
 
 import forged
+import image
 import machine
 import wrong
 from machine import Commit, Front, Machine
@@ -188,7 +189,7 @@ def forged_case(program: str, chance: random.Random, folder: str) -> Counter:
     """Bytes of the files are changed, one is cut, or it is that of another store: the program opens them, or says why not, as the plain reader does."""
     whole, other = played(program, chance, folder), played(program, chance, folder + "/other")
     keys = [(relation, record) for relation in (1, 2) for record in (0, 1, 7)]
-    tried: Counter = Counter()
+    found, tried = image.read(whole), Counter()
     for _ in range(60):
         areas = {area: bytearray(whole[area]) for area in AREAS}
         if chance.random() < 0.05:
@@ -196,7 +197,7 @@ def forged_case(program: str, chance: random.Random, folder: str) -> Counter:
             areas[area] = bytearray(other[area])
         else:
             for _ in range(chance.choice((1, 1, 1, 2))):
-                forge(areas, chance)
+                forge(areas, found, chance)
         said = forged.check(program, {area: bytes(areas[area]) for area in AREAS}, "forged", keys, chance.random() < 0.2)
         tried += Counter({said: 1, "images": 1})
     return tried
@@ -207,26 +208,24 @@ def played(program: str, chance: random.Random, folder: str) -> Areas:
     os.makedirs(folder, exist_ok=True)
     slots = chance.choice((16, 64))
     format_store(program, folder, slots)
-    Play(program, chance, has_stops=False).play(folder, Machine(slots=slots), 60)
+    Play(program, chance, has_stops=False).play(folder, Machine(slots=slots), 200)
     return read_areas(folder)
 
 
-def forge(areas: dict[str, bytearray], chance: random.Random) -> None:
-    """One byte of an area is another, or the area is cut."""
+def forge(areas: dict[str, bytearray], found: image.Image, chance: random.Random) -> None:
+    """One byte of an area is another, mostly one that counts, or the area is cut."""
     area = chance.choice(("status", "status", "heap", "heap", "archive"))
     data = areas[area]
     if not data:
         return
-    if chance.random() < 0.1:
+    if chance.random() < 0.05:
         del data[chance.randrange(len(data)):]
         return
-    if area == "status":
-        at = 512 + 512 * chance.randrange(-1, 12) + chance.choice((chance.randrange(64), chance.randrange(512)))
-    elif area == "heap":
-        extent = chance.randrange(-(-len(data) // forged.image.EXTENT)) * forged.image.EXTENT
-        at = extent + chance.choice((chance.randrange(16), chance.randrange(96), chance.randrange(forged.image.EXTENT)))
-    else:
-        at = chance.randrange(len(data))
+    at = chance.randrange(len(data))
+    if area == "status" and chance.random() < 0.9:
+        at = image.slot_at(chance.randrange(-1, len(found.log.slots) + 1)) + chance.choice((chance.randrange(40), chance.randrange(image.SLOT)))
+    elif area == "heap" and found.live and chance.random() < 0.9:
+        at = (chance.choice(sorted(found.live)) - 1) * image.EXTENT + chance.choice((chance.randrange(16), chance.randrange(96), chance.randrange(image.EXTENT)))
     if at < len(data):
         data[at] = chance.choice((0x00, 0x01, 0x37, 0xC7, 0xFF, data[at] ^ 0xFF, (data[at] + 1) % 256, data[at] ^ 1 << chance.randrange(8)))
 
