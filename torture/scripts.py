@@ -12,8 +12,11 @@ from program import Areas, Failure, Shown, run, write_areas
 
 KINDS = ("begin", "put", "del", "get", "submit", "abort", "redeem", "flush", "finish", "pump", "archive", "reclaim", "floor", "job", "ask", "reopen")
 # how often each is drawn: where each step is one of a script's lines, and where a line takes all of them
-BY_STEPS = (8, 12, 3, 2, 10, 1, 3, 4, 1, 18, 4, 4, 3, 16, 2, 0)
-BY_LINES = (6, 9, 2, 2, 8, 1, 3, 8, 6, 2, 5, 6, 3, 2, 8, 1)
+BY_STEPS = (8, 12, 4, 1, 10, 1, 5, 2, 1, 40, 4, 4, 2, 40, 2, 0)
+BY_LINES = (6, 10, 3, 1, 8, 1, 5, 8, 8, 1, 4, 4, 3, 1, 8, 1)
+# and how much less often where it can do nothing now
+IDLE = 0.1
+NAMES = [f"t{it}" for it in range(6)]
 ASKED = ("at", "between", "scan", "times")
 # of a longer history only so many moments are asked for, evenly; its intervals are asked for whole
 MOMENTS_MOST = 60
@@ -42,12 +45,29 @@ def some_moment(chance: random.Random, small: Machine) -> int:
     return max(0, chance.choice(near) + chance.randrange(-1, 3)) if chance.random() < 0.8 else chance.randrange(newest + 3)
 
 
-def name_for(kind: str, chance: random.Random, small: Machine) -> str:
-    """Mostly a name of the right sort, if there is one."""
-    names = [f"t{it}" for it in range(4)]
-    sort: type = {"begin": type(None), "redeem": int}.get(kind, Transaction)
-    fitting = [it for it in names if isinstance(small.names.get(it), sort)]
-    return chance.choice(fitting if fitting and chance.random() < 0.95 else names)
+def fitting(kind: str, small: Machine) -> list[str]:
+    """The names that a line of this kind can do something with."""
+    found = [(name, small.names.get(name)) for name in NAMES]
+    if kind in ("begin", "redeem"):
+        sort = int if kind == "redeem" else type(None)
+        return [name for name, it in found if isinstance(it, sort)]
+    opened = [(name, it) for name, it in found if isinstance(it, Transaction)]
+    return [name for name, it in opened if kind != "submit" or it.writes]
+
+
+def can_do(kind: str, small: Machine) -> bool:
+    """Whether a line of this kind can do something now."""
+    newest, has_job = machine.last(small.published), small.job is not None
+    if kind == "begin":
+        return sum(isinstance(it, Transaction) for it in small.names.values()) < 2 and bool(fitting(kind, small))
+    if kind in ("put", "del", "get", "submit", "abort", "redeem"):
+        return bool(fitting(kind, small))
+    if kind in ("flush", "pump"):
+        return bool(small.queue)
+    if kind in ("finish", "job"):
+        return has_job
+    marks = {"archive": (small.archived, newest), "reclaim": (small.reclaimed, small.archived), "floor": (small.floor, newest)}
+    return kind not in marks or not has_job and marks[kind][0] < marks[kind][1]
 
 
 def question(chance: random.Random, small: Machine) -> str:
@@ -62,8 +82,9 @@ def question(chance: random.Random, small: Machine) -> str:
 
 def some_line(chance: random.Random, small: Machine, weights: Sequence[int]) -> str:
     newest = machine.last(small.published)
-    kind = chance.choices(KINDS, weights)[0]
-    key, name = some_key(chance), name_for(kind, chance, small)
+    kind = chance.choices(KINDS, [often if can_do(it, small) else often * IDLE for it, often in zip(KINDS, weights)])[0]
+    names = fitting(kind, small)
+    key, name = some_key(chance), chance.choice(names if names and chance.random() < 0.95 else NAMES)
     if kind in ("begin", "abort", "redeem"):
         return f"{kind} {name}"
     if kind == "put":
