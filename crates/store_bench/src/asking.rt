@@ -115,23 +115,35 @@ fn ask_scan(store: &mut Store<FileDisk>, after: u64) -> Result<(), Fault> {
     }
 }
 
-/// The nanoseconds of this many questions at random keys and times. Each takes a view of its own.
-fn time_questions<R: Clock>(
+/// Asks a question of this key, or of all, as of so many microseconds after the first version.
+pub(crate) fn ask(
+    store: &mut Store<FileDisk>,
+    question: Question,
+    record: u64,
+    after: u64,
+) -> Result<(), Fault> {
+    match question {
+        Question::Value => ask_value(store, record, after),
+        Question::Rows => ask_rows(store, record),
+        Question::Scan => ask_scan(store, after),
+    }
+}
+
+/// The nanoseconds of this many questions at random keys, and at random times, less than so many
+/// microseconds after the first version. Each takes a view of its own.
+pub(crate) fn time_questions<R: Clock>(
     rt: &R,
     store: &mut Store<FileDisk>,
     question: Question,
+    times: u64,
     count: u64,
 ) -> Result<u64, Fault> {
     let mut random = Xoshiro256PlusPlus::seed_from_u64(SEED);
     let start = Instant::now(rt)?;
     for _ in 0..count {
         let record = random.next_u64() % KEYS;
-        let after = random.next_u64() % (SPAN + 1);
-        match question {
-            Question::Value => ask_value(store, record, after)?,
-            Question::Rows => ask_rows(store, record)?,
-            Question::Scan => ask_scan(store, after)?,
-        }
+        let after = random.next_u64() % times.max(1);
+        ask(store, question, record, after)?;
     }
     Ok(nanoseconds(rt, &start)?)
 }
@@ -156,7 +168,7 @@ fn time_opened<R: Files<File = File> + AllocGlobal + Clock>(
     let start = Instant::now(rt)?;
     let mut store = stores::open(rt, alloc, folder)?;
     let opened = nanoseconds(rt, &start);
-    let time = time_questions(rt, &mut store, question, count);
+    let time = time_questions(rt, &mut store, question, SPAN + 1, count);
     store.close();
     Ok((opened?, time?))
 }

@@ -5,7 +5,7 @@ use disk_file::FolderFault;
 use recovery::{FormatFault, OpenFault};
 use std::alloc::AllocError;
 use std::io;
-use store::{BeginFault, PumpFault, QueryFault, SubmitFault, TxnFault};
+use store::{BeginFault, PumpFault, QueryFault, StartFault, SubmitFault, TxnFault};
 use thiserror::Error;
 
 #[derive(Debug, Drop, Error)]
@@ -28,6 +28,8 @@ pub(crate) enum Fault {
     Submit(#[from] SubmitFault),
     #[error("the step is refused: {0:?}")]
     Pump(#[from] PumpFault),
+    #[error("the job does not begin: {0:?}")]
+    Start(#[from] StartFault),
     #[error("the query is refused: {0:?}")]
     Query(#[from] QueryFault),
     #[error("memory was refused")]

@@ -26,6 +26,11 @@ pub(crate) fn rate(count: u64, nanoseconds: u64) -> Thousandths {
     Thousandths((count as u128).saturating_mul(1_000_000_000_000) / (nanoseconds as u128).max(1))
 }
 
+/// How many megabytes of 10^6 bytes there are in a second, where so many bytes took so many nanoseconds.
+pub(crate) fn megabytes_a_second(bytes: u64, nanoseconds: u64) -> Thousandths {
+    Thousandths((bytes as u128).saturating_mul(1_000_000) / (nanoseconds as u128).max(1))
+}
+
 /// Nanoseconds as microseconds.
 pub(crate) fn microseconds(nanoseconds: u64) -> Thousandths {
     Thousandths(nanoseconds as u128)

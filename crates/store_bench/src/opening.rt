@@ -71,7 +71,7 @@ fn read_file<R: Files<File = File> + AllocGlobal>(
 }
 
 /// The nanoseconds of reading the three files, and how many bytes they have.
-fn time_reads<R: Files<File = File> + AllocGlobal + Clock>(
+pub(crate) fn time_reads<R: Files<File = File> + AllocGlobal + Clock>(
     rt: &R,
     alloc: Global,
     folder: &str,

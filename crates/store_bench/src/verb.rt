@@ -41,20 +41,44 @@ pub(crate) enum Question {
     Scan,
 }
 
+/// Of what keys a store is made that is to be vacuumed.
+#[derive(Clone, Copy, Debug, PartialEq, Eq)]
+pub(crate) enum Breadth {
+    /// Many versions of each of 1,000 keys.
+    Deep,
+    /// Two versions of each of many keys.
+    Wide,
+}
+
+/// What a vacuum does.
+#[derive(Clone, Copy, Debug, PartialEq, Eq)]
+pub(crate) enum Task {
+    Archive,
+    Reclaim,
+}
+
 #[derive(Clone, Copy, Debug)]
 pub(crate) enum Verb {
     Commits(Shape),
     Queries(Question),
     Opening,
     Size,
+    /// A store is made, which those below take from its folder.
+    Preparing(Breadth),
+    Vacuum(Task),
+    Past(Question),
+    Reopening,
+    Memory,
 }
 
-/// A measurement: its verb, the folder for its files, and how often it is done.
+/// A measurement: its verb, the folder for its files, how often it is done or of how many versions, and
+/// in how many runs.
 #[derive(Clone, Copy, Debug)]
 pub(crate) struct Request<'a> {
     pub(crate) verb: Verb,
     pub(crate) folder: &'a str,
     pub(crate) count: u64,
+    pub(crate) runs: u64,
 }
 
 pub(crate) enum Asked<'a> {
@@ -76,28 +100,42 @@ fn known(name: &str) -> Option<(Verb, u64)> {
         "w6" => Some((Verb::Queries(Question::Scan), 3_000)),
         "w7" => Some((Verb::Opening, 3_000)),
         "w8" => Some((Verb::Size, 1)),
+        "v0" => Some((Verb::Preparing(Breadth::Deep), 100_000)),
+        "v0k" => Some((Verb::Preparing(Breadth::Wide), 100_000)),
+        "v1" => Some((Verb::Vacuum(Task::Archive), 100_000)),
+        "v2" => Some((Verb::Vacuum(Task::Reclaim), 100_000)),
+        "v3" => Some((Verb::Past(Question::Value), 100_000)),
+        "v4" => Some((Verb::Past(Question::Scan), 10)),
+        "v5" => Some((Verb::Reopening, 5)),
+        "v6" => Some((Verb::Memory, 100_000)),
         _ => None,
     }
+}
+
+/// The measurement of this name, if there is one; the count is that of the name, where none is given.
+fn named<'a>(name: &str, folder: &'a str, count: Option<u64>, runs: u64) -> Asked<'a> {
+    let Some((verb, often)) = known(name) else {
+        return Asked::Nothing;
+    };
+    Asked::Measurement(Request {
+        verb,
+        folder,
+        count: count.unwrap_or(often),
+        runs,
+    })
 }
 
 /// What the words ask for; the first is the program's name.
 pub(crate) fn read<'a>(words: &[&'a str]) -> Asked<'a> {
     match words {
         [] | [_] => Asked::Usage,
-        [_, name, folder] => match known(name) {
-            Some((verb, count)) => Asked::Measurement(Request {
-                verb,
-                folder,
-                count,
-            }),
-            None => Asked::Nothing,
+        [_, name, folder] => named(name, folder, None, 1),
+        [_, name, folder, count] => match count.parse::<u64>() {
+            Ok(count) => named(name, folder, Some(count), 1),
+            Err(_) => Asked::Nothing,
         },
-        [_, name, folder, count] => match (known(name), count.parse::<u64>()) {
-            (Some((verb, _)), Ok(count)) => Asked::Measurement(Request {
-                verb,
-                folder,
-                count,
-            }),
+        [_, name, folder, count, runs] => match (count.parse::<u64>(), runs.parse::<u64>()) {
+            (Ok(count), Ok(runs)) => named(name, folder, Some(count), runs),
             _ => Asked::Nothing,
         },
         _ => Asked::Nothing,
