@@ -2,11 +2,13 @@
 """Measures the store on real files, round after round, and prints medians as a table.
 
     bench/store_bench.py STORE_BENCH [--rounds N] [--folder FOLDER] [--verbs w1,w4] [--share S]
-                         [--program TIMESTORE] [--alone]
+                         [--vacuums 100000,1000000x10] [--program TIMESTORE] [--alone]
 
 STORE_BENCH is the built program of crates/store_bench, which says what each verb does. FOLDER is where stores
 are made (a temporary folder if left out: name one on the disk that you mean to measure, since /tmp may be
-memory). S makes each count smaller or larger. TIMESTORE is the built program, of which the memory of an
+memory). S makes each count smaller or larger. Each vacuum is so many ended versions, in so many runs (one if
+left out), of 1,000 keys, or, with a k behind, one of each key; `--verbs= ` or `--vacuums= ` leaves the verbs
+or the vacuums out. TIMESTORE is the built program, of which the memory of an
 opened version is measured. Where a C compiler and the libraries are there, SQLite and LMDB run the same
 workloads in the same rounds (bench/peers); --alone leaves them out.
 """
@@ -37,6 +39,9 @@ MOST_TIMES_RAW = 1.15
 LEAST_IN_GATES = 40_000
 LEAST_OF_RAW = 0.8
 LEAST = {"w3": 500_000, "w4": 2_000_000, "w5": 20_000_000, "w6": 5_000}
+# Of a vacuum: megabytes a second, where a plain copy of the file reaches as much.
+LEAST_MB = 200
+VACUUMS = "100000x1,100000x10,100000x100,1000000x1,1000000x10,1000000x100,100000k,500000k"
 PEERS = {"SQLite": ("sqlite.c", "-lsqlite3"), "LMDB": ("lmdb.c", "-llmdb")}
 
 
@@ -55,14 +60,20 @@ def built_peers(folder):
     return built
 
 
-def measured(program, verb, count, base):
-    """What one call prints, in a folder of its own."""
-    folder = tempfile.mkdtemp(dir=base)
-    done = subprocess.run([program, verb, folder, str(count)], stdout=subprocess.PIPE)
-    shutil.rmtree(folder)
+def called(program, verb, folder, *numbers):
+    """What one call prints."""
+    done = subprocess.run([program, verb, folder, *map(str, numbers)], stdout=subprocess.PIPE)
     if done.returncode != 0:
         sys.exit(f"{program} {verb} ended with {done.returncode}")
     return json.loads(done.stdout)
+
+
+def measured(program, verb, count, base):
+    """What one call prints, in a folder of its own."""
+    folder = tempfile.mkdtemp(dir=base)
+    answer = called(program, verb, folder, count)
+    shutil.rmtree(folder)
+    return answer
 
 
 def all_rounds(contenders, verbs, share, rounds, base):
@@ -117,6 +128,94 @@ def aimed(verb, answers):
     return f"{text}: {'yes' if met else 'no'}"
 
 
+def shapes(words, share):
+    """Of each vacuum the verb that makes its store, how many versions ended, and its runs."""
+    found = []
+    for word in words.split(","):
+        versions, _, runs = word.partition("x")
+        verb = "v0k" if versions.endswith("k") else "v0"
+        count = max(1_000, int(int(versions.rstrip("k")) * share) // 1_000 * 1_000)
+        found.append((verb, count, min(int(runs or 1), count // 1_000)))
+    return found
+
+
+def questions(verb, count, share):
+    """Each verb that is called before a vacuum and after it, with its count."""
+    verbs = {"v5": 5, "v6": count}
+    if verb == "v0":
+        verbs.update({"v3": max(1, int(20_000 * share)), "v4": 3})
+    return verbs
+
+
+def vacuumed(program, shape, share, base):
+    """What the calls before a vacuum, of it, and after it print."""
+    verb, count, runs = shape
+    folder = tempfile.mkdtemp(dir=base)
+    called(program, verb, folder, count)
+    before = {name: called(program, name, folder, number) for name, number in questions(verb, count, share).items()}
+    tasks = {"v1": called(program, "v1", folder, count, runs), "v2": called(program, "v2", folder, count)}
+    after = {name: called(program, name, folder, number) for name, number in questions(verb, count, share).items()}
+    shutil.rmtree(folder)
+    return before, {**tasks, **after}
+
+
+def task_cells(answers):
+    """A task: what it took, beside the values and a plain copy, and whether it was fast enough."""
+    ms, rate, copy = (median(answers, name) for name in ("value", "mb_s", "copy_mb_s"))
+    parts = ", ".join(f"{name} {median(answers, name + '_ms'):,.1f}" for name in ("starting", "writing", "syncing", "turning", "ending"))
+    size, values = (median(answers, name) / 1e6 for name in ("bytes", "value_bytes"))
+    grown = max(answer["most"] - answer["held_before"] for answer in answers) / 1e6
+    beside = (f"{size:,.2f} MB, values {values:,.1f} MB; {rate:,.0f} MB/s, plain copy {median(answers, 'copy_ms'):,.1f} ms "
+              f"({copy:,.0f} MB/s); {parts}; memory +{grown:.1f} MB at most")
+    return f"{ms:,.1f}", beside, rate, copy
+
+
+def question_cells(verb, before, after):
+    """A question: its value after the vacuum, and beside it that of before."""
+    if verb in ("v3", "v4"):
+        names = ("first_us", "again_us", "last_us")
+        of = {name: [shown(median(answers, name)) for answers in (before, after)] for name in names}
+        beside = (f"before {shown(median(before, 'us'))}; first {of['first_us'][1]} (before {of['first_us'][0]}), "
+                  f"again {of['again_us'][1]} ({of['again_us'][0]}), as of the last commit {of['last_us'][1]} ({of['last_us'][0]})")
+        return shown(median(after, "us")), beside
+    beside = f"before {shown(median(before, 'value'))}"
+    if verb == "v5":
+        beside += f"; reading the files {median(after, 'reading_ms'):.1f}, before {median(before, 'reading_ms'):.1f}"
+    else:
+        beside += f"; {median(after, 'held') / 1e6:.1f} MB, before {median(before, 'held') / 1e6:.1f}"
+    return shown(median(after, "value")), beside
+
+
+VACUUM_VERBS = {
+    "v1": "archive, ms",
+    "v2": "reclaim, ms",
+    "v3": "a value as of a time below the reclaim mark, µs",
+    "v4": "a scan of 1,000 records as of such a time, µs",
+    "v5": "opening after the vacuum, with a first answer, ms",
+    "v6": "memory of an opened store a version, bytes",
+}
+
+
+def print_vacuums(program, words, share, rounds, base):
+    """A table of vacuums and of what they leave."""
+    print("\n| Verb | Value | Ended versions | Runs | Store | Beside it | Aimed at |\n" + "|---" * 7 + "|")
+    for shape in shapes(words, share):
+        found = [vacuumed(program, shape, share, base) for _ in range(rounds)]
+        keys = " of as many keys" if shape[0] == "v0k" else ""
+        for verb, text in VACUUM_VERBS.items():
+            if verb not in found[0][1]:
+                continue
+            after = [answers[verb] for _, answers in found]
+            aim = ""
+            if verb in ("v1", "v2"):
+                value_cell, beside_cell, rate, copy = task_cells(after)
+                if verb == "v1":
+                    aim = f"{LEAST_MB} MB/s where the copy has it: {'yes' if rate >= min(LEAST_MB, copy) else 'no'}"
+            else:
+                value_cell, beside_cell = question_cells(verb, [answers[verb] for answers, _ in found], after)
+            print(f"| {verb} | {text} | {shape[1]:,}{keys} | {shape[2]} | {value_cell} | {beside_cell} | {aim} |", flush=True)
+
+
 def held_memory(program, folder):
     """What a process holds that has opened a store, and the most that it held, in bytes."""
     process = subprocess.Popen([program, "run", folder], stdin=subprocess.PIPE, stdout=subprocess.PIPE)
@@ -169,35 +268,44 @@ def arguments():
     parser.add_argument("--rounds", type=int, default=5)
     parser.add_argument("--folder")
     parser.add_argument("--verbs", default=",".join(VERBS))
+    parser.add_argument("--vacuums", default=VACUUMS)
     parser.add_argument("--share", type=float, default=1.0)
     parser.add_argument("--program")
     parser.add_argument("--alone", action="store_true")
     return parser.parse_args()
 
 
+def print_verbs(found, verbs, share):
+    """A table of the verbs, with the peers' values beside the store's."""
+    peers = sorted({name for name, _ in found if name != "timestore"})
+    print("\n| Verb | Value | Count | Store | Beside it | Aimed at |" + "".join(f" {name} |" for name in peers))
+    print("|---" * (6 + len(peers)) + "|")
+    for verb in verbs:
+        answers = found["timestore", verb]
+        others = "".join(f" {value(found[name, verb])} |" for name in peers)
+        count = max(1, int(VERBS[verb][1] * share))
+        store = f"{value(answers)} | {beside(verb, answers)} | {aimed(verb, answers)}"
+        print(f"| {verb} | {VERBS[verb][0]} | {count:,} | {store} |{others}")
+
+
 def main():
     asked = arguments()
-    verbs = asked.verbs.split(",")
+    verbs = [verb for verb in asked.verbs.split(",") if verb.strip()]
+    bench = os.path.abspath(asked.bench)
     with tempfile.TemporaryDirectory(dir=asked.folder) as base:
-        contenders = {"timestore": os.path.abspath(asked.bench)}
-        if not asked.alone:
+        contenders = {"timestore": bench}
+        if verbs and not asked.alone:
             contenders.update(built_peers(base))
         print(f"`{' '.join(sys.argv)}`")
         print(f"{os.cpu_count()} cores ({processor()}), Linux {platform.release()}, {medium(base)}; "
               f"load {load()} at the beginning; medians of {asked.rounds} rounds")
-        found = all_rounds(contenders, verbs, asked.share, asked.rounds, base)
-        print(f"load {load()} at the end\n")
-        peers = [name for name in contenders if name != "timestore"]
-        print("| Verb | Value | Count | Store | Beside it | Aimed at |" + "".join(f" {name} |" for name in peers))
-        print("|---" * (6 + len(peers)) + "|")
-        for verb in verbs:
-            answers = found["timestore", verb]
-            others = "".join(f" {value(found[name, verb])} |" for name in peers)
-            count = max(1, int(VERBS[verb][1] * asked.share))
-            store = f"{value(answers)} | {beside(verb, answers)} | {aimed(verb, answers)}"
-            print(f"| {verb} | {VERBS[verb][0]} | {count:,} | {store} |{others}")
+        if verbs:
+            print_verbs(all_rounds(contenders, verbs, asked.share, asked.rounds, base), verbs, asked.share)
+        if asked.vacuums.strip():
+            print_vacuums(bench, asked.vacuums, asked.share, asked.rounds, base)
+        print(f"\nload {load()} at the end")
         if asked.program:
-            print_memory(os.path.abspath(asked.bench), os.path.abspath(asked.program), base)
+            print_memory(bench, os.path.abspath(asked.program), base)
 
 
 if __name__ == "__main__":
