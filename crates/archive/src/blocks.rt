@@ -55,6 +55,29 @@ impl BlockReader {
         if self.cache.copy(start, len, skip, out) {
             return Ok(true);
         }
+        let there = self.read_missing(disk, start, len, skip, out)?;
+        Ok(there)
+    }
+
+    /// The same of a block that is not kept. It stays a call of its own: its array is cleared, which
+    /// would take longer than to copy from a block that is kept.
+    #[inline(never)]
+    fn read_missing<D: Disk>(
+        &mut self,
+        disk: &mut D,
+        start: u64,
+        len: usize,
+        skip: usize,
+        out: &mut [u8],
+    ) -> Result<bool, DeviceFault>
+        requires small { len ≤ 4096 }
+        requires part { skip + length out.old ≤ len }
+        ensures disk { D.state disk.new ≡ looked result (D.state disk.old) }
+        ensures kept { Keeps (start + len) D.tells (archive_of (D.state disk.old)) (parts_in self.old.cache.blocks) (parts_in self.new.cache.blocks) }
+        ensures bytes { IsTrue D.tells
+            → IfOk result (λ there. IsTrue there → out.new ≡ slice_range (archive_of (D.state disk.old)) (start + skip) (start + skip + length out.old)) }
+        ensures there { IsTrue D.tells → start + len ≤ length (archive_of (D.state disk.old)) → IfOk result (λ there. IsTrue there) }
+    {
         let mut bytes = [0; 4096];
         let there = self.fetch_block(disk, start, skip, &mut bytes[..len], out)?;
         Ok(there)

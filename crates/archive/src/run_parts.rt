@@ -169,7 +169,57 @@ impl ArchiveReader {
             return Err(ArchiveFault::Damaged(run.slot.start));
         }
         let len = (end - placed.place - 26) as usize;
+        self.read_spelled(disk, run, placed.place + 26, len)
+    }
+
+    /// The value that a part of the run of this length spells.
+    fn read_spelled<D: Disk>(
+        &mut self,
+        disk: &mut D,
+        run: &RunEntry,
+        at: u64,
+        len: usize,
+    ) -> Result<Value, ArchiveFault>
+        requires short { len ≤ 4097 }
+        requires inside { at + len ≤ run.now.slot.len }
+        ensures looks { LooksInto run.now D.tells (D.state disk.old) (D.state disk.new) (kept_of self.old) (kept_of self.new) result }
+        ensures heads { self.new.heads ≡ self.old.heads }
+        ensures only { (records : List ArchiveRecord) (value : List (List ℕ)) → Reads D.tells (kept_of self.old) (D.state disk.old) run.now records
+            → IsValue value → slice_range (archive_of (D.state disk.old)) (run.now.slot.start + at) (run.now.slot.start + at + len) ≡ value_bytes value
+            → Answers result (λ found. found ≡ value) }
+        ensures exact { IsTrue D.tells → IsRight (kept_of self.old) (archive_of (D.state disk.old))
+            → MatchResult result (λ value. IsValue value × (slice_range (archive_of (D.state disk.old)) (run.now.slot.start + at) (run.now.slot.start + at + len) ≡ value_bytes value))
+            (IfDamaged (λ _. (length (archive_of (D.state disk.old)) < run_end run.now) ⊎ ((value : List (List ℕ)) → IsValue value → slice_range (archive_of (D.state disk.old)) (run.now.slot.start + at) (run.now.slot.start + at + len) ≢ value_bytes value))) }
+    {
+        if len <= 256 {
+            let mut bytes = [0; 256];
+            return self.read_fields(disk, run, at, &mut bytes[..len]);
+        }
+        self.read_long(disk, run, at, len)
+    }
+
+    /// The same of a long one. It stays a call of its own: its array is cleared, which would take longer
+    /// than to read a short value.
+    #[inline(never)]
+    fn read_long<D: Disk>(
+        &mut self,
+        disk: &mut D,
+        run: &RunEntry,
+        at: u64,
+        len: usize,
+    ) -> Result<Value, ArchiveFault>
+        requires short { len ≤ 4097 }
+        requires inside { at + len ≤ run.now.slot.len }
+        ensures looks { LooksInto run.now D.tells (D.state disk.old) (D.state disk.new) (kept_of self.old) (kept_of self.new) result }
+        ensures heads { self.new.heads ≡ self.old.heads }
+        ensures only { (records : List ArchiveRecord) (value : List (List ℕ)) → Reads D.tells (kept_of self.old) (D.state disk.old) run.now records
+            → IsValue value → slice_range (archive_of (D.state disk.old)) (run.now.slot.start + at) (run.now.slot.start + at + len) ≡ value_bytes value
+            → Answers result (λ found. found ≡ value) }
+        ensures exact { IsTrue D.tells → IsRight (kept_of self.old) (archive_of (D.state disk.old))
+            → MatchResult result (λ value. IsValue value × (slice_range (archive_of (D.state disk.old)) (run.now.slot.start + at) (run.now.slot.start + at + len) ≡ value_bytes value))
+            (IfDamaged (λ _. (length (archive_of (D.state disk.old)) < run_end run.now) ⊎ ((value : List (List ℕ)) → IsValue value → slice_range (archive_of (D.state disk.old)) (run.now.slot.start + at) (run.now.slot.start + at + len) ≢ value_bytes value))) }
+    {
         let mut bytes = [0; 4097];
-        self.read_fields(disk, run, placed.place + 26, &mut bytes[..len])
+        self.read_fields(disk, run, at, &mut bytes[..len])
     }
 }

@@ -1,6 +1,6 @@
 //! A tree of chains in the order of their keys.
 ghost use Rattle.std.specs.Prelude.{◌≡◌, IfOk, IsTrue, find};
-ghost use Rattle.std.specs.Option.{option_copied};
+ghost use Rattle.std.specs.Option.{option_copied, option_or};
 ghost use Rattle.chains.specs.Bounds.{is_in};
 ghost use Rattle.chains.specs.KeyWrites.{is_of, forgotten, IsOrdered};
 
@@ -34,16 +34,21 @@ impl Tree<Chain> {
         requires { IsOrdered self.now.pieces }
         ensures { option_copied result ≡ find (λ c. is_in bound c.key) self.now.pieces }
     {
+        self.least_or(bound, None)
+    }
+
+    /// The chain of the least key within the bound, or else the chain behind these.
+    fn least_or<'a>(&'a self, bound: Bound, behind: Option<&'a Chain>) -> Option<&'a Chain>
+        requires { IsOrdered self.now.pieces }
+        ensures { option_copied result ≡ option_or (find (λ c. is_in bound c.key) self.now.pieces) (option_copied behind.entry) }
+    {
         let Some(node) = self.top() else {
-            return None;
+            return behind;
         };
         if bound.admits(node.piece.key()) {
-            match node.left.least(bound) {
-                Some(chain) => Some(chain),
-                None => Some(&node.piece),
-            }
+            node.left.least_or(bound, Some(&node.piece))
         } else {
-            node.right.least(bound)
+            node.right.least_or(bound, behind)
         }
     }
 

@@ -36,11 +36,12 @@ pub(crate) fn ending_in(
 ) -> Option<Version<&SharedValue>>
     ensures { option_map version_of_loan result ≡ find (ends_after time) (versions_upto end writes.now) }
 {
-    let [first, rest @ ..] = writes else {
-        return None;
-    };
-    match version_after(first, first_time_or(rest, end), time) {
-        Some(version) => Some(version),
-        None => ending_in(rest, end, time),
+    let mut rest = writes;
+    while let [first, after @ ..] = rest {
+        if let Some(version) = version_after(first, first_time_or(after, end), time) {
+            return Some(version);
+        }
+        rest = after;
     }
+    None
 }

@@ -1,5 +1,5 @@
 -- The first of one key's versions that ends after a time, and those behind it.
-use Rattle.std.proofs.Common.{◌≡◌, ℕ, ◌<◌, ◌≤◌, nat_le, nat_lt, Bool, true, false, cond, List, [], ◌∷◌, Some, None, map, refl, ap, sym, subst, ◌∙◌, arith}
+use Rattle.std.proofs.Common.{◌≡◌, ℕ, ◌<◌, ◌≤◌, nat_le, nat_lt, Bool, true, false, cond, List, [], ◌∷◌, Option, Some, None, map, drop, refl, ap, sym, subst, ◌∙◌, arith}
 use Rattle.std.specs.Prelude.{find, filter}
 use Rattle.std.proofs.lemmas.Bool.Decides.{nat_tests}
 use Rattle.history.specs.declared.time.Version.{Version}
@@ -11,7 +11,8 @@ use Rattle.chains.specs.Writes.{Value}
 use Rattle.chains.specs.KeyWrites.{KeyWrites}
 use Rattle.chains.proofs.Walks.{find-none-filter}
 use Rattle.image.specs.PlansMade.{archive_record}
-use Rattle.vacuum.specs.Archives.{key_records}
+use Rattle.image.specs.Reading.{ArchiveRecord}
+use Rattle.vacuum.specs.Archives.{key_records, IsFirst}
 
 not-by : {a b : ℕ} → b < a → nat_le a b ≡ false
 not-by {a} {b} h = grind (arith, nat_tests)
@@ -21,6 +22,12 @@ was-lt {a} {b} h = grind (arith, nat_tests)
 
 was-ge : {a b : ℕ} → nat_lt a b ≡ false → b ≤ a
 was-ge {a} {b} h = grind (arith, nat_tests)
+
+was-le : {a b : ℕ} → nat_le a b ≡ true → a ≤ b
+was-le {a} {b} h = grind (arith, nat_tests)
+
+was-gt : {a b : ℕ} → nat_le a b ≡ false → b < a
+was-gt {a} {b} h = grind (arith, nat_tests)
 
 pub found-after : (t : ℕ) (vs : List (Version Value)) (v : Version Value) → find (ends_after t) vs ≡ Some v → t < v.to
 found-after t [] v e = absurd (cc)
@@ -92,3 +99,21 @@ module _ (t upto : ℕ) (c : KeyWrites) (rising : IsRisingAfter 0 c.writes) wher
       let inside : nat_le v.to upto ≡ true = is_le by in
       ap (λ vs. map (archive_record c.key) (filter (ends_by upto) vs)) (first-split t (first_time c.writes) (versions c.writes) v apart e)
       ∙ rw inside refl
+
+  -- behind the first record stand those of the versions that end after its own
+  pub records-behind : (to : ℕ) → IsFirst to (key_records t upto c) → key_records to upto c ≡ drop 1 (key_records t upto c)
+  records-behind to first =
+      let Ends : Bool → Version Value → Type 0 = λ b v. nat_le v.to upto ≡ b → key_records to upto c ≡ drop 1 (key_records t upto c) in
+      let Goal : Option (Version Value) → Type 0 = λ o. find (ends_after t) (versions c.writes) ≡ o → key_records to upto c ≡ drop 1 (key_records t upto c) in
+      let by : (v : Version Value) → find (ends_after t) (versions c.writes) ≡ Some v → (b : Bool) → Ends b v = λ v e b. elim b as (λ b. Ends b v) [
+        | true ↦ λ h.
+            let next = records-next v e (was-le h) in
+            let same : v.to ≡ to = subst (IsFirst to) next first in
+            ap (λ (n : ℕ). key_records n upto c) (sym same) ∙ sym (ap (λ (rs : List ArchiveRecord). drop 1 rs) next)
+        | false ↦ λ h. absurd (subst (IsFirst to) (records-late v e (was-gt h)) first)
+      ] in
+      let all : (o : Option (Version Value)) → Goal o = λ o. elim o as Goal [
+        | None ↦ λ e. absurd (subst (IsFirst to) (records-none e) first)
+        | Some v ↦ λ e. by v e (nat_le v.to upto) refl
+      ] in
+      all (find (ends_after t) (versions c.writes)) refl

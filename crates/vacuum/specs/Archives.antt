@@ -1,5 +1,5 @@
 -- The records of a run, as a walk over the versions in memory gives them.
-use Rattle.std.specs.Prelude.{ℕ, ◌<◌, List, [], ◌∷◌, ◌++◌, map, filter, length}
+use Rattle.std.specs.Prelude.{ℕ, ◌≡◌, List, [], ◌∷◌, ◌++◌, map, filter, length}
 use Rattle.std.specs.List.{flat_map}
 use Rattle.history.specs.Versions.{versions, ends_after, ends_by}
 use Rattle.chains.specs.declared.bound.Bound.{Bound}
@@ -38,14 +38,19 @@ records_left passed after upto (c ∷ cs) = key_records passed upto c ++ records
 abbrev pub records_at : ℕ → ℕ → Place → List KeyWrites → List ArchiveRecord
 records_at after upto place frozen = records_left place.passed after upto (keys_within place.bound frozen)
 
--- the first of these keys, if there is one, has a record
-abbrev pub HasNext : ℕ → ℕ → List KeyWrites → Type 0
-HasNext passed upto [] = Unit {0}
-HasNext passed upto (c ∷ cs) = 0 < length (key_records passed upto c)
+-- there is a first record, whose version ended at this time
+abbrev pub IsFirst : ℕ → List ArchiveRecord → Type 0
+IsFirst to [] = ⊥
+IsFirst to (r ∷ rs) = r.version.to ≡ to
+
+-- the first of these keys, if there is one, has a record, and its first one is of a version that ended at this time
+abbrev pub HasNext : ℕ → ℕ → ℕ → List KeyWrites → Type 0
+HasNext passed to upto [] = Unit {0}
+HasNext passed to upto (c ∷ cs) = IsFirst to (key_records passed upto c)
 
 -- a record is next at this place, unless none is left
 abbrev pub IsSettled : ℕ → Place → List KeyWrites → Type 0
-IsSettled upto place frozen = HasNext place.passed upto (keys_within place.bound frozen)
+IsSettled upto place frozen = HasNext place.passed place.to upto (keys_within place.bound frozen)
 
 -- a walk over archive records: all of them, and those that are left
 pub record Walked : Type 0 where

@@ -9,12 +9,13 @@ use history::Key;
 use std::marker::Model;
 use wire::Value;
 
-/// Where a walk stands: the first key within the bound has the next record, and its versions that
-/// ended by `passed`, in microseconds since 1970, are behind.
+/// Where a walk stands: the first key within the bound has the next record, of a version that ended at
+/// `to`, and its versions that ended by `passed` are behind. Times are in microseconds since 1970.
 #[derive(Clone, Copy)]
 pub(crate) struct Place {
     bound: Bound,
     passed: u64,
+    to: u64,
 }
 
 /// Goes over the archive records of the versions that ended after one time and by another, by key
@@ -102,12 +103,17 @@ fn settled(frozen: &Frozen, after: u64, upto: u64, place: Place) -> Place
 {
     let mut place = place;
     while let Some(chain) = frozen.least(place.bound) {
-        if next_record(chain, place.passed, upto).is_some() {
-            return place;
+        if let Some((head, _)) = next_record(chain, place.passed, upto) {
+            return Place {
+                bound: place.bound,
+                passed: place.passed,
+                to: head.to,
+            };
         }
         place = Place {
             bound: Bound::After(chain.key()),
             passed: after,
+            to: 0,
         };
     }
     place
@@ -126,6 +132,7 @@ fn first_place(frozen: &Frozen, after: u64, upto: u64) -> Place
     let place = Place {
         bound: Bound::From(least),
         passed: after,
+        to: 0,
     };
     settled(frozen, after, upto, place)
 }
@@ -136,15 +143,10 @@ fn next_place(frozen: &Frozen, after: u64, upto: u64, place: Place) -> Place
     ensures left { records_at after upto result frozen.now ≡ drop 1 (records_at after upto place frozen.now) }
     ensures settled { IsSettled upto result frozen.now }
 {
-    let Some(chain) = frozen.least(place.bound) else {
-        return place;
-    };
-    let Some((head, _)) = next_record(chain, place.passed, upto) else {
-        return place;
-    };
     let behind = Place {
         bound: place.bound,
-        passed: head.to,
+        passed: place.to,
+        to: 0,
     };
     settled(frozen, after, upto, behind)
 }

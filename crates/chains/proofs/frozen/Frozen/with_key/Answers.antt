@@ -1,5 +1,5 @@
-use Rattle.std.proofs.Common.{[], ◌∷◌, ◌++◌, List, subst, ap, sym, ◌∙◌}
-use Rattle.chains.specs.KeyWrites.{KeyWrites, IsOrdered, AreRising}
+use Rattle.std.proofs.Common.{[], ◌∷◌, ◌++◌, ap, ◌∙◌}
+use Rattle.chains.specs.KeyWrites.{KeyWrites}
 use Rattle.chains.specs.Shapes.{Shape}
 use Rattle.chains.proofs.Rising.{rising-append}
 use Rattle.chains.proofs.frozen.Frozen.with_key.Goals as goal
