@@ -26,7 +26,7 @@ from homes import Files
 from machine import Key
 from program import AREAS, Areas, Failure, Shown, Until, command, format_store, read_areas, report, run, spread, use_memory, write_areas
 
-# two commits in a slot, a delta, a deletion, two extents of one chain, anchors, two runs and two floors
+# two commits in a slot, a delta, a deletion, two extents of one chain, anchors, two runs, two floors, and two chains of the same bytes
 LARGE = " ".join(["cd" * 255] * 16)
 SCRIPT = f"""begin a
 put a 1 7 61 62
@@ -68,7 +68,17 @@ begin g
 del g 1 8
 submit g 6 0
 flush
+begin h
+put h 5 1 -
+submit h 7 150
+flush
+begin i
+put i 5 1 -
+submit i 8 160
+flush
 """.splitlines()
+# the commits of the last slots: e, f with g, and h and i, which have the same records
+SINGLE, LARGE_AND_GONE, TWIN, OTHER_TWIN = -4, -3, -2, -1
 
 # an area, a place in it, and what is written there; None: the area is cut off there
 Change = tuple[str, int, "bytes | None"]
@@ -195,25 +205,29 @@ def slot_checks(small: Small) -> list[Check]:
         ("a byte behind the members", 36, b"\1"), ("the last byte", 511, b"\1")]]
     changes += [(1, "a commit's time not later", 16, word(100, 8)), (1, "a member's time not later", 44, word(110, 8))]
     changes += [(archived, f"an archive {name}", place, data) for name, place, data in [
-        ("with a member", 2, b"\1"), ("up to 0", 8, word(0, 8)), ("not later", 8, word(111, 8)), ("past the last commit", 8, word(131, 8)), ("that starts elsewhere", 16, word(run[1] + 1, 8)),
+        ("with a member", 2, b"\1"), ("up to 0", 8, word(0, 8)), ("up to 2^63", 8, word(1 << 63, 8)), ("not later", 8, word(111, 8)), ("past the last commit", 8, word(131, 8)), ("that starts elsewhere", 16, word(run[1] + 1, 8)),
         ("too short for its records", 24, word(36 * run[3] - 1, 8)), ("too long for its records", 24, word(4131 * run[3] + 1, 8)), ("without records", 32, word(0, 8)),
+        ("that ends past 2^63", 24, word((1 << 63) - 1, 8) + word((1 << 63) // 4131 + 1, 8)), ("of more records than 2^64 has places for", 32, word((1 << 64) // 36 + 1, 8)),
         ("with a byte behind it", 40, b"\1")]]
     changes += [(reclaimed, f"a reclaim {name}", place, data) for name, place, data in [
-        ("with a member", 2, b"\1"), ("up to another time", 8, word(110, 8)), ("without a first extent", 16, word(0, 4)), ("without extents", 20, word(0, 4)),
+        ("with a member", 2, b"\1"), ("up to 0", 8, word(0, 8)), ("up to 2^63", 8, word(1 << 63, 8)), ("up to another time", 8, word(110, 8)), ("without a first extent", 16, word(0, 4)), ("first extent 65,537", 16, word(65537, 4)), ("without extents", 20, word(0, 4)),
+        ("with 65,537 extents", 20, word(65537, 4) + word(65537, 4)),
         ("with more extents than records", 20, word(anchors[3] + 1, 4)), ("without records", 24, word(0, 4)), ("with a byte behind it", 28, b"\1")]]
     changes += [(floor, f"a floor {name}", place, data) for name, place, data in [
         ("with a member", 2, b"\1"), ("with byte 3", 3, b"\1"), ("of another number", 4, word(floor + 1, 4)), ("at 0", 8, word(0, 8)), ("at 2^63", 8, word(1 << 63, 8)),
         ("not later", 8, word(105, 8)), ("past the last commit", 8, word(131, 8)), ("with a byte behind it", 16, b"\1"), ("with a last byte", 511, b"\1")]]
+    changes += [(reclaimed + 1, "a reclaim again up to the same time", 0, b"\xc7\3\0\0" + word(reclaimed + 1, 4) + word(anchors[0], 8) + bytes(image.SLOT - 16))]
     changes += [(last + 1, "the gate behind the log opened", 0, b"\xc7"), (last + 1, "a floor of another slot behind the log", 0, b"\xc7\4\0\0" + word(last, 4) + word(120, 8))]
     rows: list[Check] = [(f"slot {number}: {name}", ("status", slot(number, place), data), f"damaged status {number}") for number, name, place, data in changes]
-    return rows + [("a gate two behind the log opened", ("status", slot(last + 2, 0), b"\xc7"), None), ("the last gate closed", ("status", slot(last, 0), b"\x37"), None)]
+    return rows + [("slot 0: any label", ("status", slot(0, 8), word((1 << 64) - 1, 8)), None), ("a commit at the end of all time", ("status", slot(last, 16), word(image.LATEST, 8)), None),
+                   ("a gate two behind the log opened", ("status", slot(last + 2, 0), b"\xc7"), None), ("the last gate closed", ("status", slot(last, 0), b"\x37"), None)]
 
 
 def floor_changes(small: Small) -> list[Check]:
     """Floors that keep the log's rules: what is refused by them, and a run with what ended by a floor before it."""
     first, second, behind = small.body("floor", 0)[0], small.body("floor")[0], len(small.found)
     between = small.areas["status"][slot(first, 16): slot(second, 8)]
-    changes = [("a floor behind the log", slot(behind, 0), b"\xc7\4\0\0" + word(behind, 4) + word(120, 8)), ("a floor at the last commit behind the log", slot(behind, 0), b"\xc7\4\0\0" + word(behind, 4) + word(141, 8)),
+    changes = [("a floor behind the log", slot(behind, 0), b"\xc7\4\0\0" + word(behind, 4) + word(120, 8)), ("a floor at the last commit behind the log", slot(behind, 0), b"\xc7\4\0\0" + word(behind, 4) + word(160, 8)),
                ("a later floor", slot(second, 8), word(130, 8)), ("a floor later than a run's versions", slot(first, 8), word(110, 8) + between + word(111, 8))]
     rows: list[Check] = [(f"floors: {name}", ("status", place, data), None) for name, place, data in changes]
     return rows + [("floors: a version in a run that ended by the floor before it", ("archive", TO_OF_RECORD, word(105, 8)), None)]
@@ -222,14 +236,16 @@ def floor_changes(small: Small) -> list[Check]:
 def extent_checks(small: Small, name: str, number: int) -> list[Check]:
     """The form of an extent of anchors or of a commit."""
     heap, at = small.areas["heap"], heap_at(number, 0)
-    used, other = image.u(heap, at + 8, 4), 1 if name == "anchors" else 4
+    used, (other, fields) = image.u(heap, at + 8, 4), (1, 35) if name == "anchors" else (4, 27)
     changes = [
         ("own number", 0, word(number + 1, 4)), ("a next extent", 4, word(number, 4)), ("nothing used", 8, word(0, 4)), ("8,177 bytes used", 8, word(8177, 4)),
         ("one byte less used", 8, word(used - 1, 4)), ("one byte more used", 8, word(used + 1, 4)), ("byte 12", 12, b"\1"), ("a byte behind what is used", 16 + used, b"\1"),
         ("the last byte", 8191, b"\1"), ("a record of kind 0", 16, b"\0"), (f"a record of kind {other}", 16, bytes([other])), ("keys not rising", 17, word(65535, 2)),
+        ("no fields", fields, b"\0"), ("17 fields", fields, b"\x11"), ("a field past what is used", fields + 1, b"\xff"),
     ]
     if name == "anchors":
-        changes += [("from 0", 27, word(0, 8)), ("from behind the mark", 27, word(112, 8)), ("without fields", 35, b"\0")]
+        second = 16 + image.anchor(heap[at + 16: at + 16 + used], 0, image.LATEST)[2]
+        changes += [("from 0", 27, word(0, 8)), ("from behind the mark", 27, word(112, 8)), ("a key twice", second + 1, heap[at + 17: at + 27])]
     return [(f"{name}: {what}", ("heap", at + place, data), f"damaged heap {number}") for what, place, data in changes]
 
 
@@ -238,27 +254,37 @@ def record_checks(small: Small, number: int) -> list[Check]:
     heap, at = small.areas["heap"], heap_at(number, 0)
     used, delta, anchor = image.u(heap, at + 8, 4), 16 + 14, b"\1" + heap[at + 31: at + 41] + bytes.fromhex("03016401670169")
     spelled = word(used + 3, 4) + heap[at + 12: at + delta] + anchor
-    large = small.body("commit")[1][0][2]
+    longer = word(used + 4, 4) + heap[at + 12: at + delta + 11] + word(7, 2) + bytes.fromhex("017101720173")
+    large = small.body("commit", LARGE_AND_GONE)[1][0][2]
     lone = word(14, 4) + bytes(4) + bytes.fromhex("0103000100000000000000" "010161")
     changes = [
         (number, "a delta's mask past its fields", delta + 11, word(12, 2)), (number, "a delta without a change", delta + 14, b"\x66"), (number, "a delta of another key", delta + 3, b"\2"),
-        (number, "an anchor where a delta is shorter", 8, spelled), (large, "records not packed", 8, lone + bytes(image.EXTENT - 8 - len(lone))),
+        (number, "an anchor where a delta is shorter", 8, spelled), (number, "a delta where an anchor is shorter", 8, longer), (number, "a delta of what was deleted", 16, b"\2"), (large, "records not packed", 8, lone + bytes(image.EXTENT - 8 - len(lone))),
     ]
     return [(f"records: {name}", ("heap", heap_at(one, place), data), f"damaged heap {one}") for one, name, place, data in changes]
 
 
 def chain_checks(small: Small) -> list[Check]:
     """The chains: anchors first, then the commits behind the mark in their order."""
-    heap, anchor = small.areas["heap"], small.body("reclaimed")[1][1]
-    late, (large, gone) = small.body("commit")
-    one, (single,) = small.body("commit", -2)
+    heap, (reclaimed, (_, anchor, extents, records)) = small.areas["heap"], small.body("reclaimed")
+    late, (large, gone) = small.body("commit", LARGE_AND_GONE)
+    one, (single,) = small.body("commit", SINGLE)
+    (_, (twin,)), (other, _) = small.body("commit", TWIN), small.body("commit", OTHER_TWIN)
     alone, extent = single[2], large[2]
     second = image.u(heap, heap_at(extent, 4), 4)
     return extent_checks(small, "anchors", anchor) + extent_checks(small, "a commit", alone) + record_checks(small, alone) + [
+        ("one record more of anchors in the slot", ("status", slot(reclaimed, 24), word(records + 1, 4)), f"damaged heap {anchor}"),
+        ("one record less of anchors in the slot", ("status", slot(reclaimed, 24), word(records - 1, 4)), f"damaged heap {anchor}"),
+        ("one extent more of anchors in the slot", ("status", slot(reclaimed, 20), word(extents + 1, 4)), f"damaged heap {anchor}"),
         ("one record more in the slot", ("status", slot(one, 32), word(single[4] + 1, 4)), f"damaged heap {alone}"),
+        ("one record less in the slot", ("status", slot(one, 32), word(single[4] - 1, 4)), f"damaged heap {alone}"),
+        ("a chain of one extent more", ("status", slot(one, 28), word(2, 4)), f"damaged heap {alone}"),
         ("a chain in an extent of another", ("status", slot(one, 24), word(anchor, 4)), f"damaged heap {anchor}"),
+        ("a chain in an extent of another commit, whose records fit", ("status", slot(other, 24), word(twin[2], 4)), f"damaged heap {twin[2]}"),
         ("a chain past the file", ("status", slot(one, 24), word(65536, 4)), "damaged heap 65536"),
         ("a chain of one extent less", ("status", slot(late, 28), word(1, 4)), f"damaged heap {extent}"),
+        ("an extent that follows itself", ("heap", heap_at(extent, 4), word(extent, 4)), f"damaged heap {extent}"),
+        ("a last extent that names a next one", ("heap", heap_at(second, 4), word(alone, 4)), f"damaged heap {extent}"),
         ("a next extent that is another's", ("heap", heap_at(extent, 4), word(alone, 4)), f"damaged heap {extent}"),
         ("the second extent's own number", ("heap", heap_at(second, 0), word(0, 4)), f"damaged heap {extent}"),
         ("a deletion of what is not there", ("heap", heap_at(gone[2], 19), word(9, 8)), f"damaged heap {gone[2]}"),
