@@ -1,14 +1,16 @@
 #!/usr/bin/env python3
-"""A job with commits between its steps, stopped before, within and after each device call; what is left then reclaims, commits, and is
-stopped again at each device call of that.
+"""A job with commits between its steps, stopped before, within and after each device call; what is
+left then reclaims, commits, and is stopped again at each device call of that.
 
-    between.py PROGRAM [--only archive|reclaim|floor] [--seconds S] [--jobs N]
+between.py PROGRAM [--only archive|reclaim|floor] [--seconds S] [--jobs N]
 
-A record has three versions and a deletion. Before each step of the job a commit is begun, and pumped until it is published or meets the
-job's slot. What a stop may leave is all that was written since the syncs, nothing of it, all of it torn or half of the last write, torn
-to bytes 00, c7 and ff; a stop before a call leaves what one after the call before it may leave. Each image is opened and asked at every
-time, and compared with the list of write sets (machine.py) and with a plain reader (image.py). With --seconds it ends after so many; the
-images of the first stop are then spread over all of them. The status is 1 where one fails; a script is left that shows it.
+A record has three versions and a deletion. Before each step of the job a commit is begun, and
+pumped until it is published or meets the job's slot. What a stop may leave is all that was written
+since the syncs, nothing of it, all of it torn or half of the last write, torn to bytes 00, c7 and
+ff; a stop before a call leaves what one after the call before it may leave. Each image is opened
+and asked at every time, and compared with the list of write sets (machine.py) and with a plain
+reader (image.py). With --seconds it ends after so many; the images of the first stop are then
+spread over all of them. The status is 1 where one fails; a script is left that shows it.
 """
 from __future__ import annotations
 
@@ -24,23 +26,28 @@ from dataclasses import dataclass
 
 import image
 from machine import Front, Machine
-from program import Areas, Failure, Until, format_store, read_areas, report, spread, use_memory, write_areas
-from scripts import check_left
+from program import (
+    FAILURES_MOST, Areas, Failure, Until, format_store, read_areas, report, spread, use_memory,
+    write_areas,
+)
+from scripts import LARGE, check_left
 from stops import Stops, Traced, step, tell
 from wrong import has_compiler, library
 
 SLOTS = 16
 # a record with three versions and a deletion
-VERSIONS = ["begin a", "put a 1 7 61", "submit a 1 100", "flush", "begin b", "put b 1 7 62", "submit b 2 110", "flush",
-            "begin c", "del c 1 7", "submit c 3 120", "flush", "begin d", "put d 1 7 63", "submit d 4 130", "flush"]
+VERSIONS = [
+    "begin a", "put a 1 7 61", "submit a 1 100", "flush", "begin b", "put b 1 7 62",
+    "submit b 2 110", "flush", "begin c", "del c 1 7", "submit c 3 120", "flush", "begin d",
+    "put d 1 7 63", "submit d 4 130", "flush",
+]
 TIMES = range(99, 139)
-# two of these do not go into one extent
-LARGE = " ".join(["ab" * 255] * 16)
 
 
 @dataclass(frozen=True)
 class Kind:
-    """A job: what stands before it, its start, the device calls of it and the commits between, the slots behind the first four, and the job that comes next."""
+    """A job: what stands before it, its start, the device calls of it and the commits between, the
+    slots behind the first four, and the job that comes next."""
 
     before: list[str]
     start: str
@@ -50,11 +57,15 @@ class Kind:
 
 
 KINDS = {
-    "archive": Kind([], "archive 120", 37, "commit commit commit archived commit commit", "reclaim"),
-    "reclaim": Kind(["archive 110", "finish"], "reclaim", 37, "archived commit commit commit reclaimed commit commit", "floor 120"),
+    "archive": Kind(
+        [], "archive 120", 37, "commit commit commit archived commit commit", "reclaim"
+    ),
+    "reclaim": Kind(
+        ["archive 110", "finish"], "reclaim", 37,
+        "archived commit commit commit reclaimed commit commit", "floor 120",
+    ),
     "floor": Kind([], "floor 115", 23, "commit floor commit commit", "archive 120"),
 }
-FAILURES_MOST = 20
 
 
 @dataclass(frozen=True)
@@ -66,7 +77,9 @@ class Left:
     front: Front
 
     def key(self) -> bytes:
-        text = hashlib.sha256(repr((self.front.counts, self.front.floors, len(self.front.order))).encode())
+        text = hashlib.sha256(
+            repr((self.front.counts, self.front.floors, len(self.front.order))).encode()
+        )
         for area, data in self.areas.items():
             text.update(f"{area} {len(data)} ".encode() + data)
         return text.digest()
@@ -102,7 +115,10 @@ class Walk:
             yield from self.step(line)
 
     def commit(self, number: int, *records: str) -> Iterator[Left]:
-        self.tell(f"begin t{number}", *(f"put t{number} {it}" for it in records), f"submit t{number} {10 + number} 0")
+        self.tell(
+            f"begin t{number}", *(f"put t{number} {it}" for it in records),
+            f"submit t{number} {10 + number} 0",
+        )
         yield from self.steps("pump")
 
     def job_between_commits(self, start: str) -> Iterator[Left]:
@@ -116,16 +132,21 @@ class Walk:
         yield from self.steps("pump")
 
     def job_and_commit(self, start: str) -> Iterator[Left]:
-        """The next job, if there is one to be done, and a commit of four extents, which takes the least that are free."""
+        """The next job, if there is one to be done, and a commit of four extents, which takes the
+        least that are free."""
         yield from lefts("opened", self.stops, self.small)
         self.tell(start)
         yield from self.steps("job")
         live = image.read(self.stops.now).live
         yield from self.commit(0, "1 7 64", *(f"2 {record} {LARGE}" for record in range(4)))
         self.session.end_well()
-        taken, free = image.read(self.stops.now).live - live, sorted({*range(1, len(live) + 5)} - live)
+        taken = image.read(self.stops.now).live - live
+        free = sorted({*range(1, len(live) + 5)} - live)
         if taken != {*free[:4]}:
-            raise self.session.failure(f"the commit takes the extents {sorted(taken)}, where {free[:4]} are free", None, [])
+            raise self.session.failure(
+                f"the commit takes the extents {sorted(taken)}, where {free[:4]} are free", None,
+                [],
+            )
 
 
 class Between:
@@ -152,7 +173,10 @@ class Between:
             with tempfile.TemporaryDirectory(prefix="between-") as folder:
                 write_areas(folder, left.areas)
                 for again in cls.second(folder, small, KINDS[name].then):
-                    check_left(cls.program, again.areas, again.front, f"{name}, {left.where}; then {again.where}", TIMES)
+                    check_left(
+                        cls.program, again.areas, again.front,
+                        f"{name}, {left.where}; then {again.where}", TIMES,
+                    )
                     tried[name, "second"] += 1
             return tried, None
         except Failure as why:
@@ -192,7 +216,9 @@ def first_stops(program: str, kind: Kind) -> list[Left]:
     return list(found.values())
 
 
-def try_all(program: str, firsts: list[tuple[str, Left]], jobs: int, until: Until) -> tuple[Counter, int]:
+def try_all(
+    program: str, firsts: list[tuple[str, Left]], jobs: int, until: Until
+) -> tuple[Counter, int]:
     tried, bad = Counter(), 0
     with ProcessPoolExecutor(jobs, initializer=Between.begin, initargs=(program, until)) as pool:
         for one, why in pool.map(Between.one, spread(firsts)):
@@ -204,14 +230,17 @@ def try_all(program: str, firsts: list[tuple[str, Left]], jobs: int, until: Unti
 
 
 def main() -> int:
-    words = argparse.ArgumentParser(description=__doc__, formatter_class=argparse.RawDescriptionHelpFormatter)
+    words = argparse.ArgumentParser(
+        description=__doc__, formatter_class=argparse.RawDescriptionHelpFormatter
+    )
     words.add_argument("program")
     words.add_argument("--only", choices=KINDS)
     words.add_argument("--seconds", type=float, help="for how long (until all is tried)")
     words.add_argument("--jobs", type=int, default=2, help="images tried at once (2)")
     given = words.parse_args()
     use_memory()
-    program, until, kinds = os.path.abspath(given.program), Until(given.seconds), [given.only] if given.only else [*KINDS]
+    program, until = os.path.abspath(given.program), Until(given.seconds)
+    kinds = [given.only] if given.only else [*KINDS]
     if has_compiler():
         library()
     try:
@@ -221,8 +250,12 @@ def main() -> int:
         return 1
     tried, bad = try_all(program, firsts, given.jobs, until)
     for name in kinds:
-        print(f"{name}: {KINDS[name].calls} device calls; {tried[name, 'first']} images of a first stop and {tried[name, 'second']} of a second one")
-    print(f"{tried.total()} images in {until.seconds():.0f} s, {tried.total() / until.seconds():.0f} a second; {bad} failed")
+        firsts_of, seconds_of = tried[name, "first"], tried[name, "second"]
+        print(
+            f"{name}: {KINDS[name].calls} device calls; {firsts_of} images of a first stop"
+            f" and {seconds_of} of a second one"
+        )
+    print(f"{until.rate(tried.total(), 'images')}; {bad} failed")
     return 1 if bad else 0
 
 

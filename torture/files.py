@@ -1,11 +1,13 @@
 #!/usr/bin/env python3
-"""Files as a system has them: a full file system, rights that lack, what is no file or no folder, files of other stores, a long script.
+"""Files as a system has them: a full file system, rights that lack, what is no file or no folder,
+files of other stores, a long script.
 
-    files.py PROGRAM [--lines N]
+files.py PROGRAM [--lines N]
 
-Each refusal is the one that docs/USING.md names, with status 1, and leaves every file as it was. As root the rights are tried as
-the user nobody, and a full and a read-only file system are mounted; who may not mount is told that these were left out.
-A script of N lines (200,000) takes the memory of one of 10,000. The status is 1 where a check fails.
+Each refusal is the one that docs/USING.md names, with status 1, and leaves every file as it was.
+As root the rights are tried as the user nobody, and a full and a read-only file system are
+mounted; who may not mount is told that these were left out. A script of N lines (200,000) takes
+the memory of one of 10,000. The status is 1 where a check fails.
 """
 from __future__ import annotations
 
@@ -28,7 +30,10 @@ from typing import TextIO
 
 import forged
 from machine import Machine
-from program import AREAS, Areas, Failure, Session, command, format_store, read_areas, report, use_memory, write_areas
+from program import (
+    AREAS, Areas, Failure, Session, command, format_store, read_areas, report, run, use_memory,
+    write_areas,
+)
 from scripts import check_left
 from stops import Play
 from torture import write_on
@@ -39,7 +44,15 @@ SHORT = 10_000
 # as the user nobody root tries what rights keep others from
 NOBODY_ID = 65534
 NOBODY = {"user": NOBODY_ID, "group": NOBODY_ID, "extra_groups": []}
-COMMANDS = {"at": "at DIR 1 7 100", "between": "between DIR 1 7 0 101", "vacuum": "vacuum DIR 100", "run": "run DIR", "dump": "dump DIR"}
+COMMANDS = {
+    "at": "at DIR 1 7 100", "between": "between DIR 1 7 0 101", "vacuum": "vacuum DIR 100",
+    "run": "run DIR", "dump": "dump DIR",
+}
+# they leave the store as it is
+TEN_LINES = [
+    "begin t", "put t 1 7 61 62 63", "get t 1 7", "abort t", "at 1 7 100", "between 1 7 0 101",
+    "scan 1 100", "times 1", "redeem t", "flush",
+]
 SCRIPT = ["begin t", "put t 1 7 61", "submit t 1 100", "flush"]
 
 
@@ -55,28 +68,41 @@ class Files:
         """A store with one commit, of whoever is to try it."""
         folder = tempfile.mkdtemp(dir=self.folder)
         format_store(self.program, folder, 16)
-        subprocess.run([self.program, "run", folder], input="".join(f"{it}\n" for it in SCRIPT), stdout=subprocess.DEVNULL, text=True, check=True)
+        status, said = run(self.program, folder, SCRIPT)
+        if status:
+            raise Failure(f"a script answers {said} with status {status}")
         if os.getuid() == 0:
             for path in (folder, *(os.path.join(folder, area) for area in AREAS)):
                 os.chown(path, NOBODY_ID, NOBODY_ID)
         return folder
 
     def tells(self, words: str, folder: str, wanted: str, where: str) -> None:
-        """A command that is refused so, or not at all where nothing is wanted; as one without rights."""
+        """A command that is refused so, or not at all where nothing is wanted; as one without
+        rights."""
         given = [it.replace("DIR", folder) for it in words.split(" ")]
         as_one = NOBODY if os.getuid() == 0 else {}
-        done = subprocess.run([self.program, *given], input="times 1\n", stdout=subprocess.PIPE, stderr=subprocess.DEVNULL, text=True, timeout=20, cwd="/", **as_one)
-        if wanted and (done.returncode, done.stdout) != (1, f"refused: {wanted}\n") or not wanted and done.returncode:
-            raise Failure(f"{where}: {words} answers {done.stdout!r} with status {done.returncode}, and not {wanted or 'status 0'}")
+        done = subprocess.run(
+            [self.program, *given], input="times 1\n", stdout=subprocess.PIPE,
+            stderr=subprocess.DEVNULL, text=True, timeout=20, cwd="/", **as_one,
+        )
+        found, refused = (done.returncode, done.stdout), (1, f"refused: {wanted}\n")
+        if found != refused if wanted else done.returncode:
+            raise Failure(f"{where}: {words} answers {found}, and not {wanted or 'status 0'}")
         self.tried[where] += 1
 
     # ---- rights
 
     def rights(self) -> None:
         """Files and folders that may not be written or read."""
-        cases = {"a read-only folder": ({"": 0o555}, {}), "read-only files": (dict.fromkeys(AREAS, 0o444), dict.fromkeys(COMMANDS, "device") | {"dump": ""}),
-                 "a heap without rights": ({"heap": 0}, dict.fromkeys(COMMANDS, "device")), "a status file without rights": ({"status": 0}, dict.fromkeys(COMMANDS, "device")),
-                 "a folder without rights": ({"": 0}, dict.fromkeys(COMMANDS, "device"))}
+        cases = {
+            "a read-only folder": ({"": 0o555}, {}),
+            "read-only files": (
+                dict.fromkeys(AREAS, 0o444), dict.fromkeys(COMMANDS, "device") | {"dump": ""}
+            ),
+            "a heap without rights": ({"heap": 0}, dict.fromkeys(COMMANDS, "device")),
+            "a status file without rights": ({"status": 0}, dict.fromkeys(COMMANDS, "device")),
+            "a folder without rights": ({"": 0}, dict.fromkeys(COMMANDS, "device")),
+        }
         for where, (modes, wanted) in cases.items():
             folder = self.store()
             before = read_areas(folder)
@@ -102,7 +128,9 @@ class Files:
             it.write("no folder\n")
         for name, words in {**COMMANDS, "format": "format DIR"}.items():
             self.tells(words, file, "device", "a folder that is a file")
-            self.tells(words, os.path.join(self.folder, "absent"), "device", "a folder that is not there")
+            self.tells(
+                words, os.path.join(self.folder, "absent"), "device", "a folder that is not there"
+            )
             if name != "format":
                 empty = tempfile.mkdtemp(dir=self.folder)
                 os.chmod(empty, 0o777)
@@ -111,11 +139,19 @@ class Files:
                     raise Failure(f"{words} has made a file in an empty folder")
         for area in AREAS:
             self.other_kind(area, "a file that is a folder", os.mkdir, "device")
-            self.other_kind(area, "a file that is a device", lambda path: os.symlink("/dev/null", path), "device")
+            self.other_kind(
+                area, "a file that is a device", lambda path: os.symlink("/dev/null", path),
+                "device",
+            )
             self.other_kind(area, "a file that is missing", lambda path: None, "not a store")
-            self.other_kind(area, "a link to nothing", lambda path: os.symlink("/nowhere/at/all", path), "not a store")
+            self.other_kind(
+                area, "a link to nothing", lambda path: os.symlink("/nowhere/at/all", path),
+                "not a store",
+            )
 
-    def other_kind(self, area: str, where: str, make: Callable[[str], object], wanted: str) -> None:
+    def other_kind(
+        self, area: str, where: str, make: Callable[[str], object], wanted: str
+    ) -> None:
         folder = self.store()
         os.remove(os.path.join(folder, area))
         make(os.path.join(folder, area))
@@ -134,10 +170,19 @@ class Files:
         """Each mixture of the files of two stores, and each permutation of one's."""
         for seed in seeds:
             one, other = (self.played(random.Random(f"swapped {seed} {it}")) for it in range(2))
-            mixed = [{area: (one, other)[which][area] for area, which in zip(AREAS, choice)} for choice in itertools.product((0, 1), repeat=3)]
-            mixed += [dict(zip(AREAS, (one[it] for it in order))) for order in itertools.permutations(AREAS)]
+            mixed = [
+                {area: (one, other)[which][area] for area, which in zip(AREAS, choice)}
+                for choice in itertools.product((0, 1), repeat=3)
+            ]
+            mixed += [
+                dict(zip(AREAS, (one[it] for it in order)))
+                for order in itertools.permutations(AREAS)
+            ]
             for areas in mixed:
-                said = forged.check(self.program, areas, f"files of two stores, of seed {seed}", [(1, 0), (1, 1), (2, 0)])
+                said = forged.check(
+                    self.program, areas, f"files of two stores, of seed {seed}",
+                    [(1, 0), (1, 1), (2, 0)],
+                )
                 self.tried[f"swapped files, {said}"] += 1
 
     def played(self, chance: random.Random) -> Areas:
@@ -150,12 +195,16 @@ class Files:
 
     def mounted(self, options: str) -> str | None:
         place = tempfile.mkdtemp(dir=self.folder)
-        if subprocess.run(["mount", "-t", "tmpfs", "-o", options, "none", place], stderr=subprocess.DEVNULL, check=False).returncode:
+        if subprocess.run(
+            ["mount", "-t", "tmpfs", "-o", options, "none", place], stderr=subprocess.DEVNULL,
+            check=False,
+        ).returncode:
             return None
         return place
 
     def full_disks(self, seeds: range) -> None:
-        """A file system that gets full under a store; with room again all that was done is there, and it goes on."""
+        """A file system that gets full under a store; with room again all that was done is there,
+        and it goes on."""
         for seed in seeds:
             chance = random.Random(f"full disk {seed}")
             place = self.mounted(f"size={4 * chance.randrange(11, 40)}k")
@@ -180,7 +229,9 @@ class Files:
             session.kill()
         self.tried["file systems filled" if front else "file systems with room"] += 1
         subprocess.run(["mount", "-o", "remount,size=4m", place], check=True)
-        check_left(self.program, read_areas(place), front or small.front(), "after a full file system")
+        check_left(
+            self.program, read_areas(place), front or small.front(), "after a full file system"
+        )
 
     def read_only_disk(self) -> None:
         place = self.mounted("size=1m")
@@ -191,7 +242,7 @@ class Files:
             subprocess.run(["mount", "-o", "remount,ro", place], check=True)
             for name, words in COMMANDS.items():
                 said = command(self.program, *words.replace("DIR", place).split(" "))
-                if name != "dump" and said != (1, ["refused: device"]) or name == "dump" and said[0]:
+                if said[0] if name == "dump" else said != (1, ["refused: device"]):
                     raise Failure(f"on a read-only file system {words} answers {said}")
                 self.tried["a read-only file system"] += 1
         finally:
@@ -218,17 +269,23 @@ class Files:
     # ---- long scripts
 
     def most_memory(self, lines: int) -> int:
-        """The most memory that a script of so many lines took, in KiB: transactions that end, queries and refused lines."""
+        """The most memory that a script of so many lines took, in KiB: transactions that end,
+        queries and refused lines."""
         folder = self.store()
-        some = "begin t\nput t 1 7 61 62 63\nget t 1 7\nabort t\nat 1 7 100\nbetween 1 7 0 101\nscan 1 100\ntimes 1\nredeem t\nflush\n" * 1000
-        with subprocess.Popen([self.program, "run", folder], stdin=subprocess.PIPE, stdout=subprocess.PIPE, text=True) as process:
+        some = "".join(f"{it}\n" for it in TEN_LINES) * 1000
+        with subprocess.Popen(
+            [self.program, "run", folder], stdin=subprocess.PIPE, stdout=subprocess.PIPE, text=True
+        ) as process:
             reader = threading.Thread(target=lambda: drain(process.stdout))
             reader.start()
             for _ in range(lines // 10_000):
                 process.stdin.write(some)
             process.stdin.flush()
-            # the script is done when its input is read, and its answers are written before it waits for more
-            while int.from_bytes(fcntl.ioctl(process.stdin, termios.FIONREAD, bytes(4)), sys.byteorder):
+            # the script is done when its input is read, and its answers are written before it
+            # waits for more
+            while int.from_bytes(
+                fcntl.ioctl(process.stdin, termios.FIONREAD, bytes(4)), sys.byteorder
+            ):
                 time.sleep(0.01)
             time.sleep(0.1)
             with open(f"/proc/{process.pid}/status", encoding="ascii") as it:
@@ -242,9 +299,15 @@ class Files:
     def long_script(self) -> None:
         began = time.time()
         few, many = self.most_memory(SHORT), self.most_memory(self.lines)
-        print(f"a script of {SHORT} lines takes {few} KiB, one of {self.lines} {many} KiB and {time.time() - began:.1f} s")
+        took = time.time() - began
+        print(
+            f"a script of {SHORT} lines takes {few} KiB, one of {self.lines} {many} KiB"
+            f" and {took:.1f} s"
+        )
         if many > few + SLACK:
-            raise Failure(f"a script of {self.lines} lines takes {many - few} KiB more than one of {SHORT}")
+            raise Failure(
+                f"a script of {self.lines} lines takes {many - few} KiB more than one of {SHORT}"
+            )
         self.tried["long scripts"] += 1
 
 
@@ -262,7 +325,9 @@ def read_file(folder: str, area: str) -> bytes | None:
 
 
 def main() -> int:
-    words = argparse.ArgumentParser(description=__doc__, formatter_class=argparse.RawDescriptionHelpFormatter)
+    words = argparse.ArgumentParser(
+        description=__doc__, formatter_class=argparse.RawDescriptionHelpFormatter
+    )
     words.add_argument("program")
     words.add_argument("--lines", type=int, default=200_000, help="of the long script (200000)")
     given = words.parse_args()
@@ -270,7 +335,10 @@ def main() -> int:
     began, bad = time.time(), 0
     with tempfile.TemporaryDirectory(prefix="files-") as folder:
         files = Files(os.path.abspath(given.program), folder, given.lines)
-        checks = [files.rights, files.kinds, lambda: files.swapped(range(4)), lambda: files.full_disks(range(12)), files.full_format, files.long_script]
+        checks = [
+            files.rights, files.kinds, lambda: files.swapped(range(4)),
+            lambda: files.full_disks(range(12)), files.full_format, files.long_script,
+        ]
         for check in checks:
             try:
                 check()

@@ -1,4 +1,5 @@
-"""What queries answer of files, whatever the bytes of the runs are: memory and the runs, searched as the archive's contracts say."""
+"""What queries answer of files, whatever the bytes of the runs are: memory and the runs, searched
+as the archive's contracts say."""
 from __future__ import annotations
 
 from dataclasses import dataclass
@@ -31,7 +32,8 @@ class Run(image.Run):
         return Damaged(f"refused: damaged archive {self.start}")
 
     def place(self, number: int) -> int:
-        """Where a record begins, or behind the last the index: records of every length must leave room for it."""
+        """Where a record begins, or behind the last the index: records of every length must leave
+        room for it."""
         index = self.length - 8 * self.records
         place = index if number == self.records else self.number_at(index + 8 * number, 8)
         after = self.records - number
@@ -42,7 +44,8 @@ class Run(image.Run):
         return place
 
     def head(self, number: int, last: Placed | None) -> Placed:
-        """The head of a record, looked at by itself and beside the one read just before, if that is its neighbour."""
+        """The head of a record, looked at by itself and beside the one read just before, if that
+        is its neighbour."""
         place = self.place(number)
         key = (self.number_at(place, 2), self.number_at(place + 2, 8))
         start, stop = self.number_at(place + 10, 8), self.number_at(place + 18, 8)
@@ -73,7 +76,8 @@ class Run(image.Run):
         return " ".join(it.hex() or "-" for it in fields)
 
     def bound(self, key: Key, time: int) -> tuple[int, Placed | None]:
-        """How many of the first records are of a lesser key, or of this one and ended by the time; and what was read last."""
+        """How many of the first records are of a lesser key, or of this one and ended by the time;
+        and what was read last."""
         low, high, last = 0, self.records, None
         while low < high:
             middle = (low + high) // 2
@@ -120,7 +124,8 @@ class Files:
     def __init__(self, areas: Areas) -> None:
         self.image = image.read(areas)
         log, history = self.image.log, self.image.history
-        self.newest, self.floor, self.archived, self.reclaimed = log.newest, log.floor, log.archived, log.reclaimed
+        self.newest, self.floor = log.newest, log.floor
+        self.archived, self.reclaimed = log.archived, log.reclaimed
         self.named = [(it.time, it.label) for it in history]
         standing = dict(self.image.anchors)
         self.versions: list[tuple[Key, int, int | None, str]] = []
@@ -134,11 +139,18 @@ class Files:
         self.versions += [(key, since, None, fields) for key, (since, fields) in standing.items()]
         self.versions.sort(key=lambda it: it[:2])
         self.archive = areas["archive"]
-        self.runs = [Run(it.upto, it.start, it.length, it.records, it.above, self.archive) for it in image.runs(log)]
+        self.runs = [
+            Run(it.upto, it.start, it.length, it.records, it.above, self.archive)
+            for it in image.runs(log)
+        ]
 
     def memory(self, a: int, b: int, above: int = 0) -> list[tuple[Key, Version]]:
         """The parts from a to b of the versions in memory that end later than a time."""
-        parts = [(key, (max(a, start), b if stop is None else min(b, stop), fields)) for key, start, stop, fields in self.versions if stop is None or stop > above]
+        parts = [
+            (key, (max(a, start), b if stop is None else min(b, stop), fields))
+            for key, start, stop, fields in self.versions
+            if stop is None or stop > above
+        ]
         return [(key, part) for key, part in parts if part[0] < part[1]]
 
     def at(self, key: Key, time: int) -> list[str]:
@@ -158,7 +170,9 @@ class Files:
             return refused
         below = a < self.reclaimed
         rows = [row for run in self.runs if below and a < run.upto for row in run.rows(key, a, b)]
-        rows += [part for one, part in self.memory(a, b, self.archived if below else 0) if one == key]
+        rows += [
+            part for one, part in self.memory(a, b, self.archived if below else 0) if one == key
+        ]
         return [f"{start} {stop} {fields}" for start, stop, fields in rows] + [f"rows {len(rows)}"]
 
     def scan(self, relation: int, time: int) -> list[str]:
@@ -166,8 +180,17 @@ class Files:
         if refused:
             return refused
         below = time < self.reclaimed
-        rows = [(record, 0, part) for run in self.runs if below and time < run.upto for record, part in run.scan(relation, time, time + 1)]
-        rows += [(key[1], 1, part) for key, part in self.memory(time, time + 1, self.archived if below else 0) if key[0] == relation]
+        rows = [
+            (record, 0, part)
+            for run in self.runs
+            if below and time < run.upto
+            for record, part in run.scan(relation, time, time + 1)
+        ]
+        rows += [
+            (key[1], 1, part)
+            for key, part in self.memory(time, time + 1, self.archived if below else 0)
+            if key[0] == relation
+        ]
         rows.sort(key=lambda it: it[:2])
         return [f"{record} {part[2]}" for record, _, part in rows] + [f"rows {len(rows)}"]
 
@@ -183,22 +206,34 @@ class Files:
                 return self.scan(*numbers)
         except Damaged as why:
             return [str(why)]
-        return [" ".join(["times", *(str(time) for time, label in self.named if label == numbers[0])])]
+        return [
+            " ".join(["times", *(str(time) for time, label in self.named if label == numbers[0])])
+        ]
 
     def questions(self, keys: list[Key]) -> list[str]:
         """Lines that ask for all that the files say, and for these keys."""
-        times = [it for _, start, stop, _ in self.versions for it in (start, start - 1, stop or self.newest)]
-        times += [it for run in self.runs for it in (run.upto, run.upto - 1)] + [self.floor, self.floor - 1]
+        times = [
+            it
+            for _, start, stop, _ in self.versions
+            for it in (start, start - 1, stop or self.newest)
+        ]
+        times += [it for run in self.runs for it in (run.upto, run.upto - 1)]
+        times += [self.floor, self.floor - 1]
         moments = sorted({0, self.newest, *(it for it in times if 0 <= it <= self.newest)})
         keys = sorted({*keys, *(it[0] for it in self.versions)})
         lines = [f"times {label}" for label in sorted({label for _, label in self.named})]
         for relation, record in keys:
             lines += [f"at {relation} {record} {moment}" for moment in moments]
-            lines += [f"between {relation} {record} {moment} {self.newest + 1}" for moment in sorted({self.floor, *moments[:: max(1, len(moments) // 4)]})]
+            lines += [
+                f"between {relation} {record} {moment} {self.newest + 1}"
+                for moment in sorted({self.floor, *moments[:: max(1, len(moments) // 4)]})
+            ]
         for relation in sorted({key[0] for key in keys}):
             lines += [f"scan {relation} {moment}" for moment in moments]
         return lines
 
     def is_sound(self) -> bool:
         """Whether every run keeps the rules of its form."""
-        return all(image.run_records(self.archive, run) is not None for run in image.runs(self.image.log))
+        return all(
+            image.run_records(self.archive, run) is not None for run in image.runs(self.image.log)
+        )

@@ -1,4 +1,5 @@
-"""A plain reader of a store's three files, by the checks of docs/FORMAT.md, written apart from the program's."""
+"""A plain reader of a store's three files, by the checks of docs/FORMAT.md, written apart from the
+program's."""
 from __future__ import annotations
 
 from collections.abc import Callable, Iterator, Mapping
@@ -14,7 +15,8 @@ SLOT = 512
 OPEN = 0xC7
 
 Value = tuple[bytes, ...]
-# of a commit slot the members (label, time, first extent, extents, records); of an archive upto, start, length, records;
+# of a commit slot the members (label, time, first extent, extents, records); of an archive upto,
+# start, length, records;
 # of a reclaim upto, first extent, extents, records; of a floor its time
 Slot = tuple[str, Any]
 # a record's key, what it says of it, and where the next one begins
@@ -38,7 +40,8 @@ def damaged(area: str, place: int) -> Refused:
 
 def header(status: bytes) -> int:
     """The number of slots."""
-    if len(status) < 512 or status[:8] != b"NOOVER01" or u(status, 8, 4) != 1 or any(status[16:512]):
+    first_words = status[:8], u(status, 8, 4)
+    if len(status) < 512 or first_words != (b"NOOVER01", 1) or any(status[16:512]):
         raise Refused("not a store")
     slots = u(status, 12, 4)
     if not 16 <= slots <= 65536 or len(status) < slot_at(slots):
@@ -60,8 +63,14 @@ def commit_slot(slot: bytes) -> tuple[list[tuple[int, ...]], int] | None:
     members, before = [], 0
     for place in range(slot[2]):
         at = 8 + 28 * place
-        label, time, first, extents, records = u(slot, at, 8), u(slot, at + 8, 8), u(slot, at + 16, 4), u(slot, at + 20, 4), u(slot, at + 24, 4)
-        if not (before < time <= LATEST and 1 <= first <= 65536 and 1 <= records <= 1024 and 1 <= extents <= records):
+        label, time = u(slot, at, 8), u(slot, at + 8, 8)
+        first, extents, records = (u(slot, at + it, 4) for it in (16, 20, 24))
+        if not (
+            before < time <= LATEST
+            and 1 <= first <= 65536
+            and 1 <= records <= 1024
+            and 1 <= extents <= records
+        ):
             return None
         members.append((label, time, first, extents, records))
         before = time
@@ -70,7 +79,9 @@ def commit_slot(slot: bytes) -> tuple[list[tuple[int, ...]], int] | None:
 
 def archived_slot(slot: bytes) -> tuple[tuple[int, ...], int] | None:
     upto, start, length, records = u(slot, 8, 8), u(slot, 16, 8), u(slot, 24, 8), u(slot, 32, 8)
-    if slot[2] or not 1 <= upto <= LATEST or not 36 * records <= length <= 4131 * records or start + length > LATEST:
+    if slot[2] or not 1 <= upto <= LATEST or start + length > LATEST:
+        return None
+    if not 36 * records <= length <= 4131 * records:
         return None
     return (upto, start, length, records), 40
 
@@ -79,7 +90,8 @@ def reclaimed_slot(slot: bytes) -> tuple[tuple[int, ...], int] | None:
     upto, first, extents, records = u(slot, 8, 8), u(slot, 16, 4), u(slot, 20, 4), u(slot, 24, 4)
     if slot[2] or not 1 <= upto <= LATEST:
         return None
-    if (first or extents or records) and not (1 <= first <= 65536 and 1 <= extents <= 65536 and extents <= records):
+    fits = 1 <= first <= 65536 and 1 <= extents <= min(65536, records)
+    if (first or extents or records) and not fits:
         return None
     return (upto, first, extents, records), 28
 
@@ -89,7 +101,10 @@ def floor_slot(slot: bytes) -> tuple[tuple[int, ...], int] | None:
     return None if slot[2] or not 1 <= floor <= LATEST else ((floor,), 16)
 
 
-KINDS: dict[int, tuple[str, Callable[[bytes], Any]]] = {1: ("commit", commit_slot), 2: ("archived", archived_slot), 3: ("reclaimed", reclaimed_slot), 4: ("floor", floor_slot)}
+KINDS: dict[int, tuple[str, Callable[[bytes], Any]]] = {
+    1: ("commit", commit_slot), 2: ("archived", archived_slot), 3: ("reclaimed", reclaimed_slot),
+    4: ("floor", floor_slot),
+}
 
 
 def form(slot: bytes, number: int) -> Slot | None:
@@ -103,7 +118,8 @@ def form(slot: bytes, number: int) -> Slot | None:
 
 @dataclass
 class Log:
-    """The open slots before the first closed gate; the last commit's time, the marks, the floor, and where the next run begins."""
+    """The open slots before the first closed gate; the last commit's time, the marks, the floor,
+    and where the next run begins."""
 
     slots: list[Slot] = field(default_factory=list)
     newest: int = 0
@@ -133,7 +149,8 @@ class Log:
         return (member for kind, body in self.slots if kind == "commit" for member in body)
 
     def anchors(self) -> tuple[int, ...]:
-        """The last reclaim: its mark, and the first extent, the extents and the records of its chain."""
+        """The last reclaim: its mark, and the first extent, the extents and the records of its
+        chain."""
         return ([(0, 0, 0, 0)] + [body for kind, body in self.slots if kind == "reclaimed"])[-1]
 
 
@@ -154,14 +171,21 @@ def dump(status: bytes) -> list[str]:
     lines = [f"header {header(status)}"]
     log = read_log(status)
     for number, (kind, body) in enumerate(log.slots):
-        lines.append(f"slot {number} {kind}" if kind == "commit" else " ".join([f"slot {number} {kind}", *map(str, body)]))
-        lines += [f"member {' '.join(map(str, it))} {instant(it[1])}" for it in body] if kind == "commit" else []
+        lines.append(
+            f"slot {number} {kind}"
+            if kind == "commit"
+            else " ".join([f"slot {number} {kind}", *map(str, body)])
+        )
+        for member in body if kind == "commit" else ():
+            lines.append(f"member {' '.join(map(str, member))} {instant(member[1])}")
     return [*lines, f"used {len(log.slots)} of {header(status)}"]
 
 
 def instant(time: int) -> str:
     try:
-        return (datetime(1970, 1, 1) + timedelta(seconds=time // 1_000_000)).strftime("%Y-%m-%dT%H:%M:%SZ")
+        return (
+            datetime(1970, 1, 1) + timedelta(seconds=time // 1_000_000)
+        ).strftime("%Y-%m-%dT%H:%M:%SZ")
     except OverflowError:
         return "-"
 
@@ -181,10 +205,12 @@ def take_fields(data: bytes, at: int, count: int) -> tuple[list[bytes], int] | N
 
 
 def anchor(data: bytes, at: int, mark: int) -> Read | None:
-    """One record of the anchors' chain: the key, its time and value, and where the next one begins."""
+    """One record of the anchors' chain: the key, its time and value, and where the next one
+    begins."""
     if at + 20 > len(data) or data[at] != 4:
         return None
-    key, since, count = (u(data, at + 1, 2), u(data, at + 3, 8)), u(data, at + 11, 8), data[at + 19]
+    key = u(data, at + 1, 2), u(data, at + 3, 8)
+    since, count = u(data, at + 11, 8), data[at + 19]
     taken = take_fields(data, at + 20, count)
     if taken is None or not 1 <= since <= mark or not 1 <= count <= 16:
         return None
@@ -192,7 +218,8 @@ def anchor(data: bytes, at: int, mark: int) -> Read | None:
 
 
 def record(data: bytes, at: int, before: Mapping[Key, Value | None]) -> Read | None:
-    """One record of a chain, over the key's value before it: the key, its value (None: gone) and where the next one begins."""
+    """One record of a chain, over the key's value before it: the key, its value (None: gone) and
+    where the next one begins."""
     if at + 11 > len(data):
         return None
     kind, key, place = data[at], (u(data, at + 1, 2), u(data, at + 3, 8)), at + 11
@@ -200,7 +227,8 @@ def record(data: bytes, at: int, before: Mapping[Key, Value | None]) -> Read | N
     if kind == 3:
         return (key, None, place) if old is not None else None
     if kind == 1:
-        taken = take_fields(data, place + 1, data[place]) if place < len(data) and 1 <= data[place] <= 16 else None
+        has_fields = place < len(data) and 1 <= data[place] <= 16
+        taken = take_fields(data, place + 1, data[place]) if has_fields else None
         if taken is None or old is not None and is_delta(old, tuple(taken[0])):
             return None
         return key, tuple(taken[0]), taken[1]
@@ -208,9 +236,11 @@ def record(data: bytes, at: int, before: Mapping[Key, Value | None]) -> Read | N
 
 
 def delta(data: bytes, key: Key, at: int, old: Value) -> Read | None:
-    """A record that says which fields of the value before it change, and to what; only where that is shorter than the whole."""
+    """A record that says which fields of the value before it change, and to what; only where that
+    is shorter than the whole."""
     mask = u(data, at, 2)
-    taken = take_fields(data, at + 2, mask.bit_count()) if at + 2 <= len(data) and not mask >> len(old) else None
+    has_fields = at + 2 <= len(data) and not mask >> len(old)
+    taken = take_fields(data, at + 2, mask.bit_count()) if has_fields else None
     if taken is None:
         return None
     fields = iter(taken[0])
@@ -229,10 +259,13 @@ def is_delta(old: Value, new: Value) -> bool:
 
 
 def extent_of(heap: bytes, number: int) -> tuple[int, bytes] | None:
-    """The number of the next extent of the chain, and the bytes of records; None where the extent breaks its form."""
+    """The number of the next extent of the chain, and the bytes of records; None where the extent
+    breaks its form."""
     extent = heap[(number - 1) * EXTENT: number * EXTENT] if number >= 1 else b""
     own, following, used, zero = (u(extent, at, 4) for at in (0, 4, 8, 12))
-    if len(extent) < EXTENT or own != number or zero or not 1 <= used <= BODY or any(extent[16 + used:]):
+    if len(extent) < EXTENT or own != number or zero or not 1 <= used <= BODY:
+        return None
+    if any(extent[16 + used:]):
         return None
     return following, extent[16: 16 + used]
 
@@ -249,7 +282,10 @@ def records_in(data: bytes, reader: Callable[[bytes, int], Read | None]) -> list
     return found
 
 
-def chain(heap: bytes, first: int, extents: int, records: int, reader: Callable[[bytes, int], Read | None], taken: set[int]) -> list[tuple[Key, Any]] | None:
+def chain(
+    heap: bytes, first: int, extents: int, records: int,
+    reader: Callable[[bytes, int], Read | None], taken: set[int],
+) -> list[tuple[Key, Any]] | None:
     """What is read of each key of a chain, or None where a check fails."""
     writes: list[tuple[Key, Any]] = []
     number, room = first, 0
@@ -278,7 +314,8 @@ def fields_of(value: Value | None) -> Fields:
 
 @dataclass(frozen=True)
 class Image:
-    """What files stand for: of the commits up to the reclaim mark there are the times and labels alone (their writes are None)."""
+    """What files stand for: of the commits up to the reclaim mark there are the times and labels
+    alone (their writes are None)."""
 
     slots: int
     log: Log
@@ -294,7 +331,9 @@ def read(areas: Mapping[str, bytes]) -> Image:
     mark, first, extents, records = log.anchors()
     history: list[Commit] = []
     taken: set[int] = set()
-    olds = chain(areas["heap"], first, extents, records, lambda data, at: anchor(data, at, mark), taken)
+    olds = chain(
+        areas["heap"], first, extents, records, lambda data, at: anchor(data, at, mark), taken
+    )
     if olds is None:
         raise damaged("heap", first)
     values: dict[Key, Value | None] = {key: value for key, (_, value) in olds}
@@ -302,7 +341,10 @@ def read(areas: Mapping[str, bytes]) -> Image:
         if time <= mark:
             history.append(Commit(time, label, None))
             continue
-        writes = chain(areas["heap"], first, extents, records, lambda data, at: record(data, at, values), taken)
+        writes = chain(
+            areas["heap"], first, extents, records, lambda data, at: record(data, at, values),
+            taken,
+        )
         if writes is None:
             raise damaged("heap", first)
         values.update(writes)
@@ -310,7 +352,10 @@ def read(areas: Mapping[str, bytes]) -> Image:
     for run in runs(log):
         if run.start + run.length > len(areas["archive"]):
             raise damaged("archive", run.start)
-    return Image(header(areas["status"]), log, history, {key: (since, fields_of(value)) for key, (since, value) in olds}, frozenset(taken))
+    return Image(
+        header(areas["status"]), log, history,
+        {key: (since, fields_of(value)) for key, (since, value) in olds}, frozenset(taken),
+    )
 
 
 # ---- runs
@@ -318,7 +363,8 @@ def read(areas: Mapping[str, bytes]) -> Image:
 
 @dataclass(frozen=True)
 class Run:
-    """A run as its slot names it; its versions end later than the marks before the slot, and not later than it goes up to."""
+    """A run as its slot names it; its versions end later than the marks before the slot, and not
+    later than it goes up to."""
 
     upto: int
     start: int
@@ -345,7 +391,13 @@ def run_record(data: bytes, at: int, end: int) -> tuple[Key, int, int, Value, in
     taken = take_fields(data[:end], at + 27, data[at + 26])
     if taken is None:
         return None
-    return (u(data, at, 2), u(data, at + 2, 8)), u(data, at + 10, 8), u(data, at + 18, 8), tuple(taken[0]), taken[1]
+    key = u(data, at, 2), u(data, at + 2, 8)
+    return key, u(data, at + 10, 8), u(data, at + 18, 8), tuple(taken[0]), taken[1]
+
+
+def follows(before: RunRecord, key: Key, start: int) -> bool:
+    """Whether a version may stand behind another one in a run."""
+    return before[0] < key or before[0] == key and before[1] < start and before[2] <= start
 
 
 def run_records(archive: bytes, run: Run) -> list[RunRecord] | None:
@@ -359,7 +411,7 @@ def run_records(archive: bytes, run: Run) -> list[RunRecord] | None:
         key, start, stop, value, end = one
         if not (start < stop and run.above < stop <= run.upto):
             return None
-        if found and not (found[-1][0] < key or (found[-1][0] == key and found[-1][1] < start and found[-1][2] <= start)):
+        if found and not follows(found[-1], key, start):
             return None
         found.append((key, start, stop, fields_of(value)))
         at = end
@@ -370,7 +422,8 @@ def run_records(archive: bytes, run: Run) -> list[RunRecord] | None:
 
 
 def why_not(areas: Mapping[str, bytes], image: Image, history: History) -> str | None:
-    """Why these files, as they were read, don't stand for this history, both homes of its versions looked at; None where they do."""
+    """Why these files, as they were read, don't stand for this history, both homes of its versions
+    looked at; None where they do."""
     log, status = image.log, areas["status"]
     if [(it.time, it.label) for it in image.history] != [(it.time, it.label) for it in history]:
         return "other times or labels"
@@ -380,7 +433,11 @@ def why_not(areas: Mapping[str, bytes], image: Image, history: History) -> str |
         if its.time > log.reclaimed and mine.writes != its.writes:
             return f"other writes at {its.time}"
     whole = all_versions(history)
-    if image.anchors != {key: (start, fields) for key, start, stop, fields in whole if start <= log.reclaimed and (stop is None or stop > log.reclaimed)}:
+    if image.anchors != {
+        key: (start, fields)
+        for key, start, stop, fields in whole
+        if start <= log.reclaimed and (stop is None or stop > log.reclaimed)
+    }:
         return f"other anchors at {log.reclaimed}"
     for run in runs(log):
         # what ended by a floor before it, or is in an earlier run, is left out

@@ -52,7 +52,11 @@ def versions(history: History, key: Key) -> list[Version]:
 
 
 def all_versions(history: History) -> list[tuple[Key, int, int | None, str]]:
-    return [(key, *it) for key in sorted({key for it in history for key in it.writes}) for it in versions(history, key)]
+    return [
+        (key, *it)
+        for key in sorted({key for it in history for key in it.writes})
+        for it in versions(history, key)
+    ]
 
 
 def last(history: History) -> int:
@@ -60,7 +64,8 @@ def last(history: History) -> int:
 
 
 def refusal(newest: int, floor: int, first: int, end: int) -> list[str]:
-    """Why a query from a time to one before an end is refused, the first reason that applies; empty where it is answered."""
+    """Why a query from a time to one before an end is refused, the first reason that applies;
+    empty where it is answered."""
     if min(first, end) < floor:
         return [f"refused: before kept {floor}"]
     if end > newest + 1:
@@ -112,13 +117,25 @@ Order = dict[str | None, tuple[str, ...]]
 
 def slot_after(step: str | None, end: str) -> Order:
     """The four calls of a slot behind a step; the last one has an answer of its own."""
-    return {step: ("body written",), "body written": ("body synced",), "body synced": ("gate written",), "gate written": (end,)}
+    return {
+        step: ("body written",), "body written": ("body synced",),
+        "body synced": ("gate written",), "gate written": (end,),
+    }
 
 
 NEXT: dict[str, Order] = {
-    "group": {None: ("wrote extent",), "wrote extent": ("wrote extent", "heap synced"), **slot_after("heap synced", "published")},
-    "archive": {None: ("wrote run", "run synced"), "wrote run": ("wrote run", "run synced"), **slot_after("run synced", "job done")},
-    "reclaim": {None: ("wrote extent", "heap synced"), "wrote extent": ("wrote extent", "heap synced"), **slot_after("heap synced", "job done")},
+    "group": {
+        None: ("wrote extent",), "wrote extent": ("wrote extent", "heap synced"),
+        **slot_after("heap synced", "published"),
+    },
+    "archive": {
+        None: ("wrote run", "run synced"), "wrote run": ("wrote run", "run synced"),
+        **slot_after("run synced", "job done"),
+    },
+    "reclaim": {
+        None: ("wrote extent", "heap synced"), "wrote extent": ("wrote extent", "heap synced"),
+        **slot_after("heap synced", "job done"),
+    },
     "floor": slot_after(None, "job done"),
 }
 
@@ -140,7 +157,8 @@ class Job:
 
 @dataclass(frozen=True)
 class Front:
-    """What a stop may leave: one of these numbers of an order's first commits, and one of these floors."""
+    """What a stop may leave: one of these numbers of an order's first commits, and one of these
+    floors."""
 
     order: History
     counts: Sequence[int]
@@ -148,9 +166,12 @@ class Front:
 
 
 class Machine:
-    """A store without its disk: what is published, what waits, the open transactions, and how far a group and a job are."""
+    """A store without its disk: what is published, what waits, the open transactions, and how far
+    a group and a job are."""
 
-    def __init__(self, published: History = (), floor: int = 0, slots: int = 1 << 16, used: int = 0) -> None:
+    def __init__(
+        self, published: History = (), floor: int = 0, slots: int = 1 << 16, used: int = 0
+    ) -> None:
         self.published = list(published)
         self.archived, self.reclaimed, self.floor = 0, 0, floor
         # the slots of the store, and those of its log
@@ -170,15 +191,21 @@ class Machine:
         return self.published + self.queue[: self.group]
 
     def front(self) -> Front:
-        """What a stop leaves now: what is published, or that with the group or the floor whose gate is in the writing."""
+        """What a stop leaves now: what is published, or that with the group or the floor whose
+        gate is in the writing."""
         order = self.with_group() if self.turn == "gate written" else list(self.published)
-        has_floor = self.job is not None and self.job.kind == "floor" and self.job.step == "gate written"
-        return Front(order, (len(self.published), len(order)), (self.floor, self.job.upto) if has_floor else (self.floor,))
+        job = self.job
+        has_floor = job is not None and (job.kind, job.step) == ("floor", "gate written")
+        return Front(
+            order, (len(self.published), len(order)),
+            (self.floor, self.job.upto) if has_floor else (self.floor,),
+        )
 
     def spare(self) -> int:
         """The slots that no commit, group or job is to have."""
         in_slot = self.turn in SLOT_STEPS
-        return self.slots - self.used - in_slot - (self.job is not None) - len(self.queue) + (self.group if in_slot else 0)
+        waiting = len(self.queue) - (self.group if in_slot else 0)
+        return self.slots - self.used - in_slot - (self.job is not None) - waiting
 
     # ---- transactions
 
@@ -213,7 +240,8 @@ class Machine:
         return ["ok"]
 
     def seen(self, snapshot: int, key: Key) -> Fields:
-        said = at([it for it in self.published if it.time <= snapshot], key, min(snapshot, last(self.published)))[0]
+        before = [it for it in self.published if it.time <= snapshot]
+        said = at(before, key, min(snapshot, last(self.published)))[0]
         return said.removeprefix("value ") if said.startswith("value ") else None
 
     def get(self, name: str, key: Key) -> list[str]:
@@ -311,7 +339,8 @@ class Machine:
     # ---- starts of jobs
 
     def start(self, kind: str, upto: int, now: int, oldest_needed: int) -> list[str]:
-        """Begins a job, unless one runs, it has nothing to do, no commit is as late, a snapshot is older, or there is no slot."""
+        """Begins a job, unless one runs, it has nothing to do, no commit is as late, a snapshot is
+        older, or there is no slot."""
         snapshots = [it.snapshot for it in self.names.values() if isinstance(it, Transaction)]
         if self.job is not None:
             return ["refused: job busy"]
@@ -338,7 +367,8 @@ class Machine:
     # ---- whole lines
 
     def flush(self) -> list[str]:
-        """Pumps to the end: all that waits is published, but where a job's slot is in the writing."""
+        """Pumps to the end: all that waits is published, but where a job's slot is in the
+        writing."""
         while self.queue:
             self.group = self.group or min(GROUP_MOST, len(self.queue))
             if self.job is not None and self.job.is_in_slot():
@@ -350,14 +380,16 @@ class Machine:
     def finish(self) -> list[str]:
         """Makes the job to its end, but where a group's slot is in the writing."""
         if self.job is not None and self.turn in SLOT_STEPS:
-            self.job.step = {"archive": "run synced", "reclaim": "heap synced", "floor": None}[self.job.kind]
+            last_step = {"archive": "run synced", "reclaim": "heap synced", "floor": None}
+            self.job.step = last_step[self.job.kind]
             return ["refused: busy"]
         if self.job is not None:
             self.end_job()
         return ["idle"]
 
     def reopened(self) -> list[str]:
-        """What waits is lost, but for a group or a job whose gate is written: the files have it."""
+        """What waits is lost, but for a group or a job whose gate is written: the files have
+        it."""
         if self.turn == "gate written":
             self.publish()
         if self.job is not None and self.job.step == "gate written":
@@ -380,14 +412,16 @@ class Machine:
         return [f"archived {gone}", *([f"reclaimed {stand}"] if said == ["started"] else said)]
 
     def answer(self, line: str) -> list[str] | None:
-        """What a line answers; None for a step, whose answer is the store's to say, and is followed."""
+        """What a line answers; None for a step, whose answer is the store's to say, and is
+        followed."""
         word, *rest = line.split(" ")
         if word in ("begin", "abort", "redeem"):
             return getattr(self, word)(rest[0])
         if word == "put":
             return self.put(rest[0], (int(rest[1]), int(rest[2])), " ".join(rest[3:]))
         if word in ("del", "get"):
-            return (self.delete if word == "del" else self.get)(rest[0], (int(rest[1]), int(rest[2])))
+            answer = self.delete if word == "del" else self.get
+            return answer(rest[0], (int(rest[1]), int(rest[2])))
         if word == "submit":
             return self.submit(rest[0], int(rest[1]), int(rest[2]))
         if word in ("archive", "floor"):
@@ -403,7 +437,8 @@ class Machine:
         if word == "at":
             return at(self.published, (numbers[0], numbers[1]), numbers[2], self.floor)
         if word == "between":
-            return between(self.published, (numbers[0], numbers[1]), numbers[2], numbers[3], self.floor)
+            relation, record, start, end = numbers
+            return between(self.published, (relation, record), start, end, self.floor)
         if word == "scan":
             return scan(self.published, *numbers, self.floor)
         if word == "times":

@@ -1,10 +1,12 @@
 #!/usr/bin/env python3
-"""Plants one fault at a time in a copy of the sources, makes the program of it without proofs (`rt try`), and looks whether the tests find it.
+"""Plants one fault at a time in a copy of the sources, makes the program of it without proofs (`rt
+try`), and looks whether the tests find it.
 
-    planted.py [NAME ..] [--keep FOLDER]
+planted.py [NAME ..] [--keep FOLDER]
 
-Each file planted/NAME.edit names the test that has to fail, a file, a text that stands there once, and what is put in its place. The
-status is 1 where a fault is not found. With --keep the programs stay in the folder, and those that are there are not made again.
+Each file planted/NAME.edit names the test that has to fail, a file, a text that stands there once,
+and what is put in its place. The status is 1 where a fault is not found. With --keep the programs
+stay in the folder, and those that are there are not made again.
 """
 from __future__ import annotations
 
@@ -33,7 +35,10 @@ def words_of(name: str) -> dict[str, str]:
 
 
 def copy_sources(folder: str) -> None:
-    listed = subprocess.run(["git", "ls-files", "-z", "crates", "crates.txt", "HANDLES"], cwd=ROOT, stdout=subprocess.PIPE, check=True)
+    listed = subprocess.run(
+        ["git", "ls-files", "-z", "crates", "crates.txt", "HANDLES"], cwd=ROOT,
+        stdout=subprocess.PIPE, check=True,
+    )
     for name in filter(None, listed.stdout.decode().split("\0")):
         target = os.path.join(folder, name)
         os.makedirs(os.path.dirname(target), exist_ok=True)
@@ -45,27 +50,37 @@ def plant(folder: str, edit: dict[str, str]) -> None:
     with open(path, encoding="utf-8") as it:
         text = it.read()
     if text.count(edit["old"]) != 1:
-        raise SystemExit(f"{edit['file']}: {edit['old']!r} stands there {text.count(edit['old'])} times")
+        raise SystemExit(
+            f"{edit['file']}: {edit['old']!r} stands there {text.count(edit['old'])} times"
+        )
     with open(path, "w", encoding="utf-8") as it:
         it.write(text.replace(edit["old"], edit["new"]))
 
 
 def does_run(program: str) -> bool:
-    return subprocess.run([program, "--help"], stdout=subprocess.DEVNULL, stderr=subprocess.DEVNULL, check=False).returncode == 0
+    return subprocess.run(
+        [program, "--help"], stdout=subprocess.DEVNULL, stderr=subprocess.DEVNULL, check=False
+    ).returncode == 0
 
 
 def make_program(folder: str, program: str) -> bool:
-    """The program of these sources: `rt try` makes it in a folder of its own and keeps nothing, so it is taken from there."""
+    """The program of these sources: `rt try` makes it in a folder of its own and keeps nothing, so
+    it is taken from there."""
     made = os.path.join(folder, "made")
     os.makedirs(made)
     with open(os.path.join(folder, "log"), "wb") as log:
         # a run that takes long enough to take the program meanwhile
         words = ["rt", "try", "--steps", "1", "--seconds", "60", "--", "stress", "8", "0", "1000"]
-        process = subprocess.Popen(words, cwd=os.path.join(folder, "crates", "timestore"), stdin=subprocess.DEVNULL, stdout=log, stderr=log, env={**os.environ, "TMPDIR": made}, start_new_session=True)
+        process = subprocess.Popen(
+            words, cwd=os.path.join(folder, "crates", "timestore"), stdin=subprocess.DEVNULL,
+            stdout=log, stderr=log, env={**os.environ, "TMPDIR": made}, start_new_session=True,
+        )
         taken, until = False, time.monotonic() + PATIENCE
         while not taken and time.monotonic() < until:
             ended = process.poll() is not None
-            taken = any(take(found, program) for found in glob.glob(f"{made}/**/program", recursive=True))
+            taken = any(
+                take(found, program) for found in glob.glob(f"{made}/**/program", recursive=True)
+            )
             if ended:
                 break
             time.sleep(0.05)
@@ -92,10 +107,17 @@ def finds(name: str, program: str) -> bool:
     """Whether the test fails on the program, by an answer that it names."""
     words = words_of(name)["tries"].split(" ")
     began = time.time()
-    done = subprocess.run([os.path.join(HERE, words[0]), program, *words[1:]], stdout=subprocess.PIPE, stderr=subprocess.STDOUT, text=True, check=False)
+    done = subprocess.run(
+        [os.path.join(HERE, words[0]), program, *words[1:]], stdout=subprocess.PIPE,
+        stderr=subprocess.STDOUT, text=True, check=False,
+    )
     named = next((line for line in done.stdout.splitlines() if line.startswith("FAILED: ")), "")
     is_found = done.returncode == 1 and bool(named)
-    print(f"{name}: {' '.join(words)}: {'found' if is_found else f'NOT FOUND, status {done.returncode}'} in {time.time() - began:.0f} s: {named[8:400]}", flush=True)
+    outcome = "found" if is_found else f"NOT FOUND, status {done.returncode}"
+    print(
+        f"{name}: {' '.join(words)}: {outcome} in {time.time() - began:.0f} s: {named[8:400]}",
+        flush=True,
+    )
     return is_found
 
 
@@ -113,7 +135,9 @@ def one(name: str, programs: str) -> bool:
 
 
 def main() -> int:
-    words = argparse.ArgumentParser(description=__doc__, formatter_class=argparse.RawDescriptionHelpFormatter)
+    words = argparse.ArgumentParser(
+        description=__doc__, formatter_class=argparse.RawDescriptionHelpFormatter
+    )
     words.add_argument("names", nargs="*", metavar="NAME")
     words.add_argument("--keep", metavar="FOLDER", help="where the programs stay")
     given = words.parse_args()
@@ -122,7 +146,10 @@ def main() -> int:
         programs = given.keep or own
         os.makedirs(programs, exist_ok=True)
         missed = [name for name in names if not one(name, programs)]
-    print(f"{len(names) - len(missed)} of {len(names)} faults found" + (f"; not found: {', '.join(missed)}" if missed else ""))
+    print(
+        f"{len(names) - len(missed)} of {len(names)} faults found"
+        + (f"; not found: {', '.join(missed)}" if missed else "")
+    )
     return 1 if missed else 0
 
 

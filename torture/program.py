@@ -1,4 +1,5 @@
-"""The program on real files: the areas of a store, scripts and their answers; a case that failed, as a script that can be run."""
+"""The program on real files: the areas of a store, scripts and their answers; a case that failed,
+as a script that can be run."""
 from __future__ import annotations
 
 import base64
@@ -14,17 +15,26 @@ from collections.abc import Callable, Iterable, Sequence
 from dataclasses import dataclass
 from typing import TypeVar
 
+# the words of refuse.c that a script of its own needs
+REFUSES = ("REFUSE_CLASS", "REFUSE_AT", "REFUSE_HOW")
 AREAS = ("status", "heap", "archive")
 Areas = dict[str, bytes]
 Item = TypeVar("Item")
+# a status and the lines that are said
+Answer = tuple[int, list[str]]
 # a run of the program that takes longer is a failure, in seconds
 PATIENCE = 60
 MEMORY = "/dev/shm"
+# of a test, behind which it ends
+FAILURES_MOST = 20
 
 
 def use_memory() -> None:
-    """Lets the stores of the tests lie in memory, if there is a file system for that: a sync then costs nothing."""
-    if "TMPDIR" not in os.environ and os.access(MEMORY, os.W_OK) and not os.statvfs(MEMORY).f_flag & os.ST_NOEXEC:
+    """Lets the stores of the tests lie in memory, if there is a file system for that: a sync then
+    costs nothing."""
+    if "TMPDIR" in os.environ or not os.access(MEMORY, os.W_OK):
+        return
+    if not os.statvfs(MEMORY).f_flag & os.ST_NOEXEC:
         tempfile.tempdir = MEMORY
 
 
@@ -41,9 +51,14 @@ class Until:
         """Since it began."""
         return time.monotonic() - self.began
 
+    def rate(self, count: int, what: str) -> str:
+        """How many there were since it began, as text."""
+        return f"{count} {what} in {self.seconds():.0f} s, {count / self.seconds():.0f} a second"
+
 
 def spread(items: Sequence[Item]) -> list[Item]:
-    """The items in an order of which each front is spread over all of them: by steps of the golden section."""
+    """The items in an order of which each front is spread over all of them: by steps of the golden
+    section."""
     count = len(items)
     step = next(it for it in range(int(0.618 * count) or 1, count + 2) if math.gcd(it, count) == 1)
     return [items[at * step % count] for at in range(count)]
@@ -51,7 +66,8 @@ def spread(items: Sequence[Item]) -> list[Item]:
 
 @dataclass
 class Shown:
-    """Files, and the lines that a run on them was given, with what they should have been answered."""
+    """Files, and the lines that a run on them was given, with what they should have been
+    answered."""
 
     areas: Areas
     lines: list[str]
@@ -62,8 +78,18 @@ class Shown:
 
     def script(self, title: str) -> str:
         """A script of its own: `sh SCRIPT PROGRAM` shows where the program's answers differ."""
-        refuses = {name: value for name, value in self.environment.items() if name.startswith("REFUSE_") and name != "REFUSE_COUNTS"} if self.environment.get("REFUSE_CLASS") else {}
-        rows = ["#!/bin/sh", f"# {title}", "# usage: sh THIS PROGRAM" + (" REFUSE.SO (cc -shared -fPIC -o REFUSE.SO torture/refuse.c)" if refuses else ""), 'dir=$(mktemp -d) && mkdir "$dir/store" || exit 2']
+        refuses = {
+            name: value
+            for name, value in self.environment.items()
+            if name in REFUSES and self.environment.get("REFUSE_CLASS")
+        }
+        rows = [
+            "#!/bin/sh", f"# {title}",
+            "# usage: sh THIS PROGRAM" + (
+                " REFUSE.SO (cc -shared -fPIC -o REFUSE.SO torture/refuse.c)" if refuses else ""
+            ),
+            'dir=$(mktemp -d) && mkdir "$dir/store" || exit 2',
+        ]
         for area, data in self.areas.items():
             text = base64.b64encode(gzip.compress(data, mtime=0)).decode()
             rows.append(f"echo {text} | base64 -d | gzip -d > \"$dir/store/{area}\"")
@@ -72,7 +98,11 @@ class Shown:
         # fed line by line, as the test did: so it asks for memory at the same places
         prefix = "".join(f"{name}={value} " for name, value in refuses.items())
         prefix = f'env {prefix}LD_PRELOAD="$2" ' if prefix else ""
-        rows.append(f'while IFS= read -r line; do printf "%s\\n" "$line"; sleep 0.01; done < "$dir/script" | {prefix}"$1" {self.words.replace("DIR", chr(34) + "$dir/store" + chr(34))} | diff - "$dir/wanted"')
+        words = self.words.replace("DIR", '"$dir/store"')
+        rows.append(
+            'while IFS= read -r line; do printf "%s\\n" "$line"; sleep 0.01; done < "$dir/script"'
+            f' | {prefix}"$1" {words} | diff - "$dir/wanted"'
+        )
         return "\n".join(rows) + "\n"
 
 
@@ -91,7 +121,12 @@ def report(title: str, why: Failure) -> None:
         fd, place = tempfile.mkstemp(prefix="torture-", suffix=".sh", dir="/tmp")
         with os.fdopen(fd, "w", encoding="utf-8") as it:
             it.write(why.shown.script(f"{title}: {str(why)[:200]}".replace("\n", " ")))
-        print(f"  to see it: sh {place} PROGRAM" + (" REFUSE.SO" if why.shown.environment.get("REFUSE_CLASS") else ""), flush=True)
+        print(
+            f"  to see it: sh {place} PROGRAM" + (
+                " REFUSE.SO" if why.shown.environment.get("REFUSE_CLASS") else ""
+            ),
+            flush=True,
+        )
 
 
 def read_areas(folder: str) -> Areas:
@@ -109,17 +144,35 @@ def write_areas(folder: str, areas: Areas) -> None:
             it.write(data)
 
 
-def run(program: str, folder: str, lines: Iterable[str]) -> tuple[int, list[str]]:
+def run(program: str, folder: str, lines: Iterable[str]) -> Answer:
     """The status and the answers of a script."""
     given = "".join(f"{it}\n" for it in lines)
-    done = subprocess.run([program, "run", folder], input=given, stdout=subprocess.PIPE, stderr=subprocess.DEVNULL, text=True, timeout=PATIENCE)
+    done = subprocess.run(
+        [program, "run", folder], input=given, stdout=subprocess.PIPE, stderr=subprocess.DEVNULL,
+        text=True, timeout=PATIENCE,
+    )
     return done.returncode, done.stdout.splitlines()
 
 
-def command(program: str, *words: str) -> tuple[int, list[str]]:
+def command(program: str, *words: str) -> Answer:
     """The status and the lines of a command."""
-    done = subprocess.run([program, *words], stdin=subprocess.DEVNULL, stdout=subprocess.PIPE, stderr=subprocess.DEVNULL, text=True, timeout=PATIENCE)
+    done = subprocess.run(
+        [program, *words], stdin=subprocess.DEVNULL, stdout=subprocess.PIPE,
+        stderr=subprocess.DEVNULL, text=True, timeout=PATIENCE,
+    )
     return done.returncode, done.stdout.splitlines()
+
+
+def status_of(said: list[str]) -> int:
+    """The status of a command that says this."""
+    return int(any(it.startswith("refused") for it in said))
+
+
+def differing(found: Answer, wanted: Answer) -> str:
+    """The first line that is another one."""
+    both = zip([*found[1], "nothing"], [*wanted[1], "nothing"])
+    said, due = next(((a, b) for a, b in both if a != b), ("as it should", "that"))
+    return f"answers {said} with status {found[0]}, and not {due} with status {wanted[0]}"
 
 
 def format_store(program: str, folder: str, slots: int) -> None:
@@ -151,12 +204,18 @@ def is_whole(line: str, said: list[str]) -> bool:
 class Session:
     """The program with a script that is fed line by line."""
 
-    def __init__(self, program: str, folder: str, environment: dict[str, str] | None = None, before: Callable[[], object] | None = None) -> None:
+    def __init__(
+        self, program: str, folder: str, environment: dict[str, str] | None = None,
+        before: Callable[[], object] | None = None,
+    ) -> None:
         self.folder, self.start, self.environment = folder, read_areas(folder), environment or {}
         self.lines: list[str] = []
         self.said: list[str] = []
-        self.process = subprocess.Popen([program, "run", folder], stdin=subprocess.PIPE, stdout=subprocess.PIPE, stderr=subprocess.DEVNULL, text=True,
-                                        env=environment, preexec_fn=before, restore_signals=before is None)
+        self.process = subprocess.Popen(
+            [program, "run", folder], stdin=subprocess.PIPE, stdout=subprocess.PIPE,
+            stderr=subprocess.DEVNULL, text=True, env=environment, preexec_fn=before,
+            restore_signals=before is None,
+        )
 
     def ask(self, line: str) -> list[str] | None:
         """The lines of the answer; None where the program has ended instead."""
@@ -177,7 +236,9 @@ class Session:
 
     def failure(self, why: str, said: list[str] | None, wanted: list[str] | None) -> Failure:
         before = self.said[: len(self.said) - len(said or [])]
-        return Failure(why, Shown(self.start, self.lines, before + (wanted or []), self.environment))
+        return Failure(
+            why, Shown(self.start, self.lines, before + (wanted or []), self.environment)
+        )
 
     def expect(self, line: str, wanted: list[str], where: str = "") -> None:
         """Feeds a line whose answer is known."""
@@ -205,7 +266,9 @@ class Session:
     def end_well(self) -> None:
         status, said = self.end()
         if status or said:
-            raise self.failure(f"the script ends with status {status}, and says {said!r}", None, [])
+            raise self.failure(
+                f"the script ends with status {status}, and says {said!r}", None, []
+            )
 
     def kill(self) -> None:
         if self.process.poll() is None:

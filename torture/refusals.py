@@ -1,16 +1,19 @@
 #!/usr/bin/env python3
-"""Each call that the program makes of the system, refused: every growth, read, length, write, sync, opening and lock of a
-script and of each command, one at a time; reads and writes that move one byte or are interrupted.
+"""Each call that the program makes of the system, refused: every growth, read, length, write,
+sync, opening and lock of a script and of each command, one at a time; reads and writes that move
+one byte or are interrupted.
 
-    refusals.py PROGRAM [--only NAME] [--seconds S]
+refusals.py PROGRAM [--only NAME] [--seconds S]
 
-A library (refuse.c) stands between the program and the system, counts the calls and lets one go wrong. Each answer is
-compared with the small machine's (machine.py): at the call that went wrong the refusal that docs/USING.md names, then the
-same line again as where nothing is refused; after a refused write or sync `failed`, every ticket that was not published in
-doubt, and queries as before. Then the store is opened again: a front of the commits with each that was answered done.
+A library (refuse.c) stands between the program and the system, counts the calls and lets one go
+wrong. Each answer is compared with the small machine's (machine.py): at the call that went wrong
+the refusal that docs/USING.md names, then the same line again as where nothing is refused; after a
+refused write or sync `failed`, every ticket that was not published in doubt, and queries as
+before. Then the store is opened again: a front of the commits with each that was answered done.
 
-With --seconds it ends after so many: first comes each call of the files that is not made, and then the others, spread over all
-of them. The status is 1 where a case fails; the script that shows it is named.
+With --seconds it ends after so many: first comes each call of the files that is not made, and then
+the others, spread over all of them. The status is 1 where a case fails; the script that shows it
+is named.
 """
 from __future__ import annotations
 
@@ -22,12 +25,13 @@ from collections import Counter
 from collections.abc import Callable
 
 from machine import Machine
-from program import Areas, Failure, Until, format_store, read_areas, report, run, spread, use_memory, write_areas
+from program import (
+    FAILURES_MOST, Areas, Failure, Until, format_store, read_areas, report, run, spread,
+    use_memory, write_areas,
+)
 from refused_commands import BEFORE, COMMANDS, Command
 from refused_scripts import SCRIPTS, Case
 from wrong import NONE, What, Wrong, cases_of, has_compiler, is_first
-
-FAILURES_MOST = 20
 
 
 class Refusals:
@@ -54,11 +58,16 @@ class Refusals:
         nothing = self.wrong()
         self.guard(name, play, nothing)
         counts = nothing.counts()
-        print(f"{name}: " + ", ".join(f"{count} of {kind}" for kind, count in counts.items()), flush=True)
+        print(
+            f"{name}: " + ", ".join(f"{count} of {kind}" for kind, count in counts.items()),
+            flush=True,
+        )
         return cases_of(counts)
 
     def all(self, names: list[str]) -> None:
-        plays = {name: self.script(name) if name in SCRIPTS else self.command(name) for name in names}
+        plays = {
+            name: self.script(name) if name in SCRIPTS else self.command(name) for name in names
+        }
         cases = [(name, what) for name, play in plays.items() for what in self.cases(name, play)]
         firsts = [it for it in cases if is_first(it[1])]
         for name, what in [*firsts, *spread([it for it in cases if not is_first(it[1])])]:
@@ -102,7 +111,9 @@ class Refusals:
 
 
 def main() -> int:
-    words = argparse.ArgumentParser(description=__doc__, formatter_class=argparse.RawDescriptionHelpFormatter)
+    words = argparse.ArgumentParser(
+        description=__doc__, formatter_class=argparse.RawDescriptionHelpFormatter
+    )
     words.add_argument("program")
     words.add_argument("--only", choices=[*SCRIPTS, *COMMANDS])
     words.add_argument("--seconds", type=float, help="for how long (until all is tried)")
@@ -118,7 +129,7 @@ def main() -> int:
         if given.seconds is None:
             all_of.say()
     count = all_of.tried.total()
-    print(f"{count} calls went wrong in {until.seconds():.0f} s, {count / until.seconds():.0f} a second; {all_of.bad} failed")
+    print(f"{until.rate(count, 'calls went wrong')}; {all_of.bad} failed")
     return 1 if all_of.bad else 0
 
 

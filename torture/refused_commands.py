@@ -2,14 +2,15 @@
 from __future__ import annotations
 
 import copy
-import os
 import shutil
 import subprocess
 from collections.abc import Callable
 
 import image
 from machine import Machine
-from program import AREAS, PATIENCE, Areas, Failure, Shown, run, read_areas, write_areas
+from program import (
+    AREAS, PATIENCE, Areas, Failure, Shown, read_areas, run, status_of, write_areas
+)
 from scripts import check_left, machine_of
 from wrong import HARMLESS, Wrong
 
@@ -34,7 +35,10 @@ flush
 floor 105
 finish
 """.splitlines()
-COMMANDS = {"at": "at DIR 1 7 105", "between": "between DIR 1 7 105 131", "dump": "dump DIR", "vacuum": "vacuum DIR 120", "format": "format DIR --slots 16"}
+COMMANDS = {
+    "at": "at DIR 1 7 105", "between": "between DIR 1 7 105 131", "dump": "dump DIR",
+    "vacuum": "vacuum DIR 120", "format": "format DIR --slots 16",
+}
 # an opening syncs each area, and its refusal is not that of a job
 OPENING_SYNCS = len(AREAS)
 
@@ -43,7 +47,8 @@ def refusal_of(name: str, wrong: Wrong) -> str:
     """What a command answers where this call is refused."""
     if wrong.kind == "growth":
         return "refused: no memory"
-    fails = name == "vacuum" and (wrong.kind == "write" or wrong.kind == "sync" and wrong.at > OPENING_SYNCS)
+    is_of_a_job = wrong.kind == "write" or wrong.kind == "sync" and wrong.at > OPENING_SYNCS
+    fails = name == "vacuum" and is_of_a_job
     return "refused: failed" if fails else "refused: device"
 
 
@@ -71,12 +76,18 @@ class Command:
 
     def do(self, wrong: Wrong) -> tuple[int, list[str]]:
         words = self.words.replace("DIR", self.folder).split(" ")
-        done = subprocess.run([self.program, *words], stdout=subprocess.PIPE, stderr=subprocess.PIPE, text=True, env=wrong.environment, timeout=PATIENCE)
+        done = subprocess.run(
+            [self.program, *words], stdout=subprocess.PIPE, stderr=subprocess.PIPE, text=True,
+            env=wrong.environment, timeout=PATIENCE,
+        )
         self.complaint = done.stderr
         return done.returncode, done.stdout.splitlines()
 
     def failure(self, wrong: Wrong, why: str, wanted: list[str]) -> Failure:
-        return Failure(f"{self.words} {wrong}: {why}", Shown(self.start, [], wanted, wrong.environment, self.words))
+        return Failure(
+            f"{self.words} {wrong}: {why}",
+            Shown(self.start, [], wanted, wrong.environment, self.words),
+        )
 
     def play(self, wrong: Wrong, nothing: Callable[[], Wrong]) -> str:
         """One call goes wrong; says how it went."""
@@ -94,7 +105,8 @@ class Command:
         return outcome
 
     def refused(self, wrong: Wrong, status: int, said: list[str], usual: list[str]) -> str:
-        """The refusal, behind what was answered before; nothing or a part of it where the output is refused; nothing where the words found no memory."""
+        """The refusal, behind what was answered before; nothing or a part of it where the output
+        is refused; nothing where the words found no memory."""
         wanted = refusal_of(self.name, wrong)
         if wrong.kind == "output" and status == 1:
             return "ended"
@@ -110,11 +122,14 @@ class Command:
         """The same again, on what was left, answers as on a store where that stands."""
         left = self.left(wrong)
         status, said = self.do(nothing)
-        wanted = self.usual() if left is None else left.vacuum(120) if self.name == "vacuum" else self.usual()
+        wanted = left.vacuum(120) if left is not None and self.name == "vacuum" else self.usual()
         if self.name == "format" and left is not None:
             wanted = ["refused: occupied"]
-        if said != wanted or status != any(it.startswith("refused") for it in wanted):
-            raise self.failure(wrong, f"and then again: answers {said} with status {status}, and not {wanted}", wanted)
+        if (status, said) != (status_of(wanted), wanted):
+            raise self.failure(
+                wrong, f"and then again: answers {said} with status {status}, and not {wanted}",
+                wanted,
+            )
         if left and self.name == "vacuum":
             self.reclaim(wrong, left)
 
@@ -125,7 +140,10 @@ class Command:
                 return machine_of(image.read(read_areas(self.folder)), [])
             except (image.Refused, FileNotFoundError):
                 return None
-        return check_left(self.program, read_areas(self.folder), self.small.front(), f"after {self.words} {wrong}")
+        return check_left(
+            self.program, read_areas(self.folder), self.small.front(),
+            f"after {self.words} {wrong}",
+        )
 
     def reclaim(self, wrong: Wrong, left: Machine) -> None:
         """Where the archive of a vacuum was done before, the reclaim comes by a script."""
@@ -133,4 +151,6 @@ class Command:
         wanted = [said for line in lines for said in left.answer(line) or []]
         said = run(self.program, self.folder, lines)
         if said != (0, wanted) or (left.archived, left.reclaimed) != (120, 120):
-            raise self.failure(wrong, f"and then {lines}: answers {said}, and not {wanted}", wanted)
+            raise self.failure(
+                wrong, f"and then {lines}: answers {said}, and not {wanted}", wanted
+            )

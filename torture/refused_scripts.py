@@ -1,4 +1,5 @@
-"""Scripts with one call of the system that goes wrong, each answer compared with the small machine's."""
+"""Scripts with one call of the system that goes wrong, each answer compared with the small
+machine's."""
 from __future__ import annotations
 
 import copy
@@ -8,10 +9,12 @@ import image
 import machine
 from machine import Front, Machine, Transaction
 from program import Areas, Failure, Session, read_areas, write_areas
-from scripts import check_left, questions
+from scripts import LARGE, check_left, questions
 from wrong import HARMLESS, Wrong
 
-# a refused growth may pass here alone: in the cache of the archive's blocks, and where room for a list of known length is asked ahead
+# a refused growth may pass here alone: in the cache of the archive's blocks, and where room for a
+# list of known length is asked ahead
+BY_A_REFUSED_CALL = ("refused: no memory", "refused: device", "refused: failed")
 PASSES = ("at", "between", "scan", "times", "reopen")
 
 EXAMPLE = """begin t
@@ -34,13 +37,11 @@ reopen
 at 1 7 100
 """.splitlines()
 
-BIG = " ".join(["ab" * 255] * 16)
-
 WIDE = f"""begin a
 put a 1 7 61 62
 put a 1 8 -
-put a 2 1 {BIG}
-put a 2 2 {BIG}
+put a 2 1 {LARGE}
+put a 2 2 {LARGE}
 submit a 1 100
 flush
 begin b
@@ -213,7 +214,9 @@ class Case:
         self.look()
         return how
 
-    def failure(self, why: str, said: list[str] | None = None, wanted: list[str] | None = None) -> Failure:
+    def failure(
+        self, why: str, said: list[str] | None = None, wanted: list[str] | None = None
+    ) -> Failure:
         return self.session.failure(why, said, wanted)
 
     def tell(self, line: str) -> tuple[list[str] | None, list[str] | None, Machine]:
@@ -221,7 +224,7 @@ class Case:
         before = copy.deepcopy(self.small)
         wanted = self.small.answer(line)
         said = self.session.ask(line)
-        if wanted is None and said is not None and not said[0].startswith(("refused: no memory", "refused: device", "refused: failed")):
+        if wanted is None and said is not None and not said[0].startswith(BY_A_REFUSED_CALL):
             why = (self.small.pumped if line == "pump" else self.small.jobbed)(said[0])
             if why:
                 raise self.failure(f"{line}: {why}", said, [f"another step: {why}"])
@@ -231,10 +234,13 @@ class Case:
         return said, wanted, before
 
     def may_be_left(self, before: Machine) -> None:
-        """A stop now leaves what was published before the line, what is published now, or a front between."""
+        """A stop now leaves what was published before the line, what is published now, or a front
+        between."""
         first, then = before.front(), self.small.front()
         order = max(first.order, then.order, key=len)
-        self.front = Front(order, range(len(before.published), len(order) + 1), (*first.floors, *then.floors))
+        self.front = Front(
+            order, range(len(before.published), len(order) + 1), (*first.floors, *then.floors)
+        )
 
     def lines(self, script: Iterable[str]) -> str:
         outcome, before = "no change", self.small
@@ -245,10 +251,15 @@ class Case:
             if said == wanted:
                 if is_due and self.wrong.came() and self.wrong.how not in HARMLESS:
                     if not self.may_pass(number, line):
-                        raise self.failure(f"{line}: answered {said}, and nothing is refused", said, ["a refusal"])
-                    outcome = f"no change of {line.split(' ')[0] if number else 'the first line'}" if self.wrong.kind == "growth" else outcome
+                        raise self.failure(
+                            f"{line}: answered {said}, and nothing is refused", said, ["a refusal"]
+                        )
+                    if self.wrong.kind == "growth":
+                        where = line.split(" ")[0] if number else "the first line"
+                        outcome = f"no change of {where}"
                 continue
-            if not outcome.startswith("no change") or not self.wrong.came() or self.wrong.how in HARMLESS:
+            is_refusable = self.wrong.came() and self.wrong.how not in HARMLESS
+            if not outcome.startswith("no change") or not is_refusable:
                 raise self.failure(f"{line}: answered {said}, and not {wanted}", said, wanted)
             outcome = self.went_wrong(number, line, said, wanted, before)
             if outcome in ("ended", "not opened", "failed"):
@@ -256,8 +267,9 @@ class Case:
         return self.at_the_end(outcome)
 
     def may_pass(self, number: int, line: str) -> bool:
-        """Whether the refused call may change nothing here: a growth in a cache or ahead of need; a read of the input behind this line's
-        answer; a write of the answer, which is gathered and written again as the program ends."""
+        """Whether the refused call may change nothing here: a growth in a cache or ahead of need;
+        a read of the input behind this line's answer; a write of the answer, which is gathered and
+        written again as the program ends."""
         if self.wrong.kind == "growth":
             return number == 0 or line.split(" ")[0] in PASSES
         return self.wrong.kind in ("input", "output")
@@ -274,15 +286,19 @@ class Case:
         self.may_be_left(self.small)
         return outcome
 
-    def went_wrong(self, number: int, line: str, said: list[str] | None, wanted: list[str] | None, before: Machine) -> str:
+    def went_wrong(
+        self, number: int, line: str, said: list[str] | None, wanted: list[str] | None,
+        before: Machine,
+    ) -> str:
         kind = self.wrong.kind
         if said is None or kind in ("input", "output"):
             return self.ended(said, number == 0)
-        refusal = "refused: no memory" if kind == "growth" else "refused: failed" if kind in ("write", "sync") else "refused: device"
         opening = "refused: no memory" if kind == "growth" else "refused: device"
-        if (number == 0 or line == "reopen") and said == [opening] and self.session.ask("times 0") is None:
+        refusal = "refused: failed" if kind in ("write", "sync") else opening
+        if (number == 0 or line == "reopen") and said == [opening]:
             # a refused opening, after which nothing is answered
-            return self.not_opened(before)
+            if self.session.ask("times 0") is None:
+                return self.not_opened(before)
         if said != [refusal] or line == "reopen":
             raise self.failure(f"{line}: answered {said}, and not {refusal}", said, [refusal])
         if kind in ("write", "sync"):
@@ -294,10 +310,13 @@ class Case:
         return "refused"
 
     def ended(self, said: list[str] | None, is_first: bool) -> str:
-        """The input or the output is refused, or there is no memory for either or for the program's words: it ends."""
+        """The input or the output is refused, or there is no memory for either or for the
+        program's words: it ends."""
         status, _ = self.session.end()
-        # want of memory while the words are read is told on standard error, with the status of a usage fault
-        if not (status == 1 or status == 2 and is_first and said is None) or self.wrong.kind not in ("growth", "input", "output"):
+        # want of memory while the words are read is told on standard error, with the status of a
+        # usage fault
+        may_end = status == 1 or status == 2 and is_first and said is None
+        if not may_end or self.wrong.kind not in ("growth", "input", "output"):
             raise self.failure(f"ends with {said} and status {status}")
         return "ended"
 
@@ -308,7 +327,8 @@ class Case:
         return "not opened"
 
     def again(self, line: str, wanted: list[str] | None, before: Machine) -> None:
-        """The same line again answers as where nothing was refused; a submit has ended its transaction."""
+        """The same line again answers as where nothing was refused; a submit has ended its
+        transaction."""
         word, *rest = line.split(" ")
         if word == "submit":
             self.submit_anew(line, rest[0], before)
@@ -327,20 +347,30 @@ class Case:
         del self.small.names[name]
         lines = self.session.lines[:-1]
         first = max(at for at, it in enumerate(lines) if it == f"begin {name}")
-        own = [it for it in lines[first:] if it.split(" ")[0] in ("begin", "put", "del") and it.split(" ")[1] == name]
+        own = [
+            it
+            for it in lines[first:]
+            if it.split(" ")[0] in ("begin", "put", "del") and it.split(" ")[1] == name
+        ]
         for one in [*own, line]:
             said, wanted, _ = self.tell(one)
             if said != wanted:
-                raise self.failure(f"after a refused submit {one}: answered {said}, and not {wanted}", said, wanted)
+                raise self.failure(
+                    f"after a refused submit {one}: answered {said}, and not {wanted}", said,
+                    wanted,
+                )
         self.may_be_left(self.small)
 
     # ---- after a refused write or sync
 
     def failed(self, before: Machine) -> None:
-        """The store writes nothing more, each ticket that is not published is in doubt, and it reads on."""
+        """The store writes nothing more, each ticket that is not published is in doubt, and it
+        reads on."""
         self.small = small = before
         self.publish_groups()
-        for line in ("begin zz", "pump", "job", "flush", "finish", "archive 1", "reclaim", "floor 1"):
+        for line in (
+            "begin zz", "pump", "job", "flush", "finish", "archive 1", "reclaim", "floor 1"
+        ):
             self.session.expect(line, ["refused: failed"], "after failed, ")
         for name, what in list(small.names.items()):
             if isinstance(what, Transaction):
@@ -348,7 +378,10 @@ class Case:
                 self.session.expect(f"submit {name} 1 0", ["refused: failed"], "after failed, ")
             else:
                 published = what <= machine.last(small.published)
-                self.session.expect(f"redeem {name}", [f"done {what}" if published else "in doubt"], "after failed, ")
+                self.session.expect(
+                    f"redeem {name}", [f"done {what}" if published else "in doubt"],
+                    "after failed, ",
+                )
                 self.done += [what] * published
         lines, _ = questions(small.published, small.floor)
         for line in lines[1:]:
@@ -361,15 +394,23 @@ class Case:
         said = self.session.ask(f"at 1 1 {machine.LATEST + 1}")
         group = small.group or machine.GROUP_MOST
         while small.queue and said != [f"refused: not yet {machine.last(small.published)}"]:
-            small.published, small.queue, group = small.published + small.queue[:group], small.queue[group:], machine.GROUP_MOST
+            small.published = small.published + small.queue[:group]
+            small.queue, group = small.queue[group:], machine.GROUP_MOST
         if said != [f"refused: not yet {machine.last(small.published)}"]:
-            raise self.failure(f"after failed, the last commit is {said}", said, ["that of a whole group"])
+            raise self.failure(
+                f"after failed, the last commit is {said}", said, ["that of a whole group"]
+            )
         order = small.published + small.queue[:group]
-        floors = (small.floor, small.job.upto) if small.job and small.job.kind == "floor" else (small.floor,)
+        has_floor = small.job is not None and small.job.kind == "floor"
+        floors = (small.floor, small.job.upto) if has_floor else (small.floor,)
         self.front = Front(order, (len(small.published), len(order)), floors)
 
     def look(self) -> None:
         """The store is opened again: a front of the commits, with each that was done."""
-        left = check_left(self.program, read_areas(self.folder), self.front, f"{self.wrong}: opened again")
+        left = check_left(
+            self.program, read_areas(self.folder), self.front, f"{self.wrong}: opened again"
+        )
         if [it for it in self.done if it > machine.last(left.published)]:
-            raise Failure(f"opened again with {len(left.published)} commits, and {self.done} were done")
+            raise Failure(
+                f"opened again with {len(left.published)} commits, and {self.done} were done"
+            )

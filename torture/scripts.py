@@ -1,4 +1,5 @@
-"""Random lines of scripts, drawn beside a small machine, and what is left of a store compared with a history."""
+"""Random lines of scripts, drawn beside a small machine, and what is left of a store compared with
+a history."""
 from __future__ import annotations
 
 import random
@@ -8,10 +9,14 @@ from collections.abc import Iterable, Sequence
 import image
 import machine
 from machine import Front, History, Key, Machine, Transaction
-from program import Areas, Failure, Shown, run, write_areas
+from program import Areas, Failure, Shown, differing, run, write_areas
 
-KINDS = ("begin", "put", "del", "get", "submit", "abort", "redeem", "flush", "finish", "pump", "archive", "reclaim", "floor", "job", "ask", "reopen")
-# how often each is drawn: where each step is one of a script's lines, and where a line takes all of them
+KINDS = (
+    "begin", "put", "del", "get", "submit", "abort", "redeem", "flush", "finish", "pump",
+    "archive", "reclaim", "floor", "job", "ask", "reopen",
+)
+# how often each is drawn: where each step is one of a script's lines, and where a line takes all
+# of them
 BY_STEPS = (8, 12, 4, 1, 10, 1, 5, 2, 1, 40, 4, 4, 2, 40, 2, 0)
 BY_LINES = (6, 10, 3, 1, 8, 1, 5, 8, 8, 1, 4, 4, 3, 1, 8, 1)
 # and how much less often where it can do nothing now
@@ -22,16 +27,21 @@ ASKED = ("at", "between", "scan", "times")
 MOMENTS_MOST = 60
 # how often a commit is handed in at the end of all time
 LATE = 0.002
+# fields of which two records do not go into one extent
+LARGE = " ".join(["ab" * 255] * 16)
 
 
 def some_fields(chance: random.Random) -> str:
     many = chance.choice((1, 1, 1, 2, 3, 16))
     size = chance.choice((0, 1, 1, 2, 16, 255))
-    return " ".join(bytes(chance.randrange(3) for _ in range(size)).hex() or "-" for _ in range(many))
+    return " ".join(
+        bytes(chance.randrange(3) for _ in range(size)).hex() or "-" for _ in range(many)
+    )
 
 
 def some_key(chance: random.Random) -> Key:
-    return chance.choice((1, 1, 1, 1, 2, 65535)), chance.choice((0, 0, 0, 1, 1, 3, 7, (1 << 64) - 1))
+    relation = chance.choice((1, 1, 1, 1, 2, 65535))
+    return relation, chance.choice((0, 0, 0, 1, 1, 3, 7, (1 << 64) - 1))
 
 
 def key_text(key: Key) -> str:
@@ -42,7 +52,9 @@ def some_moment(chance: random.Random, small: Machine) -> int:
     """A time near one of a commit or of the floor, or any up to just behind the last one."""
     newest = machine.last(small.published)
     near = [small.floor, newest, small.archived, *(it.time for it in small.published[-8:])]
-    return max(0, chance.choice(near) + chance.randrange(-1, 3)) if chance.random() < 0.8 else chance.randrange(newest + 3)
+    if chance.random() < 0.8:
+        return max(0, chance.choice(near) + chance.randrange(-1, 3))
+    return chance.randrange(newest + 3)
 
 
 def fitting(kind: str, small: Machine) -> list[str]:
@@ -59,14 +71,18 @@ def can_do(kind: str, small: Machine) -> bool:
     """Whether a line of this kind can do something now."""
     newest, has_job = machine.last(small.published), small.job is not None
     if kind == "begin":
-        return sum(isinstance(it, Transaction) for it in small.names.values()) < 2 and bool(fitting(kind, small))
+        count = sum(isinstance(it, Transaction) for it in small.names.values())
+        return count < 2 and bool(fitting(kind, small))
     if kind in ("put", "del", "get", "submit", "abort", "redeem"):
         return bool(fitting(kind, small))
     if kind in ("flush", "pump"):
         return bool(small.queue)
     if kind in ("finish", "job"):
         return has_job
-    marks = {"archive": (small.archived, newest), "reclaim": (small.reclaimed, small.archived), "floor": (small.floor, newest)}
+    marks = {
+        "archive": (small.archived, newest), "reclaim": (small.reclaimed, small.archived),
+        "floor": (small.floor, newest),
+    }
     return kind not in marks or not has_job and marks[kind][0] < marks[kind][1]
 
 
@@ -82,9 +98,12 @@ def question(chance: random.Random, small: Machine) -> str:
 
 def some_line(chance: random.Random, small: Machine, weights: Sequence[int]) -> str:
     newest = machine.last(small.published)
-    kind = chance.choices(KINDS, [often if can_do(it, small) else often * IDLE for it, often in zip(KINDS, weights)])[0]
+    kind = chance.choices(
+        KINDS, [often if can_do(it, small) else often * IDLE for it, often in zip(KINDS, weights)]
+    )[0]
     names = fitting(kind, small)
-    key, name = some_key(chance), chance.choice(names if names and chance.random() < 0.95 else NAMES)
+    key = some_key(chance)
+    name = chance.choice(names if names and chance.random() < 0.95 else NAMES)
     if kind in ("begin", "abort", "redeem"):
         return f"{kind} {name}"
     if kind == "put":
@@ -92,7 +111,10 @@ def some_line(chance: random.Random, small: Machine, weights: Sequence[int]) -> 
     if kind in ("del", "get"):
         return f"{kind} {name} {key_text(key)}"
     if kind == "submit":
-        now = chance.choice((machine.LATEST, machine.LATEST + 1)) if chance.random() < LATE else chance.choice((0, 0, newest + chance.randrange(20)))
+        if chance.random() < LATE:
+            now = chance.choice((machine.LATEST, machine.LATEST + 1))
+        else:
+            now = chance.choice((0, 0, newest + chance.randrange(20)))
         return f"submit {name} {chance.randrange(3)} {now}"
     if kind in ("archive", "floor"):
         return f"{kind} {chance.choice((newest, some_moment(chance, small)))}"
@@ -100,23 +122,34 @@ def some_line(chance: random.Random, small: Machine, weights: Sequence[int]) -> 
 
 
 def a_vacuum(chance: random.Random, small: Machine) -> list[str]:
-    """Lines that raise the floor, archive and reclaim, or some of these, no transaction being open, and ask below the marks."""
+    """Lines that raise the floor, archive and reclaim, or some of these, no transaction being
+    open, and ask below the marks."""
     opened = [name for name, it in small.names.items() if isinstance(it, Transaction)]
     jobs = [f"floor {some_moment(chance, small)}"] if chance.random() < 0.4 else []
-    jobs += [f"archive {chance.choice((machine.last(small.published), some_moment(chance, small)))}", "reclaim"] if chance.random() < 0.9 else []
-    return [*(f"abort {name}" for name in opened), *(line for job in jobs for line in (job, "finish")), *(question(chance, small) for _ in range(4))]
+    if chance.random() < 0.9:
+        upto = chance.choice((machine.last(small.published), some_moment(chance, small)))
+        jobs += [f"archive {upto}", "reclaim"]
+    return [
+        *(f"abort {name}" for name in opened), *(line for job in jobs for line in (job, "finish")),
+        *(question(chance, small) for _ in range(4)),
+    ]
 
 
 # ---- what is left of a store
 
 
-def questions(history: History, floor: int = 0, others: Iterable[int] = ()) -> tuple[list[str], list[str]]:
-    """Lines that ask for all that a history says from a floor on, and at other moments, with their answers."""
+def questions(
+    history: History, floor: int = 0, others: Iterable[int] = ()
+) -> tuple[list[str], list[str]]:
+    """Lines that ask for all that a history says from a floor on, and at other moments, with their
+    answers."""
     keys = sorted({key for it in history for key in it.writes}) or [(1, 1)]
     newest = machine.last(history)
     moments = [0, *(it.time + by for it in history for by in (-1, 0, 1))]
     moments = sorted({it for it in moments if it >= floor})
-    moments = sorted({0, floor, max(floor - 1, 0), *moments[:: -(-len(moments) // MOMENTS_MOST) or 1], *others})
+    moments = sorted(
+        {0, floor, max(floor - 1, 0), *moments[:: -(-len(moments) // MOMENTS_MOST) or 1], *others}
+    )
     lines = ["reopen"]
     for key in keys:
         lines += [f"at {key_text(key)} {moment}" for moment in moments]
@@ -128,8 +161,11 @@ def questions(history: History, floor: int = 0, others: Iterable[int] = ()) -> t
     return lines, [said for line in lines for said in small.answer(line) or []]
 
 
-def check_left(program: str, areas: Areas, front: Front, where: str, others: Iterable[int] = ()) -> Machine:
-    """Files that were left open as one of a front, and answer as it does: the machine of what they stand for."""
+def check_left(
+    program: str, areas: Areas, front: Front, where: str, others: Iterable[int] = ()
+) -> Machine:
+    """Files that were left open as one of a front, and answer as it does: the machine of what they
+    stand for."""
 
     def failure(why: str, lines: list[str], wanted: list[str]) -> Failure:
         return Failure(f"{where}: {why}", Shown(areas, lines, wanted, {}))
@@ -141,9 +177,13 @@ def check_left(program: str, areas: Areas, front: Front, where: str, others: Ite
         raise failure(f"the plain reader is refused: {why}", ["reopen"], first) from None
     count, floor = len(found.history), found.log.floor
     if count not in front.counts:
-        raise failure(f"{count} commits are left, and not one of {front.counts}", ["reopen"], first)
+        raise failure(
+            f"{count} commits are left, and not one of {front.counts}", ["reopen"], first
+        )
     if floor not in front.floors:
-        raise failure(f"the floor {floor} is left, and not one of {front.floors}", ["reopen"], first)
+        raise failure(
+            f"the floor {floor} is left, and not one of {front.floors}", ["reopen"], first
+        )
     left = front.order[:count]
     lines, wanted = questions(left, floor, others)
     why = image.why_not(areas, found, left)
@@ -153,8 +193,8 @@ def check_left(program: str, areas: Areas, front: Front, where: str, others: Ite
         write_areas(folder, areas)
         status, said = run(program, folder, lines)
     if (status, said) != (0, wanted):
-        differs = next((f"{a} and not {b}" for a, b in zip([*said, "nothing"], [*wanted, "nothing"]) if a != b), "as it should")
-        raise failure(f"what was left answers {differs}, with status {status}", lines, wanted)
+        differs = differing((status, said), (0, wanted))
+        raise failure(f"what was left {differs}", lines, wanted)
     return machine_of(found, left)
 
 

@@ -1,4 +1,5 @@
-"""Scripts with a stop after each device call: what was written since the last sync of a file is torn, opened and compared."""
+"""Scripts with a stop after each device call: what was written since the last sync of a file is
+torn, opened and compared."""
 from __future__ import annotations
 
 import random
@@ -9,14 +10,20 @@ from collections.abc import Iterable, Iterator
 import image
 import machine
 from machine import SLOT_STEPS, Machine
-from program import AREAS, Areas, Failure, Session, Shown, command, read_areas, write_areas
+from program import (
+    AREAS, Areas, Failure, Session, Shown, command, read_areas, status_of, write_areas
+)
 from scripts import BY_STEPS, a_vacuum, check_left, some_line
 from wrong import Call, Wrong, has_compiler
 
 # the area that a step syncs; the others write
-SYNCED = {"heap synced": "heap", "body synced": "status", "published": "status", "run synced": "archive", "job done": "status"}
+SYNCED = {
+    "heap synced": "heap", "body synced": "status", "published": "status", "run synced": "archive",
+    "job done": "status",
+}
 FILLINGS = (0x00, 0xC7, 0xFF)
-# lines between two ends of a session, how often a vacuum stands between, and how often one stands behind a line
+# lines between two ends of a session, how often a vacuum stands between, and how often one stands
+# behind a line
 SESSIONS = (20, 60, 200)
 VACUUMS = 0.5
 OWN_VACUUMS = 0.04
@@ -29,7 +36,8 @@ def step_name(said: str) -> str:
 
 
 def call_of(said: str, before: Areas, after: Areas) -> Call | None:
-    """The device call of a step, as the files show it: of the first closed slot all but the gate, or the gate; an extent; behind the last run."""
+    """The device call of a step, as the files show it: of the first closed slot all but the gate,
+    or the gate; an extent; behind the last run."""
     log = image.read_log(before["status"])
     slot = image.slot_at(len(log.slots))
     if step_name(said) in SYNCED:
@@ -43,31 +51,50 @@ def call_of(said: str, before: Areas, after: Areas) -> Call | None:
     if said == "wrote extent":
         new = after["heap"]
         old = before["heap"].ljust(len(new), b"\0")
-        place = next((at for at in range(0, len(new), image.EXTENT) if new[at: at + image.EXTENT] != old[at: at + image.EXTENT]), 0)
+        place = next(
+            (
+                at
+                for at in range(0, len(new), image.EXTENT)
+                if new[at: at + image.EXTENT] != old[at: at + image.EXTENT]
+            ),
+            0,
+        )
         return Call("write", "heap", place, place + image.EXTENT)
     return None
 
 
 def is_of(call: Call, shown: Call) -> bool:
-    """Whether a device call that was made is the one that the files show: a run has pieces, and an extent may be written as it was."""
+    """Whether a device call that was made is the one that the files show: a run has pieces, and an
+    extent may be written as it was."""
     if shown.area == "archive":
-        return (call.kind, call.area) == (shown.kind, shown.area) and (call.kind == "sync" or shown.low <= call.low < call.high <= shown.high)
+        is_within = call.kind == "sync" or shown.low <= call.low < call.high <= shown.high
+        return (call.kind, call.area) == (shown.kind, shown.area) and is_within
     if shown.area == "heap" and shown.kind == "write":
-        return (call.kind, call.area) == ("write", "heap") and call.low % image.EXTENT == 0 and call.high == call.low + image.EXTENT
+        is_extent = call.low % image.EXTENT == 0 and call.high == call.low + image.EXTENT
+        return (call.kind, call.area) == ("write", "heap") and is_extent
     return call == shown
 
 
+def opens_by(calls: list[Call]) -> bool:
+    """Whether these are the calls of an opening: a sync of each area, and then reads."""
+    syncs, reads = calls[: len(AREAS)], calls[len(AREAS):]
+    is_synced = {it.area for it in syncs} == {*AREAS} and {it.kind for it in syncs} == {"sync"}
+    return is_synced and all(it.kind == "read" for it in reads)
+
+
 class Traced(Session):
-    """A session whose device calls are written down, where there is a compiler for what does that."""
+    """A session whose device calls are written down, where there is a compiler for what does
+    that."""
 
     def __init__(self, program: str, folder: str) -> None:
         self.trace = Wrong(folder) if has_compiler() else None
         super().__init__(program, folder, self.trace.environment if self.trace else None)
         self.expect("times 0", self.times())
         calls = self.calls()
-        firsts = [it.kind for it in calls[: len(AREAS)]]
-        if self.trace and ({it.area for it in calls[: len(AREAS)]} != set(AREAS) or firsts != ["sync"] * len(AREAS) or any(it.kind != "read" for it in calls[len(AREAS):])):
-            raise self.failure(f"opening makes the calls {calls}, and not three syncs before it reads", None, [])
+        if self.trace and not opens_by(calls):
+            raise self.failure(
+                f"opening makes the calls {calls}, and not three syncs before it reads", None, []
+            )
 
     def times(self) -> list[str]:
         """The commits with label 0 of the files."""
@@ -93,7 +120,9 @@ class Stops:
             unwritten = bytearray(new)
             for call in calls:
                 if (call.kind, call.area) == ("write", area):
-                    unwritten[call.low: call.high] = old[call.low: call.high].ljust(call.high - call.low, b"\0")
+                    unwritten[call.low: call.high] = old[call.low: call.high].ljust(
+                        call.high - call.low, b"\0"
+                    )
             if unwritten != old.ljust(len(new), b"\0"):
                 return f"the {area} file has changed where none of {calls} wrote"
         self.now = dict(after)
@@ -107,7 +136,8 @@ class Stops:
 
     @staticmethod
     def torn(new: bytes, old: bytes, chance: random.Random) -> bytes | None:
-        """What may be left of a write: nothing, all, a front of it before the old bytes or a filling, or a filling alone."""
+        """What may be left of a write: nothing, all, a front of it before the old bytes or a
+        filling, or a filling alone."""
         how, filling = chance.randrange(5), bytes([chance.choice(FILLINGS)])
         cut = chance.randrange(len(new) + 1)
         if how == 0:
@@ -120,11 +150,22 @@ class Stops:
 
     def left(self, chance: random.Random) -> Areas:
         """One image that a stop may leave."""
-        torn = [self.torn(self.now[it.area][it.low:it.high], self.firm[it.area][it.low:it.high], chance) for it in self.loose]
-        return self.with_loose(torn, bytes([chance.choice(FILLINGS)]) * chance.choice((0, 0, 0, chance.randrange(2 * image.EXTENT))))
+        torn = [
+            self.torn(
+                self.now[it.area][it.low:it.high], self.firm[it.area][it.low:it.high], chance
+            )
+            for it in self.loose
+        ]
+        return self.with_loose(
+            torn,
+            bytes([chance.choice(FILLINGS)]) * chance.choice(
+                (0, 0, 0, chance.randrange(2 * image.EXTENT))
+            ),
+        )
 
     def with_loose(self, torn: list[bytes | None], behind: bytes = b"") -> Areas:
-        """What is synced, with these bytes where was written since (None: nothing of a write), and others behind the end of each file."""
+        """What is synced, with these bytes where was written since (None: nothing of a write), and
+        others behind the end of each file."""
         areas = {area: bytearray(self.firm[area] + behind) for area in AREAS}
         for call, piece in zip(self.loose, torn):
             data = areas[call.area]
@@ -134,7 +175,8 @@ class Stops:
         return {area: bytes(data) for area, data in areas.items()}
 
     def each_left(self) -> Iterator[Areas]:
-        """Images that a stop may leave: all of what was written since the syncs, nothing of it, and with each filling all of it torn, or half of the last write."""
+        """Images that a stop may leave: all of what was written since the syncs, nothing of it,
+        and with each filling all of it torn, or half of the last write."""
         new = [self.now[it.area][it.low:it.high] for it in self.loose]
         yield self.with_loose([*new])
         if not self.loose:
@@ -147,9 +189,12 @@ class Stops:
 
 
 class Play:
-    """Random lines on a store, and vacuums between its sessions, with a stop after each device call."""
+    """Random lines on a store, and vacuums between its sessions, with a stop after each device
+    call."""
 
-    def __init__(self, program: str, chance: random.Random, depth: int = 0, has_stops: bool = True) -> None:
+    def __init__(
+        self, program: str, chance: random.Random, depth: int = 0, has_stops: bool = True
+    ) -> None:
         self.program, self.chance, self.depth, self.has_stops = program, chance, depth, has_stops
         self.tried: Counter = Counter()
 
@@ -167,8 +212,9 @@ class Play:
         try:
             for _ in range(count):
                 self.line(session, small, stops)
-                for line in a_vacuum(self.chance, small) if self.chance.random() < OWN_VACUUMS else []:
-                    tell(session, small, stops, line)
+                if self.chance.random() < OWN_VACUUMS:
+                    for line in a_vacuum(self.chance, small):
+                        tell(session, small, stops, line)
             if self.chance.random() < 0.5:
                 tell(session, small, stops, "reopen")
             session.end_well()
@@ -182,8 +228,11 @@ class Play:
         upto = self.chance.choice((newest, self.chance.randrange(newest + 3)))
         wanted = small.vacuum(upto)
         status, said = command(self.program, "vacuum", folder, str(upto))
-        if said != wanted or status != any(it.startswith("refused") for it in wanted):
-            raise Failure(f"vacuum {upto}: answered {said} with status {status}, and not {wanted}", Shown(start, [], wanted, {}, f"vacuum DIR {upto}"))
+        if (status, said) != (status_of(wanted), wanted):
+            raise Failure(
+                f"vacuum {upto}: answered {said} with status {status}, and not {wanted}",
+                Shown(start, [], wanted, {}, f"vacuum DIR {upto}"),
+            )
         self.tried["vacuums"] += 1
         check_left(self.program, read_areas(folder), small.front(), f"after vacuum {upto}")
 
@@ -198,7 +247,8 @@ class Play:
             self.tried[f"stops, {step_name(said)}"] += 1
 
     def stop(self, small: Machine, stops: Stops, where: str) -> None:
-        """What a stop may leave opens as what is published or, while a gate is in the writing, as that with the whole group or the floor."""
+        """What a stop may leave opens as what is published or, while a gate is in the writing, as
+        that with the whole group or the floor."""
         areas = stops.left(self.chance)
         again = check_left(self.program, areas, small.front(), where)
         self.tried["images"] += 1
@@ -216,9 +266,12 @@ class Play:
 
 
 def areas_of(line: str, small: Machine) -> set[str]:
-    """The areas that a line of many steps syncs; where another's slot is in the writing, its own is not begun."""
+    """The areas that a line of many steps syncs; where another's slot is in the writing, its own
+    is not begun."""
     synced = ("heap synced", "run synced", *SLOT_STEPS)
-    is_barred = small.turn in SLOT_STEPS if line == "finish" else small.job is not None and small.job.is_in_slot()
+    is_barred = small.job is not None and small.job.is_in_slot()
+    if line == "finish":
+        is_barred = small.turn in SLOT_STEPS
     if line == "flush" and small.queue:
         is_done = small.turn in synced and (is_barred or len(small.queue) == small.group)
         return (set() if is_done else {"heap"}) | (set() if is_barred else {"status"})
@@ -236,23 +289,30 @@ def tell(session: Traced, small: Machine, stops: Stops, line: str) -> None:
     shown = [Call("sync", it) for it in sorted(areas)]
     made = [it for it in session.calls() if it.kind != "read"]
     if session.trace and {it.area for it in made} != {it.area for it in shown}:
-        raise session.failure(f"{line}: makes the calls {made}, and syncs {shown}", wanted, ["other calls"])
+        raise session.failure(
+            f"{line}: makes the calls {made}, and syncs {shown}", wanted, ["other calls"]
+        )
     changed(session, stops, line, wanted, made or shown)
 
 
 def step(session: Traced, small: Machine, stops: Stops, line: str) -> str:
-    """Feeds one `pump` or `job`, which makes one device call, or none where its way is barred or at its end."""
+    """Feeds one `pump` or `job`, which makes one device call, or none where its way is barred or
+    at its end."""
     said = session.step(line, small.pumped if line == "pump" else small.jobbed)
     shown = call_of(said, stops.now, read_areas(session.folder))
     made = [it for it in session.calls() if it.kind != "read"]
     if session.trace and (len(made) != (shown is not None) or shown and not is_of(made[0], shown)):
-        raise session.failure(f"{line}: answered {said}, and makes the calls {made}, not {shown}", [said], ["other calls"])
+        raise session.failure(
+            f"{line}: answered {said}, and makes the calls {made}, not {shown}", [said],
+            ["other calls"],
+        )
     changed(session, stops, line, [said], made or ([shown] if shown else []))
     return said
 
 
 def changed(session: Traced, stops: Stops, line: str, said: list[str], calls: list[Call]) -> None:
-    """Notes what was called; without a trace the files have changed where a line of many steps wrote, too."""
+    """Notes what was called; without a trace the files have changed where a line of many steps
+    wrote, too."""
     if not session.trace and line not in ("pump", "job"):
         stops.now = read_areas(session.folder)
     why = stops.called(read_areas(session.folder), calls)

@@ -1,15 +1,17 @@
 #!/usr/bin/env python3
-"""Tries the program with real files: random scripts and vacuums, stops at each device call, kills, full disks, forged files, refused calls.
+"""Tries the program with real files: random scripts and vacuums, stops at each device call, kills,
+full disks, forged files, refused calls.
 
-    torture.py PROGRAM [--minutes M] [--seed N] [--only KIND]
+torture.py PROGRAM [--minutes M] [--seed N] [--only KIND]
 
-Each case has a seed of its own: `--seed N --only KIND` begins with the one that failed. A script of `pump` and `job` lines makes
-one device call a line, so the files after each line are all that a stop may find; what was written since the last sync of a file
-may be torn, and is: to a prefix, to what stood there before, or to other bytes. What is left is opened and asked for every
-record, and compared with the small machine (machine.py) and with a plain reader of the format (image.py).
+Each case has a seed of its own: `--seed N --only KIND` begins with the one that failed. A script
+of `pump` and `job` lines makes one device call a line, so the files after each line are all that a
+stop may find; what was written since the last sync of a file may be torn, and is: to a prefix, to
+what stood there before, or to other bytes. What is left is opened and asked for every record, and
+compared with the small machine (machine.py) and with a plain reader of the format (image.py).
 
-KIND: stops, kills, full (a disk without room), forged, refused (a call of the system). The status is 1 where a case fails; a
-script is left that shows it (`sh SCRIPT PROGRAM`).
+KIND: stops, kills, full (a disk without room), forged, refused (a call of the system). The status
+is 1 where a case fails; a script is left that shows it (`sh SCRIPT PROGRAM`).
 """
 from __future__ import annotations
 
@@ -33,9 +35,13 @@ import image
 import machine
 import wrong
 from machine import Commit, Front, Machine
-from program import AREAS, Areas, Failure, Session, format_store, read_areas, report, seconds_to_begin, use_memory
+from program import (
+    AREAS, Areas, Failure, Session, format_store, read_areas, report, seconds_to_begin, use_memory
+)
 from refused_scripts import Case
-from scripts import BY_LINES, a_vacuum, check_left, key_text, questions, some_fields, some_key, some_line
+from scripts import (
+    BY_LINES, a_vacuum, check_left, key_text, questions, some_fields, some_key, some_line
+)
 from stops import Play
 
 FAILURES_MOST = 5
@@ -63,11 +69,15 @@ class Killed:
         self.done, self.floor, self.next_floor = 0, 0, 0
 
     def lines(self, number: int) -> list[str]:
-        """The lines of a commit, whose time is its number; now and then of an archive, a reclaim, a floor."""
+        """The lines of a commit, whose time is its number; now and then of an archive, a reclaim,
+        a floor."""
         chance, key = self.chance, some_key(self.chance)
         fields = bytes(chance.randrange(256) for _ in range(16)).hex()
         self.order.append(Commit(number, number, {key: fields}))
-        lines = ["begin t", f"put t {key_text(key)} {fields}", f"submit t {number} 0", "flush", "redeem t"]
+        lines = [
+            "begin t", f"put t {key_text(key)} {fields}", f"submit t {number} 0", "flush",
+            "redeem t",
+        ]
         if chance.random() < 0.1:
             lines += [f"archive {chance.randrange(1, number + 1)}", "finish"]
             lines += ["reclaim", "finish"] if chance.random() < 0.7 else []
@@ -88,14 +98,19 @@ class Killed:
         return True
 
     def front(self) -> Front:
-        return Front(self.order, range(self.done, len(self.order) + 1), (self.floor, self.next_floor))
+        return Front(
+            self.order, range(self.done, len(self.order) + 1), (self.floor, self.next_floor)
+        )
 
 
 def kills_case(program: str, chance: random.Random, folder: str) -> Counter:
-    """The program is killed in a script or in a vacuum: a front of the commits is left, with each that it answered done."""
+    """The program is killed in a script or in a vacuum: a front of the commits is left, with each
+    that it answered done."""
     format_store(program, folder, 4096)
     killed = Killed(program, folder, chance)
-    timer = threading.Timer(seconds_to_begin(program) * (1 + 20 * chance.random()), killed.session.process.kill)
+    timer = threading.Timer(
+        seconds_to_begin(program) * (1 + 20 * chance.random()), killed.session.process.kill
+    )
     timer.start()
     alive = True
     while alive and len(killed.order) < 1200:
@@ -112,7 +127,10 @@ def kills_case(program: str, chance: random.Random, folder: str) -> Counter:
 
 def killed_vacuum(program: str, chance: random.Random, folder: str, small: Machine) -> None:
     newest = machine.last(small.published)
-    process = subprocess.Popen([program, "vacuum", folder, str(chance.choice((newest, chance.randrange(1, newest + 1))))], stdout=subprocess.DEVNULL)
+    process = subprocess.Popen(
+        [program, "vacuum", folder, str(chance.choice((newest, chance.randrange(1, newest + 1))))],
+        stdout=subprocess.DEVNULL,
+    )
     time.sleep(seconds_to_begin(program) * (0.5 + 3 * chance.random()))
     process.kill()
     process.wait()
@@ -123,7 +141,8 @@ def killed_vacuum(program: str, chance: random.Random, folder: str, small: Machi
 
 
 def full_case(program: str, chance: random.Random, folder: str) -> Counter:
-    """A file may not grow past a limit: the store says failed, goes on reading, and loses nothing that it answered done."""
+    """A file may not grow past a limit: the store says failed, goes on reading, and loses nothing
+    that it answered done."""
     format_store(program, folder, 64)
     limit = 34000 + chance.randrange(1, 12) * 8192 - chance.choice((0, 0, 1, 8191))
 
@@ -144,18 +163,26 @@ def full_case(program: str, chance: random.Random, folder: str) -> Counter:
         session.kill()
     left = check_left(program, read_areas(folder), front or small.front(), "after a full disk")
     go_on(program, folder, left)
-    return Counter({"disks filled": front is not None, "disks with room": front is None, "images": 1})
+    return Counter(
+        {"disks filled": front is not None, "disks with room": front is None, "images": 1}
+    )
 
 
-def write_on(session: Session, small: Machine, chance: random.Random) -> tuple[Machine, Front | None]:
-    """Commits, archives, reclaims and floors, until one is refused: what stands, and what may be left then."""
+def write_on(
+    session: Session, small: Machine, chance: random.Random
+) -> tuple[Machine, Front | None]:
+    """Commits, archives, reclaims and floors, until one is refused: what stands, and what may be
+    left then."""
     for number in range(1, 25):
         key, fields = some_key(chance), some_fields(chance)
         for line in ("begin t", f"put t {key_text(key)} {fields}", f"submit t {number} 0"):
             session.expect(line, small.answer(line) or [])
         steps = ["flush", "redeem t"]
         if number % 4 == 0:
-            steps += [f"archive {small.archived + 1 + chance.randrange(number - small.archived)}", "finish", "reclaim", "finish"]
+            steps += [
+                f"archive {small.archived + 1 + chance.randrange(number - small.archived)}",
+                "finish", "reclaim", "finish",
+            ]
         if number % 4 == 2:
             steps += [f"floor {chance.randrange(number + 2)}", "finish"]
         for line in steps:
@@ -164,7 +191,8 @@ def write_on(session: Session, small: Machine, chance: random.Random) -> tuple[M
             said = session.ask(line)
             if said == ["refused: failed"]:
                 order = [*before.published, *before.queue]
-                return before, Front(order, range(len(before.published), len(order) + 1), (before.floor, small.floor))
+                counts = range(len(before.published), len(order) + 1)
+                return before, Front(order, counts, (before.floor, small.floor))
             if said != wanted:
                 raise session.failure(f"{line}: answered {said}, and not {wanted}", said, wanted)
     return small, None
@@ -186,7 +214,8 @@ def go_on(program: str, folder: str, small: Machine) -> None:
 
 
 def forged_case(program: str, chance: random.Random, folder: str) -> Counter:
-    """Bytes of the files are changed, one is cut, or it is that of another store: the program opens them, or says why not, as the plain reader does."""
+    """Bytes of the files are changed, one is cut, or it is that of another store: the program
+    opens them, or says why not, as the plain reader does."""
     whole, other = played(program, chance, folder), played(program, chance, folder + "/other")
     keys = [(relation, record) for relation in (1, 2) for record in (0, 1, 7)]
     found, tried = image.read(whole), Counter()
@@ -198,7 +227,10 @@ def forged_case(program: str, chance: random.Random, folder: str) -> Counter:
         else:
             for _ in range(chance.choice((1, 1, 1, 2))):
                 forge(areas, found, chance)
-        said = forged.check(program, {area: bytes(areas[area]) for area in AREAS}, "forged", keys, chance.random() < 0.2)
+        said = forged.check(
+            program, {area: bytes(areas[area]) for area in AREAS}, "forged", keys,
+            chance.random() < 0.2,
+        )
         tried += Counter({said: 1, "images": 1})
     return tried
 
@@ -223,11 +255,20 @@ def forge(areas: dict[str, bytearray], found: image.Image, chance: random.Random
         return
     at = chance.randrange(len(data))
     if area == "status" and chance.random() < 0.9:
-        at = image.slot_at(chance.randrange(-1, len(found.log.slots) + 1)) + chance.choice((chance.randrange(40), chance.randrange(image.SLOT)))
+        at = image.slot_at(chance.randrange(-1, len(found.log.slots) + 1)) + chance.choice(
+            (chance.randrange(40), chance.randrange(image.SLOT))
+        )
     elif area == "heap" and found.live and chance.random() < 0.9:
-        at = (chance.choice(sorted(found.live)) - 1) * image.EXTENT + chance.choice((chance.randrange(16), chance.randrange(96), chance.randrange(image.EXTENT)))
+        at = (chance.choice(sorted(found.live)) - 1) * image.EXTENT + chance.choice(
+            (chance.randrange(16), chance.randrange(96), chance.randrange(image.EXTENT))
+        )
     if at < len(data):
-        data[at] = chance.choice((0x00, 0x01, 0x37, 0xC7, 0xFF, data[at] ^ 0xFF, (data[at] + 1) % 256, data[at] ^ 1 << chance.randrange(8)))
+        data[at] = chance.choice(
+            (
+                0x00, 0x01, 0x37, 0xC7, 0xFF, data[at] ^ 0xFF, (data[at] + 1) % 256,
+                data[at] ^ 1 << chance.randrange(8),
+            )
+        )
 
 
 # ---- refused calls
@@ -254,7 +295,9 @@ def refused_case(program: str, chance: random.Random, folder: str) -> Counter:
     first.play(drawn(chance, first, 60, opened))
     counts, tried = nothing.counts(), Counter()
     for _ in range(10):
-        kind = chance.choices(wrong.CLASSES, [often * (counts[it] > 0) for it, often in zip(wrong.CLASSES, REFUSED)])[0]
+        kind = chance.choices(
+            wrong.CLASSES, [often * (counts[it] > 0) for it, often in zip(wrong.CLASSES, REFUSED)]
+        )[0]
         # mostly behind the opening
         least = opened[kind] if counts[kind] > opened[kind] and chance.random() < 0.9 else 0
         what = (kind, chance.randrange(least, counts[kind]) + 1, chance.choice(wrong.HOWS[kind]))
@@ -265,7 +308,10 @@ def refused_case(program: str, chance: random.Random, folder: str) -> Counter:
 
 # ---- all of it
 
-KINDS = {"stops": stops_case, "kills": kills_case, "full": full_case, "forged": forged_case, "refused": refused_case}
+KINDS = {
+    "stops": stops_case, "kills": kills_case, "full": full_case, "forged": forged_case,
+    "refused": refused_case,
+}
 
 
 def one_case(program: str, kind: str, seed: int) -> Counter | None:
@@ -282,13 +328,21 @@ def one_case(program: str, kind: str, seed: int) -> Counter | None:
 
 def say(tried: dict[str, Counter], cases: Counter, seconds: float) -> None:
     for kind, found in tried.items():
-        print(f"{kind}: {cases[kind]} cases: " + ", ".join(f"{count} {name}" for name, count in sorted(found.items()) if count))
+        print(
+            f"{kind}: {cases[kind]} cases: "
+            + ", ".join(f"{count} {name}" for name, count in sorted(found.items()) if count)
+        )
     images = sum(it["images"] for it in tried.values())
-    print(f"{sum(cases.values())} cases and {images} images in {seconds:.0f} s: {sum(cases.values()) / seconds:.1f} cases and {images / seconds:.0f} images a second")
+    print(
+        f"{cases.total()} cases and {images} images in {seconds:.0f} s:"
+        f" {cases.total() / seconds:.1f} cases and {images / seconds:.0f} images a second"
+    )
 
 
 def main() -> int:
-    words = argparse.ArgumentParser(description=__doc__, formatter_class=argparse.RawDescriptionHelpFormatter)
+    words = argparse.ArgumentParser(
+        description=__doc__, formatter_class=argparse.RawDescriptionHelpFormatter
+    )
     words.add_argument("program")
     words.add_argument("--minutes", type=float, default=1.0, help="for how long (1)")
     words.add_argument("--seed", type=int, default=1, help="the first case's seed (1)")
@@ -296,7 +350,9 @@ def main() -> int:
     given = words.parse_args()
     use_memory()
     program, began, seed = os.path.abspath(given.program), time.time(), given.seed
-    kinds = [given.only] if given.only else [it for it in KINDS if it != "refused" or wrong.has_compiler()]
+    kinds = [it for it in KINDS if it != "refused" or wrong.has_compiler()]
+    if given.only:
+        kinds = [given.only]
     tried, cases, failed = {kind: Counter() for kind in kinds}, Counter(), 0
     while time.time() < began + 60 * given.minutes and failed < FAILURES_MOST:
         for kind in kinds:

@@ -1,5 +1,5 @@
-"""Calls of the system, and those that go wrong: a library (refuse.c) stands between the program and the system, counts its calls, writes
-those of a store's files down, and lets one go wrong."""
+"""Calls of the system, and those that go wrong: a library (refuse.c) stands between the program
+and the system, counts its calls, writes those of a store's files down, and lets one go wrong."""
 from __future__ import annotations
 
 import atexit
@@ -18,12 +18,16 @@ CLASSES = ("growth", "input", "output", "read", "length", "write", "sync", "open
 ON_FILES = ("read", "length", "write", "sync", "open", "lock")
 MOVES = ("before", "short", "interrupted")
 # how a call of a class goes wrong
-HOWS = {"growth": ("before",), "input": MOVES, "output": MOVES, "read": MOVES, "length": ("before",), "write": ("before", "part", "made", "short", "interrupted"),
-        "sync": ("before", "made"), "open": ("before",), "lock": ("before",)}
+HOWS = {
+    "growth": ("before",), "input": MOVES, "output": MOVES, "read": MOVES, "length": ("before",),
+    "write": ("before", "part", "made", "short", "interrupted"), "sync": ("before", "made"),
+    "open": ("before",), "lock": ("before",),
+}
 # nothing is refused: the program asks again for the rest
 HARMLESS = ("short", "interrupted")
 
-# places in words of what refuse.c writes, how many calls it can write down, and its length in bytes
+# places in words of what refuse.c writes, how many calls it can write down, and its length in
+# bytes
 CAME, CALLS, FIRST = len(CLASSES), len(CLASSES) + 1, 16
 SIZE = 1 << 20
 MOST = (SIZE // 8 - FIRST) // 3
@@ -52,7 +56,10 @@ class Wrong:
         with open(self.place, "wb") as it:
             it.truncate(SIZE)
         self.noted = 0
-        self.environment = {"LD_PRELOAD": library(), "REFUSE_COUNTS": self.place, "REFUSE_CLASS": self.kind, "REFUSE_AT": str(self.at), "REFUSE_HOW": self.how}
+        self.environment = {
+            "LD_PRELOAD": library(), "REFUSE_COUNTS": self.place, "REFUSE_CLASS": self.kind,
+            "REFUSE_AT": str(self.at), "REFUSE_HOW": self.how,
+        }
 
     def words(self, first: int, count: int) -> tuple[int, ...]:
         with open(self.place, "rb") as it:
@@ -71,7 +78,10 @@ class Wrong:
         if self.noted == MOST:
             raise OverflowError("more calls than can be written down")
         words = iter(self.words(FIRST + 3 * before, 3 * (self.noted - before)))
-        return [Call(CLASSES[what % 256], AREAS[what // 256 - 1], at, at + size) for what, at, size in zip(words, words, words)]
+        return [
+            Call(CLASSES[what % 256], AREAS[what // 256 - 1], at, at + size)
+            for what, at, size in zip(words, words, words)
+        ]
 
     def __str__(self) -> str:
         return f"{self.kind} {self.at} {self.how}"
@@ -79,7 +89,9 @@ class Wrong:
 
 def cases_of(counts: dict[str, int]) -> list[What]:
     """Each call and how it goes wrong."""
-    return [(kind, at + 1, how) for kind in CLASSES for how in HOWS[kind] for at in range(counts[kind])]
+    return [
+        (kind, at + 1, how) for kind in CLASSES for how in HOWS[kind] for at in range(counts[kind])
+    ]
 
 
 def is_first(what: What) -> bool:
@@ -97,5 +109,11 @@ def library() -> str:
     folder = tempfile.mkdtemp(prefix="torture-refuse-")
     atexit.register(shutil.rmtree, folder, True)
     place = os.path.join(folder, "refuse.so")
-    subprocess.run([os.environ.get("CC", "cc"), "-O1", "-shared", "-fPIC", "-o", place, os.path.join(HERE, "refuse.c")], check=True)
+    subprocess.run(
+        [
+            os.environ.get("CC", "cc"), "-O1", "-shared", "-fPIC", "-o", place,
+            os.path.join(HERE, "refuse.c"),
+        ],
+        check=True,
+    )
     return place
