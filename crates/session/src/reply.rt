@@ -4,7 +4,9 @@ ghost use Rattle.std.specs.Io.KnownBytes.{Appends};
 ghost use Rattle.session.specs.Texts as told;
 
 use crate::fault::Fault;
-use crate::text::{spell_times, spell_value, write_job_step, write_refusal, write_step};
+use crate::text::{
+    spell_times, spell_value, write_job_step, write_refusal, write_step, write_words,
+};
 use chains::SharedValue;
 use group::Did;
 use history::Version;
@@ -51,16 +53,16 @@ pub fn spell_line(text: &mut Vec<u8>, reply: &Reply) -> io::Result<()>
 {
     match reply {
         Reply::Snapshot(time) => writeln!(text, "snapshot {time}"),
-        Reply::Ok => writeln!(text, "ok"),
-        Reply::Found(None) => writeln!(text, "none"),
+        Reply::Ok => write_words(text, "ok"),
+        Reply::Found(None) => write_words(text, "none"),
         Reply::Found(Some(value)) => Ok(spell_value(text, value)?),
-        Reply::Queued => writeln!(text, "queued"),
+        Reply::Queued => write_words(text, "queued"),
         Reply::ReadOnly(time) => writeln!(text, "readonly {time}"),
         Reply::Done(time) => writeln!(text, "done {time}"),
-        Reply::Waiting => writeln!(text, "waiting"),
-        Reply::InDoubt => writeln!(text, "in doubt"),
+        Reply::Waiting => write_words(text, "waiting"),
+        Reply::InDoubt => write_words(text, "in doubt"),
         Reply::Did(step) => write_step(text, *step),
-        Reply::Started => writeln!(text, "started"),
+        Reply::Started => write_words(text, "started"),
         Reply::JobDid(step) => write_job_step(text, *step),
         Reply::Times(times) => Ok(spell_times(text, times)?),
         Reply::Rows(_) => Ok(()),

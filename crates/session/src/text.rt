@@ -131,18 +131,41 @@ pub fn spell_bad_line(text: &mut Vec<u8>, number: u64) -> Result<(), AllocError>
     text.extend_from_slice(b": bad\n")
 }
 
+/// Writes words and the end of their line.
+pub fn write_words<W: Write>(output: &mut W, words: &str) -> io::Result<()>
+    ensures { OnOk result (Appends (W.contents output.old) (W.contents output.new) (words.now ++ codes "\n")) }
+{
+    writeln!(output, "{words}")
+}
+
 /// Writes the line of a step.
 pub fn write_step<W: Write>(output: &mut W, step: Did) -> io::Result<()>
     ensures { OnOk result (Appends (W.contents output.old) (W.contents output.new) (told.step_text step)) }
 {
     match step {
-        Did::Idle => writeln!(output, "idle"),
-        Did::WroteExtent => writeln!(output, "wrote extent"),
-        Did::HeapSynced => writeln!(output, "heap synced"),
-        Did::BodyWritten => writeln!(output, "body written"),
-        Did::BodySynced => writeln!(output, "body synced"),
-        Did::GateWritten => writeln!(output, "gate written"),
+        Did::Idle => write_words(output, "idle"),
+        Did::WroteExtent => write_words(output, "wrote extent"),
+        Did::HeapSynced => write_words(output, "heap synced"),
+        Did::BodyWritten => write_words(output, "body written"),
+        Did::BodySynced => write_words(output, "body synced"),
+        Did::GateWritten => write_words(output, "gate written"),
         Did::Published(count) => writeln!(output, "published {count}"),
+    }
+}
+
+fn job_step_words(step: JobDid) -> &'static str
+    ensures { told.job_step_text step ≡ result.now ++ codes "\n" }
+{
+    match step {
+        JobDid::Idle => "idle",
+        JobDid::WroteRun => "wrote run",
+        JobDid::RunSynced => "run synced",
+        JobDid::WroteExtent => "wrote extent",
+        JobDid::HeapSynced => "heap synced",
+        JobDid::BodyWritten => "body written",
+        JobDid::BodySynced => "body synced",
+        JobDid::GateWritten => "gate written",
+        JobDid::JobDone => "job done",
     }
 }
 
@@ -150,17 +173,7 @@ pub fn write_step<W: Write>(output: &mut W, step: Did) -> io::Result<()>
 pub fn write_job_step<W: Write>(output: &mut W, step: JobDid) -> io::Result<()>
     ensures { OnOk result (Appends (W.contents output.old) (W.contents output.new) (told.job_step_text step)) }
 {
-    match step {
-        JobDid::Idle => writeln!(output, "idle"),
-        JobDid::WroteRun => writeln!(output, "wrote run"),
-        JobDid::RunSynced => writeln!(output, "run synced"),
-        JobDid::WroteExtent => writeln!(output, "wrote extent"),
-        JobDid::HeapSynced => writeln!(output, "heap synced"),
-        JobDid::BodyWritten => writeln!(output, "body written"),
-        JobDid::BodySynced => writeln!(output, "body synced"),
-        JobDid::GateWritten => writeln!(output, "gate written"),
-        JobDid::JobDone => writeln!(output, "job done"),
-    }
+    write_words(output, job_step_words(step))
 }
 
 fn begin_text(fault: BeginFault) -> &'static str
@@ -204,13 +217,27 @@ fn format_text(fault: FormatFault) -> &'static str
     }
 }
 
+/// Writes the line of a refusal by its words.
+fn write_refused<W: Write>(output: &mut W, words: &str) -> io::Result<()>
+    ensures { OnOk result (Appends (W.contents output.old) (W.contents output.new) (told.refused words.now)) }
+{
+    writeln!(output, "refused: {words}")
+}
+
+/// Writes the line of a refusal by its words and a number.
+fn write_refused_number<W: Write>(output: &mut W, words: &str, number: u64) -> io::Result<()>
+    ensures { OnOk result (Appends (W.contents output.old) (W.contents output.new) (codes "refused: " ++ (words.now ++ (codes " " ++ (decimal number ++ codes "\n"))))) }
+{
+    writeln!(output, "refused: {words} {number}")
+}
+
 fn write_damage<W: Write>(output: &mut W, area: Area, place: u64) -> io::Result<()>
     ensures { OnOk result (Appends (W.contents output.old) (W.contents output.new) (told.damage_line area place)) }
 {
     match area {
-        Area::Status => writeln!(output, "refused: damaged status {place}"),
-        Area::Heap => writeln!(output, "refused: damaged heap {place}"),
-        Area::Archive => writeln!(output, "refused: damaged archive {place}"),
+        Area::Status => write_refused_number(output, "damaged status", place),
+        Area::Heap => write_refused_number(output, "damaged heap", place),
+        Area::Archive => write_refused_number(output, "damaged archive", place),
     }
 }
 
@@ -221,12 +248,12 @@ fn write_submit_fault<W: Write>(output: &mut W, fault: SubmitFault) -> io::Resul
         SubmitFault::Conflict(key) => {
             writeln!(output, "refused: conflict {} {}", key.relation, key.record)
         }
-        SubmitFault::HeapFull => writeln!(output, "refused: heap full"),
-        SubmitFault::StatusFull => writeln!(output, "refused: status full"),
-        SubmitFault::ClockEnd => writeln!(output, "refused: clock end"),
-        SubmitFault::NoMemory => writeln!(output, "refused: no memory"),
-        SubmitFault::Failed => writeln!(output, "refused: failed"),
-        SubmitFault::Stranger => writeln!(output, "refused: stranger"),
+        SubmitFault::HeapFull => write_refused(output, "heap full"),
+        SubmitFault::StatusFull => write_refused(output, "status full"),
+        SubmitFault::ClockEnd => write_refused(output, "clock end"),
+        SubmitFault::NoMemory => write_refused(output, "no memory"),
+        SubmitFault::Failed => write_refused(output, "failed"),
+        SubmitFault::Stranger => write_refused(output, "stranger"),
     }
 }
 
@@ -234,15 +261,15 @@ fn write_start_fault<W: Write>(output: &mut W, fault: StartFault) -> io::Result<
     ensures { OnOk result (Appends (W.contents output.old) (W.contents output.new) (told.start_line fault)) }
 {
     match fault {
-        StartFault::Failed => writeln!(output, "refused: failed"),
-        StartFault::JobBusy => writeln!(output, "refused: job busy"),
-        StartFault::NothingToDo => writeln!(output, "refused: nothing to do"),
-        StartFault::NotYet(last) => writeln!(output, "refused: not yet {last}"),
-        StartFault::InUse(oldest) => writeln!(output, "refused: in use {oldest}"),
-        StartFault::StatusFull => writeln!(output, "refused: status full"),
-        StartFault::HeapFull => writeln!(output, "refused: heap full"),
-        StartFault::ArchiveFull => writeln!(output, "refused: archive full"),
-        StartFault::NoMemory => writeln!(output, "refused: no memory"),
+        StartFault::Failed => write_refused(output, "failed"),
+        StartFault::JobBusy => write_refused(output, "job busy"),
+        StartFault::NothingToDo => write_refused(output, "nothing to do"),
+        StartFault::NotYet(last) => write_refused_number(output, "not yet", last),
+        StartFault::InUse(oldest) => write_refused_number(output, "in use", oldest),
+        StartFault::StatusFull => write_refused(output, "status full"),
+        StartFault::HeapFull => write_refused(output, "heap full"),
+        StartFault::ArchiveFull => write_refused(output, "archive full"),
+        StartFault::NoMemory => write_refused(output, "no memory"),
     }
 }
 
@@ -250,14 +277,14 @@ fn write_query_fault<W: Write>(output: &mut W, fault: QueryFault) -> io::Result<
     ensures { OnOk result (Appends (W.contents output.old) (W.contents output.new) (told.query_line fault)) }
 {
     match fault {
-        QueryFault::BeforeKept(floor) => writeln!(output, "refused: before kept {floor}"),
-        QueryFault::NotYet(last) => writeln!(output, "refused: not yet {last}"),
-        QueryFault::EmptyInterval => writeln!(output, "refused: empty interval"),
-        QueryFault::Device => writeln!(output, "refused: device"),
-        QueryFault::NoMemory => writeln!(output, "refused: no memory"),
-        QueryFault::Damaged(start) => writeln!(output, "refused: damaged archive {start}"),
-        QueryFault::NeedsDisk => writeln!(output, "refused: needs disk"),
-        QueryFault::Stranger => writeln!(output, "refused: stranger"),
+        QueryFault::BeforeKept(floor) => write_refused_number(output, "before kept", floor),
+        QueryFault::NotYet(last) => write_refused_number(output, "not yet", last),
+        QueryFault::EmptyInterval => write_refused(output, "empty interval"),
+        QueryFault::Device => write_refused(output, "device"),
+        QueryFault::NoMemory => write_refused(output, "no memory"),
+        QueryFault::Damaged(start) => write_refused_number(output, "damaged archive", start),
+        QueryFault::NeedsDisk => write_refused(output, "needs disk"),
+        QueryFault::Stranger => write_refused(output, "stranger"),
     }
 }
 
@@ -265,10 +292,10 @@ fn write_open_fault<W: Write>(output: &mut W, fault: OpenFault) -> io::Result<()
     ensures { OnOk result (Appends (W.contents output.old) (W.contents output.new) (told.open_line fault)) }
 {
     match fault {
-        OpenFault::NotAStore => writeln!(output, "refused: not a store"),
+        OpenFault::NotAStore => write_refused(output, "not a store"),
         OpenFault::Damaged(area, place) => write_damage(output, area, place),
-        OpenFault::Device => writeln!(output, "refused: device"),
-        OpenFault::NoMemory => writeln!(output, "refused: no memory"),
+        OpenFault::Device => write_refused(output, "device"),
+        OpenFault::NoMemory => write_refused(output, "no memory"),
     }
 }
 
@@ -277,17 +304,17 @@ pub fn write_refusal<W: Write>(output: &mut W, fault: Fault) -> io::Result<()>
     ensures { OnOk result (Appends (W.contents output.old) (W.contents output.new) (told.refusal_line fault)) }
 {
     match fault {
-        Fault::Name => writeln!(output, "refused: name"),
-        Fault::Time => writeln!(output, "refused: bad time"),
-        Fault::NoMemory => writeln!(output, "refused: no memory"),
-        Fault::Stranger => writeln!(output, "refused: stranger"),
-        Fault::Begin(fault) => writeln!(output, "refused: {}", begin_text(fault)),
-        Fault::Txn(fault) => writeln!(output, "refused: {}", txn_text(fault)),
+        Fault::Name => write_refused(output, "name"),
+        Fault::Time => write_refused(output, "bad time"),
+        Fault::NoMemory => write_refused(output, "no memory"),
+        Fault::Stranger => write_refused(output, "stranger"),
+        Fault::Begin(fault) => write_refused(output, begin_text(fault)),
+        Fault::Txn(fault) => write_refused(output, txn_text(fault)),
         Fault::Submit(fault) => write_submit_fault(output, fault),
-        Fault::Pump(fault) => writeln!(output, "refused: {}", pump_text(fault)),
+        Fault::Pump(fault) => write_refused(output, pump_text(fault)),
         Fault::Start(fault) => write_start_fault(output, fault),
         Fault::Query(fault) => write_query_fault(output, fault),
         Fault::Open(fault) => write_open_fault(output, fault),
-        Fault::Format(fault) => writeln!(output, "refused: {}", format_text(fault)),
+        Fault::Format(fault) => write_refused(output, format_text(fault)),
     }
 }

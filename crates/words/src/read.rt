@@ -115,9 +115,10 @@ fn vacuum<'a>(matches: &ArgMatches<'a>) -> Option<Action<'a>>
     ensures some { IfSome result (AsksVacuum (rows_of (found_of matches.now))) }
     ensures none { IfNone result ((a : Asked) → AsksVacuum (rows_of (found_of matches.now)) a → ⊥) }
 {
+    let time = text(matches, "TIME")?;
     Some(Action::Vacuum {
         dir: text(matches, "DIR")?,
-        time: text(matches, "TIME")?,
+        time,
     })
 }
 
