@@ -11,6 +11,8 @@ from program import Areas
 
 HEAD = 26
 RECORD_LEAST, RECORD_MOST = 28, 4123
+# the greatest number of a record of a relation
+RECORD_LAST = (1 << 64) - 1
 # a head as it stands: its number, its place, its key, from, to
 Placed = tuple[int, int, Key, int, int]
 
@@ -95,21 +97,13 @@ class Run(image.Run):
         placed = self.head(number, last)
         return self.value(placed) if placed[2] == key and placed[3] <= time else None
 
-    def rows(self, key: Key, a: int, b: int) -> list[Version]:
-        found, (number, last) = [], self.bound(key, a)
+    def rows(self, first: Key, final: Key, a: int, b: int) -> list[tuple[int, Version]]:
+        """The rows of the keys from the first to the final one: the record, and the part from a to
+        b of its version. No more is read than lies between these keys at these times."""
+        found, (number, last) = [], self.bound(first, a)
         while number < self.records:
             last = self.head(number, last)
-            if last[2] != key or last[3] >= b:
-                break
-            found.append((max(a, last[3]), min(b, last[4]), self.value(last)))
-            number += 1
-        return found
-
-    def scan(self, relation: int, a: int, b: int) -> list[tuple[int, Version]]:
-        found, (number, last) = [], self.bound((relation, 0), 0)
-        while number < self.records:
-            last = self.head(number, last)
-            if last[2][0] != relation:
+            if (last[2], last[3]) >= (final, b):
                 break
             low, high = max(a, last[3]), min(b, last[4])
             if low < high:
@@ -169,7 +163,8 @@ class Files:
         if refused:
             return refused
         below = a < self.reclaimed
-        rows = [row for run in self.runs if below and a < run.upto for row in run.rows(key, a, b)]
+        runs = [run for run in self.runs if below and a < run.upto]
+        rows = [part for run in runs for _, part in run.rows(key, key, a, b)]
         rows += [
             part for one, part in self.memory(a, b, self.archived if below else 0) if one == key
         ]
@@ -184,7 +179,7 @@ class Files:
             (record, 0, part)
             for run in self.runs
             if below and time < run.upto
-            for record, part in run.scan(relation, time, time + 1)
+            for record, part in run.rows((relation, 0), (relation, RECORD_LAST), time, time + 1)
         ]
         rows += [
             (key[1], 1, part)
