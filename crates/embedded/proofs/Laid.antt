@@ -1,5 +1,5 @@
 -- Rows that are laid one behind the other.
-use Rattle.std.proofs.Common.{◌≡◌, ◌↔◌, ◌∙◌, ◌+◌, ◌<◌, ◌≤◌, ℕ, List, [], ◌∷◌, ◌++◌, length, take, min, IsTrue, sym, ap, append_assoc, length-append, refl, arith}
+use Rattle.std.proofs.Common.{◌≡◌, ◌↔◌, ◌∙◌, ◌+◌, ◌<◌, ◌≤◌, ℕ, List, [], ◌∷◌, ◌++◌, length, take, min, IsTrue, sym, ap, length-append, refl, arith}
 use Rattle.std.proofs.Math.Seq.{take-append-add}
 use Rattle.std.proofs.lemmas.List.{append-nil, length-take-le, take-take}
 use Rattle.std.proofs.lemmas.Grind.{flat_map-append}
@@ -9,7 +9,7 @@ use Rattle.wire.specs.Values.{value_bytes}
 use Rattle.disk.specs.Calls.{top}
 use Rattle.embedded.specs.declared.code.Row.{Row}
 use Rattle.embedded.specs.declared.rows.Copying.{Copying}
-use Rattle.embedded.specs.Rows.{Shown, bytes_of, row_at, rows_from, StandInFront, AreLaid, IsPlaced, HasRoomAt}
+use Rattle.embedded.specs.Rows.{Shown, bytes_of, row_at, rows_from, AreLaid, IsPlaced, HasRoomAt}
 
 -- the values with one more
 pub bytes_of-more : (shown : List Shown) (s : Shown) → bytes_of (shown ++ s ∷ []) ≡ bytes_of shown ++ value_bytes s.value

@@ -1,12 +1,11 @@
-use Rattle.std.proofs.Common.{◌≡◌, ◌∙◌, ◌+◌, ◌-◌, ◌<◌, ◌≤◌, Bool, true, false, ℕ, List, [], ◌++◌, length, take, drop, refl, subst, ap, inr, length-append, arith}
+use Rattle.std.proofs.Common.{◌≡◌, ◌∙◌, ◌+◌, ◌-◌, ◌<◌, ◌≤◌, true, false, ℕ, List, ◌++◌, length, take, drop, refl, subst, ap, inr, length-append, arith}
 use Rattle.std.proofs.lemmas.Bool.{lt-leb, le-leb}
 use Rattle.std.proofs.lemmas.List.{take_at, take_all, length-take-le}
-use Rattle.std.specs.Prelude.{MatchBool, nat_le, slice_range}
+use Rattle.std.specs.Prelude.{nat_le, slice_range}
 use Rattle.disk.specs.Areas.{Areas}
 use Rattle.disk.specs.Calls.{DiskState}
 use Rattle.disk.specs.Memory.{disk_state}
 use Rattle.recovery.specs.Format.{IsFormatted}
-use Rattle.embedded.specs.Formats.{FormatsStore}
 use Rattle.embedded.proofs.formats.format.Goals as goal
 
 -- all of a list, read to the front
@@ -24,8 +23,7 @@ returns-then-out-len c =
       made = inr (inr (
         areas,
         subst (λ (a : Areas). IsFormatted c.args.slots a areas) (ap (λ (s : DiskState). s.areas) c.new-disk.ensures.fresh) (c.in-Ok.ensures.formatted refl),
-        len,
-        rw (lt-leb (length areas.status.bytes) (length c.args.out.now) short) refl,
+        (len, rw (lt-leb (length areas.status.bytes) (length c.args.out.now) short) refl),
       ));
     }
 
@@ -38,15 +36,14 @@ returns-in-Ok-read c =
     let all : length old ≡ c.in-Ok-len.len = length-take-le c.in-Ok-len.len c.args.out.now room in
     let read : c.read.new.buf ≡ slice_range areas.status.bytes 0 (0 + length old) =
         c.in-Ok-read.ensures.bytes ∙ ap (λ (s : DiskState). slice_range s.areas.status.bytes 0 (0 + length old)) c.len.ensures.same in
-    let is = whole areas.status.bytes c.read.new.buf old _ c.in-Ok-len.len read c.read.auto.buf all len in
     let fits : nat_le (length areas.status.bytes) (length (c.read.new.buf ++ drop c.in-Ok-len.len c.args.out.now)) ≡ true =
         le-leb _ _ (omega (arith, len, all, c.read.auto.buf, length-append c.read.new.buf (drop c.in-Ok-len.len c.args.out.now))) in
+    let is = whole areas.status.bytes c.read.new.buf old (drop c.in-Ok-len.len c.args.out.now) c.in-Ok-len.len read c.read.auto.buf all len in
     record {
       bad_slots = (λ e. absurd cc, λ n. let bad = c.in-Ok.ensures.bad_slots.1 n in absurd cc);
       made = inr (inr (
         areas,
         subst (λ (a : Areas). IsFormatted c.args.slots a areas) (ap (λ (s : DiskState). s.areas) c.new-disk.ensures.fresh) (c.in-Ok.ensures.formatted refl),
-        len,
-        rw fits (refl, is),
+        (len, rw fits (refl, is)),
       ));
     }

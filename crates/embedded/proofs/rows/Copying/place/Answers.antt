@@ -1,7 +1,6 @@
 use Rattle.std.proofs.Common.{◌≡◌, ◌∙◌, ◌+◌, ◌-◌, ◌<◌, ◌≤◌, ap, sym, min, length, take, List, [], ◌∷◌, ◌++◌, ℕ, arith}
 use Rattle.std.proofs.lemmas.List.{take_more_set, length-take}
 use Rattle.wire.specs.Values.{value_bytes}
-use Rattle.embedded.specs.declared.code.Row.{Row}
 use Rattle.embedded.specs.Rows.{row_at, shown_as}
 use Rattle.embedded.proofs.Laid.{put_behind}
 use Rattle.embedded.proofs.rows.Copying.place.Goals as goal
