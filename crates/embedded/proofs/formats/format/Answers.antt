@@ -35,9 +35,9 @@ returns-in-Ok-read c =
     let old : List ℕ = take c.in-Ok-len.len c.args.out.now in
     let all : length old ≡ c.in-Ok-len.len = length-take-le c.in-Ok-len.len c.args.out.now room in
     let read : c.read.new.buf ≡ slice_range areas.status.bytes 0 (0 + length old) =
-        c.in-Ok-read.ensures.bytes ∙ ap (λ (s : DiskState). slice_range s.areas.status.bytes 0 (0 + length old)) c.len.ensures.same in
+    c.in-Ok-read.ensures.bytes ∙ ap (λ (s : DiskState). slice_range s.areas.status.bytes 0 (0 + length old)) c.len.ensures.same in
     let fits : nat_le (length areas.status.bytes) (length (c.read.new.buf ++ drop c.in-Ok-len.len c.args.out.now)) ≡ true =
-        le-leb _ _ (omega (arith, len, all, c.read.auto.buf, length-append c.read.new.buf (drop c.in-Ok-len.len c.args.out.now))) in
+    le-leb _ _ (omega (arith, len, all, c.read.auto.buf, length-append c.read.new.buf (drop c.in-Ok-len.len c.args.out.now))) in
     let is = whole areas.status.bytes c.read.new.buf old (drop c.in-Ok-len.len c.args.out.now) c.in-Ok-len.len read c.read.auto.buf all len in
     record {
       bad_slots = (λ e. absurd cc, λ n. let bad = c.in-Ok.ensures.bad_slots.1 n in absurd cc);

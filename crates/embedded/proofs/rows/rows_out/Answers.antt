@@ -10,7 +10,7 @@ loop-version-preserved c =
     let here : i < length found = c.loop-version-test.true in
     let short : length (map (shown_version c.args.«record») (take i found)) < 2 ^ 63 = omega (arith, length-map (take i found) (shown_version c.args.«record»), length-take i found) in
     let same : shown_as c.row-row.result c.value.result.now ≡ (shown_version c.args.«record») (get_or found i c.version-item.result) =
-        (λ j. record { number = (c.row-row.ensures j).«record»; from = (c.row-row.ensures j).from; upto = (c.row-row.ensures j).upto; value = c.value.ensures j }) ∙ ap (shown_version c.args.«record») c.version-item.is in
+    (λ j. record { number = (c.row-row.ensures j).«record»; from = (c.row-row.ensures j).from; upto = (c.row-row.ensures j).upto; value = c.value.ensures j }) ∙ ap (shown_version c.args.«record») c.version-item.is in
     subst (λ (l : List Shown). AreLaid l c.copy.new.self c.copy.new.rows c.copy.new.out)
     (ap (λ (s : Shown). map (shown_version c.args.«record») (take i found) ++ s ∷ []) same ∙ sym (map_more (shown_version c.args.«record») found i c.version-item.result here))
     (c.copy.ensures (map (shown_version c.args.«record») (take i found)) short c.loop-version.invariant)
