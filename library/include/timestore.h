@@ -16,7 +16,8 @@
  *      what was written to that area outlasts a stop (fdatasync). They are made in the order told, each
  *      before ts_called(h, true). Of a write that was refused any part may have been made.
  *   3. A handle begins as TS_EMPTY, is not copied, and stays on the thread that opened it, which makes one
- *      call at a time. Several threads have one of them own it and serve the others by a queue.
+ *      call at a time. Several threads have one of them own it and serve the others by a queue (owner.c
+ *      of the examples).
  *   4. No pointer is null, also where the length beside it is 0; memory that is written to lies apart from
  *      all else that the call is given, and lengths are those of the memory.
  *   5. malloc, realloc and free are one allocator, of blocks aligned to 16 bytes. No call is made from a
@@ -56,7 +57,8 @@ enum { TS_NO_CALL = 0, TS_WRITE = 1, TS_SYNC = 2 };
 enum { TS_STATUS = 0, TS_HEAP = 1, TS_ARCHIVE = 2 };
 #define TS_WRITE_MOST 8192 /* no write is longer */
 
-/* A row: record, from when on and up to when it had the value, whose len bytes lie at `at`. */
+/* A row: record, from when on and up to when it had the value, whose len bytes lie at `at`. The values lie one
+   behind the other, in the order of their rows. */
 typedef struct ts_row {
     uint64_t record, from, upto, at, len;
 } ts_row;

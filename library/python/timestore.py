@@ -12,12 +12,14 @@ A record is named by its relation (0 to 65,535) and its number (0 to 2^64 - 1); 
 1 to 16 fields of at most 255 bytes. A time is a `datetime` with its zone, or microseconds since 1970 as an
 `int`; what is given out is an `int`, which `moment` makes a `datetime` of.
 
-A store stays on the thread that opened it. It needs `libtimestore.so`: of the path in the environment's
+A store stays on the thread that opened it, and so does all that it gave out: a call on another thread raises
+`RuntimeError`. It needs `libtimestore.so`: of the path in the environment's
 `TIMESTORE_LIBRARY`, beside this file, or where the system looks for libraries.
 """
 
 import ctypes
 import os
+import threading
 from collections.abc import Callable, Iterator
 from datetime import datetime, timedelta, timezone
 from pathlib import Path
@@ -174,18 +176,30 @@ class Store:
     def __init__(self, folder: str | os.PathLike[str]) -> None:
         self._info = _Info()
         self._value = ctypes.create_string_buffer(_VALUE_MOST)
+        self._owner = threading.get_ident()
         self._file: ctypes.c_void_p | None = None
         file = ctypes.c_void_p()
         _ask(_library.ts_file_open(os.fsencode(folder), file, self._info), self._info)
         self._file = file
-        self._handle = _library.ts_file_store(file)
+        self._at = _library.ts_file_store(file)
+
+    @property
+    def _handle(self) -> Any:
+        """The handle of the library. A call lets other threads run, so none of them may make one too."""
+        if threading.get_ident() != self._owner:
+            raise RuntimeError("a store stays on the thread that opened it")
+        return self._at
 
     def close(self) -> None:
         """Ends the store: what waits is not published."""
         if self._file is not None:
-            _library.ts_file_close(self._file)
-            self._file = None
-            self._handle = ctypes.pointer(_Handle())
+            self._of_file()
+            self._end()
+
+    def _end(self) -> None:
+        _library.ts_file_close(self._file)
+        self._file = None
+        self._at = ctypes.pointer(_Handle())
 
     def __enter__(self) -> Self:
         return self
@@ -194,7 +208,9 @@ class Store:
         self.close()
 
     def __del__(self) -> None:
-        self.close()
+        # Nothing refers to the store any more, so no other thread is in a call of it.
+        if getattr(self, "_file", None) is not None:
+            self._end()
 
     def _ask(self, function: Callable[..., int], *args: Any) -> int:
         return _ask(function(self._handle, *args, self._info), self._info)
@@ -202,6 +218,7 @@ class Store:
     def _of_file(self) -> ctypes.c_void_p:
         if self._file is None:
             raise _FAULTS[-2]("no store is open")
+        _ = self._handle
         return self._file
 
     @property

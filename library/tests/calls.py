@@ -1,6 +1,7 @@
 """The Python module's calls: calls.py FOLDER."""
 
 import sys
+from concurrent.futures import ThreadPoolExecutor
 from datetime import datetime, timezone
 from pathlib import Path
 
@@ -98,6 +99,17 @@ def test_refused_call(folder: Path) -> None:
         assert store.at(2, 5, before) == (b"first",)
 
 
+def test_threads(store: timestore.Store) -> None:
+    """No other thread may make a call."""
+    with ThreadPoolExecutor(1) as other, store.view() as view:
+        for call in (store.begin, store.flush, store.close, store.view, view.end):
+            try:
+                other.submit(call).result()
+            except RuntimeError:
+                continue
+            raise AssertionError(f"{call} on another thread")
+
+
 def main() -> None:
     folder = Path(sys.argv[1]) / "calls"
     refuses(timestore.System, timestore.make, folder)
@@ -110,6 +122,7 @@ def main() -> None:
     with timestore.Store(folder) as store:
         test_values(store)
         test_transactions(store)
+        test_threads(store)
     test_refused_call(folder)
 
 

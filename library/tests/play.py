@@ -1,9 +1,12 @@
 """Random calls beside a small machine, and the files after each device call beside a plain reader of the
-format: play.py FOLDER [SEED [CALLS]]. Both stand in torture/, written apart from the store."""
+format: play.py FOLDER [SEED [CALLS]]. Archives, reclaims and floors run beside the commits, and views that
+were taken before them are asked behind them. Machine and reader stand in torture/, written apart from the store."""
 
 import random
 import sys
+from collections.abc import Iterator
 from pathlib import Path
+from typing import NamedTuple
 
 import timestore
 
@@ -11,9 +14,12 @@ sys.path.insert(0, str(Path(__file__).resolve().parents[2] / "torture"))
 import image  # noqa: E402
 import machine  # noqa: E402
 
+AREAS = ("status", "heap", "archive")
+SLOTS = 2048
+VIEWS_MOST = 4
 PUMPED = ("idle", "wrote extent", "heap synced", "body written", "body synced", "gate written")
-JOBBED = ("idle", "wrote run", "run synced", "body written", "body synced", "gate written", "job done")
-TEXTS = {"conflict": "refused: conflict {} {}", "not yet": "refused: not yet {}"}
+JOBBED = ("idle", "wrote run", "run synced", "body written", "body synced", "gate written", "job done", "wrote extent", "heap synced")
+TEXTS = {"conflict": "refused: conflict {} {}", "not yet": "refused: not yet {}", "in use": "refused: in use {}", "before kept": "refused: before kept {}"}
 
 
 def spelled(fields: timestore.Fields | None) -> str | None:
@@ -29,15 +35,26 @@ def some_key(chance: random.Random) -> tuple[int, int]:
     return chance.choice((1, 1, 1, 2, 65535)), chance.choice((0, 1, 2, 3, 7, (1 << 64) - 1))
 
 
+class Kept(NamedTuple):
+    """A view, and what was published when it was taken."""
+
+    view: timestore.View
+    history: list[machine.Commit]
+    floor: int
+    reclaimed: int
+
+
 class Play:
     """A store and the machine that it is to be like."""
 
     def __init__(self, folder: Path, chance: random.Random) -> None:
         self.folder, self.chance = folder, chance
-        self.small = machine.Machine()
+        self.small = machine.Machine(slots=SLOTS)
         self.store = timestore.Store(folder)
         self.held: dict[str, timestore.Transaction | timestore.Ticket] = {}
+        self.views: list[Kept] = []
         self.images = 0
+        self.jobs = {"archive": 0, "reclaim": 0, "floor": 0}
 
     def same(self, said: list[str], wanted: list[str]) -> None:
         assert said == wanted, (said, wanted)
@@ -51,7 +68,7 @@ class Play:
 
     def play(self, calls: int) -> None:
         kinds = {self.begin: 5, self.write: 8, self.read: 4, self.submit: 6, self.abort: 1, self.redeem: 3,
-                 self.pump: 18, self.job: 9, self.archive: 2, self.ask: 3, self.reopen: 0.3}  # fmt: skip
+                 self.pump: 18, self.job: 12, self.archive: 2, self.reclaim: 2, self.raise_floor: 0.5, self.keep: 1, self.ask: 3, self.ask_kept: 2, self.reopen: 0.3}  # fmt: skip
         for _ in range(calls):
             self.chance.choices(list(kinds), list(kinds.values()))[0]()
         self.reopen()
@@ -130,44 +147,99 @@ class Play:
         assert why is None, why
         self.compare_files()
 
+    def some_time(self) -> int:
+        return self.chance.randrange(machine.last(self.small.published) + 3)
+
+    def started(self, kind: str, said: list[str], wanted: list[str]) -> None:
+        self.same(said, wanted)
+        self.jobs[kind] += said == ["started"]
+
     def archive(self) -> None:
-        upto = self.chance.randrange(machine.last(self.small.published) + 3)
-        self.same(self.asked(lambda: self.store.archive_start(upto) or ["started"]), self.small.archive(upto))
+        upto = self.some_time()
+        said = self.asked(lambda: self.store.archive_start(upto) or ["started"])
+        self.started("archive", said, self.small.archive(upto))
+
+    def reclaim(self) -> None:
+        said = self.asked(lambda: self.store.reclaim_start() or ["started"])
+        self.started("reclaim", said, self.small.reclaim())
+
+    def raise_floor(self) -> None:
+        # A small step, so that times are left to ask of.
+        floor = min(self.some_time(), self.small.floor + self.chance.randrange(1, 20))
+        said = self.asked(lambda: self.store.floor_start(floor) or ["started"])
+        self.started("floor", said, self.small.raise_floor(floor))
+
+    def keep(self) -> None:
+        """Takes a view, and gives the oldest one back where there are many."""
+        small = self.small
+        self.views.append(Kept(self.store.view(), list(small.published), small.floor, small.reclaimed))
+        if len(self.views) > VIEWS_MOST:
+            self.views.pop(0).view.end()
 
     def ask(self) -> None:
-        key, newest = some_key(self.chance), machine.last(self.small.published)
-        moment = self.chance.randrange(newest + 3)
+        small = self.small
+        with self.store.view() as view:
+            self.ask_of(Kept(view, small.published, small.floor, small.reclaimed))
+        for label in range(3):
+            wanted = [commit.time for commit in small.published if commit.label == label]
+            assert self.store.times_of(label) == wanted
 
-        def at() -> list[str]:
-            fields = self.store.at(*key, moment)
+    def ask_kept(self) -> None:
+        """Views answer as when they were taken, whatever was archived, reclaimed or given up since."""
+        if self.views:
+            self.ask_of(self.chance.choice(self.views))
+
+    def ask_of(self, kept: Kept) -> None:
+        view, history, floor, reclaimed = kept
+        key, newest, moment = some_key(self.chance), machine.last(history), self.some_time()
+
+        def value(fields: timestore.Fields | None) -> list[str]:
             return ["none"] if fields is None else [f"value {spelled(fields)}"]
 
-        def between() -> list[str]:
-            rows = self.store.between(*key, moment, newest + 1)
-            return [f"{row.start} {row.end} {spelled(row.fields)}" for row in rows] + [f"rows {len(rows)}"]
-
         def scan() -> list[str]:
-            with self.store.view() as view:
-                found = list(view.scan_at(key[0], moment))
+            found = list(view.scan_at(key[0], moment))
             return [f"{record} {spelled(fields)}" for record, fields in found] + [f"rows {len(found)}"]
 
-        self.same(self.asked(at), machine.at(self.small.published, key, moment))
-        self.same(self.asked(between), machine.between(self.small.published, key, moment, newest + 1))
-        self.same(self.asked(scan), machine.scan(self.small.published, key[0], moment))
-        for label in range(3):
-            wanted = [commit.time for commit in self.small.published if commit.label == label]
-            assert self.store.times_of(label) == wanted
+        at = machine.at(history, key, moment, floor)
+        recent = ["refused: needs disk"] if moment < reclaimed and not machine.refusal(newest, floor, moment, moment + 1) else at
+        self.same(self.asked(lambda: value(view.at(*key, moment))), at)
+        self.same(self.asked(lambda: value(view.recent(*key, moment))), recent)
+        self.same(self.asked(scan), machine.scan(history, key[0], moment, floor))
+        self.ask_rows(kept, key, moment, newest + 1)
+
+    def ask_rows(self, kept: Kept, key: machine.Key, start: int, end: int) -> None:
+        """The rows of a record and those of its relation."""
+        view, history, floor, _ = kept
+
+        def shown(rows: Iterator[timestore.Row], record: int) -> list[str]:
+            lines = [f"{row.start} {row.end} {spelled(row.fields)}" for row in rows if row.record == record]
+            return [*lines, f"rows {len(lines)}"]
+
+        self.same(self.asked(lambda: shown(view.between(*key, start, end), key[1])), machine.between(history, key, start, end, floor))
+        if machine.refusal(machine.last(history), floor, start, end):
+            return
+        found = list(view.scan_between(key[0], start, end))
+        assert [(row.record, row.start) for row in found] == sorted((row.record, row.start) for row in found)
+        for record in {key[1], *(row.record for row in found)}:
+            self.same(shown(iter(found), record), machine.between(history, (key[0], record), start, end, floor))
 
     def reopen(self) -> None:
         self.store.close()
-        self.store, self.held = timestore.Store(self.folder), {}
+        self.store, self.held, self.views = timestore.Store(self.folder), {}, []
         self.same([f"last {self.store.last} floor {self.store.floor}"], self.small.reopened())
 
     def compare_files(self) -> None:
-        """The plain reader finds what is published or, once its gate is written, that with the whole group."""
-        history, *_ = image.read(*((self.folder / area).read_bytes() for area in ("status", "heap", "archive")))
-        wanted = self.small.with_group() if self.small.turn == "gate written" else self.small.published
-        assert history == wanted
+        """The plain reader finds what is published or, once its gate is written, that with the whole group; and so of a job's mark."""
+        small = self.small
+        areas = {area: (self.folder / area).read_bytes() for area in AREAS}
+        found = image.read(areas)
+        wanted = small.with_group() if small.turn == "gate written" else small.published
+        why = image.why_not(areas, found, wanted)
+        assert why is None, why
+        marks = {"archive": small.archived, "reclaim": small.reclaimed, "floor": small.floor}
+        if small.job is not None and small.job.step == "gate written":
+            marks[small.job.kind] = small.job.upto
+        assert [found.log.archived, found.log.reclaimed, found.log.floor] == list(marks.values())
         self.images += 1
 
 
@@ -176,10 +248,11 @@ def main() -> None:
     seed = int(sys.argv[2]) if len(sys.argv) > 2 else 1
     calls = int(sys.argv[3]) if len(sys.argv) > 3 else 1500
     folder.mkdir()
-    timestore.make(folder, 2048)
+    timestore.make(folder, SLOTS)
     play = Play(folder, random.Random(seed))
     play.play(calls)
-    print(f"{play.images} images, ", end="")
+    done = ", ".join(f"{count} {kind}s" for kind, count in play.jobs.items())
+    print(f"{play.images} images, {done}, ", end="")
 
 
 if __name__ == "__main__":

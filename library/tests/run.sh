@@ -24,6 +24,16 @@ compare() {
     fi
 }
 
+# Ends the run where a command fails. What it writes stands before the ok.
+passes() {
+    if "$@"; then
+        echo ok
+    else
+        echo "not ok"
+        exit 1
+    fi
+}
+
 build() { # NAME FLAGS..
     local name=$1
     shift
@@ -60,9 +70,17 @@ refused: not yet 100
 100 101 a
 END
 
+say "C, one thread that owns the store"
+gcc $warnings -pthread "$top/examples/owner.c" -o "$work/owner" "$out/libtimestore.a"
+mkdir "$work/owner-c"
+compare "$work/owner" "$work/owner-c" <<'END'
+4 threads, 100 commits; the next one came at 101
+END
+
 say "the shared library's names are its own"
 names=$(nm -D --defined-only "$out/libtimestore.so" | awk '{print $3}' | grep -v '^ts_' || true)
-[ -z "$names" ] && echo ok || { echo "not ok: $names"; exit 1; }
+echo "${names:-none other}" > "$work/names"
+passes grep -qx "none other" "$work/names"
 
 export TIMESTORE_LIBRARY="$out/libtimestore.so" PYTHONPATH="$top/python" PYTHONDONTWRITEBYTECODE=1
 say "Python, the tour"
@@ -76,18 +94,23 @@ refused: not yet 100
 refused: conflict 1 7
 last: 2026-01-01T00:00:00+00:00
 END
+say "Python, one thread that owns the store"
+mkdir "$work/owner-python"
+compare python3 "$top/examples/owner.py" "$work/owner-python" <<'END'
+4 threads, 100 commits, the last one at 100
+END
 say "Python, calls"
-python3 "$here/calls.py" "$work" && echo ok
+passes python3 "$here/calls.py" "$work"
 
 say "Python, random calls beside a machine and a plain reader"
-python3 "$here/play.py" "$work/play" "${SEED:-1}" && echo ok
+passes python3 "$here/play.py" "$work/play" "${SEED:-1}"
 
 say "a host that is killed"
-python3 "$here/killed.py" "$work/killed" && echo ok
+passes python3 "$here/killed.py" "$work/killed"
 
 if [ -x "$program" ]; then
     say "images of the library and of the program"
-    python3 "$here/exchanged.py" "$program" "$work/exchanged" && echo ok
+    passes python3 "$here/exchanged.py" "$program" "$work/exchanged"
 else
     echo "no program at $program: images are not exchanged"
 fi
@@ -107,8 +130,15 @@ refused: conflict 1 7
 the view still answers: Some([[97]])
 times of 9: [100, 110]
 END
+    say "Rust, one thread that owns the store"
+    mkdir "$work/owner-rust"
+    (cd "$top/rust" && cargo build --offline --quiet --example owner)
+    compare "$work/target/debug/examples/owner" "$work/owner-rust" <<'END'
+4 threads, 100 commits, the last one at 100
+END
     say "Rust, calls"
-    (cd "$top/rust" && cargo test --offline --quiet > "$work/cargo" 2>&1) && echo ok || { cat "$work/cargo"; exit 1; }
+    cargo_test() { (cd "$top/rust" && cargo test --offline --quiet > "$work/cargo" 2>&1) || { cat "$work/cargo"; false; }; }
+    passes cargo_test
 else
     echo "no cargo: the Rust crate is not tested"
 fi

@@ -1,6 +1,9 @@
 pub mod Areas
+pub mod Bytes
 pub mod Codes
 pub mod Engines
+pub mod Formats
 pub mod Held
 pub mod Owned
 pub mod Queries
+pub mod Rows

@@ -1,5 +1,5 @@
 -- What the engine's queries answer.
-use Rattle.std.specs.Prelude.{◌≡◌, ◌≤◌, ◌⊎◌, ◌==◌, ◌&&◌, ◌||◌, ◌-◌, nat_lt, slice_get, ℕ, Bool, true, false, List, [], length, take, Result, Ok, Err, Option, Some, None, MatchBool, MatchOption, MatchResult}
+use Rattle.std.specs.Prelude.{◌≡◌, ◌≤◌, ◌⊎◌, ◌==◌, ◌&&◌, ◌||◌, ◌-◌, nat_lt, slice_get, ℕ, Bool, true, false, List, [], length, map, Result, Ok, Err, Option, Some, None, MatchBool, MatchOption, MatchResult}
 use Rattle.std.specs.declared.alloc.Global.{Global}
 use Rattle.std.specs.declared.vec.Vec.{Vec}
 use Rattle.disk.specs.Calls.{fresh_on}
@@ -21,11 +21,14 @@ use Rattle.store.specs.Values.{StoreValue}
 use Rattle.timequery.specs.View.{ViewValue, AnswersAt, AnswersBetween, RefusesRecent, RefusesRecentScan, RefusesRecentRows}
 use Rattle.timequery.specs.declared.fault.QueryFault.{QueryFault}
 use Rattle.timequery.specs.declared.fault.QueryFault.TheVariants.{BeforeKept, NotYet, EmptyInterval, Device, NoMemory, Damaged, NeedsDisk, Stranger}
+use Rattle.embedded.specs.Bytes.{AreBytesTold}
 use Rattle.embedded.specs.Held.{transaction_under, view_under}
+use Rattle.embedded.specs.Rows.{Shown, shown_record, shown_version, shown_entry, AreTold}
 use Rattle.embedded.specs.declared.asking.Lent.{Lent}
 use Rattle.embedded.specs.declared.code.Code.{Code}
 use Rattle.embedded.specs.declared.code.Code.TheVariants as code
 use Rattle.embedded.specs.declared.code.Info.{Info}
+use Rattle.embedded.specs.declared.code.Row.{Row}
 use Rattle.embedded.specs.declared.engine.Engine.{Engine}
 
 -- ---- the store's queries over an archive that is lent
@@ -94,13 +97,9 @@ IsFaultCode (Damaged start) said info = (said ≡ code.Damaged) × (info.a ≡ s
 IsFaultCode NeedsDisk said info = said ≡ code.NeedsArchive
 IsFaultCode Stranger said info = said ≡ code.Stranger
 
--- the bytes of a value, or that there is no room for them; their length is told
-abbrev pub IsCopied : Value → Code → Info → List ℕ → Type 0
-IsCopied value said info out = (info.a ≡ length (value_bytes value)) × (((said ≡ code.Ok) × (take info.a out ≡ value_bytes value)) ⊎ (said ≡ code.Small))
-
 abbrev pub IsValueTold : Option Value → Code → Info → List ℕ → Type 0
 IsValueTold None said info out = said ≡ code.None
-IsValueTold (Some value) said info out = IsCopied value said info out
+IsValueTold (Some value) said info out = AreBytesTold (value_bytes value) said info out
 
 abbrev pub TellsValue : Result (Option Value) QueryFault → Code → Info → List ℕ → Type 0
 TellsValue (Ok found) said info out = IsValueTold found said info out
@@ -118,13 +117,10 @@ TellsAt before after v view key time said info out = (answer : Result (Option Va
 abbrev pub TellsOver : List ℕ → StoreValue → ViewValue → Key → ℕ → Code → Info → List ℕ → Type 0
 TellsOver archive v view key time said info out = (before after : Lent) × IsOver archive before × TellsAt before after v view key time said info out
 
--- how many rows were found is told
-abbrev pub AreTold : ℕ → Code → Info → Type 0
-AreTold count said info = (info.a ≡ count) × ((said ≡ code.Ok) ⊎ (said ≡ code.Small))
-
-abbrev pub TellsRows : {T : Type 0} → Result (Vec T Global) QueryFault → Code → Info → Type 0
-TellsRows (Ok found) said info = AreTold (length found.items) said info
-TellsRows (Err why) said info = IsFaultCode why said info
+-- what was found is told, each as such a row
+abbrev pub TellsRows : {T : Type 0} → (T → Shown) → Result (Vec T Global) QueryFault → Code → Info → List Row → List ℕ → Type 0
+TellsRows shown (Ok found) said info rows out = AreTold (map shown found.items) said info rows out
+TellsRows shown (Err why) said info rows out = IsFaultCode why said info
 
 -- ---- what is asked
 
@@ -132,10 +128,11 @@ TellsRows (Err why) said info = IsFaultCode why said info
 abbrev pub Sees : ℕ → Key → Engine → Code → Info → List ℕ → Type 0
 Sees number key e said info out = MatchOption (transaction_under e number) (said ≡ code.Unknown) (λ txn. IsValueTold (seen_by txn key) said info out)
 
--- the records that it sees in a relation
-abbrev pub SeesScan : ℕ → ℕ → Engine → Code → Info → Type 0
-SeesScan number relation e said info =
-    MatchOption (transaction_under e number) (said ≡ code.Unknown) (λ txn. (said ≡ code.NoMemory) ⊎ ((found : List (ℕ × Value)) × IsScan (seen_by txn) relation found × AreTold (length found) said info))
+-- the records that it sees in a relation, and their values
+abbrev pub SeesScan : ℕ → ℕ → Engine → Code → Info → List Row → List ℕ → Type 0
+SeesScan number relation e said info rows out =
+    MatchOption (transaction_under e number) (said ≡ code.Unknown)
+    (λ txn. (said ≡ code.NoMemory) ⊎ ((found : List (ℕ × Value)) × IsScan (seen_by txn) relation found × AreTold (map shown_record found) said info rows out))
 
 -- what the view of this number answers, or there is none
 abbrev pub AsksRecent : ℕ → Key → ℕ → Engine → Code → Info → List ℕ → Type 0
@@ -146,14 +143,14 @@ abbrev pub AsksAt : List ℕ → ℕ → Key → ℕ → Engine → Code → Inf
 AsksAt archive number key time e said info out =
     MatchOption (view_under e number) (said ≡ code.Unknown) (λ view. MatchBool (is_none archive view) (TellsRecent view key time said info out) (TellsOver archive e.store view key time said info out))
 
-abbrev pub AsksScanAt : List ℕ → ℕ → ℕ → ℕ → Engine → Code → Info → Type 0
-AsksScanAt archive number relation time e said info =
-    MatchOption (view_under e number) (said ≡ code.Unknown) (λ view. (answer : Result (Vec (ℕ × Value) Global) QueryFault) × LentScanAt archive e.store view relation time answer × TellsRows answer said info)
+abbrev pub AsksScanAt : List ℕ → ℕ → ℕ → ℕ → Engine → Code → Info → List Row → List ℕ → Type 0
+AsksScanAt archive number relation time e said info rows out =
+    MatchOption (view_under e number) (said ≡ code.Unknown) (λ view. (answer : Result (Vec (ℕ × Value) Global) QueryFault) × LentScanAt archive e.store view relation time answer × TellsRows shown_record answer said info rows out)
 
-abbrev pub AsksRows : List ℕ → ℕ → Key → ℕ → ℕ → Engine → Code → Info → Type 0
-AsksRows archive number key a b e said info =
-    MatchOption (view_under e number) (said ≡ code.Unknown) (λ view. (answer : Result (Vec (Version Value) Global) QueryFault) × LentRows archive e.store view key a b answer × TellsRows answer said info)
+abbrev pub AsksRows : List ℕ → ℕ → Key → ℕ → ℕ → Engine → Code → Info → List Row → List ℕ → Type 0
+AsksRows archive number key a b e said info rows out =
+    MatchOption (view_under e number) (said ≡ code.Unknown) (λ view. (answer : Result (Vec (Version Value) Global) QueryFault) × LentRows archive e.store view key a b answer × TellsRows (shown_version key.«record») answer said info rows out)
 
-abbrev pub AsksScanRows : List ℕ → ℕ → ℕ → ℕ → ℕ → Engine → Code → Info → Type 0
-AsksScanRows archive number relation a b e said info =
-    MatchOption (view_under e number) (said ≡ code.Unknown) (λ view. (answer : Result (Vec (ℕ × Version Value) Global) QueryFault) × LentScanRows archive e.store view relation a b answer × TellsRows answer said info)
+abbrev pub AsksScanRows : List ℕ → ℕ → ℕ → ℕ → ℕ → Engine → Code → Info → List Row → List ℕ → Type 0
+AsksScanRows archive number relation a b e said info rows out =
+    MatchOption (view_under e number) (said ≡ code.Unknown) (λ view. (answer : Result (Vec (ℕ × Version Value) Global) QueryFault) × LentScanRows archive e.store view relation a b answer × TellsRows shown_entry answer said info rows out)

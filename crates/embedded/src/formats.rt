@@ -1,6 +1,7 @@
 //! Making a store and opening one.
 ghost use Rattle.std.specs.Prelude.{IfOk};
 ghost use Rattle.embedded.specs.Engines.{OpensEngine};
+ghost use Rattle.embedded.specs.Formats.{FormatsStore};
 
 use crate::code::{Code, Info};
 use crate::engine::Engine;
@@ -12,7 +13,9 @@ use store::{OpenFault, Store};
 
 /// The bytes of the status area of a new store. The host writes them from 512 on, syncs, writes the
 /// first 512, and syncs; the other areas are empty.
-pub fn format(alloc: Global, slots: u32, out: &mut [u8], info: &mut Info) -> Code {
+pub fn format(alloc: Global, slots: u32, out: &mut [u8], info: &mut Info) -> Code
+    ensures { FormatsStore slots result info.new out.new }
+{
     let mut disk = MemDisk::new(alloc);
     match recovery::format(alloc, &mut disk, slots) {
         Err(FormatFault::BadSlots) => return Code::BadSlots,

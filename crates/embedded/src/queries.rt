@@ -211,7 +211,7 @@ impl Engine {
         out: &mut [u8],
         info: &mut Info,
     ) -> Code
-        ensures { AsksScanAt archive.now view relation time self.now result info.new }
+        ensures { AsksScanAt archive.now view relation time self.now result info.new rows.new out.new }
     {
         let Some(view) = view_of(&self.places, &self.before, view) else {
             return Code::Unknown;
@@ -235,7 +235,7 @@ impl Engine {
         out: &mut [u8],
         info: &mut Info,
     ) -> Code
-        ensures { AsksRows archive.now view key a b self.now result info.new }
+        ensures { AsksRows archive.now view key a b self.now result info.new rows.new out.new }
     {
         let Some(view) = view_of(&self.places, &self.before, view) else {
             return Code::Unknown;
@@ -259,7 +259,7 @@ impl Engine {
         out: &mut [u8],
         info: &mut Info,
     ) -> Code
-        ensures { AsksScanRows archive.now view relation a b self.now result info.new }
+        ensures { AsksScanRows archive.now view relation a b self.now result info.new rows.new out.new }
     {
         let Some(view) = view_of(&self.places, &self.before, view) else {
             return Code::Unknown;

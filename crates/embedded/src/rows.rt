@@ -1,6 +1,10 @@
 //! Values and rows, copied out.
-ghost use Rattle.std.specs.Prelude.{◌≡◌, ◌+◌, ◌<◌, ◌^◌, length, option_copied};
-ghost use Rattle.embedded.specs.Queries.{IsCopied, IsValueTold, AreTold};
+ghost use Rattle.std.specs.Prelude.{◌≡◌, ◌↔◌, ◌++◌, ◌<◌, ◌^◌, ℕ, List, [], ◌∷◌, length, map, option_copied, IsTrue};
+ghost use Rattle.embedded.specs.declared.code.Row.{Row};
+ghost use Rattle.wire.specs.Values.{value_bytes};
+ghost use Rattle.embedded.specs.Bytes.{AreBytesTold};
+ghost use Rattle.embedded.specs.Queries.{IsValueTold};
+ghost use Rattle.embedded.specs.Rows.{Shown, shown_record, shown_version, shown_entry, shown_as, HasRoomAt, IsPlaced, AreTold, AreLaid};
 
 use crate::code::{Code, Info, Row};
 use crate::values::{copy_out, length_of};
@@ -20,7 +24,7 @@ pub fn value_out(found: Option<&SharedValue>, out: &mut [u8], info: &mut Info) -
 
 /// Copies a value out; its length is told.
 fn copied(value: &SharedValue, out: &mut [u8], info: &mut Info) -> Code
-    ensures { IsCopied value.now result info.new out.new }
+    ensures { AreBytesTold (value_bytes value.now) result info.new out.new }
 {
     info.a = length_of(value.value()) as u64;
     match copy_out(value.value(), out) {
@@ -39,7 +43,7 @@ struct Copying {
 
 impl Copying {
     fn new() -> Copying
-        ensures { result.rows ≡ 0 }
+        ensures { (rows : List Row) (out : List ℕ) → AreLaid [] result rows out }
     {
         Copying {
             rows: 0,
@@ -48,32 +52,39 @@ impl Copying {
         }
     }
 
+    // Copies one row behind those before it; whether it fits.
+    fn place(&self, row: Row, value: &Value, rows: &mut [Row], out: &mut [u8]) -> bool
+        ensures room { IsTrue result ↔ HasRoomAt self.now value.now rows.old out.old }
+        ensures placed { IsTrue result → IsPlaced self.now (shown_as row value.now) rows.old out.old rows.new out.new }
+    {
+        if !self.fits || self.rows >= rows.len() || self.bytes > out.len() {
+            return false;
+        }
+        match copy_out(value, &mut out[self.bytes..]) {
+            None => false,
+            Some(len) => {
+                rows[self.rows] = Row {
+                    at: self.bytes as u64,
+                    len: len as u64,
+                    ..row
+                };
+                true
+            }
+        }
+    }
+
     // Copies one row; where one does not fit, none behind it is copied.
     fn copy(&mut self, row: Row, value: &Value, rows: &mut [Row], out: &mut [u8])
-        ensures { self.old.rows < 2 ^ 63 → self.new.rows ≡ self.old.rows + 1 }
+        ensures { (shown : List Shown) → length shown < 2 ^ 63 → AreLaid shown self.old rows.old out.old → AreLaid (shown ++ shown_as row value.now ∷ []) self.new rows.new out.new }
     {
-        let len = length_of(value);
-        if self.fits && self.rows < rows.len() && self.bytes <= out.len() {
-            match copy_out(value, &mut out[self.bytes..]) {
-                None => self.fits = false,
-                Some(_) => {
-                    rows[self.rows] = Row {
-                        at: self.bytes as u64,
-                        len: len as u64,
-                        ..row
-                    };
-                }
-            }
-        } else {
-            self.fits = false;
-        }
+        self.fits = self.place(row, value, rows, out);
         self.rows = self.rows.saturating_add(1);
-        self.bytes = self.bytes.saturating_add(len);
+        self.bytes = self.bytes.saturating_add(length_of(value));
     }
 
     // How many rows there are and how many bytes they take are told.
     fn end(self, info: &mut Info) -> Code
-        ensures { AreTold self.rows result info.new }
+        ensures { (shown : List Shown) (rows : List Row) (out : List ℕ) → AreLaid shown self rows out → AreTold shown result info.new rows out }
     {
         info.a = self.rows as u64;
         info.b = self.bytes as u64;
@@ -81,7 +92,9 @@ impl Copying {
     }
 }
 
-fn row(record: u64, from: u64, upto: u64) -> Row {
+fn row(record: u64, from: u64, upto: u64) -> Row
+    ensures { result ≡ record { «record» = «record»; from = from; upto = upto; at = 0; len = 0 } }
+{
     Row {
         record,
         from,
@@ -98,7 +111,7 @@ pub fn records_out(
     out: &mut [u8],
     info: &mut Info,
 ) -> Code
-    ensures { AreTold (length found.now) result info.new }
+    ensures { AreTold (map shown_record found.now) result info.new rows.new out.new }
 {
     let mut copying = Copying::new();
     for entry in found {
@@ -115,7 +128,7 @@ pub fn rows_out(
     out: &mut [u8],
     info: &mut Info,
 ) -> Code
-    ensures { AreTold (length found.now) result info.new }
+    ensures { AreTold (map (shown_version «record») found.now) result info.new rows.new out.new }
 {
     let mut copying = Copying::new();
     for version in found {
@@ -132,7 +145,7 @@ pub fn scan_out(
     out: &mut [u8],
     info: &mut Info,
 ) -> Code
-    ensures { AreTold (length found.now) result info.new }
+    ensures { AreTold (map shown_entry found.now) result info.new rows.new out.new }
 {
     let mut copying = Copying::new();
     for entry in found {

@@ -100,7 +100,7 @@ impl Engine {
         out: &mut [u8],
         info: &mut Info,
     ) -> Code
-        ensures { SeesScan transaction relation self.now result info.new }
+        ensures { SeesScan transaction relation self.now result info.new rows.new out.new }
     {
         match self.places.transaction(transaction) {
             None => Code::Unknown,

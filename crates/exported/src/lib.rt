@@ -5,6 +5,7 @@ ghost use Rattle.std.specs.Prelude.{◌≡◌, None, Some};
 ghost use Rattle.history.specs.Key.{key_of};
 ghost use Rattle.embedded.specs.Codes.{code_number, AnswersOn};
 ghost use Rattle.embedded.specs.Engines.{OnHandle, StaysSame, KeepsStore, MayAbort, HasCalled, OpensHandle, BeginsEngine, SubmitsEngine, RedeemsEngine, PumpsEngine, PumpsJobOf, ArchivesEngine, ReclaimsEngine, RaisesEngine, TellsTimes, TellsCall, TellsLabels};
+ghost use Rattle.embedded.specs.Formats.{AnswersFormat};
 ghost use Rattle.embedded.specs.Queries.{Sees, SeesScan, AsksRecent, AsksAt, AsksScanAt, AsksRows, AsksScanRows};
 
 use embedded::{Call, Code, Engine, Handle, Info, Row};
@@ -22,7 +23,9 @@ fn put_back(handle: &mut Handle, engine: Box<Engine>, code: Code) -> i32
 
 /// The bytes of the status area of a new store.
 #[unsafe(no_mangle)]
-pub extern "C" fn ts_format(alloc: Global, slots: u32, out: &mut [u8], info: &mut Info) -> i32 {
+pub extern "C" fn ts_format(alloc: Global, slots: u32, out: &mut [u8], info: &mut Info) -> i32
+    ensures { AnswersFormat slots result info.new out.new }
+{
     embedded::format(alloc, slots, out, info).number()
 }
 
@@ -185,7 +188,7 @@ pub extern "C" fn ts_scan(
     info: &mut Info,
 ) -> i32
     ensures same { OnHandle StaysSame handle.old.engine handle.new.engine }
-    ensures answers { AnswersOn (λ e said. SeesScan transaction relation e said info.new) handle.old.engine result }
+    ensures answers { AnswersOn (λ e said. SeesScan transaction relation e said info.new rows.new out.new) handle.old.engine result }
 {
     let Some(engine) = handle.take(alloc) else {
         return Code::Closed.number();
@@ -347,7 +350,7 @@ pub extern "C" fn ts_scan_at(
     info: &mut Info,
 ) -> i32
     ensures same { OnHandle StaysSame handle.old.engine handle.new.engine }
-    ensures answers { AnswersOn (λ e said. AsksScanAt archive.now view relation time e said info.new) handle.old.engine result }
+    ensures answers { AnswersOn (λ e said. AsksScanAt archive.now view relation time e said info.new rows.new out.new) handle.old.engine result }
 {
     let Some(engine) = handle.take(alloc) else {
         return Code::Closed.number();
@@ -373,7 +376,7 @@ pub extern "C" fn ts_between(
     info: &mut Info,
 ) -> i32
     ensures same { OnHandle StaysSame handle.old.engine handle.new.engine }
-    ensures answers { AnswersOn (λ e said. AsksRows archive.now view (key_of relation «record») from upto e said info.new) handle.old.engine result }
+    ensures answers { AnswersOn (λ e said. AsksRows archive.now view (key_of relation «record») from upto e said info.new rows.new out.new) handle.old.engine result }
 {
     let Some(engine) = handle.take(alloc) else {
         return Code::Closed.number();
@@ -407,7 +410,7 @@ pub extern "C" fn ts_scan_between(
     info: &mut Info,
 ) -> i32
     ensures same { OnHandle StaysSame handle.old.engine handle.new.engine }
-    ensures answers { AnswersOn (λ e said. AsksScanRows archive.now view relation from upto e said info.new) handle.old.engine result }
+    ensures answers { AnswersOn (λ e said. AsksScanRows archive.now view relation from upto e said info.new rows.new out.new) handle.old.engine result }
 {
     let Some(engine) = handle.take(alloc) else {
         return Code::Closed.number();

@@ -3,8 +3,8 @@ use Rattle.wire.specs.Fields.{fields_bytes}
 use Rattle.embedded.proofs.Fronts.{front}
 use Rattle.embedded.proofs.values.copy_out.Goals as goal
 
-pub returns : goal.returns
-returns c =
+pub returns-clause-copied : goal.returns-clause-copied
+returns-clause-copied c =
     let is : c.spelled-spelled.result.now ≡ fields_bytes c.args.value.now = c.spelled-spelled.ensures.is ∙ ap (λ (v : List (List ℕ)). fields_bytes v) c.fields.ensures in
     let len : length c.spelled-spelled.result.now ≡ length (fields_bytes c.args.value.now) = ap (λ (s : List ℕ). length s) is in
     let some : 1 ≤ length c.args.out.now = omega (arith, c.if-out-len.false) in (
