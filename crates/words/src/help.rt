@@ -17,7 +17,8 @@ pub const LIMITS: &str = "Limits:
 When a commit or an archive is refused:
   status full   no slot is left. The store still answers every query, and takes
                 no further commit: go on in a new folder, with more slots
-  heap full     no extents are left for the commit. The same holds
+  heap full     too few extents are left for the commit. `vacuum` gives back
+                those of the commits up to its time, and takes two slots
 
 Exit status: 0 done, 1 refused, 2 words that are no command.
 What the system refused is told on standard error.";
