@@ -70,10 +70,12 @@ rates: build
 	bench/rates.py $(PROGRAM) $(if $(FOLDER),--folder $(FOLDER))
 	if command -v valgrind >/dev/null; then bench/rates.py $(PROGRAM) --instructions; fi
 
-# Every example of the documents, its answers compared, and the small store of docs/FORMAT.md byte by byte.
+# Every example of the documents, its answers compared, the small store of docs/FORMAT.md byte by byte, and that each example of a page
+# crates/NAME/CALLING.md is a test.
 examples: build
 	bench/using_test.py $(PROGRAM) README.md docs/USING.md
 	bench/format_test.py $(PROGRAM) docs/FORMAT.md
+	bench/pages_test.py
 
 # All that is measured, in one command, for a machine at rest. FOLDER=DIR measures the disk of DIR.
 bench: build
