@@ -66,7 +66,8 @@ impl RecordWalk for ArchiveWalk {
     }
 
     fn advance(&mut self, head: &Head) {
-        self.place = place_behind(&self.frozen, head);
+        let behind = place_behind(&self.frozen, head);
+        self.place = behind;
     }
 
     fn restart(&mut self) {
