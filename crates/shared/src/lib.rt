@@ -13,6 +13,7 @@ mod opening;
 mod shared;
 mod shared_txn;
 mod shared_view;
+mod signals;
 mod vacuuming;
 mod workers;
 mod workload;
