@@ -4,6 +4,7 @@
 mod cell;
 mod change;
 mod committed;
+mod comparing;
 mod locked;
 mod moment;
 mod naming;

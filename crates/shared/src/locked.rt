@@ -280,10 +280,6 @@ impl<D: Disk, L: Opening> Locked<D, L> {
         self.store.times_of(label)
     }
 
-    pub(crate) fn end(&mut self, view: SharedView<L>) {
-        self.store.end(view.spend());
-    }
-
     /// The store. With every part of the ledger in one share, all its commits since opening are
     /// counted.
     pub(crate) fn into_store(self, all: &mut Share<L>) -> Store<D>

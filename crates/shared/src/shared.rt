@@ -28,7 +28,7 @@ use disk::Disk;
 use history::{Key, Version};
 use std::alloc::{AllocError, Global};
 use std::sync::ledger::Share;
-use std::sync::{Condvar, Mutex, Wait};
+use std::sync::{Condvar, Mutex, MutexGuard, Wait};
 use store::{
     BeginFault, Did, JobDid, PumpFault, QueryFault, Redeemed, StartFault, Store, SubmitFault,
     Submitted, Ticket, Txn, TxnFault,
@@ -39,7 +39,8 @@ use store::{
 pub struct SharedStore<D: Disk, L: Opening> {
     alloc: Global,
     locked: Mutex<Locked<D, L>>,
-    // The committer sleeps on the first, commits that wait on the second, and the vacuum on the last.
+    // The committer sleeps on the first, commits that wait on the second, and the vacuum on the last. Of
+    // the commits one is woken, which wakes the next once it has asked.
     queued: Condvar,
     settled: Condvar,
     moved: Condvar,
@@ -172,7 +173,7 @@ impl<D: Disk, L: Opening> SharedStore<D, L> {
         *after = locked.signals();
         drop(locked);
         if is_move(&did) {
-            self.settled.notify_all();
+            self.settled.notify_one();
             self.tell_moved(*after);
         }
         did
@@ -205,7 +206,7 @@ impl<D: Disk, L: Opening> SharedStore<D, L> {
         let after = locked.signals();
         drop(locked);
         if is_job_move(&did) {
-            self.settled.notify_all();
+            self.settled.notify_one();
             self.tell_moved(after);
         }
         did
@@ -315,9 +316,9 @@ impl<D: Disk, L: Opening> SharedStore<D, L> {
         self.locked.lock(rt).times_of(rt, &self.cell, label, me)
     }
 
-    /// Ends a view.
-    pub fn end<R: Wait>(&self, rt: &R, view: SharedView<L>) {
-        self.locked.lock(rt).end(view);
+    /// Ends a view. It takes no lock, since the store keeps nothing of its views.
+    pub fn end<R: Wait>(&self, _rt: &R, view: SharedView<L>) {
+        view.spend().spend();
     }
 
     /// Commits these changes, and waits until they are published. With Done the caller has seen the
@@ -392,8 +393,38 @@ impl<D: Disk, L: Opening> SharedStore<D, L> {
         submitted
     }
 
-    // As `redeem`, for a commit.
-    fn redeem_awaited<R: Wait>(
+    // The lock, once tickets may have another answer than when so many groups had ended. Who is woken for
+    // nothing wakes the next, as long as one of those that sleep is to ask.
+    fn lock_settled<R: Wait>(&self, rt: &R, settled: u64) -> MutexGuard<'_, Locked<D, L>> {
+        let mut locked = self.locked.lock(rt);
+        let mut woken = false;
+        for _ in rt.forever() {
+            let signals = locked.signals();
+            if signals.settled() != settled {
+                return locked;
+            }
+            if woken && signals.has_due() {
+                self.settled.notify_one();
+            }
+            locked = self.settled.wait(rt, locked);
+            woken = true;
+        }
+        locked
+    }
+
+    // A commit's caller has asked for its ticket: the next who is to ask is woken, one at a time, so that
+    // they do not meet at the lock; and the committer, unless commits are on their way.
+    fn tell_asked(&self, after: Signals) {
+        if after.has_due() {
+            self.settled.notify_one();
+        }
+        if after.lets_begin() {
+            self.queued.notify_all();
+        }
+    }
+
+    // As `redeem`, for a commit, once its ticket may have another answer than after this.
+    fn redeem_settled<R: Wait>(
         &self,
         rt: &R,
         ticket: Ticket,
@@ -408,13 +439,11 @@ impl<D: Disk, L: Opening> SharedStore<D, L> {
         ensures amount { share.new.amount ≡ share.old.amount + done_in result }
         ensures later { IsLater me.old me.new }
     {
-        let mut locked = self.locked.lock(rt);
+        let mut locked = self.lock_settled(rt, after.settled());
         let redeemed = locked.redeem_awaited(rt, &self.cell, ticket, share, me);
         *after = locked.signals();
         drop(locked);
-        if after.lets_begin() {
-            self.queued.notify_all();
-        }
+        self.tell_asked(*after);
         redeemed
     }
 
@@ -436,8 +465,7 @@ impl<D: Disk, L: Opening> SharedStore<D, L> {
         let mut ticket = ticket;
         let mut since = since;
         for _ in rt.forever() {
-            self.wait_settled(rt, since.settled());
-            match self.redeem_awaited(rt, ticket, share, me, &mut since) {
+            match self.redeem_settled(rt, ticket, share, me, &mut since) {
                 Redeemed::Done(time) => {
                     me.legal();
                     return Ok(Committed::Done(time));
@@ -449,13 +477,6 @@ impl<D: Disk, L: Opening> SharedStore<D, L> {
         }
         ticket.give_up();
         unreachable!()
-    }
-
-    // Sleeps until tickets may have another answer than when so many groups had ended.
-    fn wait_settled<R: Wait>(&self, rt: &R, settled: u64) {
-        self.settled.wait_while(rt, self.locked.lock(rt), |locked| {
-            locked.signals().settled() == settled
-        });
     }
 
     // The moves so far, and whether the loops are to end.

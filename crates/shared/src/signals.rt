@@ -4,7 +4,7 @@ use store::{Did, JobDid, PumpFault, Redeemed, SubmitFault, Submitted};
 /// The members of a full group.
 const FULL_GROUP: u64 = 16;
 
-/// What happened under the lock, and who is on the way. The counts wrap.
+/// What happened under the lock, and which calls of `commit` are where. The counts wrap.
 #[derive(Clone, Copy, Debug)]
 pub(crate) struct Signals {
     // How often a commit was queued, a transaction ended, commits were published, a job was done, the
@@ -12,10 +12,12 @@ pub(crate) struct Signals {
     moves: u64,
     // How often tickets may have got another answer: commits were published, or the store failed.
     settled: u64,
-    // The calls of `commit` that have no answer yet.
-    inside: u64,
-    // Those of them whose commit waits, and whose ticket was asked for since it may have got an answer.
-    asleep: u64,
+    // The calls of `commit` that have begun their transaction and not ended it.
+    coming: u64,
+    // Those whose commit is queued, and whose ticket has no other answer than when they asked last.
+    waiting: u64,
+    // Those that are to ask for their ticket again.
+    due: u64,
     // Whether a group has begun that is not published.
     grouped: bool,
     stopping: bool,
@@ -26,8 +28,9 @@ impl Signals {
         Signals {
             moves: 0,
             settled: 0,
-            inside: 0,
-            asleep: 0,
+            coming: 0,
+            waiting: 0,
+            due: 0,
             grouped: false,
             stopping: false,
         }
@@ -45,10 +48,16 @@ impl Signals {
         self.stopping
     }
 
+    /// Whether a call of `commit` is to ask for its ticket again.
+    pub(crate) fn has_due(&self) -> bool {
+        self.due != 0
+    }
+
     /// Whether a step of a group is not to wait for more commits: a group has begun or would be full,
     /// or none is on its way.
     pub(crate) fn lets_begin(&self) -> bool {
-        self.grouped || self.stopping || self.asleep == self.inside || self.asleep >= FULL_GROUP
+        let nobody_comes = self.coming == 0 && self.due == 0;
+        self.grouped || self.stopping || nobody_comes || self.waiting >= FULL_GROUP
     }
 
     /// A transaction ended, or something else happened that a loop may wait for.
@@ -63,27 +72,27 @@ impl Signals {
 
     /// A call of `commit` has begun its transaction.
     pub(crate) fn note_entered(&mut self) {
-        self.inside = self.inside.wrapping_add(1);
+        self.coming = self.coming.wrapping_add(1);
     }
 
-    /// A call of `commit` has its answer.
+    /// A call of `commit` has ended its transaction with nothing queued.
     pub(crate) fn note_left(&mut self) {
-        self.inside = self.inside.wrapping_sub(1);
+        self.coming = self.coming.wrapping_sub(1);
     }
 
-    /// A call of `commit` was answered so.
+    /// A call of `commit` was answered so at the end of its transaction.
     pub(crate) fn note_submitted(&mut self, submitted: &Result<Submitted, SubmitFault>) {
-        match submitted {
-            Ok(Submitted::Queued(_)) => self.asleep = self.asleep.wrapping_add(1),
-            Ok(Submitted::ReadOnly(_)) | Err(_) => self.note_left(),
+        self.note_left();
+        if let Ok(Submitted::Queued(_)) = submitted {
+            self.waiting = self.waiting.wrapping_add(1);
         }
     }
 
     /// A call of `commit` was told this of its ticket.
     pub(crate) fn note_redeemed(&mut self, redeemed: &Redeemed) {
-        match redeemed {
-            Redeemed::Waiting(_) => self.asleep = self.asleep.wrapping_add(1),
-            Redeemed::Done(_) | Redeemed::InDoubt | Redeemed::Stranger => self.note_left(),
+        self.due = self.due.wrapping_sub(1);
+        if let Redeemed::Waiting(_) = redeemed {
+            self.waiting = self.waiting.wrapping_add(1);
         }
     }
 
@@ -108,10 +117,11 @@ impl Signals {
         }
     }
 
-    // All who wait are to ask again.
+    // All whose commit waits are to ask again.
     fn note_settled(&mut self) {
         self.settled = self.settled.wrapping_add(1);
-        self.asleep = 0;
+        self.due = self.due.wrapping_add(self.waiting);
+        self.waiting = 0;
         self.note_move();
     }
 }

@@ -11,7 +11,7 @@ use crate::fault::Fault;
 use crate::notes;
 use crate::notes::Note;
 use crate::sharing::{MOST_SLOTS, fresh};
-use crate::soaking::{read_once, source, write};
+use crate::soaking::{Worker, read_once, source, write};
 use disk::Disk;
 use disk_file::FileDisk;
 use shared::{Observer, Opened, Opening, SharedStore};
@@ -20,7 +20,7 @@ use std::fs::File;
 use std::marker::Brand;
 use std::rt::Files;
 use std::sync::Wait;
-use std::sync::atomic::{AtomicBool, Ordering};
+use std::sync::atomic::{AtomicBool, AtomicU64, Ordering};
 use std::thread;
 use std::thread::{Threads, join, map_vec};
 use std::time::{Clock, Duration};
@@ -30,17 +30,19 @@ const WRITERS: u8 = 8;
 
 const READERS: u8 = 8;
 
-/// The milliseconds between two steps of the vacuum.
-const VACUUM_MS: u64 = 1;
+/// The milliseconds between two steps of the vacuum. Each of its jobs takes a slot.
+const VACUUM_MS: u64 = 5;
 
 /// The milliseconds between two views of a reader.
-const READ_MS: u64 = 2;
+const READ_MS: u64 = 20;
 
-/// The numbers of a soak's threads come from the seed; each writer writes so often.
+/// The numbers of a soak's threads come from the seed; each writer writes so often, and there are so many
+/// milliseconds from one round of all writers to the next.
 #[derive(Clone, Copy, Debug)]
 struct Plan {
     seed: u64,
     rounds: u64,
+    pace: u64,
 }
 
 /// What the threads noted; none of a thread that met a refusal that is not a named one.
@@ -58,7 +60,12 @@ fn write_notes<D: Disk, L: Opening, R: Wait + Clock>(
         mut share,
         mut me,
     } = writer;
-    let worker = (plan.seed, number, plan.rounds);
+    let worker = Worker {
+        seed: plan.seed,
+        number,
+        rounds: plan.rounds,
+        pace: plan.pace,
+    };
     write(rt, alloc, store, worker, &mut share, &mut me)
 }
 
@@ -70,9 +77,11 @@ fn read_notes<D: Disk, L: Opening, R: Wait + Clock>(
     me: Observer<L>,
     plan: Plan,
     done: &AtomicBool,
+    numbers: &AtomicU64,
 ) -> Option<Vec<Note>> {
     let mut me = me;
-    let mut random = source(plan.seed, 1_000 + store.last_published(rt, &mut me));
+    let number = numbers.fetch_add(1, Ordering::SeqCst);
+    let mut random = source(plan.seed, number);
     let mut notes = Vec::new(alloc);
     for _ in rt.forever() {
         if done.load(Ordering::SeqCst) {
@@ -109,10 +118,12 @@ fn read_all<D: Disk + Send, L: Opening + Send + Sync, R: Threads + Wait + Clock 
     plan: Plan,
     done: &AtomicBool,
 ) -> Noted {
+    let numbers = AtomicU64::new(u64::from(WRITERS));
+    let next = &numbers;
     map_vec(
         rt,
         readers,
-        &|me| { read_notes(rt, alloc, store, me, plan, done) },
+        &|me| { read_notes(rt, alloc, store, me, plan, done, next) },
     )
 }
 
@@ -216,8 +227,12 @@ fn run_over<R: Threads + Wait + Clock + Sync>(
     }
 }
 
-fn print_all<R: Print>(rt: &R, noted: Noted) -> Result<(), Fault> {
+/// Prints the notes of each thread behind a line with what it did and its number.
+fn print_all<R: Print>(rt: &R, kind: &str, noted: Noted) -> Result<(), Fault> {
+    let mut number = 0u64;
     for each in noted? {
+        println!(rt; "{kind} {number}")?;
+        number = number.wrapping_add(1);
         let Some(each) = each else {
             return Err(Fault::Wrong("a thread met a refusal that is not a named one"));
         };
@@ -235,9 +250,11 @@ pub(crate) fn measure<R: Files<File = File> + AllocGlobal + Print + Clock + Thre
     folder: &str,
     rounds: u64,
     seed: u64,
+    pace: u64,
 ) -> Result<(), Fault> {
     let store = fresh(rt, alloc, folder, MOST_SLOTS)?;
-    let (written, read) = run_over(rt, alloc, store, Plan { seed, rounds })?;
-    print_all(rt, written)?;
-    print_all(rt, read)
+    let plan = Plan { seed, rounds, pace };
+    let (written, read) = run_over(rt, alloc, store, plan)?;
+    print_all(rt, "writer", written)?;
+    print_all(rt, "reader", read)
 }

@@ -14,7 +14,7 @@ use std::alloc::Global;
 use std::sync::Wait;
 use std::sync::ledger::Share;
 use std::thread;
-use std::time::{Clock, Duration};
+use std::time::{Clock, Duration, Instant};
 use store::{QueryFault, Redeemed, SubmitFault, Submitted, Ticket, TxnFault};
 
 /// The records that all writers write.
@@ -22,6 +22,16 @@ const RECORDS: u64 = 32;
 
 /// The microseconds that a writer waits before it asks for its ticket again.
 const WAIT_US: u64 = 200;
+
+/// A thread of a soak: where its numbers come from, its own number, how often it writes, and how many
+/// milliseconds there are from one round of all writers to the next.
+#[derive(Clone, Copy, Debug)]
+pub(crate) struct Worker {
+    pub(crate) seed: u64,
+    pub(crate) number: u64,
+    pub(crate) rounds: u64,
+    pub(crate) pace: u64,
+}
 
 /// Labels of one writer are this far from those of the next.
 const LABELS: u64 = 1 << 32;
@@ -178,30 +188,54 @@ fn transact_one<D: Disk, L: Opening, R: Wait + Clock>(
     })
 }
 
+// Sleeps until this round is due. A clock that cannot be read ends the soak.
+fn await_round<R: Clock>(rt: &R, start: &Instant, round: u64, pace: u64) -> Option<()> {
+    let due = Duration::from_millis(round.wrapping_mul(pace));
+    if let Some(left) = due.checked_sub(start.elapsed(rt).ok()?) {
+        thread::sleep(rt, left);
+    }
+    Some(())
+}
+
+// One round: writers of even numbers commit by one call, the others step by step.
+fn write_once<D: Disk, L: Opening, R: Wait + Clock>(
+    rt: &R,
+    alloc: Global,
+    store: &SharedStore<D, L>,
+    random: &mut Xoshiro256PlusPlus,
+    label: u64,
+    share: &mut Share<L>,
+    me: &mut Observer<L>,
+) -> Option<Note>
+    requires { 0 < share.old.parts }
+    ensures { share.new.parts ≡ share.old.parts }
+{
+    if (label / LABELS) % 2 == 0 {
+        commit_one(rt, store, random, label, share, me)
+    } else {
+        transact_one(rt, alloc, store, random, label, share, me)
+    }
+}
+
 /// Writes so often, or until the store is full. None where a refusal is not a named one.
 pub(crate) fn write<D: Disk, L: Opening, R: Wait + Clock>(
     rt: &R,
     alloc: Global,
     store: &SharedStore<D, L>,
-    worker: (u64, u64, u64),
+    worker: Worker,
     share: &mut Share<L>,
     me: &mut Observer<L>,
 ) -> Option<Vec<Note>>
     requires { 0 < share.old.parts }
 {
-    let (seed, number, rounds) = worker;
-    let mut random = source(seed, number);
+    let mut random = source(worker.seed, worker.number);
+    let first = worker.number.wrapping_mul(LABELS);
+    let start = Instant::now(rt).ok()?;
     let mut notes = Vec::new(alloc);
-    for round in 0..rounds {
-        let label = number
-            .wrapping_mul(LABELS)
-            .wrapping_add(round)
-            .wrapping_add(1);
-        let note = if number % 2 == 0 {
-            commit_one(rt, store, &mut random, label, share, me)?
-        } else {
-            transact_one(rt, alloc, store, &mut random, label, share, me)?
-        };
+    for round in 0..worker.rounds {
+        await_round(rt, &start, round, worker.pace)?;
+        let label = first.wrapping_add(round).wrapping_add(1);
+        let note = write_once(rt, alloc, store, &mut random, label, share, me)?;
         notes.push(note).ok()?;
         if is_full(note) {
             break;

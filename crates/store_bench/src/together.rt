@@ -30,6 +30,9 @@ const MOST_RAW_GROUPS: u64 = 1_000;
 /// The most commits of a writer beside readers: a store has not many more slots.
 const MOST_COMMITS: u64 = 60_000;
 
+/// The milliseconds from one round of a soak's writers to the next.
+const SOAK_MS: u64 = 40;
+
 /// What is measured of many threads.
 #[derive(Clone, Copy, Debug)]
 pub(crate) enum Together {
@@ -39,8 +42,9 @@ pub(crate) enum Together {
     Readers(u8, Reading),
     /// How long the lock is held.
     Holding,
-    /// Many threads, with notes of what they were told.
-    Soak,
+    /// Many threads, with notes of what they were told; so many milliseconds from one round of the writers
+    /// to the next.
+    Soak(u64),
 }
 
 /// The measurement of a name, and how often it is done where no count is given.
@@ -60,7 +64,8 @@ pub(crate) fn known(name: &str) -> Option<(Together, u64)> {
         "q3" => Some((Together::Readers(3, Reading::Asks), 5_000_000)),
         "q4" => Some((Together::Readers(4, Reading::Asks), 5_000_000)),
         "h" => Some((Together::Holding, 200)),
-        "soak" => Some((Together::Soak, 1_000)),
+        "soak" => Some((Together::Soak(SOAK_MS), 250)),
+        "rush" => Some((Together::Soak(0), 250)),
         _ => None,
     }
 }
@@ -78,6 +83,11 @@ fn load_of(writers: u8, readers: u8, reading: Reading, count: u64) -> Load {
         reads: count,
         reading,
     }
+}
+
+/// The commits of a group that all writers are in.
+fn members_of(load: Load) -> u64 {
+    u64::from(load.writers).min(FULL_GROUP)
 }
 
 /// The nanoseconds of so many groups of raw writes and syncs.
@@ -112,28 +122,30 @@ fn run_load<R: Threads + Wait + Clock + Sync>(
     }
 }
 
-/// Prints how many commits and reads there were in a second, how many groups, and how many commits a
-/// second raw groups of three syncs would make of as many members as there are writers, up to 16.
+/// Prints how many commits or, where some read, reads there were in a second; both; how many groups, and how
+/// many commits a second raw groups of three syncs would make of as many members as there are writers, up
+/// to 16.
 fn print<R: Print>(
     rt: &R,
+    load: Load,
     work: Work,
     raw_groups: u64,
-    members: u64,
     raws: u64,
 ) -> Result<(), Fault> {
     let commits = rate(work.commits, work.nanoseconds);
-    let raw_commits = raw_groups.saturating_mul(members);
-    let raw = rate(raw_commits, raws);
+    let reads = rate(work.reads, work.nanoseconds);
+    let value = if load.readers == 0 { commits } else { reads };
+    let raw_commits = raw_groups.saturating_mul(members_of(load));
     let of_raw = quotient(
         work.commits.saturating_mul(raws / 1000),
         raw_commits.saturating_mul(work.nanoseconds / 1000),
     );
     println!(rt;
-        "{{\"value\": {commits}, \"commits\": {}, \"groups\": {}, \"members\": {}, \"raw\": {raw}, \"of_raw\": {of_raw}, \"reads\": {}}}",
+        "{{\"value\": {value}, \"commits_s\": {commits}, \"reads_s\": {reads}, \"commits\": {}, \"groups\": {}, \"members\": {}, \"raw\": {}, \"of_raw\": {of_raw}}}",
         work.commits,
         work.groups,
         quotient(work.commits, work.groups),
-        rate(work.reads, work.nanoseconds),
+        rate(raw_commits, raws),
     )?;
     Ok(())
 }
@@ -160,7 +172,7 @@ pub(crate) fn measure<R: Files<File = File> + AllocGlobal + Print + Clock + Thre
             measure_load(rt, alloc, folder, load_of(1, readers, reading, count))
         }
         Together::Holding => holding::measure(rt, alloc, folder, count),
-        Together::Soak => soak::measure(rt, alloc, folder, count, seed),
+        Together::Soak(pace) => soak::measure(rt, alloc, folder, count, seed, pace),
     }
 }
 
@@ -173,17 +185,12 @@ fn measure_load<R: Files<File = File> + AllocGlobal + Print + Clock + Threads + 
 ) -> Result<(), Fault> {
     let place = format!(in alloc; "{folder}/raw")?;
     let mut raw = RawFiles::new(rt, alloc, place.as_str(), MOST_SLOTS)?;
-    let members = u64::from(load.writers).min(FULL_GROUP);
+    let members = members_of(load);
     let half = (load.commits.min(MOST_RAW_GROUPS) / 2).max(1);
     let before = time_raw(rt, &mut raw, half, members)?;
     let store = fresh(rt, alloc, folder, MOST_SLOTS)?;
     let work = run_load(rt, alloc, store, load)?;
     let after = time_raw(rt, &mut raw, half, members)?;
-    print(
-        rt,
-        work,
-        half.saturating_mul(2),
-        members,
-        before.saturating_add(after),
-    )
+    let raws = before.saturating_add(after);
+    print(rt, load, work, half.saturating_mul(2), raws)
 }
