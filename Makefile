@@ -70,10 +70,10 @@ hostile: build
 planted:
 	torture/planted.py $(NAMES)
 
-# Lines a second; and, where valgrind is there, instructions a line, which do not depend on what else the machine does.
+# Lines a second; and, where valgrind is there, instructions a line, which do not depend on what else the machine does, and the growths of views.
 rates: build
 	bench/rates.py $(PROGRAM) $(if $(FOLDER),--folder $(FOLDER))
-	if command -v valgrind >/dev/null; then bench/rates.py $(PROGRAM) --instructions; fi
+	if command -v valgrind >/dev/null; then bench/rates.py $(PROGRAM) --instructions && bench/growths.py $(PROGRAM); fi
 
 # Every example of the documents, its answers compared, and the small store of docs/FORMAT.md byte by byte.
 examples: build
