@@ -49,6 +49,7 @@ use Rattle.shared.specs.declared.naming.Opening as openings
 use Rattle.shared.specs.contracts.locked.Locked as Locked
 use Rattle.shared.specs.contracts.locked.Locked.TheInside as locked
 use Rattle.shared.specs.contracts.shared.SharedStore as SharedStore
+use Rattle.shared.proofs.signals.Signals.TheSendSync as signals
 
 -- ---- the versions
 
@@ -184,10 +185,7 @@ module _ (D : RattleType) (disk : devices.Ghosts D.Denot) (crossing : IsSend D) 
         search (sendable, book.the_send),
         (
           search (sendable, seat.the_send),
-          (
-            search sendable,
-            (search sendable, tt),
-          ),
+          (search (sendable, signals.the_send), tt),
         ),
       ),
     )
@@ -206,7 +204,13 @@ shared-sync D L disk opening ledger crossing =
         search (sendable, mutex.the_sync, under),
         (
           search (sendable, condvar.the_sync),
-          (search (sendable, crosses, wide.the_sync, words.the_sync) depth 20, tt),
+          (
+            search (sendable, condvar.the_sync),
+            (
+              search (sendable, condvar.the_sync),
+              (search (sendable, crosses, wide.the_sync, words.the_sync) depth 20, tt),
+            ),
+          ),
         ),
       ),
     )

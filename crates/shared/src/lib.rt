@@ -4,6 +4,7 @@
 mod cell;
 mod change;
 mod committed;
+mod comparing;
 mod locked;
 mod moment;
 mod naming;
@@ -13,6 +14,7 @@ mod opening;
 mod shared;
 mod shared_txn;
 mod shared_view;
+mod signals;
 mod vacuuming;
 mod workers;
 mod workload;

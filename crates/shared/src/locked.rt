@@ -19,11 +19,10 @@ ghost use Rattle.shared.specs.Shared.{BeginHappens, SubmitHappens, SeenReached, 
 use crate::cell::{PublishedCell, WriterPass};
 use crate::moment::Moment;
 use crate::naming::Opening;
-use crate::noting::{
-    count_done, is_job_move, is_move, note_archive, note_job, note_published, note_queued,
-};
+use crate::noting::{count_done, note_archive, note_job, note_published, note_queued};
 use crate::observer::Observer;
 use crate::shared_view::{SharedView, taken_at};
+use crate::signals::Signals;
 use chains::SharedValue;
 use disk::Disk;
 use history::{Key, Version};
@@ -43,8 +42,7 @@ pub struct Locked<D: Disk, L: Opening> {
     store: Store<D>,
     book: Book<L>,
     writer: WriterPass,
-    moves: u64,
-    stopping: bool,
+    signals: Signals,
 }
 
 impl<D: Disk, L: Opening> Model for Locked<D, L> {
@@ -75,8 +73,7 @@ impl<D: Disk, L: Opening> Locked<D, L> {
             store,
             book,
             writer,
-            moves: 0,
-            stopping: false,
+            signals: Signals::new(),
         }
     }
 
@@ -114,7 +111,7 @@ impl<D: Disk, L: Opening> Locked<D, L> {
         // A transaction's writes are in range.
         let _count = txn.writes().len();
         self.store.abort(txn);
-        self.moves = self.moves.wrapping_add(1);
+        self.signals.note_move();
     }
 
     pub(crate) fn submit<R: Wait>(
@@ -131,7 +128,7 @@ impl<D: Disk, L: Opening> Locked<D, L> {
         ensures later { IsLater me.old me.new }
     {
         let submitted = self.submit_writes(rt, cell, txn, label, now, me);
-        self.moves = self.moves.wrapping_add(1);
+        self.signals.note_move();
         submitted
     }
 
@@ -144,7 +141,7 @@ impl<D: Disk, L: Opening> Locked<D, L> {
         let did = self.store.pump();
         let last = self.store.last();
         note_published(rt, cell, &mut self.writer, &did, last);
-        self.moves = self.moves.wrapping_add(u64::from(is_move(&did)));
+        self.signals.note_pumped(&did);
         did
     }
 
@@ -173,7 +170,7 @@ impl<D: Disk, L: Opening> Locked<D, L> {
         ensures { JobHappens L.start result }
     {
         let did = self.job_step(rt, cell);
-        self.moves = self.moves.wrapping_add(u64::from(is_job_move(&did)));
+        self.signals.note_job_pumped(&did);
         did
     }
 
@@ -283,10 +280,6 @@ impl<D: Disk, L: Opening> Locked<D, L> {
         self.store.times_of(label)
     }
 
-    pub(crate) fn end(&mut self, view: SharedView<L>) {
-        self.store.end(view.spend());
-    }
-
     /// The store. With every part of the ledger in one share, all its commits since opening are
     /// counted.
     pub(crate) fn into_store(self, all: &mut Share<L>) -> Store<D>
@@ -297,31 +290,84 @@ impl<D: Disk, L: Opening> Locked<D, L> {
             store,
             mut book,
             writer: _,
-            moves: _,
-            stopping: _,
+            signals: _,
         } = self;
         book.audit(all);
         store
     }
 
-    /// How often something happened that a caller may wait for: a commit was queued, a transaction
-    /// ended, commits were published, a job was done, the store failed or was told to stop.
-    pub(crate) fn moves(&self) -> u64 {
-        self.moves
-    }
-
-    pub(crate) fn is_stopping(&self) -> bool {
-        self.stopping
-    }
-
-    /// The moves so far, and whether the loops are to end.
-    pub(crate) fn signals(&self) -> (u64, bool) {
-        (self.moves, self.stopping)
+    /// What happened so far, and who is on the way.
+    pub(crate) fn signals(&self) -> Signals {
+        self.signals
     }
 
     pub(crate) fn stop(&mut self) {
-        self.moves = self.moves.wrapping_add(1);
-        self.stopping = true;
+        self.signals.note_stop();
+    }
+
+    /// As `begin`, for a call of `commit`.
+    pub(crate) fn enter<R: Wait>(
+        &mut self,
+        rt: &R,
+        cell: &PublishedCell,
+        me: &mut Observer<L>,
+    ) -> Result<Txn, BeginFault>
+        requires { cell.now.table.shared.table_id ≡ L.table }
+        ensures happens { BeginHappens L.start L.mark result me.new }
+        ensures later { IsLater me.old me.new }
+    {
+        let begun = self.begin(rt, cell, me);
+        if begun.is_ok() {
+            self.signals.note_entered();
+        }
+        begun
+    }
+
+    /// As `abort`, for a call of `commit`.
+    pub(crate) fn leave(&mut self, txn: Txn) {
+        self.abort(txn);
+        self.signals.note_left();
+    }
+
+    /// As `submit`, for a call of `commit`.
+    pub(crate) fn submit_awaited<R: Wait>(
+        &mut self,
+        rt: &R,
+        cell: &PublishedCell,
+        txn: Txn,
+        label: u64,
+        now: u64,
+        me: &mut Observer<L>,
+    ) -> Result<Submitted, SubmitFault>
+        requires { cell.now.table.shared.table_id ≡ L.table }
+        ensures happens { SubmitHappens L.start L.mark txn label now result me.new }
+        ensures later { IsLater me.old me.new }
+    {
+        let submitted = self.submit(rt, cell, txn, label, now, me);
+        self.signals.note_submitted(&submitted);
+        submitted
+    }
+
+    /// As `redeem`, for a call of `commit`.
+    pub(crate) fn redeem_awaited<R: Wait>(
+        &mut self,
+        rt: &R,
+        cell: &PublishedCell,
+        ticket: Ticket,
+        share: &mut Share<L>,
+        me: &mut Observer<L>,
+    ) -> Redeemed
+        requires cell { cell.now.table.shared.table_id ≡ L.table }
+        requires part { 0 < share.old.parts }
+        ensures says { RedeemSays ticket result me.new }
+        ensures reached { SeenReached L.start me.new }
+        ensures parts { share.new.parts ≡ share.old.parts }
+        ensures amount { share.new.amount ≡ share.old.amount + done_in result }
+        ensures later { IsLater me.old me.new }
+    {
+        let redeemed = self.redeem(rt, cell, ticket, share, me);
+        self.signals.note_redeemed(&redeemed);
+        redeemed
     }
 
     // The floor in the making stays known once the job is done.

@@ -3,7 +3,8 @@ ghost use Rattle.std.specs.Prelude.{◌≡◌, true, false};
 ghost use Rattle.crossbeam_utils.specs.Seq.{cell_view};
 ghost use Rattle.shared.specs.Seen.{Known, IsMore, known_by};
 
-use crate::cell::{Confirm, Hear, PublishedCell, Tell, WriterPass};
+use crate::cell::{PublishedCell, Tell, WriterPass};
+use crate::comparing::confirm;
 use crate::naming::Opening;
 use std::marker::{Model, PhantomData};
 use std::sync::Wait;
@@ -58,8 +59,6 @@ impl<L: Opening> Moment<L> {
         ensures more { IsMore self.old (known_by (cell_view writer.old)) }
         ensures writer { (writer.new.table_id ≡ writer.old.table_id) × ((cell_view writer.new).writes ≡ true) × ((cell_view writer.new).seen ≡ (cell_view writer.old).seen) × ((cell_view writer.new).archive ≡ (cell_view writer.old).archive) }
     {
-        let mine = cell.split_pass::<Tell>(&mut self.pass);
-        cell.join_pass::<Hear>(writer, mine);
-        cell.load_as::<Confirm, R>(rt, writer);
+        confirm(rt, cell, &mut self.pass, writer);
     }
 }

@@ -140,11 +140,6 @@ fn published_in(did: &Result<Did, PumpFault>) -> u32
     }
 }
 
-/// Whether some ticket may now have another answer.
-pub(crate) fn is_move(did: &Result<Did, PumpFault>) -> bool {
-    matches!(did, Ok(Did::Published(_)) | Err(PumpFault::Failed))
-}
-
 // Whether a job was done.
 fn is_done(did: &Result<JobDid, PumpFault>) -> bool
     ensures { result ≡ is_done did.now }
@@ -161,11 +156,6 @@ fn is_done(did: &Result<JobDid, PumpFault>) -> bool
         Ok(JobDid::GateWritten) => false,
         Err(_) => false,
     }
-}
-
-/// Whether some step of a group may now have another answer.
-pub(crate) fn is_job_move(did: &Result<JobDid, PumpFault>) -> bool {
-    matches!(did, Ok(JobDid::JobDone) | Err(PumpFault::Failed))
 }
 
 /// How many commits of the caller's the answer tells of for the first time.

@@ -19,16 +19,16 @@ use crate::change::Change;
 use crate::committed::{CommitFault, Committed};
 use crate::locked::Locked;
 use crate::naming::Opening;
-use crate::noting::{is_job_move, is_move};
 use crate::observer::Observer;
 use crate::shared_txn::SharedTxn;
 use crate::shared_view::SharedView;
+use crate::signals::Signals;
 use chains::SharedValue;
 use disk::Disk;
 use history::{Key, Version};
 use std::alloc::{AllocError, Global};
 use std::sync::ledger::Share;
-use std::sync::{Condvar, Mutex, Wait};
+use std::sync::{Condvar, Mutex, MutexGuard, Wait};
 use store::{
     BeginFault, Did, JobDid, PumpFault, QueryFault, Redeemed, StartFault, Store, SubmitFault,
     Submitted, Ticket, Txn, TxnFault,
@@ -39,6 +39,10 @@ use store::{
 pub struct SharedStore<D: Disk, L: Opening> {
     alloc: Global,
     locked: Mutex<Locked<D, L>>,
+    // The committer sleeps on the first, commits that wait on the second, and the vacuum on the last. Of
+    // the commits one is woken, which wakes the next once it has asked.
+    queued: Condvar,
+    settled: Condvar,
     moved: Condvar,
     cell: PublishedCell,
     ghost named: { cell.table.shared.table_id ≡ L.table },
@@ -51,6 +55,8 @@ impl<D: Disk, L: Opening> SharedStore<D, L> {
         SharedStore {
             alloc,
             locked: Mutex::new(locked),
+            queued: Condvar::new(),
+            settled: Condvar::new(),
             moved: Condvar::new(),
             cell,
         }
@@ -95,7 +101,8 @@ impl<D: Disk, L: Opening> SharedStore<D, L> {
 
     /// Gives the transaction's snapshot up.
     pub fn abort<R: Wait>(&self, rt: &R, txn: SharedTxn<L>) {
-        self.abort_txn(rt, txn.spend());
+        self.locked.lock(rt).abort(txn.spend());
+        self.moved.notify_all();
     }
 
     /// Ends a transaction: its writes are queued as a commit, or it is refused.
@@ -120,11 +127,6 @@ impl<D: Disk, L: Opening> SharedStore<D, L> {
         self.locked.lock(rt).begin(rt, &self.cell, me)
     }
 
-    fn abort_txn<R: Wait>(&self, rt: &R, txn: Txn) {
-        self.locked.lock(rt).abort(txn);
-        self.moved.notify_all();
-    }
-
     fn submit_txn<R: Wait>(
         &self,
         rt: &R,
@@ -136,12 +138,21 @@ impl<D: Disk, L: Opening> SharedStore<D, L> {
         ensures happens { SubmitHappens L.start L.mark txn label now result me.new }
         ensures later { IsLater me.old me.new }
     {
-        let submitted = self
-            .locked
-            .lock(rt)
-            .submit(rt, &self.cell, txn, label, now, me);
-        self.moved.notify_all();
+        let mut locked = self.locked.lock(rt);
+        let submitted = locked.submit(rt, &self.cell, txn, label, now, me);
+        let after = locked.signals();
+        drop(locked);
+        self.tell_moved(after);
         submitted
+    }
+
+    // A transaction ended, or a job was done: the vacuum may go on, and the committer, unless commits are
+    // on their way.
+    fn tell_moved(&self, after: Signals) {
+        self.moved.notify_all();
+        if after.lets_begin() {
+            self.queued.notify_all();
+        }
     }
 
     /// One step of the group that is written. A step that publishes writes the published time before
@@ -149,9 +160,21 @@ impl<D: Disk, L: Opening> SharedStore<D, L> {
     pub fn pump<R: Wait>(&self, rt: &R) -> Result<Did, PumpFault>
         ensures { PumpHappens L.start result }
     {
-        let did = self.locked.lock(rt).pump(rt, &self.cell);
+        let mut after = Signals::new();
+        self.step(rt, &mut after)
+    }
+
+    // One step of the group, and what the signals are then.
+    fn step<R: Wait>(&self, rt: &R, after: &mut Signals) -> Result<Did, PumpFault>
+        ensures { PumpHappens L.start result }
+    {
+        let mut locked = self.locked.lock(rt);
+        let did = locked.pump(rt, &self.cell);
+        *after = locked.signals();
+        drop(locked);
         if is_move(&did) {
-            self.moved.notify_all();
+            self.settled.notify_one();
+            self.tell_moved(*after);
         }
         did
     }
@@ -178,9 +201,13 @@ impl<D: Disk, L: Opening> SharedStore<D, L> {
     pub fn job_pump<R: Wait>(&self, rt: &R) -> Result<JobDid, PumpFault>
         ensures { JobHappens L.start result }
     {
-        let did = self.locked.lock(rt).job_pump(rt, &self.cell);
+        let mut locked = self.locked.lock(rt);
+        let did = locked.job_pump(rt, &self.cell);
+        let after = locked.signals();
+        drop(locked);
         if is_job_move(&did) {
-            self.moved.notify_all();
+            self.settled.notify_one();
+            self.tell_moved(after);
         }
         did
     }
@@ -289,9 +316,9 @@ impl<D: Disk, L: Opening> SharedStore<D, L> {
         self.locked.lock(rt).times_of(rt, &self.cell, label, me)
     }
 
-    /// Ends a view.
-    pub fn end<R: Wait>(&self, rt: &R, view: SharedView<L>) {
-        self.locked.lock(rt).end(view);
+    /// Ends a view. It takes no lock, since the store keeps nothing of its views.
+    pub fn end<R: Wait>(&self, _rt: &R, view: SharedView<L>) {
+        view.spend().spend();
     }
 
     /// Commits these changes, and waits until they are published. With Done the caller has seen the
@@ -311,31 +338,123 @@ impl<D: Disk, L: Opening> SharedStore<D, L> {
         ensures amount { share.new.amount ≡ share.old.amount + commits_in result }
         ensures later { IsLater me.old me.new }
     {
-        let mut txn = match self.begin_txn(rt, me) {
+        let mut txn = match self.enter(rt, me) {
             Ok(txn) => txn,
             Err(fault) => return Err(CommitFault::Begin(fault)),
         };
         match apply(self.alloc, &mut txn, changes) {
             Ok(()) => {}
             Err(fault) => {
-                self.abort_txn(rt, txn);
+                self.leave(rt, txn);
                 return Err(CommitFault::Txn(fault));
             }
         }
-        match self.submit_txn(rt, txn, label, now, me) {
-            Ok(Submitted::Queued(ticket)) => self.wait_for(rt, ticket, share, me),
+        let mut after = Signals::new();
+        match self.submit_awaited(rt, txn, label, now, me, &mut after) {
+            Ok(Submitted::Queued(ticket)) => self.wait_for(rt, ticket, share, me, after),
             Ok(Submitted::ReadOnly(snapshot)) => Ok(Committed::ReadOnly(snapshot)),
             Err(fault) => Err(CommitFault::Submit(fault)),
         }
     }
 
-    // Asks for a ticket again and again, after each move of the store.
+    // As `begin_txn`, `abort` and `submit_txn`, for a commit.
+    fn enter<R: Wait>(&self, rt: &R, me: &mut Observer<L>) -> Result<Txn, BeginFault>
+        ensures happens { BeginHappens L.start L.mark result me.new }
+        ensures later { IsLater me.old me.new }
+    {
+        self.locked.lock(rt).enter(rt, &self.cell, me)
+    }
+
+    fn leave<R: Wait>(&self, rt: &R, txn: Txn) {
+        let mut locked = self.locked.lock(rt);
+        locked.leave(txn);
+        let after = locked.signals();
+        drop(locked);
+        self.tell_moved(after);
+    }
+
+    fn submit_awaited<R: Wait>(
+        &self,
+        rt: &R,
+        txn: Txn,
+        label: u64,
+        now: u64,
+        me: &mut Observer<L>,
+        after: &mut Signals,
+    ) -> Result<Submitted, SubmitFault>
+        ensures happens { SubmitHappens L.start L.mark txn label now result me.new }
+        ensures later { IsLater me.old me.new }
+    {
+        let mut locked = self.locked.lock(rt);
+        let submitted = locked.submit_awaited(rt, &self.cell, txn, label, now, me);
+        *after = locked.signals();
+        drop(locked);
+        self.tell_moved(*after);
+        submitted
+    }
+
+    // The lock, once tickets may have another answer than when so many groups had ended. Who is woken for
+    // nothing wakes the next, as long as one of those that sleep is to ask.
+    fn lock_settled<R: Wait>(&self, rt: &R, settled: u64) -> MutexGuard<'_, Locked<D, L>> {
+        let mut locked = self.locked.lock(rt);
+        let mut woken = false;
+        for _ in rt.forever() {
+            let signals = locked.signals();
+            if signals.settled() != settled {
+                return locked;
+            }
+            if woken && signals.has_due() {
+                self.settled.notify_one();
+            }
+            locked = self.settled.wait(rt, locked);
+            woken = true;
+        }
+        locked
+    }
+
+    // A commit's caller has asked for its ticket: the next who is to ask is woken, one at a time, so that
+    // they do not meet at the lock; and the committer, unless commits are on their way.
+    fn tell_asked(&self, after: Signals) {
+        if after.has_due() {
+            self.settled.notify_one();
+        }
+        if after.lets_begin() {
+            self.queued.notify_all();
+        }
+    }
+
+    // As `redeem`, for a commit, once its ticket may have another answer than after this.
+    fn redeem_settled<R: Wait>(
+        &self,
+        rt: &R,
+        ticket: Ticket,
+        share: &mut Share<L>,
+        me: &mut Observer<L>,
+        after: &mut Signals,
+    ) -> Redeemed
+        requires { 0 < share.old.parts }
+        ensures says { RedeemSays ticket result me.new }
+        ensures reached { SeenReached L.start me.new }
+        ensures parts { share.new.parts ≡ share.old.parts }
+        ensures amount { share.new.amount ≡ share.old.amount + done_in result }
+        ensures later { IsLater me.old me.new }
+    {
+        let mut locked = self.lock_settled(rt, after.settled());
+        let redeemed = locked.redeem_awaited(rt, &self.cell, ticket, share, me);
+        *after = locked.signals();
+        drop(locked);
+        self.tell_asked(*after);
+        redeemed
+    }
+
+    // Asks for a ticket each time that commits were published or the store has failed.
     fn wait_for<R: Wait>(
         &self,
         rt: &R,
         ticket: Ticket,
         share: &mut Share<L>,
         me: &mut Observer<L>,
+        since: Signals,
     ) -> Result<Committed, CommitFault>
         requires { 0 < share.old.parts }
         ensures says { WaitSays ticket result me.new }
@@ -344,9 +463,9 @@ impl<D: Disk, L: Opening> SharedStore<D, L> {
         ensures later { IsLater me.old me.new }
     {
         let mut ticket = ticket;
+        let mut since = since;
         for _ in rt.forever() {
-            let moves = self.locked.lock(rt).moves();
-            match self.redeem(rt, ticket, share, me) {
+            match self.redeem_settled(rt, ticket, share, me, &mut since) {
                 Redeemed::Done(time) => {
                     me.legal();
                     return Ok(Committed::Done(time));
@@ -355,7 +474,6 @@ impl<D: Disk, L: Opening> SharedStore<D, L> {
                 Redeemed::Stranger => return Err(CommitFault::Stranger),
                 Redeemed::Waiting(again) => ticket = again,
             }
-            self.wait_past(rt, moves);
         }
         ticket.give_up();
         unreachable!()
@@ -363,17 +481,36 @@ impl<D: Disk, L: Opening> SharedStore<D, L> {
 
     // The moves so far, and whether the loops are to end.
     pub(crate) fn signals<R: Wait>(&self, rt: &R) -> (u64, bool) {
-        self.locked.lock(rt).signals()
+        let signals = self.locked.lock(rt).signals();
+        (signals.moves(), signals.is_stopping())
     }
 
     // Sleeps until something else than these moves happened.
     pub(crate) fn wait_past<R: Wait>(&self, rt: &R, moves: u64) {
-        self.moved
-            .wait_while(rt, self.locked.lock(rt), |locked| locked.moves() == moves);
+        self.moved.wait_while(rt, self.locked.lock(rt), |locked| {
+            locked.signals().moves() == moves
+        });
+    }
+
+    // Sleeps until no commit is on its way to the next group.
+    fn wait_gathered<R: Wait>(&self, rt: &R) {
+        self.queued.wait_while(rt, self.locked.lock(rt), |locked| {
+            !locked.signals().lets_begin()
+        });
+    }
+
+    // The same, and until something else than these moves happened.
+    fn wait_queued<R: Wait>(&self, rt: &R, moves: u64) {
+        self.queued.wait_while(rt, self.locked.lock(rt), |locked| {
+            let signals = locked.signals();
+            signals.moves() == moves || !signals.lets_begin()
+        });
     }
 
     /// Pumps until it is told to stop and the queue is empty, or the store has failed. After each
-    /// answer, with the lock given up, it calls `pause`. Where there is nothing to do it sleeps.
+    /// answer, with the lock given up, it calls `pause`. Where there is nothing to do it sleeps, and
+    /// before it begins a group, as long as calls of `commit` are on their way to it, so that one gate
+    /// has the commits of all who call.
     pub fn run_committer<R: Wait, F: FnMut(&R, &Result<Did, PumpFault>)>(
         &self,
         rt: &R,
@@ -381,15 +518,17 @@ impl<D: Disk, L: Opening> SharedStore<D, L> {
     )
         requires { F.IsAlwaysCallable pause }
     {
+        let mut after = Signals::new();
         for _ in rt.forever() {
-            let (moves, stopping) = self.signals(rt);
-            let did = self.pump(rt);
+            let did = self.step(rt, &mut after);
             pause(rt, &did);
-            if is_over(stopping, &did) {
+            if is_over(after.is_stopping(), &did) {
                 return;
             }
             if has_to_wait(&did) {
-                self.wait_past(rt, moves);
+                self.wait_queued(rt, after.moves());
+            } else if !after.lets_begin() {
+                self.wait_gathered(rt);
             }
         }
         unreachable!()
@@ -398,6 +537,7 @@ impl<D: Disk, L: Opening> SharedStore<D, L> {
     /// Tells both loops to end.
     pub fn stop<R: Wait>(&self, rt: &R) {
         self.locked.lock(rt).stop();
+        self.queued.notify_all();
         self.moved.notify_all();
     }
 
@@ -411,6 +551,8 @@ impl<D: Disk, L: Opening> SharedStore<D, L> {
         let SharedStore {
             alloc: _,
             locked,
+            queued: _,
+            settled: _,
             moved: _,
             cell: _,
         } = self;
@@ -438,6 +580,16 @@ fn is_over(stopping: bool, did: &Result<Did, PumpFault>) -> bool {
         Err(PumpFault::Failed) => true,
         _ => false,
     }
+}
+
+// Whether some ticket may now have another answer.
+fn is_move(did: &Result<Did, PumpFault>) -> bool {
+    matches!(did, Ok(Did::Published(_)) | Err(PumpFault::Failed))
+}
+
+// Whether a step of a group may now have another answer, or some ticket.
+fn is_job_move(did: &Result<JobDid, PumpFault>) -> bool {
+    matches!(did, Ok(JobDid::JobDone) | Err(PumpFault::Failed))
 }
 
 // Whether nothing can be done before something else happens.

@@ -35,7 +35,7 @@ fn run_plan<R: Threads + Wait + Sync>(
     alloc: Global,
     plan: Plan,
 ) -> Option<(Store<MemDisk>, Option<u64>)> {
-    let store = match fresh_store(alloc, MemDisk::new(alloc), 256, 1) {
+    let store = match fresh_store(alloc, MemDisk::new(alloc), 1_024, 1) {
         Ok(store) => store,
         Err(_disk) => return None,
     };
@@ -48,18 +48,21 @@ fn run_plan<R: Threads + Wait + Sync>(
     }
 }
 
+/// A few writers beside readers, and more writers than a group has commits.
 #[test]
 fn workers_count_what_the_store_has(rt: HostRuntime) {
-    let plan = Plan {
-        writers: 3,
-        readers: 2,
-        rounds: 20,
-    };
-    let Some((store, done)) = run_plan(&rt, rt.alloc(), plan) else {
-        panic!(rt; "no store");
-    };
-    assert_eq!(rt; done, Some(60));
-    assert_eq!(rt; store.last(), 60);
-    has_all_rounds(&rt, &store, plan);
-    let _disk = store.close();
+    for (writers, readers, rounds, commits) in [(3, 2, 20, 60), (24, 0, 4, 96)] {
+        let plan = Plan {
+            writers,
+            readers,
+            rounds,
+        };
+        let Some((store, done)) = run_plan(&rt, rt.alloc(), plan) else {
+            panic!(rt; "no store");
+        };
+        assert_eq!(rt; done, Some(commits));
+        assert_eq!(rt; store.last(), commits);
+        has_all_rounds(&rt, &store, plan);
+        let _disk = store.close();
+    }
 }
