@@ -328,7 +328,7 @@ fn load_keys<D: Disk, L: Opening, R: Wait>(
     Ok(())
 }
 
-fn work<D: Disk + Send, L: Opening + Send + Sync, R: Threads + Wait + Clock + Sync>(
+fn run_threads<D: Disk + Send, L: Opening + Send + Sync, R: Threads + Wait + Clock + Sync>(
     rt: &R,
     store: &SharedStore<D, L>,
     writers: Vec<Writer<L>>,
@@ -379,7 +379,7 @@ pub(crate) fn run<D: Disk + Send, L: Opening + Send + Sync, R: Threads + Wait + 
     let writers = writers_for(alloc, &store, &mut all, &mut me, load.writers);
     let readers = readers_for(alloc, &store, &mut me, load.readers);
     let done = match (loaded, writers, readers) {
-        (Ok(()), Ok(writers), Ok(readers)) => work(rt, &store, writers, readers, load),
+        (Ok(()), Ok(writers), Ok(readers)) => run_threads(rt, &store, writers, readers, load),
         (Err(fault), _, _) => Err(fault),
         (_, Err(AllocError), _) | (_, _, Err(AllocError)) => Err(Fault::Memory(AllocError)),
     };

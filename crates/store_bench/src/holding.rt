@@ -141,7 +141,9 @@ fn look<D: Disk, L: Opening, R: Wait + Clock>(
             ticket.give_up();
             return Err(Fault::Wrong("the commit waits"));
         }
-        _ => return Err(Fault::Wrong("the commit is lost")),
+        Redeemed::InDoubt | Redeemed::Stranger => {
+            return Err(Fault::Wrong("the commit is lost"));
+        }
     }
     held.redeem.push(nanoseconds(rt, &start?)?)?;
     let start = Instant::now(rt)?;

@@ -128,7 +128,7 @@ fn wait_for<D: Disk, L: Opening, R: Wait + Clock>(
         match store.redeem(rt, ticket, share, me) {
             Redeemed::Done(time) => return Some(Ending::Done(time)),
             Redeemed::Waiting(again) => ticket = again,
-            _ => return None,
+            Redeemed::InDoubt | Redeemed::Stranger => return None,
         }
         thread::sleep(rt, Duration::from_micros(WAIT_US));
     }
