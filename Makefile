@@ -6,7 +6,7 @@ STORE = crates/store_bench/out/store_bench
 # The most processor minutes that the gate may take: what three hours on four cores hold, with a little to spare. It is to stay under 330 on a machine at rest; four checks side by side on four cores take a third more, and a slower machine more than that.
 BUDGET = 680
 
-.PHONY: demo test more-edits build try examples bench trials torture torture-short soak hostile planted rates lib install library-test library-bench
+.PHONY: demo test more-edits build try examples bench trials torture torture-short soak hostile try-refused planted rates lib install library-test library-bench
 
 test:
 	@command -v rt >/dev/null || { echo "the Rattle kit's command rt is not on PATH" >&2; exit 1; }
@@ -66,6 +66,11 @@ hostile: build
 	torture/between.py $(PROGRAM)
 	torture/files.py $(PROGRAM)
 
+# The kit refuses the Nth growth of the example script on the store in memory (docs/TORTURE.md); a newer kit takes N=1.. for each one, and
+# HOW=--fail-io or HOW=--short-io for its input and output.
+try-refused:
+	cd crates/timestore && rt try $(or $(HOW),--fail-alloc) $(or $(N),1) < stdin
+
 # Faults planted one at a time in a copy of the sources, and the test that finds each.
 planted:
 	torture/planted.py $(NAMES)
@@ -75,10 +80,12 @@ rates: build
 	bench/rates.py $(PROGRAM) $(if $(FOLDER),--folder $(FOLDER))
 	if command -v valgrind >/dev/null; then bench/rates.py $(PROGRAM) --instructions && bench/growths.py $(PROGRAM); fi
 
-# Every example of the documents, its answers compared, and the small store of docs/FORMAT.md byte by byte.
+# Every example of the documents, its answers compared, the small store of docs/FORMAT.md byte by byte, and that each example of a page
+# crates/NAME/CALLING.md is a test.
 examples: build
 	bench/using_test.py $(PROGRAM) README.md docs/USING.md
 	bench/format_test.py $(PROGRAM) docs/FORMAT.md
+	bench/pages_test.py
 
 # All that is measured, in one command, for a machine at rest. FOLDER=DIR measures the disk of DIR.
 bench: build

@@ -5,16 +5,16 @@ left then reclaims, commits, and is stopped again at each device call of that.
 between.py PROGRAM [--only archive|reclaim|floor] [--seconds S] [--jobs N]
 
 A record has three versions and a deletion. Before each step of the job a commit is begun, and
-pumped until it is published or meets the job's slot. What a stop may leave is all that was written
-since the syncs, nothing of it, all of it torn or half of the last write, torn to bytes 00, c7 and
-ff; a stop before a call leaves what one after the call before it may leave. Each image is opened
-and asked at every time, and compared with the list of write sets (machine.py) and with a plain
-reader (image.py). With --seconds it ends after so many; the images of the first stop are then
-spread over all of them. The status is 1 where one fails; a script is left that shows it.
+pumped until it is published or meets the job's slot; then the log has the slots that KINDS names,
+counted by hand. What a stop may leave is all that was written since the syncs, nothing of it, all
+of it torn or half of the last write, torn to bytes 00, c7 and ff; a stop before a call leaves what
+one after the call before it may leave. Each image is opened and asked at every time, and compared
+with the list of write sets (machine.py) and with a plain reader (image.py). With --seconds it ends
+after so many; the images of the first stop are then spread over all of them. The status is 1 where
+one fails; a script is left that shows it.
 """
 from __future__ import annotations
 
-import argparse
 import hashlib
 import os
 import sys
@@ -25,10 +25,11 @@ from concurrent.futures import ProcessPoolExecutor
 from dataclasses import dataclass
 
 import image
+from image import Slot
 from machine import Front, Machine
 from program import (
     FAILURES_MOST, Areas, Failure, Until, format_store, read_areas, report, spread, use_memory,
-    write_areas,
+    words_of, write_areas
 )
 from scripts import LARGE, check_left
 from stops import Stops, Traced, step, tell
@@ -41,7 +42,17 @@ VERSIONS = [
     "submit b 2 110", "flush", "begin c", "del c 1 7", "submit c 3 120", "flush", "begin d",
     "put d 1 7 63", "submit d 4 130", "flush",
 ]
-TIMES = range(99, 139)
+TIMES = range(99, 140)
+# what is committed once the next job is done: the extents that a commit takes, and its records
+AFTER = ((1, ["1 7 64"]), (4, [f"2 {record} {LARGE}" for record in range(4)]))
+
+
+def commits(*members: tuple[int, int, int]) -> Slot:
+    """A slot of commits of one record: the label, the time and the extent of each."""
+    return "commit", [(label, time, extent, 1, 1) for label, time, extent in members]
+
+
+FIRST_SLOTS = [commits(it) for it in ((1, 100, 1), (2, 110, 2), (3, 120, 3), (4, 130, 4))]
 
 
 @dataclass(frozen=True)
@@ -52,19 +63,39 @@ class Kind:
     before: list[str]
     start: str
     calls: int
-    slots: str
+    slots: list[Slot]
     then: str
 
 
+# three commits are published beside an archive or a reclaim; the fourth waits for the job's slot,
+# and the fifth and the sixth behind it go into one slot
 KINDS = {
     "archive": Kind(
-        [], "archive 120", 37, "commit commit commit archived commit commit", "reclaim"
+        [], "archive 120", 37,
+        [
+            commits((11, 131, 5)), commits((12, 132, 6)), commits((13, 133, 7)),
+            ("archived", (120, 0, 74, 2)), commits((14, 134, 8)),
+            commits((15, 135, 9), (16, 136, 10)),
+        ],
+        "reclaim",
     ),
     "reclaim": Kind(
         ["archive 110", "finish"], "reclaim", 37,
-        "archived commit commit commit reclaimed commit commit", "floor 120",
+        [
+            ("archived", (110, 0, 37, 1)), commits((11, 131, 6)), commits((12, 132, 7)),
+            commits((13, 133, 8)), ("reclaimed", (110, 5, 1, 1)), commits((14, 134, 9)),
+            commits((15, 135, 10), (16, 136, 11)),
+        ],
+        "floor 120",
     ),
-    "floor": Kind([], "floor 115", 23, "commit floor commit commit", "archive 120"),
+    "floor": Kind(
+        [], "floor 115", 23,
+        [
+            commits((11, 131, 5)), ("floor", (115,)), commits((12, 132, 6)),
+            commits((13, 133, 7), (14, 134, 8)),
+        ],
+        "archive 120",
+    ),
 }
 
 
@@ -131,21 +162,24 @@ class Walk:
             yield from self.step("job")
         yield from self.steps("pump")
 
-    def job_and_commit(self, start: str) -> Iterator[Left]:
-        """The next job, if there is one to be done, and a commit of four extents, which takes the
-        least that are free."""
+    def job_and_commits(self, start: str) -> Iterator[Left]:
+        """The next job, if there is one to be done, and commits behind it."""
         yield from lefts("opened", self.stops, self.small)
         self.tell(start)
         yield from self.steps("job")
-        live = image.read(self.stops.now).live
-        yield from self.commit(0, "1 7 64", *(f"2 {record} {LARGE}" for record in range(4)))
+        for number, (extents, records) in enumerate(AFTER):
+            yield from self.commit_in_least(20 + number, extents, records)
         self.session.end_well()
+
+    def commit_in_least(self, number: int, extents: int, records: list[str]) -> Iterator[Left]:
+        """A commit of so many extents, which takes the least that are free."""
+        live = image.read(self.stops.now).live
+        yield from self.commit(number, *records)
         taken = image.read(self.stops.now).live - live
-        free = sorted({*range(1, len(live) + 5)} - live)
-        if taken != {*free[:4]}:
+        free = sorted({*range(1, len(live) + extents + 1)} - live)[:extents]
+        if taken != {*free}:
             raise self.session.failure(
-                f"the commit takes the extents {sorted(taken)}, where {free[:4]} are free", None,
-                [],
+                f"a commit takes the extents {sorted(taken)}, where {free} are free", None, []
             )
 
 
@@ -187,7 +221,7 @@ class Between:
         """What a second stop leaves, each image once."""
         walk = Walk(cls.program, folder, small)
         try:
-            for left in walk.job_and_commit(start):
+            for left in walk.job_and_commits(start):
                 if left.key() not in cls.seen and not cls.until.is_over():
                     cls.seen.add(left.key())
                     yield left
@@ -210,8 +244,8 @@ def first_stops(program: str, kind: Kind) -> list[Left]:
             walk.session.end_well()
         finally:
             walk.session.kill()
-        slots = [name for name, _ in image.read_log(read_areas(folder)["status"]).slots]
-    if (walk.calls, slots) != (kind.calls, ["commit"] * 4 + kind.slots.split(" ")):
+        slots = image.read_log(read_areas(folder)["status"]).slots
+    if (walk.calls, slots) != (kind.calls, FIRST_SLOTS + kind.slots):
         raise Failure(f"{kind.start}: {walk.calls} device calls and the slots {slots}")
     return list(found.values())
 
@@ -230,10 +264,7 @@ def try_all(
 
 
 def main() -> int:
-    words = argparse.ArgumentParser(
-        description=__doc__, formatter_class=argparse.RawDescriptionHelpFormatter
-    )
-    words.add_argument("program")
+    words = words_of(__doc__)
     words.add_argument("--only", choices=KINDS)
     words.add_argument("--seconds", type=float, help="for how long (until all is tried)")
     words.add_argument("--jobs", type=int, default=2, help="images tried at once (2)")

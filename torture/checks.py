@@ -161,7 +161,8 @@ def archived_slot(small: Small) -> list[SlotChange]:
         ("without records", 32, word(0, 8)),
         ("that ends past 2^63", 24, word(image.LATEST, 8) + word((1 << 63) // 4131 + 1, 8)),
         ("of more records than 2^64 has places for", 32, word((1 << 64) // 36 + 1, 8)),
-        ("with a byte behind it", 40, b"\1"),
+        ("with byte 3", 3, b"\1"), ("of another number", 4, word(number + 1, 4)),
+        ("with a byte behind it", 40, b"\1"), ("with a last byte", 511, b"\1"),
     ]
     return [(number, f"an archive {name}", place, data) for name, place, data in changes]
 
@@ -175,7 +176,9 @@ def reclaimed_slots(small: Small) -> list[SlotChange]:
         ("with first extent 65,537", 16, word(65537, 4)),
         ("with 65,537 extents", 20, word(65537, 4) + word(65537, 4)),
         ("with more extents than records", 20, word(records + 1, 4)),
-        ("without records", 24, word(0, 4)), ("with a byte behind it", 28, b"\1"),
+        ("without records", 24, word(0, 4)), ("with byte 3", 3, b"\1"),
+        ("of another number", 4, word(number + 1, 4)), ("with a byte behind it", 28, b"\1"),
+        ("with a last byte", 511, b"\1"),
     ]
     again = b"\xc7\3\0\0" + word(number + 1, 4) + word(mark, 8) + bytes(image.SLOT - 16)
     return [(number, f"a reclaim {name}", place, data) for name, place, data in changes] + [

@@ -11,7 +11,6 @@ the memory of one of 10,000. The status is 1 where a check fails.
 """
 from __future__ import annotations
 
-import argparse
 import fcntl
 import itertools
 import os
@@ -31,8 +30,8 @@ from typing import TextIO
 import forged
 from machine import Machine
 from program import (
-    AREAS, Areas, Failure, Session, command, format_store, read_areas, report, run, use_memory,
-    write_areas,
+    AREAS, Areas, Failure, Session, command, ended, format_store, read_areas, report, run,
+    use_memory, words_of, write_areas
 )
 from scripts import check_left
 from stops import Play
@@ -81,10 +80,7 @@ class Files:
         rights."""
         given = [it.replace("DIR", folder) for it in words.split(" ")]
         as_one = NOBODY if os.getuid() == 0 else {}
-        done = subprocess.run(
-            [self.program, *given], input="times 1\n", stdout=subprocess.PIPE,
-            stderr=subprocess.DEVNULL, text=True, timeout=20, cwd="/", **as_one,
-        )
+        done = ended([self.program, *given], ["times 1"], cwd="/", **as_one)
         found, refused = (done.returncode, done.stdout), (1, f"refused: {wanted}\n")
         if found != refused if wanted else done.returncode:
             raise Failure(f"{where}: {words} answers {found}, and not {wanted or 'status 0'}")
@@ -325,10 +321,7 @@ def read_file(folder: str, area: str) -> bytes | None:
 
 
 def main() -> int:
-    words = argparse.ArgumentParser(
-        description=__doc__, formatter_class=argparse.RawDescriptionHelpFormatter
-    )
-    words.add_argument("program")
+    words = words_of(__doc__)
     words.add_argument("--lines", type=int, default=200_000, help="of the long script (200000)")
     given = words.parse_args()
     use_memory()

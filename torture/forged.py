@@ -28,7 +28,7 @@ from homes import Files
 from machine import Key
 from program import (
     AREAS, FAILURES_MOST, Answer, Areas, Failure, Shown, Until, command, differing, read_areas,
-    report, run, spread, use_memory, write_areas,
+    report, run, spread, use_memory, words_of, write_areas
 )
 
 VALUES = (0x00, 0x37, 0xC7, 0xFF)
@@ -240,10 +240,7 @@ def say(tried: Counter) -> None:
 
 
 def main() -> int:
-    words = argparse.ArgumentParser(
-        description=__doc__, formatter_class=argparse.RawDescriptionHelpFormatter
-    )
-    words.add_argument("program")
+    words = words_of(__doc__)
     words.add_argument("--seconds", type=float, help="for how long (until all is tried)")
     words.add_argument(
         "--zeros", type=int, default=64, help="of the zeros of an extent one of so many (64)"

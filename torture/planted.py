@@ -11,6 +11,7 @@ stay in the folder, and those that are there are not made again.
 from __future__ import annotations
 
 import argparse
+import contextlib
 import glob
 import os
 import shutil
@@ -84,11 +85,19 @@ def make_program(folder: str, program: str) -> bool:
             if ended:
                 break
             time.sleep(0.05)
-        if process.poll() is None:
-            # what it has begun too, in a group of its own
-            os.killpg(process.pid, signal.SIGKILL)
-        process.wait()
+        end(process)
     return taken
+
+
+def end(process: subprocess.Popen) -> None:
+    """Ends a run of `rt`, and all that it has begun: asked to, it ends what runs in groups of its
+    own."""
+    for number in (signal.SIGTERM, signal.SIGKILL):
+        if process.poll() is None:
+            os.killpg(process.pid, number)
+        with contextlib.suppress(subprocess.TimeoutExpired):
+            process.wait(20)
+            return
 
 
 def take(found: str, program: str) -> bool:

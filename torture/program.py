@@ -2,7 +2,9 @@
 as a script that can be run."""
 from __future__ import annotations
 
+import argparse
 import base64
+import contextlib
 import functools
 import gzip
 import math
@@ -11,9 +13,10 @@ import signal
 import subprocess
 import tempfile
 import time
-from collections.abc import Callable, Iterable, Sequence
+from collections.abc import Callable, Iterable, Iterator, Sequence
 from dataclasses import dataclass
-from typing import TypeVar
+from types import FrameType
+from typing import Any, NoReturn, TypeVar
 
 # the words of refuse.c that a script of its own needs
 REFUSES = ("REFUSE_CLASS", "REFUSE_AT", "REFUSE_HOW")
@@ -22,11 +25,20 @@ Areas = dict[str, bytes]
 Item = TypeVar("Item")
 # a status and the lines that are said
 Answer = tuple[int, list[str]]
-# a run of the program that takes longer is a failure, in seconds
+# an answer or a run of the program that takes longer is a failure, in seconds
 PATIENCE = 60
 MEMORY = "/dev/shm"
 # of a test, behind which it ends
 FAILURES_MOST = 20
+
+
+def words_of(test: str | None) -> argparse.ArgumentParser:
+    """The words of a test, by what it says of itself; the first one is the program."""
+    words = argparse.ArgumentParser(
+        description=test, formatter_class=argparse.RawDescriptionHelpFormatter
+    )
+    words.add_argument("program")
+    return words
 
 
 def use_memory() -> None:
@@ -129,6 +141,22 @@ def report(title: str, why: Failure) -> None:
         )
 
 
+@contextlib.contextmanager
+def patience(failure: Callable[[str], Failure]) -> Iterator[None]:
+    """What hangs is a failure, and does not hold up the tests."""
+
+    def too_long(number: int, frame: FrameType | None) -> NoReturn:
+        raise failure(f"nothing in {PATIENCE} seconds")
+
+    before = signal.signal(signal.SIGALRM, too_long)
+    signal.alarm(PATIENCE)
+    try:
+        yield
+    finally:
+        signal.alarm(0)
+        signal.signal(signal.SIGALRM, before)
+
+
 def read_areas(folder: str) -> Areas:
     found = {}
     for area in AREAS:
@@ -144,22 +172,28 @@ def write_areas(folder: str, areas: Areas) -> None:
             it.write(data)
 
 
+def ended(
+    words: Sequence[str], lines: Iterable[str] = (), **how: Any
+) -> subprocess.CompletedProcess[str]:
+    """A run of the program to its end, given these lines."""
+    try:
+        return subprocess.run(
+            words, input="".join(f"{it}\n" for it in lines), stdout=subprocess.PIPE,
+            stderr=subprocess.PIPE, text=True, timeout=PATIENCE, check=False, **how,
+        )
+    except subprocess.TimeoutExpired:
+        raise Failure(f"{words} has not ended in {PATIENCE} seconds") from None
+
+
 def run(program: str, folder: str, lines: Iterable[str]) -> Answer:
     """The status and the answers of a script."""
-    given = "".join(f"{it}\n" for it in lines)
-    done = subprocess.run(
-        [program, "run", folder], input=given, stdout=subprocess.PIPE, stderr=subprocess.DEVNULL,
-        text=True, timeout=PATIENCE,
-    )
+    done = ended([program, "run", folder], lines)
     return done.returncode, done.stdout.splitlines()
 
 
 def command(program: str, *words: str) -> Answer:
     """The status and the lines of a command."""
-    done = subprocess.run(
-        [program, *words], stdin=subprocess.DEVNULL, stdout=subprocess.PIPE,
-        stderr=subprocess.DEVNULL, text=True, timeout=PATIENCE,
-    )
+    done = ended([program, *words])
     return done.returncode, done.stdout.splitlines()
 
 
@@ -202,19 +236,21 @@ def is_whole(line: str, said: list[str]) -> bool:
 
 
 class Session:
-    """The program with a script that is fed line by line."""
+    """The program with a script that is fed line by line, on the store of a folder or, where that
+    is empty, on a new store in memory."""
 
     def __init__(
         self, program: str, folder: str, environment: dict[str, str] | None = None,
         before: Callable[[], object] | None = None,
     ) -> None:
-        self.folder, self.start, self.environment = folder, read_areas(folder), environment or {}
+        self.folder, self.environment = folder, environment or {}
+        self.start = read_areas(folder) if folder else {}
         self.lines: list[str] = []
         self.said: list[str] = []
         self.process = subprocess.Popen(
-            [program, "run", folder], stdin=subprocess.PIPE, stdout=subprocess.PIPE,
-            stderr=subprocess.DEVNULL, text=True, env=environment, preexec_fn=before,
-            restore_signals=before is None,
+            [program, *(["run", folder] if folder else [])], stdin=subprocess.PIPE,
+            stdout=subprocess.PIPE, stderr=subprocess.DEVNULL, text=True, env=environment,
+            preexec_fn=before, restore_signals=before is None,
         )
 
     def ask(self, line: str) -> list[str] | None:
@@ -226,18 +262,20 @@ class Session:
         except BrokenPipeError:
             pass
         said: list[str] = []
-        while not is_whole(line, said):
-            one = self.process.stdout.readline()
-            if not one:
-                break
-            said.append(one.rstrip("\n"))
+        with patience(lambda why: self.failure(f"{line}: {why}", None, ["an answer"])):
+            while not is_whole(line, said):
+                one = self.process.stdout.readline()
+                if not one:
+                    break
+                said.append(one.rstrip("\n"))
         self.said += said
         return said or None
 
     def failure(self, why: str, said: list[str] | None, wanted: list[str] | None) -> Failure:
         before = self.said[: len(self.said) - len(said or [])]
+        words = "run DIR" if self.folder else ""
         return Failure(
-            why, Shown(self.start, self.lines, before + (wanted or []), self.environment)
+            why, Shown(self.start, self.lines, before + (wanted or []), self.environment, words)
         )
 
     def expect(self, line: str, wanted: list[str], where: str = "") -> None:
@@ -260,8 +298,9 @@ class Session:
             self.process.stdin.close()
         except BrokenPipeError:
             pass
-        said = self.process.stdout.read()
-        return self.process.wait(), said
+        with patience(lambda why: self.failure(f"at the end: {why}", None, [])):
+            said = self.process.stdout.read()
+            return self.process.wait(), said
 
     def end_well(self) -> None:
         status, said = self.end()

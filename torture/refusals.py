@@ -17,7 +17,6 @@ is named.
 """
 from __future__ import annotations
 
-import argparse
 import os
 import sys
 import tempfile
@@ -27,11 +26,16 @@ from collections.abc import Callable
 from machine import Machine
 from program import (
     FAILURES_MOST, Areas, Failure, Until, format_store, read_areas, report, run, spread,
-    use_memory, write_areas,
+    use_memory, words_of, write_areas
 )
 from refused_commands import BEFORE, COMMANDS, Command
 from refused_scripts import SCRIPTS, Case
 from wrong import NONE, What, Wrong, cases_of, has_compiler, is_first
+
+
+# the example on the disk in memory
+IN_MEMORY = "memory"
+NAMES = [*SCRIPTS, IN_MEMORY, *COMMANDS]
 
 
 class Refusals:
@@ -65,9 +69,7 @@ class Refusals:
         return cases_of(counts)
 
     def all(self, names: list[str]) -> None:
-        plays = {
-            name: self.script(name) if name in SCRIPTS else self.command(name) for name in names
-        }
+        plays = {name: self.play_of(name) for name in names}
         cases = [(name, what) for name, play in plays.items() for what in self.cases(name, play)]
         firsts = [it for it in cases if is_first(it[1])]
         for name, what in [*firsts, *spread([it for it in cases if not is_first(it[1])])]:
@@ -75,13 +77,15 @@ class Refusals:
                 return
             self.guard(name, plays[name], self.wrong(what))
 
-    def script(self, name: str) -> Callable[[Wrong], str]:
-        start, folder = self.formatted(), os.path.join(self.folder, "store")
+    def play_of(self, name: str) -> Callable[[Wrong], str]:
+        folder = os.path.join(self.folder, "store")
+        if name in COMMANDS:
+            one = Command(self.program, name, folder, *self.stored())
+            return lambda wrong: one.play(wrong, self.wrong)
+        if name == IN_MEMORY:
+            return lambda wrong: Case(self.program, "", {}, wrong).play(SCRIPTS["example"])
+        start = self.formatted()
         return lambda wrong: Case(self.program, folder, start, wrong).play(SCRIPTS[name])
-
-    def command(self, name: str) -> Callable[[Wrong], str]:
-        one = Command(self.program, name, os.path.join(self.folder, "store"), *self.stored())
-        return lambda wrong: one.play(wrong, self.wrong)
 
     def formatted(self) -> Areas:
         folder = os.path.join(self.folder, "formatted")
@@ -111,11 +115,8 @@ class Refusals:
 
 
 def main() -> int:
-    words = argparse.ArgumentParser(
-        description=__doc__, formatter_class=argparse.RawDescriptionHelpFormatter
-    )
-    words.add_argument("program")
-    words.add_argument("--only", choices=[*SCRIPTS, *COMMANDS])
+    words = words_of(__doc__)
+    words.add_argument("--only", choices=NAMES)
     words.add_argument("--seconds", type=float, help="for how long (until all is tried)")
     given = words.parse_args()
     use_memory()
@@ -125,7 +126,7 @@ def main() -> int:
     until = Until(given.seconds)
     with tempfile.TemporaryDirectory(prefix="refusals-") as folder:
         all_of = Refusals(os.path.abspath(given.program), folder, until)
-        all_of.all([given.only] if given.only else [*SCRIPTS, *COMMANDS])
+        all_of.all([given.only] if given.only else NAMES)
         if given.seconds is None:
             all_of.say()
     count = all_of.tried.total()

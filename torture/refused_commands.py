@@ -3,13 +3,12 @@ from __future__ import annotations
 
 import copy
 import shutil
-import subprocess
 from collections.abc import Callable
 
 import image
 from machine import Machine
 from program import (
-    AREAS, PATIENCE, Areas, Failure, Shown, read_areas, run, status_of, write_areas
+    AREAS, Areas, Failure, Shown, ended, read_areas, run, status_of, write_areas
 )
 from scripts import check_left, machine_of
 from wrong import HARMLESS, Wrong
@@ -76,10 +75,7 @@ class Command:
 
     def do(self, wrong: Wrong) -> tuple[int, list[str]]:
         words = self.words.replace("DIR", self.folder).split(" ")
-        done = subprocess.run(
-            [self.program, *words], stdout=subprocess.PIPE, stderr=subprocess.PIPE, text=True,
-            env=wrong.environment, timeout=PATIENCE,
-        )
+        done = ended([self.program, *words], env=wrong.environment)
         self.complaint = done.stderr
         return done.returncode, done.stdout.splitlines()
 

@@ -12,10 +12,14 @@ from program import Areas, Failure, Session, read_areas, write_areas
 from scripts import LARGE, check_left, questions
 from wrong import HARMLESS, Wrong
 
+BY_A_REFUSED_CALL = ("refused: no memory", "refused: device", "refused: failed")
 # a refused growth may pass here alone: in the cache of the archive's blocks, and where room for a
 # list of known length is asked ahead
-BY_A_REFUSED_CALL = ("refused: no memory", "refused: device", "refused: failed")
 PASSES = ("at", "between", "scan", "times", "reopen")
+# lines that write, in which a growth of the disk in memory may be refused
+WRITES = ("pump", "job", "flush", "finish")
+# of a new store in memory
+SLOTS = 16
 
 EXAMPLE = """begin t
 put t 1 7 61
@@ -193,14 +197,16 @@ SCRIPTS = {"example": EXAMPLE, "wide": WIDE, "floors": FLOORS}
 
 
 class Case:
-    """A script with one call that goes wrong."""
+    """A script with one call that goes wrong, on these files in a folder or, without a folder, on
+    a new store in memory."""
 
     def __init__(self, program: str, folder: str, start: Areas, wrong: Wrong) -> None:
         self.program, self.wrong, self.folder = program, wrong, folder
-        self.small = Machine(slots=image.header(start["status"]))
+        self.small = Machine(slots=image.header(start["status"]) if folder else SLOTS)
         self.front = self.small.front()
         self.done: list[int] = []
-        write_areas(folder, start)
+        if folder:
+            write_areas(folder, start)
         self.session = Session(program, folder, wrong.environment)
 
     def play(self, script: Iterable[str]) -> str:
@@ -211,7 +217,8 @@ class Case:
             raise Failure(f"{self.wrong}: {why}", why.shown) from None
         finally:
             self.session.kill()
-        self.look()
+        if self.folder:
+            self.look()
         return how
 
     def failure(
@@ -290,7 +297,7 @@ class Case:
         self, number: int, line: str, said: list[str] | None, wanted: list[str] | None,
         before: Machine,
     ) -> str:
-        kind = self.wrong.kind
+        kind = self.kind_of(line, said, number == 0)
         if said is None or kind in ("input", "output"):
             return self.ended(said, number == 0)
         opening = "refused: no memory" if kind == "growth" else "refused: device"
@@ -308,6 +315,13 @@ class Case:
             self.session.said.append("times")
         self.again(line, wanted, before)
         return "refused"
+
+    def kind_of(self, line: str, said: list[str] | None, is_first: bool) -> str:
+        """The class of what was refused: a growth of the disk in memory is a write of it."""
+        is_opening = is_first or line == "reopen"
+        refusal = "refused: device" if is_opening else "refused: failed"
+        is_of_disk = not self.folder and said == [refusal] and (is_opening or line in WRITES)
+        return "write" if is_of_disk and self.wrong.kind == "growth" else self.wrong.kind
 
     def ended(self, said: list[str] | None, is_first: bool) -> str:
         """The input or the output is refused, or there is no memory for either or for the

@@ -15,7 +15,6 @@ is 1 where a case fails; a script is left that shows it (`sh SCRIPT PROGRAM`).
 """
 from __future__ import annotations
 
-import argparse
 import copy
 import os
 import random
@@ -36,7 +35,8 @@ import machine
 import wrong
 from machine import Commit, Front, Machine
 from program import (
-    AREAS, Areas, Failure, Session, format_store, read_areas, report, seconds_to_begin, use_memory
+    AREAS, Areas, Failure, Session, format_store, read_areas, report, seconds_to_begin, use_memory,
+    words_of
 )
 from refused_scripts import Case
 from scripts import (
@@ -340,10 +340,7 @@ def say(tried: dict[str, Counter], cases: Counter, seconds: float) -> None:
 
 
 def main() -> int:
-    words = argparse.ArgumentParser(
-        description=__doc__, formatter_class=argparse.RawDescriptionHelpFormatter
-    )
-    words.add_argument("program")
+    words = words_of(__doc__)
     words.add_argument("--minutes", type=float, default=1.0, help="for how long (1)")
     words.add_argument("--seed", type=int, default=1, help="the first case's seed (1)")
     words.add_argument("--only", choices=sorted(KINDS))

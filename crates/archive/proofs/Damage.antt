@@ -1,5 +1,5 @@
 -- What was read of a run, whatever its bytes are.
-use Rattle.std.proofs.Common.{◌≡◌, ◌≢◌, ◌⊎◌, inl, inr, ℕ, zero, suc, ◌+◌, ◌-◌, ◌≤◌, ◌<◌, Bool, true, false, cond, IsTrue, List, [], ◌∷◌, length, Option, Some, None, refl, sym, ◌∙◌, ap, subst, arith}
+use Rattle.std.proofs.Common.{◌≡◌, ◌≢◌, ◌⊎◌, inl, inr, ℕ, zero, suc, ◌+◌, ◌-◌, ◌≤◌, ◌<◌, Bool, true, false, cond, IsTrue, List, [], ◌∷◌, ◌++◌, length, Option, Some, None, refl, sym, ◌∙◌, ap, subst, arith}
 use Rattle.std.specs.Prelude.{Result, Ok, Err, MatchResult}
 use Rattle.std.specs.List.{slice_range}
 use Rattle.disk.specs.Calls.{DiskState}
@@ -9,7 +9,7 @@ use Rattle.history.specs.declared.key.Key.{Key}
 use Rattle.archive.specs.declared.head.Placed.{Placed}
 use Rattle.archive.specs.declared.head.Head.{Head}
 use Rattle.archive.specs.Answers.{precedes, head_at}
-use Rattle.archive.specs.Traces.{nth_head, last_of, low_of, high_of, IsSearch, IsSearched, IsSearchBroken}
+use Rattle.archive.specs.Traces.{nth_head, last_of, low_of, high_of, IsSearch, IsSearched, IsSearchBroken, IsSearchBrokenFrom}
 use Rattle.archive.specs.declared.run.RunEntry.{RunEntry}
 use Rattle.archive.specs.declared.fault.ArchiveFault.{ArchiveFault}
 use Rattle.archive.specs.declared.fault.ArchiveFault.TheVariants.{Device, NoMemory, Damaged}
@@ -139,6 +139,65 @@ module _ (area later : List ℕ) (run : RunEntry) (key : Key) (time : ℕ) (last
 pub halfway_done : {area : List ℕ} {run : RunEntry} {key : Key} {time : ℕ} {last : Option Placed} {low high : ℕ} → IsHalfway area run key time last low high → low ≡ high
     → (read : List ℕ) × IsSearched area run key time read low × (last ≡ last_of area run read)
 halfway_done way met = (way.read, record { search = way.search; low = way.low_is; high = met ∙ way.high_is }, way.last_is)
+
+-- the same of a search that knows of a record from the beginning
+pub record IsHalfwayFrom (area : List ℕ) (run : RunEntry) (key : Key) (time m : ℕ) (last : Option Placed) (low high : ℕ) : Type 0 where
+  pub way : IsHalfway area run key time last low high
+  pub read : List ℕ
+  pub from : way.read ≡ read ++ m ∷ []
+
+pub from_first : (area : List ℕ) (run : RunEntry) (key : Key) (time m : ℕ) (placed : Placed) → m < run.slot.records → placed ≡ placed_at area run m → IsHeadSound area run None m
+    → precedes key time placed.head ≡ true → IsHalfwayFrom area run key time m (Some placed) (m + 1) run.slot.records
+unfolding halfway_first halfway_before
+from_first area run key time m placed few is sound test = record {
+  way = halfway_before area area run key time None 0 run.slot.records m refl (halfway_first area run key time) (omega arith) few placed (is, sound) test;
+  read = [];
+  from = refl;
+}
+
+module _ (area later : List ℕ) (run : RunEntry) (key : Key) (time m : ℕ) (last : Option Placed) (low high n : ℕ) (same : later ≡ area) (before : IsHalfwayFrom area run key time m last low high) (from : low ≤ n) (to : n < high) where
+  pub from_before : (placed : Placed) → (placed ≡ placed_at later run n) × IsHeadSound later run last n → precedes key time placed.head ≡ true
+      → IsHalfwayFrom area run key time m (Some placed) (n + 1) high
+  unfolding halfway_before
+  from_before placed is test = record {
+    way = halfway_before area later run key time last low high n same before.way from to placed is test;
+    read = n ∷ before.read;
+    from = ap (λ (ns : List ℕ). n ∷ ns) before.from;
+  }
+
+  pub from_behind : (placed : Placed) → (placed ≡ placed_at later run n) × IsHeadSound later run last n → precedes key time placed.head ≡ false
+      → IsHalfwayFrom area run key time m (Some placed) low n
+  unfolding halfway_behind
+  from_behind placed is test = record {
+    way = halfway_behind area later run key time last low high n same before.way from to placed is test;
+    read = n ∷ before.read;
+    from = ap (λ (ns : List ℕ). n ∷ ns) before.from;
+  }
+
+  pub from_broken : (fault : ArchiveFault) → IfDamaged (λ _. IsHeadBroken later run last n) fault → IfDamaged (λ _. IsSearchBrokenFrom area run key time m) fault
+  from_broken Device is = tt
+  from_broken NoMemory is = tt
+  from_broken (Damaged start) is = record {
+    broken = record {
+      read = before.way.read;
+      search = before.way.search;
+      number = n;
+      low = subst (λ (k : ℕ). k ≤ n) before.way.low_is from;
+      high = subst (λ (k : ℕ). n < k) before.way.high_is to;
+      broken = subst (λ (xs : List ℕ). IsHeadBroken xs run (last_of area run before.way.read) n) same (subst (λ (o : Option Placed). IsHeadBroken later run o n) before.way.last_is is);
+    };
+    read = before.read;
+    from = before.from;
+  }
+
+pub from_done : {area : List ℕ} {run : RunEntry} {key : Key} {time m : ℕ} {last : Option Placed} {low high : ℕ} → IsHalfwayFrom area run key time m last low high → low ≡ high
+    → (read : List ℕ) × IsSearched area run key time (read ++ m ∷ []) low × (last ≡ last_of area run (read ++ m ∷ []))
+from_done {area} {run} {key} {time} {m} {last} {low} way met =
+    let searched : IsSearched area run key time way.way.read low = record { search = way.way.search; low = way.way.low_is; high = met ∙ way.way.high_is } in (
+      way.read,
+      subst (λ (ns : List ℕ). IsSearched area run key time ns low) way.from searched,
+      subst (λ (ns : List ℕ). last ≡ last_of area run ns) way.from way.way.last_is,
+    )
 
 -- a head that was read and passed the tests
 pub head_answer : (area later : List ℕ) (run : RunEntry) (last : Option Placed) (n place : ℕ) (bytes : List ℕ) (head : Head)

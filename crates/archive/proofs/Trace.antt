@@ -1,5 +1,6 @@
 -- What queries read, one look after another.
 use Rattle.std.proofs.Common.{◌≡◌, inl, inr, ℕ, ◌+◌, ◌≤◌, ◌<◌, Bool, true, false, IsTrue, cond, List, [], ◌∷◌, ◌++◌, length, Option, Some, None, refl, sym, ◌∙◌, ap, subst, arith, append_assoc}
+use Rattle.std.specs.Prelude.{Result, Ok, Err, MatchResult}
 use Rattle.std.specs.List.{slice_get}
 use Rattle.std.proofs.lemmas.List.{append-nil}
 use Rattle.std.proofs.lemmas.Option.{slice_get_within}
@@ -14,17 +15,26 @@ use Rattle.archive.specs.declared.head.Placed.{Placed}
 use Rattle.archive.specs.declared.wanted.Wanted.{Wanted}
 use Rattle.archive.specs.declared.fault.ArchiveFault.{ArchiveFault}
 use Rattle.archive.specs.declared.fault.ArchiveFault.TheVariants.{Device, NoMemory, Damaged}
-use Rattle.archive.specs.Answers.{precedes, follows, is_wanted}
-use Rattle.archive.specs.Searches.{is_before, may_follow, IsFaultOf}
+use Rattle.archive.specs.Answers.{precedes, follows, is_wanted, skip_to}
+use Rattle.archive.specs.Searches.{Answers, is_before, may_follow, may_follow_last, IsFaultOf}
 use Rattle.archive.specs.Damages.{placed_at, IsHeadSound, IsHeadBroken, IsValueBroken, IfDamaged}
-use Rattle.archive.specs.Traces.{nth_head, last_of, high_of, IsSearched, IsFoundIn, IsFindBroken, NoneBefore, IsFindDamaged, HasPart, GivesRow, last_walked, IsWalk, joined, IsWalked, IsWalkBroken, AtNext, AtItsValue, AreWalked, IsOfRuns, IsDamagedRun}
-use Rattle.archive.proofs.Walking.{out_behind}
+use Rattle.archive.specs.Traces.{nth_head, last_of, high_of, IsSearched, IsFoundIn, IsFindBroken, NoneBefore, IsFindDamaged, HasPart, GivesRow, GoesOn, Beside, Skips, IsSkipBroken, StandsAt, IsWalk, joined, IsWalkedTo, IsWalked, IsWalkBroken, AtNext, AtItsValue, BehindIt, AreWalked, IsOfRuns, IsDamagedRun}
+use Rattle.archive.proofs.Walking.{out_behind, skip_cases}
 
 -- what a fault tells of a run that is damaged
 pub map_damaged : {P Q : ℕ → Type 0} (fault : ArchiveFault) → ((start : ℕ) → P start → Q start) → IfDamaged P fault → IfDamaged Q fault
 map_damaged Device goes is = tt
 map_damaged NoMemory goes is = tt
 map_damaged (Damaged start) goes is = goes start is
+
+pub map_answer : {T : Type 0} {P Q : T → Type 0} {A B : ℕ → Type 0} (result : Result T ArchiveFault) → ((x : T) → P x → Q x) → ((start : ℕ) → A start → B start)
+    → MatchResult result P (IfDamaged A) → MatchResult result Q (IfDamaged B)
+map_answer (Ok x) goes breaks is = goes x is
+map_answer (Err fault) goes breaks is = map_damaged fault breaks is
+
+pub map_found : {T : Type 0} {P Q : T → Type 0} (result : Result T ArchiveFault) → ((x : T) → P x → Q x) → Answers result P → Answers result Q
+map_found (Ok x) goes is = goes x is
+map_found (Err fault) goes is = is
 
 -- what was read later was there before
 pub sound_there : (area later : List ℕ) (run : RunEntry) (last other : Option Placed) (n : ℕ) (placed : Placed) → later ≡ area → last ≡ other
@@ -92,100 +102,81 @@ next_not_before w p q next stands behind wanted =
     let not_before : precedes w.first w.a p.head ≡ false = grind (arith, nat_tests) in
     grind (arith, nat_tests)
 
+-- nor does the first that it doesn't skip
+skip_not_before : (w : Wanted) (p q : Head) (key : Key) → skip_to w p ≡ Some key → IsTrue (is_wanted w p) → precedes key w.a q ≡ false → precedes w.first w.a q ≡ false
+skip_not_before w p q key skips wanted behind =
+    let not_before : precedes w.first w.a p ≡ false = grind (arith, nat_tests) in
+    elim (skip_cases w p key skips) [
+      | inl ended ↦
+          let relation : p.key.relation ≡ key.relation = ap (λ (k : Key). k.relation) ended.1 in
+          let number : p.key.record ≡ key.record = ap (λ (k : Key). k.record) ended.1 in
+          grind (arith, nat_tests)
+      | inr lasts ↦
+          let relation : p.key.relation ≡ key.relation = ap (λ (k : Key). k.relation) lasts.1 in
+          let number : p.key.record + 1 ≡ key.record = ap (λ (k : Key). k.record) lasts.1 in
+          grind (arith, nat_tests)
+    ]
+
+-- a head that is sound beside another is sound
+pub sound_alone : {area : List ℕ} {run : RunEntry} {last : Option Placed} {n : ℕ} → IsHeadSound area run last n → IsHeadSound area run None n
+sound_alone sound = record { few = sound.few; there = sound.there; place = sound.place; in_range = sound.in_range; follows = refl }
+
 module _ {R : Type 0} where
   module _ (shown : ℕ → Version Value → R) (area : List ℕ) (w : Wanted) (run : RunEntry) (old : List R) where
     -- a walk meets none that precedes: so one that isn't wanted is behind those that are
-    walk_behind : (read : List ℕ) (first : ℕ) (parts : List (List R)) → IsSearched area run w.first w.a read first → IsWalk shown area w run read first parts
-        → IsHeadSound area run (last_walked area run read first parts) (first + length parts) → is_wanted w (nth_head area run (first + length parts)) ≡ false
-        → IsTrue (follows w.last w.b (nth_head area run (first + length parts)))
-    walk_behind read first [] searched walk sound out =
-        out_behind w (nth_head area run (first + 0)) (first_fails area run w.first w.a read (first + 0) (omega (arith, searched.high)) sound.few) out
-    walk_behind read first (row ∷ rows) searched walk sound out =
-        let n = first + length (row ∷ rows) in
-        let next : n ≡ first + length rows + 1 = omega arith in
-        out_behind w (nth_head area run n) (next_not_before w (placed_at area run (first + length rows)) (placed_at area run n) next (begun area run n sound) sound.follows walk.1) out
+    walk_behind : (n : ℕ) (last : Option Placed) (rows : List R) → IsWalkedTo shown area w run n last rows → IsHeadSound area run last n
+        → is_wanted w (nth_head area run n) ≡ false → IsTrue (follows w.last w.b (nth_head area run n))
+    walk_behind n last rows way sound out = out_behind w (nth_head area run n) (not_before way.met way.stands way.walk) out where
+      not_before : (met : List (ℕ × List R)) → StandsAt area w run way.read way.first met n last → IsWalk shown area w run way.read way.first met → precedes w.first w.a (nth_head area run n) ≡ false
+      not_before [] stands walk = first_fails area run w.first w.a way.read n (stands.0 ∙ way.searched.high) sound.few
+      not_before (m ∷ before) (Beside none next is) walk =
+          next_not_before w (placed_at area run m.0) (placed_at area run n) next (begun area run n sound) (subst (λ (o : Option Placed). IsTrue (may_follow_last o (placed_at area run n))) is sound.follows) walk.1
+      not_before (m ∷ before) (Skips key read skips searched is) walk =
+          skip_not_before w (nth_head area run m.0) (nth_head area run n) key skips walk.1 (first_fails area run key w.a (read ++ m.0 ∷ []) n searched.high sound.few)
 
     -- rows that a walk has given so far, behind those of before it
     pub record IsWalking (last : Option Placed) (number : ℕ) (rows : List R) : Type 0 where
-      pub read : List ℕ
-      pub first : ℕ
-      pub searched : IsSearched area run w.first w.a read first
-      pub parts : List (List R)
-      pub walk : IsWalk shown area w run read first parts
-      pub last_is : last ≡ last_walked area run read first parts
-      pub number_is : number ≡ first + length parts
-      pub are : rows ≡ old ++ joined parts
+      pub found : List R
+      pub walked : IsWalkedTo shown area w run number last found
+      pub are : rows ≡ old ++ found
 
     pub walking_first : (last : Option Placed) (number : ℕ) → (read : List ℕ) × IsSearched area run w.first w.a read number × (last ≡ last_of area run read) → IsWalking last number old
     walking_first last number bound = record {
-      read = bound.0;
-      first = number;
-      searched = bound.1;
-      parts = [];
-      walk = tt;
-      last_is = bound.2;
-      number_is = omega arith;
+      found = [];
+      walked = record { read = bound.0; first = number; searched = bound.1; met = []; walk = tt; stands = (refl, bound.2); are = refl };
       are = sym (append-nil old);
     }
 
     module _ (last : Option Placed) (n : ℕ) (rows : List R) (way : IsWalking last n rows) where
       pub walking_past : run.slot.records ≡ n → (found : List R) × IsWalked shown area w run found × (rows ≡ old ++ found)
-      walking_past past = (
-        joined way.parts,
-        record { read = way.read; first = way.first; searched = way.searched; parts = way.parts; walk = way.walk; end = inl (past ∙ way.number_is); are = refl },
-        way.are,
-      )
+      walking_past past = (way.found, record { number = n; last = last; walked = way.walked; end = inl past }, way.are)
 
       pub walking_head : (later : List ℕ) (fault : ArchiveFault) → later ≡ area → n < run.slot.records → IfDamaged (λ _. IsHeadBroken later run last n) fault
           → IfDamaged (λ _. IsWalkBroken shown area w run) fault
-      walking_head later fault same less = map_damaged fault (λ start is.
-          let there = broken_there area later run last (last_walked area run way.read way.first way.parts) n same way.last_is is in
-          AtNext way.read way.first way.parts way.searched way.walk (subst (λ (k : ℕ). k < run.slot.records) way.number_is less)
-          (subst (λ (k : ℕ). IsHeadBroken area run (last_walked area run way.read way.first way.parts) k) way.number_is there))
+      walking_head later fault same less = map_damaged fault (λ start is. AtNext n last way.found way.walked less (broken_there area later run last last n same refl is))
 
       -- the next head is there
       module _ (later : List ℕ) (placed : Placed) (same : later ≡ area) (is : (placed ≡ placed_at later run n) × IsHeadSound later run last n) where
-        in_area : (placed ≡ placed_at area run n) × IsHeadSound area run (last_walked area run way.read way.first way.parts) n
-        in_area = sound_there area later run last (last_walked area run way.read way.first way.parts) n placed same way.last_is is
+        in_area : (placed ≡ placed_at area run n) × IsHeadSound area run last n
+        in_area = sound_there area later run last last n placed same refl is
 
-        place : placed ≡ placed_at area run (way.first + length way.parts)
-        place = in_area.0 ∙ ap (λ (k : ℕ). placed_at area run k) way.number_is
+        number_is : placed.number ≡ n
+        number_is = ap (λ (p : Placed). p.number) in_area.0
 
-        sound : IsHeadSound area run (last_walked area run way.read way.first way.parts) (way.first + length way.parts)
-        sound = subst (λ (k : ℕ). IsHeadSound area run (last_walked area run way.read way.first way.parts) k) way.number_is in_area.1
-
-        pub walking_at : (then : List ℕ) → then ≡ area → placed ≡ placed_at then run placed.number
-        walking_at then same_then = placed_again area then run n placed same_then in_area.0
-
-        pub walking_more : (then : List ℕ) (row new : List R) → then ≡ area → IsTrue (is_wanted w placed.head) → GivesRow shown then w run placed.number row → new ≡ rows ++ row
-            → IsWalking (Some placed) (n + 1) new
-        walking_more then row new same_then wanted gives grown = record {
-          read = way.read;
-          first = way.first;
-          searched = way.searched;
-          parts = row ∷ way.parts;
-          walk = (
-            sound,
-            subst (λ (p : Placed). IsTrue (is_wanted w p.head)) place wanted,
-            subst (λ (k : ℕ). GivesRow shown area w run k row) (ap (λ (p : Placed). p.number) place) (subst (λ (xs : List ℕ). GivesRow shown xs w run placed.number row) same_then gives),
-            way.walk,
-          );
-          last_is = ap Some place;
-          number_is = omega (arith, way.number_is);
-          are = grown ∙ ap (λ (xs : List R). xs ++ row) way.are ∙ append_assoc old (joined way.parts) row;
-        }
+        pub walking_at : (then : List ℕ) → then ≡ area → (placed ≡ placed_at then run placed.number) × IsHeadSound then run last placed.number
+        walking_at then same_then = (
+          placed_again area then run n placed same_then in_area.0,
+          subst (λ (k : ℕ). IsHeadSound then run last k) (sym number_is) (subst (λ (xs : List ℕ). IsHeadSound xs run last n) (sym same_then) in_area.1),
+        )
 
         pub walking_ends : is_wanted w placed.head ≡ false → (found : List R) × IsWalked shown area w run found × (rows ≡ old ++ found)
         walking_ends out = (
-          joined way.parts,
+          way.found,
           record {
-            read = way.read;
-            first = way.first;
-            searched = way.searched;
-            parts = way.parts;
-            walk = way.walk;
-            end = inr (sound, walk_behind way.read way.first way.parts way.searched way.walk sound (subst (λ (p : Placed). is_wanted w p.head ≡ false) place out));
-            are = refl;
+            number = n;
+            last = last;
+            walked = way.walked;
+            end = inr (in_area.1, walk_behind n last way.found way.walked in_area.1 (subst (λ (p : Placed). is_wanted w p.head ≡ false) in_area.0 out));
           },
           way.are,
         )
@@ -193,10 +184,38 @@ module _ {R : Type 0} where
         pub walking_value : (then : List ℕ) (fault : ArchiveFault) → then ≡ area → IsTrue (is_wanted w placed.head)
             → IfDamaged (λ _. HasPart w placed.head × IsValueBroken then run placed.number) fault → IfDamaged (λ _. IsWalkBroken shown area w run) fault
         walking_value then fault same_then wanted = map_damaged fault (λ start broken.
-            AtItsValue way.read way.first way.parts way.searched way.walk sound
-            (subst (λ (p : Placed). IsTrue (is_wanted w p.head)) place wanted)
-            (subst (λ (p : Placed). HasPart w p.head) place broken.0)
-            (subst (λ (k : ℕ). IsValueBroken area run k) (ap (λ (p : Placed). p.number) place) (subst (λ (xs : List ℕ). IsValueBroken xs run placed.number) same_then broken.1)))
+            AtItsValue n last way.found way.walked in_area.1
+            (subst (λ (p : Placed). IsTrue (is_wanted w p.head)) in_area.0 wanted)
+            (subst (λ (p : Placed). HasPart w p.head) in_area.0 broken.0)
+            (subst (λ (k : ℕ). IsValueBroken area run k) number_is (subst (λ (xs : List ℕ). IsValueBroken xs run placed.number) same_then broken.1)))
+
+        -- and its row
+        module _ (then : List ℕ) (row : List R) (same_then : then ≡ area) (wanted : IsTrue (is_wanted w placed.head)) (gives : GivesRow shown then w run placed.number row) where
+          wanted_there : IsTrue (is_wanted w (nth_head area run n))
+          wanted_there = subst (λ (p : Placed). IsTrue (is_wanted w p.head)) in_area.0 wanted
+
+          gives_there : GivesRow shown area w run n row
+          gives_there = subst (λ (k : ℕ). GivesRow shown area w run k row) number_is (subst (λ (xs : List ℕ). GivesRow shown xs w run placed.number row) same_then gives)
+
+          pub walking_more : (after : List ℕ) (next : ℕ) (behind : Option Placed) (new : List R) → after ≡ area → GoesOn after w run placed.number next behind → new ≡ rows ++ row → IsWalking behind next new
+          walking_more after next behind new same_after goes grown = record {
+            found = way.found ++ row;
+            walked = record {
+              read = way.walked.read;
+              first = way.walked.first;
+              searched = way.walked.searched;
+              met = (n, row) ∷ way.walked.met;
+              walk = ((last, way.walked.stands, in_area.1), wanted_there, gives_there, way.walked.walk);
+              stands = subst (λ (k : ℕ). GoesOn area w run k next behind) number_is (subst (λ (xs : List ℕ). GoesOn xs w run placed.number next behind) same_after goes);
+              are = ap (λ (xs : List R). xs ++ row) way.walked.are;
+            };
+            are = grown ∙ ap (λ (xs : List R). xs ++ row) way.are ∙ append_assoc old way.found row;
+          }
+
+          pub walking_skip : (after : List ℕ) (fault : ArchiveFault) → after ≡ area → IfDamaged (λ _. IsSkipBroken after w run placed.number) fault → IfDamaged (λ _. IsWalkBroken shown area w run) fault
+          walking_skip after fault same_after = map_damaged fault (λ start broken.
+              BehindIt n last way.found row way.walked in_area.1 wanted_there gives_there
+              (subst (λ (k : ℕ). IsSkipBroken area w run k) number_is (subst (λ (xs : List ℕ). IsSkipBroken xs w run placed.number) same_after broken)))
 
   -- ---- the runs of a log
 

@@ -1,5 +1,5 @@
 -- What a walk over the records of a run has shown.
-use Rattle.std.proofs.Common.{◌≡◌, inl, inr, ℕ, zero, suc, ◌+◌, ◌<◌, ◌≤◌, Bool, true, false, IsTrue, not, cond, ◌&&◌, max, min, List, [], ◌∷◌, ◌++◌, take, map, filter, Some, None, refl, sym, ◌∙◌, ap, subst, arith, append_assoc}
+use Rattle.std.proofs.Common.{◌≡◌, ◌⊎◌, inl, inr, nat_le, nat_lt, ◌||◌, ℕ, zero, suc, ◌+◌, ◌<◌, ◌≤◌, Bool, true, false, IsTrue, not, cond, ◌&&◌, max, min, List, [], ◌∷◌, ◌++◌, take, map, filter, Some, None, refl, sym, ◌∙◌, ap, subst, arith, append_assoc}
 use Rattle.std.specs.List.{slice_get, flat_map, cons_option}
 use Rattle.std.proofs.lemmas.List.{append-nil, map-append}
 use Rattle.std.proofs.lemmas.List.Elements.{filter-append}
@@ -8,7 +8,7 @@ use Rattle.std.proofs.lemmas.Bool.{cases_lt}
 use Rattle.std.proofs.lemmas.Bool.Decides.{nat_tests}
 use Rattle.history.specs.declared.key.Key.{Key}
 use Rattle.history.specs.declared.time.Version.{Version}
-use Rattle.history.specs.Key.{same_key}
+use Rattle.history.specs.Key.{key_of, same_key}
 use Rattle.history.specs.Versions.{cut, lasts, rows}
 use Rattle.image.specs.Values.{Value}
 use Rattle.image.specs.Reading.{ArchiveRecord}
@@ -17,8 +17,8 @@ use Rattle.archive.specs.declared.run.RunEntry.{RunEntry}
 use Rattle.archive.specs.Laid.{IsBefore, IsLaidRun}
 use Rattle.archive.specs.declared.head.Head.{Head}
 use Rattle.archive.specs.declared.wanted.Wanted.{Wanted}
-use Rattle.archive.specs.Answers.{versions_in, head_of, precedes, follows, of_key, is_wanted, alone, row_of, rows_in}
-use Rattle.archive.specs.Searches.{IsBound}
+use Rattle.archive.specs.Answers.{versions_in, head_of, precedes, follows, of_key, is_wanted, skip_to, alone, row_of, rows_in}
+use Rattle.archive.specs.Searches.{IsBound, AreSkipped}
 use Rattle.archive.specs.Traces.{IsOneKey, HasPart}
 use Rattle.archive.proofs.Orders.{places_before}
 
@@ -41,6 +41,17 @@ module _ {X Y : Type 0} (f : X → List Y) where
   none_before (y ∷ ys) (suc n) none =
       ap (λ (zs : List Y). zs ++ flat_map f (take n ys)) (none zero y (omega arith) refl)
       ∙ none_before ys n (λ i x less at. none (suc i) x (omega arith) at)
+
+  pub none_within : (xs : List X) (m k : ℕ) → m ≤ k → ((i : ℕ) (x : X) → m ≤ i → i < k → slice_get xs i ≡ Some x → f x ≡ []) → flat_map f (take k xs) ≡ flat_map f (take m xs)
+  none_within [] zero zero order none = refl
+  none_within [] zero (suc k) order none = refl
+  none_within [] (suc m) zero order none = absurd (omega arith)
+  none_within [] (suc m) (suc k) order none = refl
+  none_within (y ∷ ys) zero zero order none = refl
+  none_within (y ∷ ys) zero (suc k) order none = none_before (y ∷ ys) (suc k) (λ i x less at. none i x (omega arith) less at)
+  none_within (y ∷ ys) (suc m) zero order none = absurd (omega arith)
+  none_within (y ∷ ys) (suc m) (suc k) order none =
+      ap (λ (zs : List Y). f y ++ zs) (none_within ys m k (omega arith) (λ i x from less at. none (suc i) x (omega arith) (omega arith) at))
 
   pub none_after : (xs : List X) (n : ℕ) → ((i : ℕ) (x : X) → n ≤ i → slice_get xs i ≡ Some x → f x ≡ []) → flat_map f (take n xs) ≡ flat_map f xs
   none_after [] zero none = refl
@@ -111,6 +122,59 @@ one_key w head one wanted stands =
     let ends : w.a < head.to = grind (arith, nat_tests) in
     omega arith
 
+-- ---- what a walk skips
+
+pub skip_cases : (w : Wanted) (h : Head) (key : Key) → skip_to w h ≡ Some key
+    → ((h.to ≤ w.a) × (h.key ≡ key)) ⊎ ((w.b ≤ h.to) × (key_of h.key.relation (h.key.record + 1) ≡ key))
+skip_cases w h key is = by_tests (nat_lt h.key.record w.last.record) (nat_le h.to w.a) (nat_le w.b h.to) refl refl is where
+  by_tests : (x y z : Bool) → nat_le h.to w.a ≡ y → nat_le w.b h.to ≡ z
+      → cond (x && (y || z)) (Some (cond y h.key (key_of h.key.relation (h.key.record + 1)))) None ≡ Some key
+      → ((h.to ≤ w.a) × (h.key ≡ key)) ⊎ ((w.b ≤ h.to) × (key_of h.key.relation (h.key.record + 1) ≡ key))
+  by_tests false y z early late e = absurd (cc)
+  by_tests true true z early late e = inl (grind (arith, nat_tests), cc)
+  by_tests true false true early late e = inr (grind (arith, nat_tests), cc)
+  by_tests true false false early late e = absurd (cc)
+
+-- the search for where it goes on is for what is behind
+pub skip_before : (w : Wanted) (h : Head) (key : Key) → skip_to w h ≡ Some key → precedes key w.a h ≡ true
+skip_before w h key is = elim (skip_cases w h key is) [
+  | inl ended ↦
+      let relation : h.key.relation ≡ key.relation = ap (λ (k : Key). k.relation) ended.1 in
+      let number : h.key.record ≡ key.record = ap (λ (k : Key). k.record) ended.1 in
+      let end = ended.0 in
+      grind (arith, nat_tests)
+  | inr lasts ↦
+      let relation : h.key.relation ≡ key.relation = ap (λ (k : Key). k.relation) lasts.1 in
+      let number : h.key.record + 1 ≡ key.record = ap (λ (k : Key). k.record) lasts.1 in
+      grind (arith, nat_tests)
+]
+
+-- of one key each is looked at
+pub one_reads_all : (w : Wanted) (h : Head) (key : Key) → IsOneKey w → IsTrue (is_wanted w h) → skip_to w h ≡ Some key → ⊥
+one_reads_all w h key one wanted skips =
+    let relation : w.first.relation ≡ w.last.relation = ap (λ (k : Key). k.relation) one.0 in
+    let number : w.first.record ≡ w.last.record = ap (λ (k : Key). k.record) one.0 in
+    let last : nat_lt h.key.record w.last.record ≡ false = grind (arith, nat_tests) in
+    let none : skip_to w h ≡ None = ap (λ (b : Bool). cond (b && (nat_le h.to w.a || nat_le w.b h.to)) (Some (cond (nat_le h.to w.a) h.key (key_of h.key.relation (h.key.record + 1)))) None) last in
+    cc
+
+-- what is skipped has no part in the interval
+pub skipped_short : (w : Wanted) (r s : ArchiveRecord) (key : Key) → skip_to w (head_of r) ≡ Some key → IsBefore r s → precedes key w.a (head_of s) ≡ true
+    → min s.version.to w.b ≤ max s.version.from w.a
+skipped_short w r s key skips before precedes_key = elim (skip_cases w (head_of r) key skips) [
+  | inl ended ↦
+      let relation : r.key.relation ≡ key.relation = ap (λ (k : Key). k.relation) ended.1 in
+      let number : r.key.record ≡ key.record = ap (λ (k : Key). k.record) ended.1 in
+      let over : s.version.to ≤ w.a = grind (arith, nat_tests) in
+      omega arith
+  | inr lasts ↦
+      let relation : r.key.relation ≡ key.relation = ap (λ (k : Key). k.relation) lasts.1 in
+      let number : r.key.record + 1 ≡ key.record = ap (λ (k : Key). k.record) lasts.1 in
+      let end = lasts.0 in
+      let out : (s.version.to ≤ w.a) ⊎ (w.b ≤ s.version.from) = grind (arith, nat_tests) in
+      elim out [ inl over ↦ omega arith | inr later ↦ omega arith ]
+]
+
 -- ---- the records of a run
 
 -- what is behind one that follows does too
@@ -165,6 +229,10 @@ module _ {R : Type 0} (shown : ℕ → Version Value → R) (w : Wanted) (area :
   pub past_rows : run.slot.upto ≤ w.a → rows_in shown w records ≡ []
   past_rows past = sym (none_after (row_of shown w) records 0 (λ i r from at. let by = (laid.each i r at).by_upto in row_short shown w r (omega arith)))
 
+  -- what is skipped adds no row
+  pub rows_skip : (n next : ℕ) → n < next → AreSkipped records w n next → flat_map (row_of shown w) (take next records) ≡ flat_map (row_of shown w) (take (n + 1) records)
+  rows_skip n next less skipped = none_within (row_of shown w) records (n + 1) next (omega arith) (λ i r from to at. row_short shown w r (skipped i r (omega arith) to at))
+
   module _ (n : ℕ) where
     -- where the walk begins
     pub rows_begin : IsBound records w.first w.a n → flat_map (row_of shown w) (take n records) ≡ []
@@ -191,3 +259,9 @@ module _ {R : Type 0} (shown : ℕ → Version Value → R) (w : Wanted) (area :
             let one : r ≡ s = cc in
             row_unwanted shown w s (subst (λ (t : ArchiveRecord). is_wanted w (head_of t) ≡ false) one out)
       ]
+
+-- what a search for where to go on passes is skipped
+pub are_skipped : (w : Wanted) (area : List ℕ) (run : RunEntry) (records : List ArchiveRecord) → IsLaidRun area run records → (n next : ℕ) (r : ArchiveRecord) (key : Key) → slice_get records n ≡ Some r
+    → skip_to w (head_of r) ≡ Some key → IsBound records key w.a next → AreSkipped records w n next
+are_skipped w area run records laid n next r key at skips bound i s from to at_s =
+    skipped_short w r s key skips (places_before records laid.in_order (λ m t at_t. (laid.each m t at_t).lasts) n i r s from at at_s) (bound.before i s to at_s)

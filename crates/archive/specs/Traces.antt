@@ -9,7 +9,7 @@ use Rattle.archive.specs.declared.run.RunEntry.{RunEntry}
 use Rattle.archive.specs.declared.head.Head.{Head}
 use Rattle.archive.specs.declared.head.Placed.{Placed}
 use Rattle.archive.specs.declared.wanted.Wanted.{Wanted}
-use Rattle.archive.specs.Answers.{precedes, follows, of_key, of_relation, is_wanted, alone, with_record}
+use Rattle.archive.specs.Answers.{precedes, follows, of_key, of_relation, is_wanted, skip_to, alone, with_record}
 use Rattle.archive.specs.Damages.{entry_at, head_standing, placed_at, IsHeadSound, IsHeadBroken, IsValueAt, IsValueBroken}
 
 -- the head of the n-th record as it stands
@@ -120,45 +120,73 @@ GivesRow shown area w run n row =
     ⊎ (HasPart w (nth_head area run n)
     × ((value : Value) × IsValueAt area run n value × (row ≡ shown (nth_head area run n).key.record (cut w.a w.b (version_at area run n value)) ∷ [])))
 
--- what was read before the next of the records from the first on that have given these rows
-abbrev pub last_walked : {R : Type 0} → List ℕ → RunEntry → List ℕ → ℕ → List R → Option Placed
-last_walked area run read first [] = last_of area run read
-last_walked area run read first (row ∷ rows) = Some (placed_at area run (first + length rows))
+-- Where a walk goes on behind the n-th record, and what it has read last by then: at the next one, or where a search that knows of the n-th finds the first record that it need not skip.
+pub data GoesOn (area : List ℕ) (w : Wanted) (run : RunEntry) (n next : ℕ) (last : Option Placed) : Type 0 where
+  Beside : skip_to w (nth_head area run n) ≡ None → next ≡ n + 1 → last ≡ Some (placed_at area run n) → GoesOn area w run n next last
+  Skips : (key : Key) (read : List ℕ) → skip_to w (nth_head area run n) ≡ Some key → IsSearched area run key w.a (read ++ n ∷ []) next
+      → last ≡ last_of area run (read ++ n ∷ []) → GoesOn area w run n next last
 
--- each head was sound beside the one before and wanted, and the record gives this row
-abbrev pub IsWalk : {R : Type 0} → (ℕ → Version Value → R) → List ℕ → Wanted → RunEntry → List ℕ → ℕ → List (List R) → Type 0
+-- a search that knows of the n-th record met a head which breaks a rule
+pub record IsSearchBrokenFrom (area : List ℕ) (run : RunEntry) (key : Key) (time n : ℕ) : Type 0 where
+  pub broken : IsSearchBroken area run key time
+  pub read : List ℕ
+  pub from : broken.read ≡ read ++ n ∷ []
+
+-- so did the search for where a walk goes on behind the n-th record
+pub record IsSkipBroken (area : List ℕ) (w : Wanted) (run : RunEntry) (n : ℕ) : Type 0 where
+  pub key : Key
+  pub skips : skip_to w (nth_head area run n) ≡ Some key
+  pub broken : IsSearchBrokenFrom area run key w.a n
+
+-- where a walk stands that has met these records, the last one in front, and what it has read last: at first behind the search that it begins with
+abbrev pub StandsAt : {R : Type 0} → List ℕ → Wanted → RunEntry → List ℕ → ℕ → List (ℕ × List R) → ℕ → Option Placed → Type 0
+StandsAt area w run read first [] n last = (n ≡ first) × (last ≡ last_of area run read)
+StandsAt area w run read first (met ∷ before) n last = GoesOn area w run met.0 n last
+
+-- each head was sound beside what was read before it and wanted, and the record gives this row
+abbrev pub IsWalk : {R : Type 0} → (ℕ → Version Value → R) → List ℕ → Wanted → RunEntry → List ℕ → ℕ → List (ℕ × List R) → Type 0
 IsWalk shown area w run read first [] = Unit {0}
-IsWalk shown area w run read first (row ∷ rows) =
-    IsHeadSound area run (last_walked area run read first rows) (first + length rows)
-    × IsTrue (is_wanted w (nth_head area run (first + length rows)))
-    × GivesRow shown area w run (first + length rows) row
-    × IsWalk shown area w run read first rows
+IsWalk shown area w run read first (met ∷ before) =
+    ((last : Option Placed) × StandsAt area w run read first before met.0 last × IsHeadSound area run last met.0)
+    × IsTrue (is_wanted w (nth_head area run met.0))
+    × GivesRow shown area w run met.0 met.1
+    × IsWalk shown area w run read first before
+
+-- the rows that these records gave, in the order of reading
+abbrev pub given : {R : Type 0} → List (ℕ × List R) → List R
+given [] = []
+given (met ∷ before) = given before ++ met.1
 
 -- what each gave, in the order of reading
 abbrev pub joined : {R : Type 0} → List (List R) → List R
 joined [] = []
 joined (part ∷ parts) = joined parts ++ part
 
--- The rows of one run: a search, and then a walk over the records from the first that doesn't precede to one behind those that are wanted.
-pub record IsWalked {R : Type 0} (shown : ℕ → Version Value → R) (area : List ℕ) (w : Wanted) (run : RunEntry) (rows : List R) : Type 0 where
+-- A walk over the records of one run that has come to the n-th, has read this last and has given these rows: a search for the first that doesn't precede, and then record after record but for those that it skips.
+pub record IsWalkedTo {R : Type 0} (shown : ℕ → Version Value → R) (area : List ℕ) (w : Wanted) (run : RunEntry) (n : ℕ) (last : Option Placed) (rows : List R) : Type 0 where
   pub read : List ℕ
   pub first : ℕ
   pub searched : IsSearched area run w.first w.a read first
-  pub parts : List (List R)
-  pub walk : IsWalk shown area w run read first parts
-  pub end : (run.slot.records ≡ first + length parts)
-      ⊎ (IsHeadSound area run (last_walked area run read first parts) (first + length parts) × IsTrue (follows w.last w.b (nth_head area run (first + length parts))))
-  pub are : rows ≡ joined parts
+  pub met : List (ℕ × List R)
+  pub walk : IsWalk shown area w run read first met
+  pub stands : StandsAt area w run read first met n last
+  pub are : rows ≡ given met
+
+-- the rows of one run: those of a walk to one record behind those that are wanted
+pub record IsWalked {R : Type 0} (shown : ℕ → Version Value → R) (area : List ℕ) (w : Wanted) (run : RunEntry) (rows : List R) : Type 0 where
+  pub number : ℕ
+  pub last : Option Placed
+  pub walked : IsWalkedTo shown area w run number last rows
+  pub end : (run.slot.records ≡ number) ⊎ (IsHeadSound area run last number × IsTrue (follows w.last w.b (nth_head area run number)))
 
 -- what was met that breaks a rule
 pub data IsWalkBroken {R : Type 0} (shown : ℕ → Version Value → R) (area : List ℕ) (w : Wanted) (run : RunEntry) : Type 0 where
   OnTheWay : IsSearchBroken area run w.first w.a → IsWalkBroken shown area w run
-  AtNext : (read : List ℕ) (first : ℕ) (parts : List (List R)) → IsSearched area run w.first w.a read first → IsWalk shown area w run read first parts
-      → first + length parts < run.slot.records → IsHeadBroken area run (last_walked area run read first parts) (first + length parts)
-      → IsWalkBroken shown area w run
-  AtItsValue : (read : List ℕ) (first : ℕ) (parts : List (List R)) → IsSearched area run w.first w.a read first → IsWalk shown area w run read first parts
-      → IsHeadSound area run (last_walked area run read first parts) (first + length parts) → IsTrue (is_wanted w (nth_head area run (first + length parts)))
-      → HasPart w (nth_head area run (first + length parts)) → IsValueBroken area run (first + length parts) → IsWalkBroken shown area w run
+  AtNext : (n : ℕ) (last : Option Placed) (rows : List R) → IsWalkedTo shown area w run n last rows → n < run.slot.records → IsHeadBroken area run last n → IsWalkBroken shown area w run
+  AtItsValue : (n : ℕ) (last : Option Placed) (rows : List R) → IsWalkedTo shown area w run n last rows → IsHeadSound area run last n
+      → IsTrue (is_wanted w (nth_head area run n)) → HasPart w (nth_head area run n) → IsValueBroken area run n → IsWalkBroken shown area w run
+  BehindIt : (n : ℕ) (last : Option Placed) (rows row : List R) → IsWalkedTo shown area w run n last rows → IsHeadSound area run last n
+      → IsTrue (is_wanted w (nth_head area run n)) → GivesRow shown area w run n row → IsSkipBroken area w run n → IsWalkBroken shown area w run
 
 -- the rows of each of the first runs: none of one that ends by the time
 abbrev pub AreWalked : {R : Type 0} → (RunEntry → List R → Type 0) → ℕ → List RunEntry → List (List R) → Type 0

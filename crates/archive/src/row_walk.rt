@@ -1,10 +1,11 @@
 //! The walk over the rows of runs.
+use crate::search::Bound;
 use crate::{ArchiveFault, ArchiveReader, Placed, Row, RunEntry, Wanted};
 use disk::Disk;
 use history::Version;
 
 impl ArchiveReader {
-    ghost use Rattle.std.specs.Prelude.{◌++◌, MatchResult, ◌≡◌, ℕ, ◌+◌, ◌<◌, ◌≤◌, List, IsTrue, IfOk, IfErr, OnOk, length};
+    ghost use Rattle.std.specs.Prelude.{◌++◌, MatchResult, ◌≡◌, ℕ, ◌+◌, ◌<◌, ◌≤◌, List, Option, IsTrue, IfOk, IfErr, OnOk, length};
     ghost use Rattle.std.specs.List.{flat_map};
     ghost use Rattle.image.specs.Reading.{ArchiveRecord};
     ghost use Rattle.archive.specs.Digits.{digits};
@@ -12,9 +13,10 @@ impl ArchiveReader {
     ghost use Rattle.archive.specs.Runs.{HoldRuns, RunsEndBy};
     ghost use Rattle.archive.specs.Answers.{is_wanted, row_of, rows_in};
     ghost use Rattle.archive.specs.Readers.{kept_of};
-    ghost use Rattle.archive.specs.Searches.{archive_of, after_query, LooksInto, Reads, Answers, IsFaultIn, IsPlaced, IsPlace, heads_to_find};
-    ghost use Rattle.archive.specs.Damages.{placed_at, IsValueBroken, IfDamaged};
-    ghost use Rattle.archive.specs.Traces.{IsOneKey, HasPart, GivesRow, IsWalked, IsWalkBroken, IsOfRuns, IsDamagedRun};
+    ghost use Rattle.archive.specs.declared.head.Placed.{Placed};
+    ghost use Rattle.archive.specs.Searches.{archive_of, after_query, LooksInto, Reads, Answers, IsFaultIn, IsPlaced, IsSeen, IsPlace, AreSkipped, heads_to_find};
+    ghost use Rattle.archive.specs.Damages.{placed_at, IsHeadSound, IsValueBroken, IfDamaged};
+    ghost use Rattle.archive.specs.Traces.{IsOneKey, HasPart, GivesRow, GoesOn, IsSkipBroken, IsWalked, IsWalkBroken, IsOfRuns, IsDamagedRun};
 
     /// Adds the row of the record with this head, if it has a part in the interval.
     fn add_row<D: Disk, R: Row>(
@@ -48,6 +50,37 @@ impl ArchiveReader {
         Ok(())
     }
 
+    /// Where a walk over the rows of one run goes on behind the record with this head.
+    fn go_on<D: Disk>(
+        &mut self,
+        disk: &mut D,
+        run: &RunEntry,
+        wanted: &Wanted,
+        placed: &Placed,
+        stride: u64,
+    ) -> Result<Bound, ArchiveFault>
+        requires few { placed.now.number < run.now.slot.records }
+        ensures looks { LooksInto run.now D.tells (D.state disk.old) (D.state disk.new) (kept_of self.old) (kept_of self.new) result }
+        ensures rises { self.old.heads ≤ self.new.heads }
+        ensures heads { IsOneKey wanted.now → IsTrue (is_wanted wanted.now placed.now.head) → self.new.heads ≡ self.old.heads }
+        ensures behind { IfOk result (λ bound. placed.now.number < bound.number) }
+        ensures few { IfOk result (λ bound. bound.number ≤ run.now.slot.records) }
+        ensures only { (records : List ArchiveRecord) (r : ArchiveRecord) → Reads D.tells (kept_of self.old) (D.state disk.old) run.now records
+            → IsPlaced records r placed.now → Answers result (λ bound. AreSkipped records wanted.now placed.now.number bound.number × IsSeen records bound.last) }
+        ensures exact { (last : Option Placed) → IsTrue D.tells → IsRight (kept_of self.old) (archive_of (D.state disk.old))
+            → (placed.now ≡ placed_at (archive_of (D.state disk.old)) run.now placed.now.number) × IsHeadSound (archive_of (D.state disk.old)) run.now last placed.now.number
+            → MatchResult result (λ bound. GoesOn (archive_of (D.state disk.old)) wanted.now run.now placed.now.number bound.number bound.last)
+            (IfDamaged (λ _. IsSkipBroken (archive_of (D.state disk.old)) wanted.now run.now placed.now.number)) }
+    {
+        match wanted.skip_to(&placed.head) {
+            Some(key) => self.count_from(disk, run, placed, &key, wanted.a, stride),
+            None => Ok(Bound {
+                number: placed.number + 1,
+                last: Some(*placed),
+            }),
+        }
+    }
+
     /// Adds the rows that one run has.
     fn add_rows<D: Disk, R: Row>(
         &mut self,
@@ -68,14 +101,17 @@ impl ArchiveReader {
         let bound = self.count_before(disk, run, &wanted.first, wanted.a)?;
         let mut number = bound.number;
         let mut last = bound.last;
+        let mut stride = 0;
         while number < run.slot.records {
             let placed = self.read_head(disk, run, number, &last)?;
             if !wanted.has(&placed.head) {
                 break;
             }
             self.add_row(disk, run, wanted, &placed, rows)?;
-            last = Some(placed);
-            number += 1;
+            let next = self.go_on(disk, run, wanted, &placed, stride)?;
+            stride = (next.number - number).saturating_sub(2);
+            number = next.number;
+            last = next.last;
         }
         Ok(())
     }

@@ -26,13 +26,13 @@ pub(crate) fn measure<W: RecordWalk>(walk: &mut W) -> Option<Sizes>
 {
     let mut records = 0;
     let mut len = 0;
-    while let Some((_, value)) = walk.peek() {
+    while let Some((head, value)) = walk.peek() {
         len += record_len(value) as u64 + 8;
         if len >= 1 << 63 {
             return None;
         }
         records += 1;
-        walk.advance();
+        walk.advance(&head);
     }
     Some(Sizes { records, len })
 }
@@ -65,11 +65,11 @@ impl<W: RecordWalk> RunChunks<W> {
         ensures none { IfNone result (W.left self.old.walk ≡ []) }
         ensures last { IfNone result (self.new ≡ self.old) }
     {
-        let Some((_, value)) = self.walk.peek() else {
+        let Some((head, value)) = self.walk.peek() else {
             return None;
         };
         let len = record_len(value) as u64;
-        self.walk.advance();
+        self.walk.advance(&head);
         self.place = Some(at + len);
         Some(encode_place(at, out))
     }
@@ -87,7 +87,7 @@ impl<W: RecordWalk> RunChunks<W> {
             return None;
         };
         let len = encode_record(&head, value, out);
-        self.walk.advance();
+        self.walk.advance(&head);
         Some(len)
     }
 }

@@ -12,16 +12,17 @@ pub(crate) struct Bound {
 }
 
 impl ArchiveReader {
-    ghost use Rattle.std.specs.Prelude.{MatchResult, ◌≡◌, ℕ, ◌+◌, ◌≤◌, List, IsTrue, IfOk};
+    ghost use Rattle.std.specs.Prelude.{MatchResult, ◌≡◌, ℕ, ◌+◌, ◌<◌, ◌≤◌, List, [], ◌∷◌, ◌++◌, true, None, IsTrue, IfOk};
     ghost use Rattle.image.specs.Reading.{ArchiveRecord};
     ghost use Rattle.archive.specs.Digits.{digits};
     ghost use Rattle.history.specs.Versions.{standing_at};
     ghost use Rattle.image.specs.Facts.{run_versions};
     ghost use Rattle.archive.specs.Parts.{IsRight};
     ghost use Rattle.archive.specs.Readers.{kept_of};
-    ghost use Rattle.archive.specs.Searches.{archive_of, LooksInto, Reads, Answers, IsSeen, IsBound};
-    ghost use Rattle.archive.specs.Damages.{IfDamaged};
-    ghost use Rattle.archive.specs.Traces.{last_of, IsSearched, IsSearchBroken, IsFoundIn, IsFindBroken};
+    ghost use Rattle.archive.specs.Searches.{archive_of, LooksInto, Reads, Answers, IsPlaced, IsSeen, IsBound};
+    ghost use Rattle.archive.specs.Answers.{precedes as comes_before};
+    ghost use Rattle.archive.specs.Damages.{placed_at, IsHeadSound, IfDamaged};
+    ghost use Rattle.archive.specs.Traces.{last_of, IsSearched, IsSearchBroken, IsSearchBrokenFrom, IsFoundIn, IsFindBroken};
 
     /// How many of the first records are of a lesser key, or of this key and ended by this time.
     pub(crate) fn count_before<D: Disk>(
@@ -50,6 +51,51 @@ impl ArchiveReader {
             last = Some(placed);
             if precedes(&placed.head, key, time) {
                 low = middle + 1;
+            } else {
+                high = middle;
+            }
+        }
+        Ok(Bound { number: low, last })
+    }
+
+    /// The same, where the record with this head is one of them: it looks first at those behind it,
+    /// `stride` records on, and then farther and farther.
+    pub(crate) fn count_from<D: Disk>(
+        &mut self,
+        disk: &mut D,
+        run: &RunEntry,
+        from: &Placed,
+        key: &Key,
+        time: u64,
+        stride: u64,
+    ) -> Result<Bound, ArchiveFault>
+        requires few { from.now.number < run.now.slot.records }
+        requires before { comes_before key.now time from.now.head ≡ true }
+        ensures looks { LooksInto run.now D.tells (D.state disk.old) (D.state disk.new) (kept_of self.old) (kept_of self.new) result }
+        ensures rises { self.old.heads ≤ self.new.heads }
+        ensures behind { IfOk result (λ bound. from.now.number < bound.number) }
+        ensures few { IfOk result (λ bound. bound.number ≤ run.now.slot.records) }
+        ensures only { (records : List ArchiveRecord) (r : ArchiveRecord) → Reads D.tells (kept_of self.old) (D.state disk.old) run.now records
+            → IsPlaced records r from.now → Answers result (λ bound. IsBound records key.now time bound.number × IsSeen records bound.last) }
+        ensures exact { IsTrue D.tells → IsRight (kept_of self.old) (archive_of (D.state disk.old))
+            → from.now ≡ placed_at (archive_of (D.state disk.old)) run.now from.now.number → IsHeadSound (archive_of (D.state disk.old)) run.now None from.now.number
+            → MatchResult result (λ bound. (read : List ℕ) × IsSearched (archive_of (D.state disk.old)) run.now key.now time (read ++ from.now.number ∷ []) bound.number
+            × (bound.last ≡ last_of (archive_of (D.state disk.old)) run.now (read ++ from.now.number ∷ [])))
+            (IfDamaged (λ _. IsSearchBrokenFrom (archive_of (D.state disk.old)) run.now key.now time from.now.number)) }
+    {
+        let mut low = from.number + 1;
+        let mut high = run.slot.records;
+        let mut last = Some(*from);
+        let mut step = stride;
+        let mut next_step = 0_u64;
+        while low < high {
+            let middle = low + ((high - low) / 2).min(step);
+            let placed = self.read_head(disk, run, middle, &last)?;
+            last = Some(placed);
+            if precedes(&placed.head, key, time) {
+                low = middle + 1;
+                step = next_step;
+                next_step = next_step.saturating_mul(2).saturating_add(1);
             } else {
                 high = middle;
             }

@@ -1,6 +1,6 @@
-ghost use Rattle.std.specs.Prelude.{◌≡◌, List, drop, slice_get, option_map};
+ghost use Rattle.std.specs.Prelude.{◌≡◌, List, Some, drop, slice_get, option_map};
 ghost use Rattle.image.specs.Reading.{ArchiveRecord};
-ghost use Rattle.archive.specs.Answers.{record_of};
+ghost use Rattle.archive.specs.Answers.{head_of, record_of};
 
 use crate::Head;
 use wire::Value;
@@ -17,8 +17,9 @@ pub trait RecordWalk: Drop + Sized {
     fn peek(&self) -> Option<(Head, &Value)>
         ensures { option_map (λ p. record_of p.0 p.1.now) result ≡ slice_get (left self.now) 0 };
 
-    /// Goes on behind the next record.
-    fn advance(&mut self)
+    /// Goes on behind the next record, which has this head.
+    fn advance(&mut self, head: &Head)
+        requires { option_map head_of (slice_get (left self.old) 0) ≡ Some head.now }
         ensures left { left self.new ≡ drop 1 (left self.old) }
         ensures all { all self.new ≡ all self.old };
 

@@ -52,6 +52,26 @@ impl Wanted {
     {
         !precedes(head, &self.first, self.a) && !follows(head, &self.last, self.b)
     }
+
+    /// Where a walk over records goes on behind one with this head that need not look at each: at the
+    /// first that is not of a lesser key than this, nor of it and ended by `a`.
+    pub(crate) fn skip_to(&self, head: &Head) -> Option<Key>
+        ensures { result ≡ answers.skip_to self.now head.now }
+    {
+        if self.last.record <= head.key.record {
+            return None;
+        }
+        if head.to <= self.a {
+            return Some(head.key);
+        }
+        if head.to < self.b {
+            return None;
+        }
+        Some(Key {
+            relation: head.key.relation,
+            record: head.key.record + 1,
+        })
+    }
 }
 
 /// A row as an answer shows it: a version, with the number of its record or without.

@@ -6,6 +6,8 @@
 #[cfg(test)]
 mod call_lists;
 #[cfg(test)]
+mod calling_pages;
+#[cfg(test)]
 mod command_line;
 #[cfg(test)]
 mod commit_times;

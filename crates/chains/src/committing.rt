@@ -1,5 +1,5 @@
 //! A tree of chains with the writes of a commit.
-ghost use Rattle.std.specs.Prelude.{◌≡◌, ◌<◌, ◌^◌, [], IfOk, map};
+ghost use Rattle.std.specs.Prelude.{◌≡◌, ◌<◌, ◌^◌, [], IfOk, OnOk, map};
 ghost use Rattle.std.specs.List.Sorted.{IsStrictlySortedBy};
 ghost use Rattle.std.specs.Option.{option_copied};
 ghost use Rattle.history.specs.Key.{key_cmp};
@@ -9,10 +9,12 @@ ghost use Rattle.chains.specs.Writes.{last_time};
 
 use crate::chain::Chain;
 use crate::shared_value::SharedValue;
-use crate::tree::{Node, Share, Tree};
+use crate::tree::{Share, Tree};
 use crate::write::share_write;
 use history::{Key, KeyWrite, TimedWrite};
 use std::alloc::{AllocError, Global};
+use std::mem;
+use std::sync::Arc;
 
 /// The writes of keys before this one, and the others.
 fn parted(
@@ -71,20 +73,20 @@ fn with_own(
     }
 }
 
-/// The same chain with what the commit writes of its key, if it does.
-fn into_own(
+/// What the commit writes of the chain's key, if it does, is put behind its writes.
+fn put_own(
     alloc: Global,
     time: u64,
-    chain: Chain,
+    chain: &mut Chain,
     own: Option<&KeyWrite<SharedValue>>,
-) -> Result<Chain, AllocError>
-    requires later { last_time chain.writes < time }
+) -> Result<(), AllocError>
+    requires later { last_time chain.old.writes < time }
     requires in_range { time < 2 ^ 63 }
-    ensures { IfOk result (λ c. c ≡ specs.with_own time chain (option_copied own.entry)) }
+    ensures { OnOk result (chain.new ≡ specs.with_own time chain.old (option_copied own.entry)) }
 {
     match own {
-        None => Ok(chain),
-        Some(write) => chain.into_write(alloc, stamped(time, write)?),
+        None => Ok(()),
+        Some(write) => chain.put_write(alloc, stamped(time, write)?),
     }
 }
 
@@ -135,23 +137,22 @@ impl Tree<Chain> {
         if writes.is_empty() {
             return Ok(self);
         }
-        let top = self.into_top()?;
-        let Some(node) = top else {
+        let Some(mut shared) = self.root else {
             return Self::of_writes(alloc, time, writes);
         };
-        let Node {
-            height: _,
-            left,
-            piece,
-            right,
-        } = node;
-        let key = piece.key();
+        let Some(node) = Arc::get_mut(&mut shared) else {
+            let tree = Tree { root: Some(shared) };
+            return tree.with_writes(alloc, time, writes);
+        };
+        let key = node.piece.key();
         let (before, rest) = parted(writes, key);
         let (own, after) = own_write(rest, key);
-        let left = left.into_writes(alloc, time, before)?;
-        let chain = into_own(alloc, time, piece, own)?;
-        let right = right.into_writes(alloc, time, after)?;
-        Tree::join(alloc, left, chain, right)
+        let left = mem::replace(&mut node.left, Tree::new());
+        node.left = left.into_writes(alloc, time, before)?;
+        put_own(alloc, time, &mut node.piece, own)?;
+        let right = mem::replace(&mut node.right, Tree::new());
+        node.right = right.into_writes(alloc, time, after)?;
+        Tree::levelled(alloc, shared)
     }
 
     /// A tree of the writes of a commit alone.

@@ -1,5 +1,5 @@
 //! Some writes of one key that lie together.
-ghost use Rattle.std.specs.Prelude.{◌≡◌, ◌<◌, ◌^◌, ◌∷◌, ◌++◌, [], IfOk, IfSome, IsTrue, OnOk, find, length, option_map};
+ghost use Rattle.std.specs.Prelude.{◌≡◌, ◌<◌, ◌^◌, ◌∷◌, ◌++◌, [], IfOk, IfSome, IsTrue, OnErr, OnOk, find, length, option_map};
 ghost use Rattle.std.specs.Option.{option_copied};
 ghost use Rattle.history.specs.Time.{value_at, IsRisingAfter};
 ghost use Rattle.history.specs.Versions.{first_time, rows, ends_after};
@@ -18,7 +18,7 @@ use std::alloc::{AllocError, Global};
 use std::marker::Model;
 use std::sync::Arc;
 
-/// How many writes a piece has at most that is made of two.
+/// How many writes a piece has at most.
 const MOST: usize = 32;
 
 /// How many writes of a piece need no memory of their own.
@@ -96,31 +96,30 @@ impl Piece {
         Self::of(alloc, longer)
     }
 
-    /// The piece with a later write, which is put behind the others in place where no other piece holds
-    /// them.
-    pub(crate) fn into_write(
-        self,
+    /// A later write is put behind the others, in place where no other piece holds them.
+    pub(crate) fn put_write(
+        &mut self,
         alloc: Global,
         write: TimedWrite<SharedValue>,
-    ) -> Result<Self, AllocError>
-        requires later { last_time self < write.time }
+    ) -> Result<(), AllocError>
+        requires later { last_time self.old < write.time }
         requires in_range { write.time < 2 ^ 63 }
-        ensures { IfOk result (λ p. p ≡ self ++ write ∷ []) }
+        ensures ok { OnOk result (self.new ≡ self.old ++ write ∷ []) }
+        ensures err { OnErr result (self.new ≡ self.old) }
     {
-        let mut longer = self.into_writes(alloc)?;
-        longer.push(write)?;
-        Self::of(alloc, longer)
+        let Some(own) = Arc::get_mut(&mut self.writes) else {
+            *self = self.with_write(alloc, write)?;
+            return Ok(());
+        };
+        own.push(write)?;
+        Ok(())
     }
 
-    /// Its writes: moved where no other piece holds them, and else shared, with room for one more.
-    fn into_writes(self, alloc: Global) -> Result<Writes, AllocError>
-        ensures is { IfOk result (λ ws. ws.items ≡ self) }
-        ensures rising { IsRisingAfter 0 self }
+    /// Whether it has as many writes as one piece has at most.
+    pub(crate) fn is_full(&self) -> bool
+        ensures { 0 < length self.now }
     {
-        match Arc::try_unwrap(self.writes) {
-            Ok(own) => Ok(own),
-            Err(others) => shared(alloc, others.as_slice(), 1),
-        }
+        self.as_slice().len() >= MOST
     }
 
     /// Whether its writes and those of another are no more than one piece has at most.

@@ -65,17 +65,17 @@ pub(crate) fn first_time_or(writes: &[TimedWrite<SharedValue>], end: u64) -> u64
 }
 
 /// How many of the writes were made by a time. They are few and lie together, so they are passed one
-/// after another: where they come from far, halving would wait for each step's.
+/// after another: where they come from far, halving would wait for each step's. The last ones are asked
+/// for most.
 fn begun_by(writes: &[TimedWrite<SharedValue>], time: u64) -> usize
     requires { IsRisingAfter 0 writes.now }
     ensures { IsBegun time writes.now result }
 {
-    for (place, w) in writes.iter().enumerate() {
-        if time < w.time {
-            return place;
-        }
+    let mut begun = writes.len();
+    while begun > 0 && time < writes[begun - 1].time {
+        begun -= 1;
     }
-    writes.len()
+    begun
 }
 
 /// The value at a time.

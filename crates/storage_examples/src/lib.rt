@@ -7,6 +7,8 @@ mod archived_runs;
 #[cfg(test)]
 mod area_bytes;
 #[cfg(test)]
+mod calling_page;
+#[cfg(test)]
 mod disks;
 #[cfg(test)]
 mod extent_numbers;

@@ -39,7 +39,7 @@ impl<'a> RecordWalk for ListWalk<'a> {
         }
     }
 
-    fn advance(&mut self) {
+    fn advance(&mut self, _: &Head) {
         if let [_, after @ ..] = self.left {
             self.left = after;
         }

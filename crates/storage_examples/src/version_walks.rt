@@ -94,21 +94,18 @@ fn versions_of(alloc: Global, which: Versions) -> Result<Frozen, AllocError> {
     }
 }
 
-/// The record of the next version of a walk and from when up to when it stands; none at the end.
-fn next_of(walk: &ArchiveWalk) -> Option<(u64, u64, u64)> {
-    let (head, _) = walk.peek()?;
-    Some((head.key.record, head.from, head.to))
-}
-
-/// Whether the walk goes over these versions and then ends.
+/// Whether the walk goes over these versions and then ends: record, from and to of each.
 fn walks_over(walk: &mut ArchiveWalk, versions: &[(u64, u64, u64)]) -> bool {
     for version in versions {
-        if next_of(walk) != Some(*version) {
+        let Some((head, _)) = walk.peek() else {
+            return false;
+        };
+        if (head.key.record, head.from, head.to) != *version {
             return false;
         }
-        walk.advance();
+        walk.advance(&head);
     }
-    next_of(walk).is_none()
+    walk.peek().is_none()
 }
 
 /// A walk over what ended after the mark and by `upto`: record, from and to of each version.
@@ -147,7 +144,6 @@ fn a_walk_goes_over_what_ended_in_its_time(rt: HostRuntime) -> Result<(), Fail> 
         let versions = versions_of(rt.alloc(), row.versions)?;
         let mut walk = ArchiveWalk::new(versions, row.mark, row.upto);
         assert!(rt; walks_over(&mut walk, row.want), "up to {}", row.upto);
-        walk.advance();
         walk.restart();
         assert!(rt; walks_over(&mut walk, row.want), "again up to {}", row.upto);
     }

@@ -1,7 +1,9 @@
 -- The first of one key's versions that ends after a time, and those behind it.
 use Rattle.std.proofs.Common.{◌≡◌, ℕ, ◌<◌, ◌≤◌, nat_le, nat_lt, Bool, true, false, cond, List, [], ◌∷◌, Option, Some, None, map, drop, refl, ap, sym, subst, ◌∙◌, arith}
 use Rattle.std.specs.Prelude.{find, filter}
+use Rattle.std.specs.List.{slice_get}
 use Rattle.std.proofs.lemmas.Bool.Decides.{nat_tests}
+use Rattle.history.specs.declared.key.Key.{Key}
 use Rattle.history.specs.declared.time.Version.{Version}
 use Rattle.history.specs.Time.{IsRisingAfter}
 use Rattle.history.specs.Versions.{first_time, versions, ends_after, ends_by, FollowOneAnotherFrom}
@@ -12,7 +14,7 @@ use Rattle.chains.specs.KeyWrites.{KeyWrites}
 use Rattle.chains.proofs.Walks.{find-none-filter}
 use Rattle.image.specs.PlansMade.{archive_record}
 use Rattle.image.specs.Reading.{ArchiveRecord}
-use Rattle.vacuum.specs.Archives.{key_records, IsFirst}
+use Rattle.vacuum.specs.Archives.{key_records}
 
 not-by : {a b : ℕ} → b < a → nat_le a b ≡ false
 not-by {a} {b} h = grind (arith, nat_tests)
@@ -101,19 +103,29 @@ module _ (t upto : ℕ) (c : KeyWrites) (rising : IsRisingAfter 0 c.writes) wher
       ∙ rw inside refl
 
   -- behind the first record stand those of the versions that end after its own
-  pub records-behind : (to : ℕ) → IsFirst to (key_records t upto c) → key_records to upto c ≡ drop 1 (key_records t upto c)
-  records-behind to first =
-      let Ends : Bool → Version Value → Type 0 = λ b v. nat_le v.to upto ≡ b → key_records to upto c ≡ drop 1 (key_records t upto c) in
-      let Goal : Option (Version Value) → Type 0 = λ o. find (ends_after t) (versions c.writes) ≡ o → key_records to upto c ≡ drop 1 (key_records t upto c) in
+  pub records-behind : (r : ArchiveRecord) → Some r ≡ slice_get (key_records t upto c) 0 → key_records r.version.to upto c ≡ drop 1 (key_records t upto c)
+  records-behind r first =
+      let Behind : Type 0 = key_records r.version.to upto c ≡ drop 1 (key_records t upto c) in
+      let Ends : Bool → Version Value → Type 0 = λ b v. nat_le v.to upto ≡ b → Behind in
+      let Goal : Option (Version Value) → Type 0 = λ o. find (ends_after t) (versions c.writes) ≡ o → Behind in
       let by : (v : Version Value) → find (ends_after t) (versions c.writes) ≡ Some v → (b : Bool) → Ends b v = λ v e b. elim b as (λ b. Ends b v) [
         | true ↦ λ h.
             let next = records-next v e (was-le h) in
-            let same : v.to ≡ to = subst (IsFirst to) next first in
-            ap (λ (n : ℕ). key_records n upto c) (sym same) ∙ sym (ap (λ (rs : List ArchiveRecord). drop 1 rs) next)
-        | false ↦ λ h. absurd (subst (IsFirst to) (records-late v e (was-gt h)) first)
+            let same : Some r ≡ Some (archive_record c.key v) = first ∙ ap (λ (rs : List ArchiveRecord). slice_get rs 0) next in
+            let one : r ≡ archive_record c.key v = cc in
+            ap (λ (x : ArchiveRecord). key_records x.version.to upto c) one ∙ sym (ap (λ (rs : List ArchiveRecord). drop 1 rs) next)
+        | false ↦ λ h. absurd (let none : Some r ≡ None = first ∙ ap (λ (rs : List ArchiveRecord). slice_get rs 0) (records-late v e (was-gt h)) in cc)
       ] in
       let all : (o : Option (Version Value)) → Goal o = λ o. elim o as Goal [
-        | None ↦ λ e. absurd (subst (IsFirst to) (records-none e) first)
+        | None ↦ λ e. absurd (let none : Some r ≡ None = first ∙ ap (λ (rs : List ArchiveRecord). slice_get rs 0) (records-none e) in cc)
         | Some v ↦ λ e. by v e (nat_le v.to upto) refl
       ] in
       all (find (ends_after t) (versions c.writes)) refl
+
+-- each record of a key has that key
+map-first : (key : Key) (vs : List (Version Value)) (r : ArchiveRecord) → Some r ≡ slice_get (map (archive_record key) vs) 0 → r.key ≡ key
+map-first key [] r is = absurd (cc)
+map-first key (v ∷ vs) r is = let same : r ≡ archive_record key v = cc in ap (λ (x : ArchiveRecord). x.key) same
+
+pub key-of-first : (t upto : ℕ) (c : KeyWrites) (r : ArchiveRecord) → Some r ≡ slice_get (key_records t upto c) 0 → r.key ≡ c.key
+key-of-first t upto c r is = map-first c.key (filter (ends_by upto) (filter (ends_after t) (versions c.writes))) r is

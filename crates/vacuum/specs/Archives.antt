@@ -38,20 +38,6 @@ records_left passed after upto (c ∷ cs) = key_records passed upto c ++ records
 abbrev pub records_at : ℕ → ℕ → Place → List KeyWrites → List ArchiveRecord
 records_at after upto place frozen = records_left place.passed after upto (keys_within place.bound frozen)
 
--- there is a first record, whose version ended at this time
-abbrev pub IsFirst : ℕ → List ArchiveRecord → Type 0
-IsFirst to [] = ⊥
-IsFirst to (r ∷ rs) = r.version.to ≡ to
-
--- the first of these keys, if there is one, has a record, and its first one is of a version that ended at this time
-abbrev pub HasNext : ℕ → ℕ → ℕ → List KeyWrites → Type 0
-HasNext passed to upto [] = Unit {0}
-HasNext passed to upto (c ∷ cs) = IsFirst to (key_records passed upto c)
-
--- a record is next at this place, unless none is left
-abbrev pub IsSettled : ℕ → Place → List KeyWrites → Type 0
-IsSettled upto place frozen = HasNext place.passed place.to upto (keys_within place.bound frozen)
-
 -- a walk over archive records: all of them, and those that are left
 pub record Walked : Type 0 where
   pub all : List ArchiveRecord

@@ -1,7 +1,9 @@
 //! A walk over the versions that a run takes.
-ghost use Rattle.std.specs.Prelude.{◌≡◌, ◌<◌, IfSome, drop, length, option_map, slice_get};
-ghost use Rattle.archive.specs.Answers.{record_of};
-ghost use Rattle.vacuum.specs.Archives.{AreInMemory, IsSettled, key_records, records_at, records_of};
+ghost use Rattle.std.specs.Prelude.{◌≡◌, ℕ, List, Some, drop, option_map, slice_get};
+ghost use Rattle.archive.specs.Answers.{head_of, record_of};
+ghost use Rattle.chains.specs.KeyWrites.{KeyWrites};
+ghost use Rattle.vacuum.specs.declared.archive_walk.Place.{Place};
+ghost use Rattle.vacuum.specs.Archives.{AreInMemory, key_records, records_at, records_of};
 
 use archive::{Head, RecordWalk};
 use chains::{Bound, Chain, Frozen};
@@ -9,17 +11,16 @@ use history::Key;
 use std::marker::Model;
 use wire::Value;
 
-/// Where a walk stands: the first key within the bound has the next record, of a version that ended at
-/// `to`, and its versions that ended by `passed` are behind. Times are in microseconds since 1970.
+/// Where a walk stands: of the first key within the bound the versions that ended by `passed`, in
+/// microseconds since 1970, are behind.
 #[derive(Clone, Copy)]
 pub(crate) struct Place {
     bound: Bound,
     passed: u64,
-    to: u64,
 }
 
 /// Goes over the archive records of the versions that ended after one time and by another, by key
-/// and then by rising time. It takes no memory.
+/// and then by rising time. It takes no memory. Each record is searched for once, when it is looked at.
 #[derive(Drop)]
 pub struct ArchiveWalk {
     frozen: Frozen,
@@ -29,13 +30,11 @@ pub struct ArchiveWalk {
 }
 
 impl Model for ArchiveWalk {
-    ghost use Rattle.vacuum.specs.Archives.{Walked, records_of, records_at, IsSettled};
+    ghost use Rattle.vacuum.specs.Archives.{Walked, records_of, records_at};
 
     ghost Value = { Walked };
 
     ghost view = { λ w. record { all = records_of w.after w.upto w.frozen; left = records_at w.after w.upto w.place w.frozen } };
-
-    ghost invariant = { λ w. IsSettled w.upto w.place w.frozen };
 }
 
 impl ArchiveWalk {
@@ -45,7 +44,9 @@ impl ArchiveWalk {
         ensures is { result ≡ record { all = records_of after upto frozen; left = records_of after upto frozen } }
         ensures versions { AreInMemory frozen }
     {
-        let place = first_place(&frozen, after, upto);
+        // The versions are in the order of their keys, and of each key in that of their times.
+        let _none = frozen.is_empty();
+        let place = first_place(after);
         ArchiveWalk {
             frozen,
             after,
@@ -61,25 +62,22 @@ impl RecordWalk for ArchiveWalk {
     ghost left = { λ w. w.left };
 
     fn peek(&self) -> Option<(Head, &Value)> {
-        match self.frozen.least(self.place.bound) {
-            None => None,
-            Some(chain) => next_record(chain, self.place.passed, self.upto),
-        }
+        next_record(&self.frozen, self.after, self.upto, self.place)
     }
 
-    fn advance(&mut self) {
-        self.place = next_place(&self.frozen, self.after, self.upto, self.place);
+    fn advance(&mut self, head: &Head) {
+        let behind = place_behind(&self.frozen, head);
+        self.place = behind;
     }
 
     fn restart(&mut self) {
-        self.place = first_place(&self.frozen, self.after, self.upto);
+        self.place = first_place(self.after);
     }
 }
 
 /// The first record of a key whose version ended after `passed`, if it ended by `upto`.
-fn next_record(chain: &Chain, passed: u64, upto: u64) -> Option<(Head, &Value)>
-    ensures is { option_map (λ p. record_of p.0 p.1.now) result ≡ slice_get (key_records passed upto chain.now) 0 }
-    ensures behind { IfSome result (λ p. key_records p.0.to upto chain.now ≡ drop 1 (key_records passed upto chain.now)) }
+fn key_record(chain: &Chain, passed: u64, upto: u64) -> Option<(Head, &Value)>
+    ensures { option_map (λ p. record_of p.0 p.1.now) result ≡ slice_get (key_records passed upto chain.now) 0 }
 {
     let Some(version) = chain.ending_after(passed) else {
         return None;
@@ -95,58 +93,47 @@ fn next_record(chain: &Chain, passed: u64, upto: u64) -> Option<(Head, &Value)>
     Some((head, version.value.value()))
 }
 
-/// Goes on from a place to the next record, over the keys that have none.
-fn settled(frozen: &Frozen, after: u64, upto: u64, place: Place) -> Place
-    ensures left { records_at after upto result frozen.now ≡ records_at after upto place frozen.now }
-    ensures settled { IsSettled upto result frozen.now }
-    ensures versions { AreInMemory frozen.now }
+/// The next record from a place on, over the keys that have none.
+fn next_record(frozen: &Frozen, after: u64, upto: u64, place: Place) -> Option<(Head, &Value)>
+    ensures { option_map (λ p. record_of p.0 p.1.now) result ≡ slice_get (records_at after upto place frozen.now) 0 }
 {
     let mut place = place;
     while let Some(chain) = frozen.least(place.bound) {
-        if let Some((head, _)) = next_record(chain, place.passed, upto) {
-            return Place {
-                bound: place.bound,
-                passed: place.passed,
-                to: head.to,
-            };
+        let found = key_record(chain, place.passed, upto);
+        if found.is_some() {
+            return found;
         }
         place = Place {
             bound: Bound::After(chain.key()),
             passed: after,
-            to: 0,
         };
     }
-    place
+    None
 }
 
 /// The place of the first record.
-fn first_place(frozen: &Frozen, after: u64, upto: u64) -> Place
-    ensures left { records_at after upto result frozen.now ≡ records_of after upto frozen.now }
-    ensures settled { IsSettled upto result frozen.now }
-    ensures versions { AreInMemory frozen.now }
+fn first_place(after: u64) -> Place
+    ensures { (upto : ℕ) (frozen : List KeyWrites) → records_at after upto result frozen ≡ records_of after upto frozen }
 {
     let least = Key {
         relation: 0,
         record: 0,
     };
-    let place = Place {
+    Place {
         bound: Bound::From(least),
         passed: after,
-        to: 0,
-    };
-    settled(frozen, after, upto, place)
+    }
 }
 
-/// The place behind the next record.
-fn next_place(frozen: &Frozen, after: u64, upto: u64, place: Place) -> Place
-    requires { IsSettled upto place frozen.now }
-    ensures left { records_at after upto result frozen.now ≡ drop 1 (records_at after upto place frozen.now) }
-    ensures settled { IsSettled upto result frozen.now }
+/// The place behind the next record, which has this head.
+fn place_behind(frozen: &Frozen, head: &Head) -> Place
+    ensures { (after upto : ℕ) (place : Place) → option_map head_of (slice_get (records_at after upto place frozen.now) 0) ≡ Some head.now
+        → records_at after upto result frozen.now ≡ drop 1 (records_at after upto place frozen.now) }
 {
-    let behind = Place {
-        bound: place.bound,
-        passed: place.to,
-        to: 0,
-    };
-    settled(frozen, after, upto, behind)
+    // The keys stand in order, so the first one from that of the head on is its own.
+    let _none = frozen.is_empty();
+    Place {
+        bound: Bound::From(head.key),
+        passed: head.to,
+    }
 }

@@ -76,3 +76,32 @@ fn an_archived_slot_keeps_its_rules(rt: HostRuntime) -> Result<(), Fail> {
     }
     Ok(())
 }
+
+/// All that the key had by 120 goes to the archive; the heap keeps its last value alone.
+const VACUUMED: &str = "archive 120 | started
+finish | idle
+reclaim | started
+finish | idle
+";
+
+#[test]
+fn a_damaged_run_is_told_by_what_reads_it(rt: HostRuntime) -> Result<(), Fail> {
+    let alloc = rt.alloc();
+    let disk = stored(&rt, alloc, FOUR_COMMITS)?;
+    let mut disk = converses(&rt, alloc, disk, VACUUMED)?;
+    spells(&rt, alloc, &mut disk, Area::Archive, 0, RUN)?;
+    let cut = cut(alloc, &mut disk, Area::Archive, 73)?;
+    let _cut = answers(&rt, alloc, cut, "130", "refused: damaged archive 0")?;
+    // The place of the first record in the run's index.
+    change(&mut disk, Area::Archive, 58, 1)?;
+    let _disk = converses(
+        &rt,
+        alloc,
+        disk,
+        "reopen | last 130 floor 0
+at 1 7 130 | value 63
+between 1 7 100 131 | refused: damaged archive 0
+",
+    )?;
+    Ok(())
+}

@@ -37,6 +37,8 @@ mod records;
 #[cfg(test)]
 mod refused_calls;
 #[cfg(test)]
+mod refused_example;
+#[cfg(test)]
 mod stops;
 #[cfg(test)]
 mod streams;

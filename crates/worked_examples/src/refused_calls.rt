@@ -7,7 +7,7 @@ use std::process::Abort;
 use std::test::Fail;
 
 /// A disk that refuses one call.
-fn refusing(disk: MemDisk, calls_before: u64, write_reaches: bool) -> FaultDisk {
+pub fn refusing(disk: MemDisk, calls_before: u64, write_reaches: bool) -> FaultDisk {
     let fault = Fault {
         calls_before,
         write_reaches,
@@ -49,7 +49,7 @@ times 100
 ";
 
 /// What a store keeps whose step of this number, from 1, was refused.
-fn value_kept(step: u32, write_reaches: bool) -> &'static str {
+pub fn value_kept(step: u32, write_reaches: bool) -> &'static str {
     if step > 5 || (step == 5 && write_reaches) {
         "value 61"
     } else {
@@ -58,7 +58,12 @@ fn value_kept(step: u32, write_reaches: bool) -> &'static str {
 }
 
 /// The store was not opened, and holds what it held.
-fn is_not_opened(rt: &impl Abort, alloc: Global, said: &str, disk: FaultDisk) -> Result<(), Fail> {
+pub fn is_not_opened(
+    rt: &impl Abort,
+    alloc: Global,
+    said: &str,
+    disk: FaultDisk,
+) -> Result<(), Fail> {
     assert_eq!(rt; said, "refused: device\n");
     let _disk = answers(rt, alloc, disk, "0", "none")?;
     Ok(())

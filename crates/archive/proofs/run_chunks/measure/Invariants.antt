@@ -2,8 +2,8 @@ use Rattle.std.proofs.Common.{◌≡◌, ◌+◌, ◌*◌, ◌≤◌, ◌<◌, �
 use Rattle.archive.specs.Pieces.{size_of}
 use Rattle.archive.proofs.run_chunks.measure.Given as goal
 
-abbrev pub invariant-loop-value : goal.invariant-loop-value
-invariant-loop-value g l = record {
+abbrev pub invariant-loop-head : goal.invariant-loop-head
+invariant-loop-head g l = record {
   all : g.W.RecordWalk.all l.walk ≡ g.W.RecordWalk.all l.initial.walk;
   records : l.records + length (g.W.RecordWalk.left l.walk) ≡ length (g.W.RecordWalk.left l.initial.walk);
   len : l.len + size_of (g.W.RecordWalk.left l.walk) ≡ size_of (g.W.RecordWalk.left l.initial.walk);
@@ -13,5 +13,5 @@ invariant-loop-value g l = record {
   short : l.len < 2 ^ 63;
 }
 
-abbrev pub decreases-loop-value : goal.decreases-loop-value
-decreases-loop-value g l = length (g.W.RecordWalk.left l.walk)
+abbrev pub decreases-loop-head : goal.decreases-loop-head
+decreases-loop-head g l = length (g.W.RecordWalk.left l.walk)

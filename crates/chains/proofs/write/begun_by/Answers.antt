@@ -1,20 +1,20 @@
-use Rattle.std.proofs.Common.{◌≡◌, ◌∙◌, ◌<◌, length, get_or, sym, arith}
+use Rattle.std.proofs.Common.{◌≡◌, ◌∙◌, ◌<◌, ◌≤◌, ◌-◌, length, get_or, sym, subst, arith}
 use Rattle.std.proofs.lemmas.List.{get_or_default}
+use Rattle.chains.specs.Writes.{Write}
 use Rattle.chains.proofs.Begun.{rising-order}
 use Rattle.chains.proofs.write.begun_by.Goals as goal
 
-pub returns-then-time-w : goal.returns-then-time-w
-returns-then-time-w c =
+pub returns-else-time-writes : goal.returns-else-time-writes
+returns-else-time-writes c =
     let ws = c.args.writes.now in
-    let n = c.loop-place.place in
-    let w = c.index-writes-place.result in
-    let inside : n < length ws = omega arith in
-    let late : c.args.time < w.time = c.if-time-w.true in
+    let n = c.loop-begun.begun in
+    let w = c.index-writes-begun.result in
+    let inside : n - 1 < length ws = omega (arith, c.loop-begun.invariant.within) in
     record {
-      within = omega arith;
-      before = c.loop-place.invariant;
-      after = λ k d l h.
-          let here : get_or ws n d ≡ w = get_or_default ws n d w inside ∙ sym c.index-writes-place.is in
-          let later : c.args.time < (get_or ws n d).time = rw here late in
-          omega (arith, later, rising-order 0 ws c.requires n k d l h);
+      within = c.loop-begun.invariant.within;
+      before = λ k d l.
+          let here : get_or ws (n - 1) d ≡ w = get_or_default ws (n - 1) d w inside ∙ sym c.index-writes-begun.is in
+          let early : (get_or ws (n - 1) d).time ≤ c.args.time = subst (λ (v : Write). v.time ≤ c.args.time) (sym (here ∙ c.index-writes-begun.is)) c.if-time-writes.false in
+          omega (arith, early, rising-order 0 ws c.requires k (n - 1) d (omega arith) inside);
+      after = c.loop-begun.invariant.after;
     }

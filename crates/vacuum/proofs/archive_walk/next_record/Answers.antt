@@ -1,28 +1,31 @@
-use Rattle.std.proofs.Common.{◌≡◌, ◌∙◌, List, Some, ap, sym, drop}
+use Rattle.std.proofs.Common.{◌∙◌, List, ap, sym}
 use Rattle.std.specs.List.{slice_get}
 use Rattle.image.specs.Reading.{ArchiveRecord}
-use Rattle.image.specs.PlansMade.{archive_record}
 use Rattle.archive.specs.Answers.{record_of}
-use Rattle.chains.specs.Rows.{version_of_loan}
-use Rattle.vacuum.proofs.Firsts.{records-none, records-late, records-next}
+use Rattle.vacuum.specs.Archives.{key_records}
+use Rattle.vacuum.proofs.Records.{tested-none, tested-some, at-none, next-is, past-key, fewer-keys}
 use Rattle.vacuum.proofs.archive_walk.next_record.Goals as goal
 
-pub returns-in_default-clause-is : goal.returns-in_default-clause-is
-returns-in_default-clause-is c =
-    sym (ap (λ (rs : List ArchiveRecord). slice_get rs 0) (records-none c.args.passed c.args.upto c.args.chain.now c.ending_after.ensures.rising (sym c.in_default.ensures.is)))
+pub returns-then-is_some : goal.returns-then-is_some
+returns-then-is_some c =
+    let chain = c.in-Some.chain.now in
+    let place = c.loop-chain.place in
+    let some = tested-some (λ p. record_of p.0 p.1.now) c.key_record-found.result (key_records place.passed c.args.upto chain) (sym c.if-is_some.ensures) c.key_record-found.ensures in
+    c.key_record-found.ensures
+    ∙ sym (next-is c.args.after c.args.upto c.args.frozen.now place chain c.in-Some.ensures.ordered (sym c.in-Some.ensures.is) some)
+    ∙ ap (λ (rs : List ArchiveRecord). slice_get rs 0) c.loop-chain.invariant
 
-pub returns-then-upto-version-clause-is : goal.returns-then-upto-version-clause-is
-returns-then-upto-version-clause-is c =
-    sym (ap (λ (rs : List ArchiveRecord). slice_get rs 0) (records-late c.args.passed c.args.upto c.args.chain.now c.ending_after.ensures.rising (version_of_loan c.in-Some.version) (sym c.in-Some.ensures.is) c.if-upto-version.true))
+pub loop-chain-smaller : goal.loop-chain-smaller
+loop-chain-smaller c =
+    rw c.key.ensures (fewer-keys c.args.after c.args.upto c.args.frozen.now c.loop-chain.place c.in-Some.chain.now c.in-Some.ensures.ordered (sym c.in-Some.ensures.is))
 
-pub returns-clause-is : goal.returns-clause-is
-returns-clause-is c =
-    let v = version_of_loan c.in-Some.version in
-    let next = records-next c.args.passed c.args.upto c.args.chain.now c.ending_after.ensures.rising v (sym c.in-Some.ensures.is) c.if-upto-version.false in
-    let head : record_of (record { key = c.key.result; from = v.from; to = v.to }) c.value.result.now ≡ archive_record c.args.chain.now.key v =
-    λ i. record { key = c.key.ensures i; version = record { from = v.from; to = v.to; value = c.value.ensures i } } in
-    ap (λ (r : ArchiveRecord). Some r) head ∙ sym (ap (λ (rs : List ArchiveRecord). slice_get rs 0) next)
+pub loop-chain-preserved : goal.loop-chain-preserved
+loop-chain-preserved c =
+    let chain = c.in-Some.chain.now in
+    let place = c.loop-chain.place in
+    let none = tested-none (λ p. record_of p.0 p.1.now) c.key_record-found.result (key_records place.passed c.args.upto chain) (sym c.if-is_some.ensures) c.key_record-found.ensures in
+    rw c.key.ensures (past-key c.args.after c.args.upto c.args.frozen.now place chain c.in-Some.ensures.ordered (sym c.in-Some.ensures.is) none ∙ c.loop-chain.invariant)
 
-pub returns-clause-behind : goal.returns-clause-behind
-returns-clause-behind c =
-    sym (ap (λ (rs : List ArchiveRecord). drop 1 rs) (records-next c.args.passed c.args.upto c.args.chain.now c.ending_after.ensures.rising (version_of_loan c.in-Some.version) (sym c.in-Some.ensures.is) c.if-upto-version.false))
+pub returns : goal.returns
+returns c =
+    ap (λ (rs : List ArchiveRecord). slice_get rs 0) (sym (at-none c.args.after c.args.upto c.args.frozen.now c.loop-chain.place (sym c.in_default.ensures.is)) ∙ c.loop-chain.invariant)

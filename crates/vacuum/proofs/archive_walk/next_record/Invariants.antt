@@ -1,6 +1,6 @@
 use Rattle.std.proofs.Common.{◌≡◌, length}
 use Rattle.vacuum.specs.Archives.{keys_within, records_at}
-use Rattle.vacuum.proofs.archive_walk.settled.Given as goal
+use Rattle.vacuum.proofs.archive_walk.next_record.Given as goal
 
 abbrev pub invariant-loop-chain : goal.invariant-loop-chain
 invariant-loop-chain l = records_at l.after l.upto l.place l.frozen ≡ records_at l.after l.upto l.initial.place l.frozen
