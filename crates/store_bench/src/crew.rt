@@ -115,16 +115,11 @@ fn write_one<D: Disk, L: Opening, R: Wait>(
     requires { 0 < share.old.parts }
     ensures { share.new.parts ≡ share.old.parts }
 {
-    let [first, second, third, fourth] = records::fields(record, version);
-    let fields = [
-        first.as_slice(),
-        second.as_slice(),
-        third.as_slice(),
-        fourth.as_slice(),
-    ];
+    let fields = records::fields(record, version);
+    let slices = records::slices(&fields);
     let changes = [Change::Put {
         key: records::key(record),
-        fields: &fields,
+        fields: &slices,
     }];
     let done = store.commit(rt, &changes, version, 0, share, me);
     matches!(done, Ok(Committed::Done(_)))
@@ -304,14 +299,8 @@ fn load_keys<D: Disk, L: Opening, R: Wait>(
 ) -> Result<(), Fault> {
     let mut txn = store.begin(rt, me)?;
     for record in 0..KEYS {
-        let [first, second, third, fourth] = records::fields(record, 0);
-        let fields = [
-            first.as_slice(),
-            second.as_slice(),
-            third.as_slice(),
-            fourth.as_slice(),
-        ];
-        if let Err(fault) = txn.put(alloc, records::key(record), &fields) {
+        let fields = records::fields(record, 0);
+        if let Err(fault) = txn.put(alloc, records::key(record), &records::slices(&fields)) {
             store.abort(rt, txn);
             return Err(Fault::Txn(fault));
         }

@@ -1,5 +1,5 @@
 //! A store on files that threads share.
-ghost use Rattle.std.specs.Prelude.{◌≡◌, [], false, IfOk};
+ghost use Rattle.std.specs.Prelude.{◌≡◌, [], true, false, IfOk};
 ghost use Rattle.history.specs.Machine.{opened};
 ghost use Rattle.standing.specs.Stands.{Stands};
 ghost use Rattle.shared.specs.Counts.{told_count};
@@ -22,7 +22,7 @@ const MARK: u64 = 1;
 
 // The store over files that hold what its memory did.
 fn over_files(store: Store<MemDisk>, disk: FileDisk) -> Store<FileDisk>
-    requires stands { Stands MemDisk.tells store (opened [] (λ relation. 0)) }
+    requires stands { Stands true store (opened [] (λ relation. 0)) }
     requires fresh { told_count store.transactions.heads ≡ 0 }
     ensures stands { Stands false result (opened [] (λ relation. 0)) }
     ensures fresh { told_count result.transactions.heads ≡ 0 }
