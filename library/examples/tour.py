@@ -17,7 +17,7 @@ def main(folder: str) -> None:
         try:
             store.at(1, 7, 101)
         except timestore.NotYet as why:
-            print(f"refused: {why} {why.first}")
+            print(f"refused: {why} {why.last}")
         for row in store.between(1, 7, 0, 101):
             print(row.start, row.end, row.fields)
         # Two transactions that wrote the same record: the first one wins.
@@ -28,7 +28,7 @@ def main(folder: str) -> None:
         try:
             second.commit(9)
         except timestore.Conflict as why:
-            print(f"refused: {why} {why.first} {why.second}")
+            print(f"refused: {why} {why.relation} {why.record}")
         print("last:", timestore.moment(store.last).isoformat())
 
 

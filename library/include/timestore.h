@@ -3,9 +3,11 @@
  * The library opens no file, starts no thread and holds no lock. Where the store is to write or sync, its
  * user, the host, makes that device call: after ts_pump and ts_job_pump it asks ts_call, makes what is told,
  * and says so by ts_called. Until then every call answers TS_PENDING but ts_call, ts_called, ts_close, the
- * reads and writes of open transactions and the queries of views. If the device refused it, the host says
- * ts_called(h, false): from then on the store answers what was published before that call, tickets of
- * commits that were not are in doubt, nothing is written any more, and the store is to be opened again.
+ * reads and writes of open transactions, the queries of views, ts_abort, ts_end and ts_give_up. If the device
+ * refused it, the host says ts_called(h, false): from then on the store answers what was published before that
+ * call, tickets of commits that were not are in doubt, nothing is written any more, and the store is to be
+ * opened again. So it is too where there was no memory to tell the device call: the step then answers
+ * TS_FAILED, and no call stands out.
  * timestore_file.h has a host for files, which does all this.
  *
  * What the host must uphold, which nothing checks:
@@ -152,8 +154,7 @@ int32_t ts_scan(ts *h, uint64_t txn, uint16_t relation, ts_row *rows, size_t row
                 size_t len, ts_info *info);
 
 /* Queues its writes as a commit, with a label, at the time now or just after the last commit; a: the number
-   of its ticket. The transaction is over, also where it is refused, but for TS_PENDING, TS_FAILED and
-   TS_UNKNOWN. */
+   of its ticket. The transaction is over, also where it is refused, but for TS_PENDING. */
 int32_t ts_submit(ts *h, uint64_t txn, uint64_t label, uint64_t now, ts_info *info);
 int32_t ts_abort(ts *h, uint64_t txn);
 

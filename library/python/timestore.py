@@ -8,20 +8,24 @@
     ...     store.at(1, 7, txn.time)
     (b'a',)
 
-A record is named by its relation (0 to 65,535) and its number (0 to 2^64 - 1); its value is a tuple of
-1 to 16 fields of at most 255 bytes. A time is a `datetime` with its zone, or microseconds since 1970 as an
-`int`; what is given out is an `int`, which `moment` makes a `datetime` of.
+A record is named by its relation (0 to 65,535) and its number (0 to 2^64 - 1); its value is a
+tuple of 1 to 16 fields of at most 255 bytes. A time is a `datetime` with its zone, or microseconds
+since 1970 as an `int`; what is given out is an `int`, which `moment` makes a `datetime` of. A
+number or a time out of range raises `ValueError`.
 
-A store stays on the thread that opened it, and so does all that it gave out: a call on another thread raises
-`RuntimeError`. It needs `libtimestore.so`: of the path in the environment's
-`TIMESTORE_LIBRARY`, beside this file, or where the system looks for libraries.
+A store stays on the thread that opened it, and so does all that it gave out: a call on another
+thread raises `RuntimeError`. In the child of a fork it is closed. It needs Python 3.11 and
+`libtimestore.so`: of the path in the environment's `TIMESTORE_LIBRARY`, beside this file, where
+both were installed, or where the system looks for libraries.
 """
 
 import ctypes
 import os
 import threading
+import weakref
 from collections.abc import Callable, Iterator
 from datetime import datetime, timedelta, timezone
+from enum import IntEnum
 from pathlib import Path
 from types import TracebackType
 from typing import Any, NamedTuple, Self
@@ -33,7 +37,20 @@ _EPOCH = datetime(1970, 1, 1, tzinfo=timezone.utc)
 _VALUE_MOST = 4097
 _OK, _NONE, _WAITING, _READ_ONLY, _IN_DOUBT = range(5)
 _SMALL = -4
-_DONE = 6
+
+
+class Step(IntEnum):
+    """What a step of a group or of a job did."""
+
+    IDLE = 0
+    WROTE = 1
+    SYNCED = 2
+    BODY_WRITTEN = 3
+    BODY_SYNCED = 4
+    GATE_WRITTEN = 5
+    PUBLISHED = 6  # of a job: it is done
+    KEPT_WRITTEN = 7
+    KEPT_SYNCED = 8
 
 
 class Refused(Exception):
@@ -47,18 +64,218 @@ class Refused(Exception):
         self.second = second
 
 
-_NAMES = {
-    -1: "Pending", -2: "Closed", -3: "Unknown", -5: "NoMemory", -6: "Failed", -7: "Stranger",
-    -8: "Conflict", -9: "HeapFull", -10: "StatusFull", -11: "ClockEnd", -12: "Missing",
-    -13: "TooManyKeys", -14: "BadValue", -15: "BeforeKept", -16: "NotYet", -17: "EmptyInterval",
-    -18: "Damaged", -19: "NotAStore", -20: "Busy", -21: "JobBusy", -22: "NothingToDo",
-    -23: "ArchiveFull", -24: "BadSlots", -25: "InUse", -26: "NeedsArchive", -100: "System",
-    -101: "Locked", -102: "Occupied", _IN_DOUBT: "InDoubt",
-}  # fmt: skip
-_FAULTS: dict[int, type[Refused]] = {
-    code: type(name, (Refused,), {"code": code, "__module__": __name__}) for code, name in _NAMES.items()
-}
-globals().update({fault.__name__: fault for fault in _FAULTS.values()})
+class Waiting(Refused):
+    """Memory was refused amid a commit, which waits: a later flush publishes it."""
+
+    code = 2
+    ticket: "Ticket"
+
+
+class InDoubt(Refused):
+    """The device failed before the commit was published: opened again, the store has it or not."""
+
+    code = 4
+
+
+class Pending(Refused):
+    """The last device call was not made yet."""
+
+    code = -1
+
+
+class Closed(Refused):
+    """No store is open."""
+
+    code = -2
+
+
+class Unknown(Refused):
+    """No such transaction, ticket or view: it was given back."""
+
+    code = -3
+
+
+class NoMemory(Refused):
+    """Memory was refused."""
+
+    code = -5
+
+
+class Failed(Refused):
+    """A device call was refused, now or before."""
+
+    code = -6
+
+
+class Stranger(Refused):
+    """A transaction, ticket or view of another store."""
+
+    code = -7
+
+
+class Conflict(Refused):
+    """Another transaction wrote a record too, and was first: `relation` and `record` name it."""
+
+    code = -8
+
+    @property
+    def relation(self) -> int:
+        """The relation of the least such record."""
+        return self.first
+
+    @property
+    def record(self) -> int:
+        """Its number."""
+        return self.second
+
+
+class HeapFull(Refused):
+    """The records need more extents than are free."""
+
+    code = -9
+
+
+class StatusFull(Refused):
+    """Too few slots of the status log are left."""
+
+    code = -10
+
+
+class ClockEnd(Refused):
+    """No commit time is left."""
+
+    code = -11
+
+
+class Missing(Refused):
+    """A delete of a record that has no value."""
+
+    code = -12
+
+
+class TooManyKeys(Refused):
+    """A transaction writes at most 1,024 records."""
+
+    code = -13
+
+
+class BadValue(Refused):
+    """A value has 1 to 16 fields of at most 255 bytes."""
+
+    code = -14
+
+
+class BeforeKept(Refused):
+    """History before the floor may be gone."""
+
+    code = -15
+
+    @property
+    def floor(self) -> int:
+        """The time of the floor."""
+        return self.first
+
+
+class NotYet(Refused):
+    """The time is after the last commit: a later one may change the answer."""
+
+    code = -16
+
+    @property
+    def last(self) -> int:
+        """The time of the last commit."""
+        return self.first
+
+
+class EmptyInterval(Refused):
+    """An interval that ends where it begins, or before."""
+
+    code = -17
+
+
+class Damaged(Refused):
+    """The files are not what a stop can leave."""
+
+    code = -18
+
+    @property
+    def place(self) -> int:
+        """The place of what breaks a rule, in bytes."""
+        return self.first
+
+
+class NotAStore(Refused):
+    """The folder has no store."""
+
+    code = -19
+
+
+class Busy(Refused):
+    """One slot is in the writing at a time: pump the other one."""
+
+    code = -20
+
+
+class JobBusy(Refused):
+    """An archive, a reclaim or a floor is being made."""
+
+    code = -21
+
+
+class NothingToDo(Refused):
+    """All of it is archived or reclaimed, or the floor is as late."""
+
+    code = -22
+
+
+class ArchiveFull(Refused):
+    """The archive is full."""
+
+    code = -23
+
+
+class BadSlots(Refused):
+    """A store has 16 to 65,536 slots."""
+
+    code = -24
+
+
+class InUse(Refused):
+    """An open transaction reads below that."""
+
+    code = -25
+
+    @property
+    def snapshot(self) -> int:
+        """The time of the least open snapshot."""
+        return self.first
+
+
+class NeedsArchive(Refused):
+    """The answer needs the archive."""
+
+    code = -26
+
+
+class System(Refused):
+    """The system refused a call."""
+
+    code = -100
+
+
+class Locked(Refused):
+    """Another process has the store open."""
+
+    code = -101
+
+
+class Occupied(Refused):
+    """A store, or something else, stands there."""
+
+    code = -102
+
+
+_FAULTS = {fault.code: fault for fault in Refused.__subclasses__()}
 
 
 class _Handle(ctypes.Structure):
@@ -66,6 +283,8 @@ class _Handle(ctypes.Structure):
 
 
 class _Info(ctypes.Structure):
+    a: int
+    b: int
     _fields_ = [("a", ctypes.c_uint64), ("b", ctypes.c_uint64)]
 
 
@@ -81,6 +300,11 @@ class Row(NamedTuple):
     end: int
     fields: Fields
 
+    @property
+    def moments(self) -> tuple[datetime, datetime]:
+        """Start and end as `datetime`s in UTC."""
+        return moment(self.start), moment(self.end)
+
 
 def _prototypes() -> dict[str, list[Any]]:
     u64, u16, size, buf = ctypes.c_uint64, ctypes.c_uint16, ctypes.c_size_t, ctypes.c_void_p
@@ -89,29 +313,51 @@ def _prototypes() -> dict[str, list[Any]]:
     lent = [buf, size]
     rows = [ctypes.POINTER(_Row), size, *out]
     return {
-        "ts_last": [handle, info], "ts_begin": [handle, info],
-        "ts_put": [handle, u64, u16, u64, text, size], "ts_delete": [handle, u64, u16, u64],
-        "ts_get": [handle, u64, u16, u64, *out], "ts_scan": [handle, u64, u16, *rows],
-        "ts_submit": [handle, u64, u64, u64, info], "ts_abort": [handle, u64],
-        "ts_redeem": [handle, u64, info], "ts_give_up": [handle, u64],
-        "ts_view": [handle, info], "ts_end": [handle, u64],
-        "ts_recent": [handle, u64, u16, u64, u64, *out], "ts_at": [handle, u64, u16, u64, u64, *lent, *out],
+        "ts_last": [handle, info],
+        "ts_begin": [handle, info],
+        "ts_put": [handle, u64, u16, u64, text, size],
+        "ts_delete": [handle, u64, u16, u64],
+        "ts_get": [handle, u64, u16, u64, *out],
+        "ts_scan": [handle, u64, u16, *rows],
+        "ts_submit": [handle, u64, u64, u64, info],
+        "ts_abort": [handle, u64],
+        "ts_redeem": [handle, u64, info],
+        "ts_give_up": [handle, u64],
+        "ts_view": [handle, info],
+        "ts_end": [handle, u64],
+        "ts_recent": [handle, u64, u16, u64, u64, *out],
+        "ts_at": [handle, u64, u16, u64, u64, *lent, *out],
         "ts_scan_at": [handle, u64, u16, u64, *lent, *rows],
         "ts_between": [handle, u64, u16, u64, u64, u64, *lent, *rows],
         "ts_scan_between": [handle, u64, u16, u64, u64, *lent, *rows],
-        "ts_times_of": [handle, u64, buf, size, info], "ts_archive": [handle, u64, info],
-        "ts_reclaim": [handle, info], "ts_floor": [handle, u64, info],
+        "ts_times_of": [handle, u64, buf, size, info],
+        "ts_archive": [handle, u64, info],
+        "ts_reclaim": [handle, info],
+        "ts_floor": [handle, u64, info],
         "ts_file_archive": [buf, ctypes.POINTER(buf), ctypes.POINTER(size)],
-        "ts_file_format": [text, ctypes.c_uint32], "ts_file_open": [text, ctypes.POINTER(buf), info],
-        "ts_file_pump": [buf, info], "ts_file_job_pump": [buf, info], "ts_file_flush": [buf],
-        "ts_file_job": [buf], "ts_file_refuse": [buf, u64],
-    }  # fmt: skip
+        "ts_file_format": [text, ctypes.c_uint32],
+        "ts_file_open": [text, ctypes.POINTER(buf), info],
+        "ts_file_pump": [buf, info],
+        "ts_file_job_pump": [buf, info],
+        "ts_file_flush": [buf],
+        "ts_file_job": [buf],
+        "ts_file_refuse": [buf, u64],
+    }
+
+
+def _path() -> str:
+    """Where the library is: named, beside this file, installed with it, or known to the system."""
+    if named := os.environ.get("TIMESTORE_LIBRARY"):
+        return named
+    folder = Path(__file__).resolve().parent
+    for found in (folder / "libtimestore.so", folder / "../../../lib/libtimestore.so.0"):
+        if found.exists():
+            return str(found)
+    return "libtimestore.so.0"
 
 
 def _load() -> ctypes.CDLL:
-    beside = Path(__file__).resolve().parent / "libtimestore.so"
-    path = os.environ.get("TIMESTORE_LIBRARY") or (str(beside) if beside.exists() else "libtimestore.so.0")
-    library = ctypes.CDLL(path, use_errno=True)
+    library = ctypes.CDLL(_path(), use_errno=True)
     for name, types in _prototypes().items():
         function = getattr(library, name)
         function.argtypes, function.restype = types, ctypes.c_int32
@@ -130,10 +376,21 @@ def _ask(code: int, info: _Info | None = None) -> int:
     if code >= 0 and code != _IN_DOUBT:
         return code
     text = _library.ts_text(code).decode()
-    if code == -100:
+    if code == System.code:
         text = os.strerror(ctypes.get_errno())
     first, second = (info.a, info.b) if info else (0, 0)
     raise _FAULTS.get(code, Refused)(text, first, second)
+
+
+def _number(number: int, bits: int = 64) -> int:
+    """The number, which C would cut to so many bits."""
+    if not 0 <= number < 1 << bits:
+        raise ValueError(f"{number} is not from 0 to 2^{bits} - 1")
+    return number
+
+
+def _key(relation: int, record: int) -> tuple[int, int]:
+    return _number(relation, 16), _number(record)
 
 
 def micros(time: Time) -> int:
@@ -141,18 +398,18 @@ def micros(time: Time) -> int:
     if isinstance(time, datetime):
         if time.tzinfo is None:
             raise ValueError("a time without its zone")
-        return (time - _EPOCH) // timedelta(microseconds=1)
-    return time
+        time = (time - _EPOCH) // timedelta(microseconds=1)
+    return _number(time)
 
 
 def moment(time: int) -> datetime:
-    """The `datetime` of a time, in UTC."""
+    """The `datetime` of a time, in UTC. `OverflowError` behind the year 9999."""
     return _EPOCH + timedelta(microseconds=time)
 
 
 def _spelled(fields: tuple[bytes, ...]) -> bytes:
     if not 1 <= len(fields) <= 16 or any(len(field) > 255 for field in fields):
-        raise _FAULTS[-14]("bad value")
+        raise BadValue("bad value")
     return bytes([len(fields)]) + b"".join(bytes([len(field)]) + field for field in fields)
 
 
@@ -160,18 +417,20 @@ def _fields(value: bytes) -> Fields:
     at, fields = 1, []
     for _ in range(value[0]):
         end = at + 1 + value[at]
-        fields.append(value[at + 1 : end])
+        fields.append(value[at + 1:end])
         at = end
     return tuple(fields)
 
 
 def make(folder: str | os.PathLike[str], slots: int = 1024) -> None:
     """Makes a store with 16 to 65,536 slots in a folder that is there."""
+    if not 16 <= slots <= 65_536:
+        raise BadSlots("bad slots")
     _ask(_library.ts_file_format(os.fsencode(folder), slots))
 
 
 class Store:
-    """An open store."""
+    """An open store. As a context it is closed at its end."""
 
     def __init__(self, folder: str | os.PathLike[str]) -> None:
         self._info = _Info()
@@ -182,10 +441,11 @@ class Store:
         _ask(_library.ts_file_open(os.fsencode(folder), file, self._info), self._info)
         self._file = file
         self._at = _library.ts_file_store(file)
+        _opened.add(self)
 
     @property
     def _handle(self) -> Any:
-        """The handle of the library. A call lets other threads run, so none of them may make one too."""
+        """The library's handle. A call lets other threads run, so none of them may make one."""
         if threading.get_ident() != self._owner:
             raise RuntimeError("a store stays on the thread that opened it")
         return self._at
@@ -198,8 +458,16 @@ class Store:
 
     def _end(self) -> None:
         _library.ts_file_close(self._file)
+        self._forget()
+
+    def _forget(self) -> None:
         self._file = None
         self._at = ctypes.pointer(_Handle())
+
+    @property
+    def _is_own(self) -> bool:
+        """Whether it is open and on this thread."""
+        return self._file is not None and threading.get_ident() == self._owner
 
     def __enter__(self) -> Self:
         return self
@@ -217,7 +485,7 @@ class Store:
 
     def _of_file(self) -> ctypes.c_void_p:
         if self._file is None:
-            raise _FAULTS[-2]("no store is open")
+            raise Closed("no store is open")
         _ = self._handle
         return self._file
 
@@ -242,10 +510,10 @@ class Store:
         """Publishes what waits."""
         _ask(_library.ts_file_flush(self._of_file()))
 
-    def pump(self) -> tuple[int, int]:
-        """One step of the group that is being written: what it did, and how many commits are published."""
+    def pump(self) -> tuple[Step, int]:
+        """One step of the group that is written: what it did, how many commits are published."""
         _ask(_library.ts_file_pump(self._of_file(), self._info))
-        return self._info.a, self._info.b
+        return Step(self._info.a), self._info.b
 
     def view(self) -> "View":
         """What is published now, which later commits do not change."""
@@ -253,21 +521,31 @@ class Store:
         return View(self, self._info.a)
 
     def at(self, relation: int, record: int, time: Time) -> Fields | None:
-        """The value of a record at a time."""
+        """The value of a record at a time, None where it had none."""
         with self.view() as view:
             return view.at(relation, record, time)
 
-    def between(self, relation: int, record: int, start: Time, end: Time) -> list[Row]:
-        """What stood in a record from one time up to another."""
+    def scan_at(self, relation: int, time: Time) -> Iterator[tuple[int, Fields]]:
+        """The records of a relation that have a value at a time, in rising order."""
         with self.view() as view:
-            return list(view.between(relation, record, start, end))
+            return view.scan_at(relation, time)
+
+    def between(self, relation: int, record: int, start: Time, end: Time) -> Iterator[Row]:
+        """What stood in a record from one time up to another, by rising time."""
+        with self.view() as view:
+            return view.between(relation, record, start, end)
+
+    def scan_between(self, relation: int, start: Time, end: Time) -> Iterator[Row]:
+        """The same of a relation's records, by record and then by time."""
+        with self.view() as view:
+            return view.scan_between(relation, start, end)
 
     def times_of(self, label: int) -> list[int]:
         """The times of the commits with a label, rising."""
         room = 16
         while True:
             times = (ctypes.c_uint64 * room)()
-            code = _library.ts_times_of(self._handle, label, times, room, self._info)
+            code = _library.ts_times_of(self._handle, _number(label), times, room, self._info)
             if code != _SMALL:
                 _ask(code, self._info)
                 return list(times[: self._info.a])
@@ -276,7 +554,7 @@ class Store:
     def archive(self, upto: Time) -> None:
         """Copies what ended by a time into the archive."""
         self.archive_start(upto)
-        _ask(_library.ts_file_job(self._of_file()))
+        self.job()
 
     def archive_start(self, upto: Time) -> None:
         """Begins that copy, of which `job_pump` takes each step."""
@@ -285,16 +563,16 @@ class Store:
     def reclaim(self) -> None:
         """Gives up in the heap and in memory what is archived."""
         self.reclaim_start()
-        _ask(_library.ts_file_job(self._of_file()))
+        self.job()
 
     def reclaim_start(self) -> None:
         """Begins that, of which `job_pump` takes each step."""
         self._ask(_library.ts_reclaim)
 
     def raise_floor(self, time: Time) -> None:
-        """Raises the floor to a time: views that are taken then answer `BeforeKept` at an earlier one."""
+        """Raises the floor to a time: views from then on answer `BeforeKept` at an earlier one."""
         self.floor_start(time)
-        _ask(_library.ts_file_job(self._of_file()))
+        self.job()
 
     def floor_start(self, time: Time) -> None:
         """Begins that, of which `job_pump` takes each step."""
@@ -306,10 +584,14 @@ class Store:
         _ask(_library.ts_file_archive(self._of_file(), at, size))
         return at, size
 
-    def job_pump(self) -> int:
-        """One step of the job that is being made: what it did, 0 where there is none."""
+    def job(self) -> None:
+        """All steps of the job that is being made."""
+        _ask(_library.ts_file_job(self._of_file()))
+
+    def job_pump(self) -> Step:
+        """One step of the job that is being made: what it did."""
         _ask(_library.ts_file_job_pump(self._of_file(), self._info))
-        return self._info.a
+        return Step(self._info.a)
 
     def refuse(self, call: int) -> None:
         """For tests: the device call of this number from now on, from 1, is refused."""
@@ -319,7 +601,10 @@ class Store:
         code = self._ask(function, *args, self._value, _VALUE_MOST)
         return None if code == _NONE else _fields(self._value.raw[: self._info.a])
 
-    def _rows(self, function: Callable[..., int], *args: int, lends: bool = False) -> Iterator[Row]:
+    def _rows(
+        self, function: Callable[..., int], *args: int, lends: bool = False
+    ) -> Iterator[Row]:
+        """What a call finds: it is asked at once, and each row made as it is taken."""
         count, room = 64, 4096
         while True:
             rows, out = (_Row * count)(), ctypes.create_string_buffer(room)
@@ -329,13 +614,27 @@ class Store:
                 break
             count, room = max(self._info.a, 1), max(self._info.b, 1)
         _ask(code, self._info)
-        found, used = self._info.a, out.raw[: self._info.b]
-        for row in rows[:found]:
-            yield Row(row.record, row.start, row.end, _fields(used[row.at : row.at + row.len]))
+        found, used = rows[: self._info.a], out.raw[: self._info.b]
+        return (
+            Row(row.record, row.start, row.end, _fields(used[row.at:row.at + row.len]))
+            for row in found
+        )
+
+
+_opened: weakref.WeakSet[Store] = weakref.WeakSet()
+
+
+def _forget_all() -> None:
+    """In the child of a fork, which would write the files beside its parent."""
+    for store in _opened:
+        store._forget()
+
+
+os.register_at_fork(after_in_child=_forget_all)
 
 
 class Ticket:
-    """A commit that waits, or is published."""
+    """A commit that waits, or is published. One that is let go is given up."""
 
     def __init__(self, store: Store, number: int) -> None:
         self._store = store
@@ -344,7 +643,7 @@ class Ticket:
     def redeem(self) -> int | None:
         """The time of the commit once it is published, else None. Then the ticket is spent."""
         if self._number is None:
-            raise _FAULTS[-3]("unknown")
+            raise Unknown("unknown")
         number, self._number = self._number, None
         code = self._store._ask(_library.ts_redeem, number)
         if code == _WAITING:
@@ -358,9 +657,17 @@ class Ticket:
             _ask(_library.ts_give_up(self._store._handle, self._number))
             self._number = None
 
+    def __del__(self) -> None:
+        if self._number is not None and self._store._is_own:
+            self.give_up()
+
 
 class Transaction:
-    """An open transaction: what it reads is its snapshot with its own writes over it."""
+    """An open transaction: what it reads is its snapshot with its own writes over it.
+
+    As a context it is committed at its end, or given up where an exception ends it; so it is too
+    where it is let go. `snapshot` is the time of its snapshot, `time` that of its commit.
+    """
 
     def __init__(self, store: Store, number: int, snapshot: int, label: int, now: Time) -> None:
         self._store = store
@@ -372,49 +679,58 @@ class Transaction:
 
     def _open(self) -> int:
         if self._number is None:
-            raise _FAULTS[-3]("unknown")
+            raise Unknown("unknown")
         return self._number
 
     def put(self, relation: int, record: int, *fields: bytes) -> None:
         """Writes a value of 1 to 16 fields."""
-        value = _spelled(fields)
-        _ask(_library.ts_put(self._store._handle, self._open(), relation, record, value, len(value)))
+        key, value = _key(relation, record), _spelled(fields)
+        handle, number = self._store._handle, self._open()
+        _ask(_library.ts_put(handle, number, *key, value, len(value)))
 
     def delete(self, relation: int, record: int) -> None:
         """Deletes a record that has a value."""
-        _ask(_library.ts_delete(self._store._handle, self._open(), relation, record))
+        key = _key(relation, record)
+        _ask(_library.ts_delete(self._store._handle, self._open(), *key))
 
     def get(self, relation: int, record: int) -> Fields | None:
         """The value that the transaction sees."""
-        return self._store._read(_library.ts_get, self._open(), relation, record)
+        return self._store._read(_library.ts_get, self._open(), *_key(relation, record))
 
     def scan(self, relation: int) -> Iterator[tuple[int, Fields]]:
         """The records of a relation with their values, in rising order."""
-        for row in self._store._rows(_library.ts_scan, self._open(), relation):
-            yield row.record, row.fields
+        rows = self._store._rows(_library.ts_scan, self._open(), _number(relation, 16))
+        return ((row.record, row.fields) for row in rows)
 
     def submit(self, label: int | None = None, now: Time | None = None) -> Ticket | None:
         """Queues the writes as a commit; None where there are none. The transaction is over."""
+        label = _number(self._label if label is None else label)
+        time = micros(self._now if now is None else now)
         number, self._number = self._open(), None
-        label = self._label if label is None else label
-        code = self._store._ask(_library.ts_submit, number, label, micros(self._now if now is None else now))
+        code = self._store._ask(_library.ts_submit, number, label, time)
         if code == _READ_ONLY:
             return None
         return Ticket(self._store, self._store._info.a)
 
     def commit(self, label: int | None = None, now: Time | None = None) -> int | None:
-        """Submits, publishes, and gives the commit's time; None where nothing was written."""
+        """Submits, publishes, and gives the commit's time; None where nothing was written.
+
+        `InDoubt` where the device failed on the way, `Waiting` where memory was refused there; any
+        other refusal says that nothing was committed.
+        """
         ticket = self.submit(label, now)
         if ticket is None:
             return None
+        refusal = None
         try:
             self._store.flush()
-        except Refused:
-            self.time = ticket.redeem()
-            if self.time is None:
-                raise
-            return self.time
+        except Refused as why:  # the ticket says what became of the commit
+            refusal = why
         self.time = ticket.redeem()
+        if self.time is None:
+            waiting = Waiting("waiting")
+            waiting.ticket = ticket
+            raise waiting from refusal
         return self.time
 
     def abort(self) -> None:
@@ -423,11 +739,18 @@ class Transaction:
             _ask(_library.ts_abort(self._store._handle, self._number))
             self._number = None
 
+    def __del__(self) -> None:
+        if self._number is not None and self._store._is_own:
+            self.abort()
+
     def __enter__(self) -> Self:
         return self
 
     def __exit__(
-        self, kind: type[BaseException] | None, why: BaseException | None, trace: TracebackType | None
+        self,
+        kind: type[BaseException] | None,
+        why: BaseException | None,
+        trace: TracebackType | None,
     ) -> None:
         if kind is not None:
             self.abort()
@@ -436,7 +759,7 @@ class Transaction:
 
 
 class View:
-    """What was published at one moment."""
+    """What was published at one moment. As a context, or let go, it is given back."""
 
     def __init__(self, store: Store, number: int) -> None:
         self._store = store
@@ -444,38 +767,45 @@ class View:
 
     def _open(self) -> int:
         if self._number is None:
-            raise _FAULTS[-3]("unknown")
+            raise Unknown("unknown")
         return self._number
 
     def at(self, relation: int, record: int, time: Time) -> Fields | None:
         """The value of a record at a time, None where it had none."""
+        key, at = _key(relation, record), micros(time)
         number, lent = self._open(), self._store._archive()
-        return self._store._read(_library.ts_at, number, relation, record, micros(time), *lent)
+        return self._store._read(_library.ts_at, number, *key, at, *lent)
 
     def recent(self, relation: int, record: int, time: Time) -> Fields | None:
         """The same from memory alone: `NeedsArchive` at a time before the view's last reclaim."""
-        return self._store._read(_library.ts_recent, self._open(), relation, record, micros(time))
+        key, at = _key(relation, record), micros(time)
+        return self._store._read(_library.ts_recent, self._open(), *key, at)
 
     def scan_at(self, relation: int, time: Time) -> Iterator[tuple[int, Fields]]:
         """The records of a relation that have a value at a time, in rising order."""
-        for row in self._store._rows(_library.ts_scan_at, self._open(), relation, micros(time), lends=True):
-            yield row.record, row.fields
+        args = self._open(), _number(relation, 16), micros(time)
+        rows = self._store._rows(_library.ts_scan_at, *args, lends=True)
+        return ((row.record, row.fields) for row in rows)
 
     def between(self, relation: int, record: int, start: Time, end: Time) -> Iterator[Row]:
         """What stood in a record from one time up to another, by rising time."""
-        times = micros(start), micros(end)
-        return self._store._rows(_library.ts_between, self._open(), relation, record, *times, lends=True)
+        args = self._open(), *_key(relation, record), micros(start), micros(end)
+        return self._store._rows(_library.ts_between, *args, lends=True)
 
     def scan_between(self, relation: int, start: Time, end: Time) -> Iterator[Row]:
         """The same of a relation's records, by record and then by time."""
-        times = micros(start), micros(end)
-        return self._store._rows(_library.ts_scan_between, self._open(), relation, *times, lends=True)
+        args = self._open(), _number(relation, 16), micros(start), micros(end)
+        return self._store._rows(_library.ts_scan_between, *args, lends=True)
 
     def end(self) -> None:
         """Gives the view back."""
         if self._number is not None and self._store._file is not None:
             _ask(_library.ts_end(self._store._handle, self._number))
         self._number = None
+
+    def __del__(self) -> None:
+        if self._number is not None and self._store._is_own:
+            self.end()
 
     def __enter__(self) -> Self:
         return self

@@ -1,14 +1,19 @@
 """The Python module's calls: calls.py FOLDER."""
 
+import os
 import sys
+from collections.abc import Callable
 from concurrent.futures import ThreadPoolExecutor
 from datetime import datetime, timezone
 from pathlib import Path
+from typing import TypeVar
 
 import timestore
 
+Fault = TypeVar("Fault", bound=Exception)
 
-def refuses(fault: type[timestore.Refused], call, *args) -> timestore.Refused:
+
+def refuses(fault: type[Fault], call: Callable[..., object], *args: object) -> Fault:
     try:
         call(*args)
     except fault as why:
@@ -29,6 +34,7 @@ def test_values(store: timestore.Store) -> None:
         assert view.at(2, 199, time)[2] == b"\xc7"
         rows = list(view.scan_between(2, 0, time + 1))
         assert len(rows) == 200 and rows[3] == (3, time, time + 1, (b"x" * 255, b"", b"\3"))
+        assert rows[3].moments[0] == datetime(2020, 1, 1, tzinfo=timezone.utc)
         assert list(view.between(2, 3, 0, time + 1)) == [rows[3]]
     refuses(timestore.Unknown, view.at, 2, 1, time)
     for fields in ((), (b"x" * 256,), (b"",) * 17):
@@ -50,7 +56,7 @@ def test_transactions(store: timestore.Store) -> None:
     ticket = first.submit(2)
     assert ticket.redeem() is None
     why = refuses(timestore.Conflict, second.submit)
-    assert (why.first, why.second, why.code) == (2, 5, -8)
+    assert (why.relation, why.record, why.code) == (2, 5, -8)
     store.flush()
     assert ticket.redeem() == store.last
     refuses(timestore.Unknown, ticket.redeem)
@@ -78,11 +84,11 @@ def test_refused_call(folder: Path) -> None:
             assert view.at(2, 5, store.times_of(1)[0]) == first
             assert len(list(view.scan_at(2, store.times_of(1)[0]))) == 200
             assert len(list(view.between(2, 5, 0, before + 1))) == 2
-            assert refuses(timestore.NotYet, store.raise_floor, before + 1).first == before
+            assert refuses(timestore.NotYet, store.raise_floor, before + 1).last == before
             store.raise_floor(before)
             assert store.floor == before
             refuses(timestore.NothingToDo, store.raise_floor, before)
-            assert refuses(timestore.BeforeKept, store.at, 2, 5, before - 1).first == before
+            assert refuses(timestore.BeforeKept, store.at, 2, 5, before - 1).floor == before
             assert store.at(2, 5, before) == (b"first",)
             assert view.at(2, 5, store.times_of(1)[0]) == first
         store.refuse(3)
@@ -97,6 +103,54 @@ def test_refused_call(folder: Path) -> None:
     with timestore.Store(folder) as store:
         assert store.floor == before
         assert store.at(2, 5, before) == (b"first",)
+
+
+def test_numbers(store: timestore.Store) -> None:
+    """What C would cut to its bits is refused, and changes nothing."""
+    with store.begin() as txn:
+        for key in ((65_536, 1), (-1, 1), (1, 1 << 64), (1, -1)):
+            refuses(ValueError, txn.put, *key, b"cut")
+            refuses(ValueError, txn.get, *key)
+        refuses(ValueError, txn.scan, 65_538)
+        refuses(ValueError, txn.submit, 1 << 64)
+        refuses(ValueError, txn.submit, 1, datetime(1969, 12, 31, tzinfo=timezone.utc))
+        refuses(ValueError, txn.submit, 1, datetime(2020, 1, 1))
+        assert txn.commit() is None
+    with store.view() as view:
+        refuses(ValueError, view.at, 2, 5, -1)
+        refuses(ValueError, view.between, 2, 5, 0, 1 << 64)
+        # A query is asked when it is called, not once its rows are taken.
+        assert refuses(timestore.NotYet, view.between, 2, 5, 0, store.last + 2).last == store.last
+        refuses(timestore.EmptyInterval, view.scan_between, 2, 5, 5)
+        rows = view.scan_at(2, store.last)
+    assert len(list(rows)) == 200
+
+
+def test_let_go(store: timestore.Store) -> None:
+    """More than 65,536 may be taken where none is kept: what is let go is given back."""
+    for _ in range(70_000):
+        store.view()
+    for number in range(70_000):
+        store.begin()
+    assert [*store.scan_between(2, 0, 1)] == []
+    assert sum(1 for _ in store.scan_at(2, store.last)) == 200
+
+
+def test_fork(store: timestore.Store) -> None:
+    """In the child of a fork the store is closed, and in its parent it is not."""
+    with store.view() as view:
+        child = os.fork()
+        if child == 0:
+            try:
+                refuses(timestore.Closed, store.begin)
+                refuses(timestore.Closed, store.flush)
+                store.close()
+                view.end()
+            except BaseException:
+                os._exit(1)
+            os._exit(0)
+        assert os.waitpid(child, 0)[1] == 0
+        assert view.at(2, 5, store.last) is not None
 
 
 def test_threads(store: timestore.Store) -> None:
@@ -122,7 +176,10 @@ def main() -> None:
     with timestore.Store(folder) as store:
         test_values(store)
         test_transactions(store)
+        test_numbers(store)
+        test_let_go(store)
         test_threads(store)
+        test_fork(store)
     test_refused_call(folder)
 
 

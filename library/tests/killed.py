@@ -1,4 +1,5 @@
-"""A host that is killed amid commits: killed.py FOLDER. What it was answered as done is there."""
+"""A host that is killed amid commits, archives, reclaims and floors: killed.py FOLDER. What it was answered as
+done is there, of a floor too."""
 
 import os
 import random
@@ -11,18 +12,39 @@ from pathlib import Path
 import timestore
 
 ROUNDS = 8
+KEPT = 40  # times behind the last commit that are never given up
+RECORDS = 5
+
+
+def commit(store: timestore.Store, number: int) -> None:
+    """A number in two records; it is told once it is done."""
+    txn = store.begin()
+    txn.put(1, 7, str(number).encode())
+    txn.put(1, number % RECORDS + 10, str(number).encode())
+    print("done", txn.commit(9, number), flush=True)
+
+
+def vacuum(store: timestore.Store, number: int) -> None:
+    """An archive and a reclaim of all, and a floor, which is told once it is raised."""
+    store.archive(number)
+    store.reclaim()
+    if number > KEPT:
+        store.raise_floor(number - KEPT)
+        print("floor", store.floor, flush=True)
 
 
 def write(folder: str) -> None:
-    """Commits numbers until it is killed, each in two records, and tells each once it is done."""
+    """Commits numbers, and makes a vacuum behind every tenth, until it is killed."""
     with timestore.Store(folder) as store:
         number = store.last
         while True:
             number += 1
-            txn = store.begin()
-            txn.put(1, 7, str(number).encode())
-            txn.put(1, number % 5 + 10, str(number).encode())
-            print(txn.commit(9, number), flush=True)
+            commit(store, number)
+            if number % 10 == 0:
+                try:
+                    vacuum(store, number)
+                except timestore.NothingToDo:
+                    continue
 
 
 def round_trip(folder: Path, wait: float) -> int:
@@ -31,16 +53,20 @@ def round_trip(folder: Path, wait: float) -> int:
         first = host.stdout.readline()
         time.sleep(wait)
         os.kill(host.pid, signal.SIGKILL)
-        told = [first, *host.stdout.read().split(b"\n")]
-    done = max(int(line) for line in told if line.strip().isdigit())
+        told = [first, host.stdout.read()]
+    # The last line may be cut.
+    lines = [line.split() for line in b"".join(told).split(b"\n")[:-1]]
+    done = max(int(number) for word, number in lines if word == b"done")
+    floor = max((int(number) for word, number in lines if word == b"floor"), default=0)
     with timestore.Store(folder) as store:
         last = store.last
         assert last in (done, done + 1), (last, done)
+        assert floor <= store.floor <= max(floor, last - KEPT), (floor, store.floor, last)
         with store.view() as view:
-            for number in {max(1, last // 2), done, last}:
+            for number in range(max(1, store.floor), last + 1):
                 value = (str(number).encode(),)
                 assert view.at(1, 7, number) == value
-                assert view.at(1, number % 5 + 10, number) == value
+                assert view.at(1, number % RECORDS + 10, number) == value
     return last
 
 
@@ -50,7 +76,7 @@ def main() -> None:
     timestore.make(folder, 65536)
     chance, last = random.Random(7), 0
     for _ in range(ROUNDS):
-        now = round_trip(folder, chance.uniform(0.005, 0.1))
+        now = round_trip(folder, chance.uniform(0.005, 0.2))
         assert now > last
         last = now
 

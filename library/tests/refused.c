@@ -31,12 +31,21 @@ static void redeem_two(ts *h, const uint64_t *tickets, outcome *so_far) {
     }
 }
 
+/* A transaction that was open meanwhile is over once it is submitted, also after a refused call. */
 static int flush_two(ts_file *file, int group, outcome *so_far) {
+    ts *h = ts_file_store(file);
+    ts_info info;
     uint64_t tickets[2];
-    submit_two(ts_file_store(file), group, tickets);
+    CHECK(TS_OK, ts_begin(h, &info));
+    uint64_t open = info.a;
+    put_text(h, open, 9, "open");
+    submit_two(h, group, tickets);
     int32_t code = ts_file_flush(file);
-    redeem_two(ts_file_store(file), tickets, so_far);
+    redeem_two(h, tickets, so_far);
     HOLDS((code == TS_OK) == !so_far->refused);
+    if (code == TS_OK) CHECK(TS_OK, ts_abort(h, open));
+    else CHECK(TS_FAILED, ts_submit(h, open, 9, 0, &info));
+    CHECK(TS_UNKNOWN, ts_submit(h, open, 9, 0, &info));
     return code == TS_OK;
 }
 
@@ -87,6 +96,16 @@ static int file_has(ts_file *file, uint64_t record, uint64_t time, const char *t
     return info.a == wanted_len && memcmp(value, wanted, wanted_len) == 0;
 }
 
+/* Of the label that all commits have: the times of so many groups. */
+static void has_times(ts *h, int groups) {
+    ts_info info;
+    uint64_t times[8];
+    CHECK(TS_OK, ts_times_of(h, 9, times, 8, &info));
+    HOLDS(info.a == (uint64_t)(2 * groups));
+    for (int group = 1; group <= groups; group++)
+        HOLDS(times[2 * group - 2] == LASTS[group] - 1 && times[2 * group - 1] == LASTS[group]);
+}
+
 /* After the refusal: nothing is written, and what was published before answers. */
 static void after_refusal(ts_file *file, int done, uint64_t old_view) {
     ts *h = ts_file_store(file);
@@ -101,6 +120,7 @@ static void after_refusal(ts_file *file, int done, uint64_t old_view) {
     HOLDS(has_text(h, view.a, 7, last.a, TEXTS[done / 2][0]));
     CHECK(TS_OK, ts_end(h, view.a));
     HOLDS(has_text(h, old_view, 7, 0, NULL));
+    has_times(h, done / 2);
 }
 
 /* The calls, with the one of this number refused; how many were made. */
@@ -128,6 +148,7 @@ static void reopened(const char *folder, outcome was) {
     HOLDS(info.b == 101 || (info.b == 0 && !was.raised));
     int groups = (int)(info.a / 100);
     HOLDS(groups <= 3 && info.a == LASTS[groups] && was.done <= 2 * groups);
+    has_times(h, groups);
     for (int group = 1; group <= groups; group++)
         HOLDS(file_has(file, 7, LASTS[group], TEXTS[group][0]) && file_has(file, 8, LASTS[group], TEXTS[group][1]));
     uint64_t ticket = submit_text(h, 7, "later", 9, 400);

@@ -42,14 +42,17 @@ build() { # NAME FLAGS..
 }
 
 sanitized="-fsanitize=address,undefined -fno-sanitize-recover=all"
-if ! echo 'int main(void){return 0;}' | gcc -x c - $sanitized -o "$work/probe" 2>/dev/null; then
-    echo "gcc has no sanitizers here: the tests run without"
+# They may also be there and not run, as where no process may trace another.
+if ! { echo 'int main(void){return 0;}' | gcc -x c - $sanitized -o "$work/probe" && "$work/probe"; } > /dev/null 2>&1; then
+    echo "gcc's sanitizers do not run here: the tests run without"
     sanitized=""
 fi
-for test in rows refused; do
+for test in rows refused memory; do
     say "C, $test${sanitized:+ (address, undefined, leak)}"
+    wrapped=
+    [ "$test" != memory ] || wrapped="-Wl,--wrap=malloc,--wrap=calloc,--wrap=realloc"
     # shellcheck disable=SC2086
-    build "$test" $sanitized "$here/$test.c"
+    build "$test" $sanitized $wrapped "$here/$test.c"
     mkdir "$work/$test-folder"
     if "$work/$test" "$work/$test-folder" > "$work/said"; then
         echo "ok $(cat "$work/said")"
@@ -58,6 +61,21 @@ for test in rows refused; do
         exit 1
     fi
 done
+
+if command -v valgrind > /dev/null; then
+    say "C, rows (valgrind, which sees the proved part too)"
+    build plain "$here/rows.c"
+    mkdir "$work/valgrind-folder"
+    watched() { valgrind --quiet --leak-check=full --error-exitcode=3 "$work/plain" "$work/valgrind-folder" > "$work/watched" 2>&1 || { cat "$work/watched"; false; }; }
+    passes watched
+fi
+
+if command -v g++ > /dev/null; then
+    say "C++, the headers"
+    printf '#include <timestore_file.h>\nint main() { ts h = TS_EMPTY; return ts_close(&h) == TS_CLOSED ? 0 : 1; }\n' > "$work/plus.cc"
+    g++ -Wall -Wextra -pedantic "-I$top/include" "$work/plus.cc" "$out/libtimestore.a" -o "$work/plus"
+    passes "$work/plus"
+fi
 
 say "C, the tour"
 gcc $warnings "$top/examples/tour.c" -o "$work/tour" "$out/libtimestore.a"
@@ -70,6 +88,22 @@ refused: not yet 100
 100 101 a
 END
 
+if command -v pkg-config > /dev/null; then # what Python takes too
+    say "C, the tour over what is installed"
+    make -s -C "$top" install PREFIX="$work/installed"
+    export PKG_CONFIG_PATH="$work/installed/lib/pkgconfig"
+    # shellcheck disable=SC2046
+    gcc "$work/installed/share/doc/timestore/examples/tour.c" $(pkg-config --cflags --libs timestore) -o "$work/toured"
+    mkdir "$work/tour-installed"
+    compare env LD_LIBRARY_PATH="$work/installed/lib" "$work/toured" "$work/tour-installed" <<'END'
+snapshot 0
+done 100
+at 100: a
+refused: not yet 100
+100 101 a
+END
+fi
+
 say "C, one thread that owns the store"
 gcc $warnings -pthread "$top/examples/owner.c" -o "$work/owner" "$out/libtimestore.a"
 mkdir "$work/owner-c"
@@ -77,43 +111,10 @@ compare "$work/owner" "$work/owner-c" <<'END'
 4 threads, 100 commits; the next one came at 101
 END
 
-say "the shared library's names are its own"
-names=$(nm -D --defined-only "$out/libtimestore.so" | awk '{print $3}' | grep -v '^ts_' || true)
-echo "${names:-none other}" > "$work/names"
-passes grep -qx "none other" "$work/names"
-
-export TIMESTORE_LIBRARY="$out/libtimestore.so" PYTHONPATH="$top/python" PYTHONDONTWRITEBYTECODE=1
-say "Python, the tour"
-mkdir "$work/tour-python"
-compare python3 "$top/examples/tour.py" "$work/tour-python" <<'END'
-snapshot 0
-done 100
-at 100: (b'a',)
-refused: not yet 100
-100 101 (b'a',)
-refused: conflict 1 7
-last: 2026-01-01T00:00:00+00:00
-END
-say "Python, one thread that owns the store"
-mkdir "$work/owner-python"
-compare python3 "$top/examples/owner.py" "$work/owner-python" <<'END'
-4 threads, 100 commits, the last one at 100
-END
-say "Python, calls"
-passes python3 "$here/calls.py" "$work"
-
-say "Python, random calls beside a machine and a plain reader"
-passes python3 "$here/play.py" "$work/play" "${SEED:-1}"
-
-say "a host that is killed"
-passes python3 "$here/killed.py" "$work/killed"
-
-if [ -x "$program" ]; then
-    say "images of the library and of the program"
-    passes python3 "$here/exchanged.py" "$program" "$work/exchanged"
-else
-    echo "no program at $program: images are not exchanged"
-fi
+say "the shared library has the headers' names and no other"
+grep -ohE '\bts_[a-z_]+\(' "$top"/include/*.h | tr -d '(' | sort -u > "$work/wanted-names"
+nm -D --defined-only "$out/libtimestore.so" | awk '{print $3}' | sort > "$work/names"
+passes diff "$work/wanted-names" "$work/names"
 
 if command -v cargo > /dev/null; then
     say "Rust, the tour"
@@ -141,4 +142,57 @@ END
     passes cargo_test
 else
     echo "no cargo: the Rust crate is not tested"
+fi
+
+if ! python3 -c 'import sys; sys.exit(sys.version_info < (3, 11))'; then
+    echo "no Python 3.11: the module is not tested, nor what is tested by it"
+    exit 0
+fi
+export TIMESTORE_LIBRARY="$out/libtimestore.so" PYTHONPATH="$top/python" PYTHONDONTWRITEBYTECODE=1
+say "Python, the tour"
+mkdir "$work/tour-python"
+cat > "$work/wanted-python" <<'END'
+snapshot 0
+done 100
+at 100: (b'a',)
+refused: not yet 100
+100 101 (b'a',)
+refused: conflict 1 7
+last: 2026-01-01T00:00:00+00:00
+END
+compare python3 "$top/examples/tour.py" "$work/tour-python" < "$work/wanted-python"
+if [ -d "$work/installed" ]; then
+    say "Python, the tour over what is installed"
+    installed=$(pkg-config --variable=pythondir timestore)
+    mkdir "$work/tour-python-installed"
+    compare env -u TIMESTORE_LIBRARY PYTHONPATH="$installed" python3 "$work/installed/share/doc/timestore/examples/tour.py" "$work/tour-python-installed" < "$work/wanted-python"
+fi
+say "Python, the example of the module"
+mkdir -p "$work/doctest/reg"
+documented() { (cd "$work/doctest" && python3 -m doctest "$top/python/timestore.py"); }
+passes documented
+say "Python, one thread that owns the store"
+mkdir "$work/owner-python"
+compare python3 "$top/examples/owner.py" "$work/owner-python" <<'END'
+4 threads, 100 commits, the last one at 100
+END
+if command -v mypy > /dev/null; then
+    say "Python, types"
+    typed() { mypy --strict --cache-dir "$work/mypy" "$top/python/timestore.py" > "$work/types" || { cat "$work/types"; false; }; }
+    passes typed
+fi
+say "Python, calls"
+passes python3 "$here/calls.py" "$work"
+
+say "Python, random calls beside a machine and a plain reader"
+passes python3 "$here/play.py" "$work/play" "${SEED:-1}"
+
+say "a host that is killed"
+passes python3 "$here/killed.py" "$work/killed"
+
+if [ -x "$program" ]; then
+    say "images of the library and of the program"
+    passes python3 "$here/exchanged.py" "$program" "$work/exchanged"
+else
+    echo "no program at $program: images are not exchanged"
 fi

@@ -1,7 +1,22 @@
--- The numbers of codes.
-use Rattle.std.specs.Prelude.{◌≡◌, ℤ, pos, negsuc, Option, None, Some}
+-- Codes: their numbers, and which of them a store's answers have.
+use Rattle.std.specs.Prelude.{◌≡◌, ℕ, ℤ, pos, negsuc, Option, None, Some, Result, Ok, Err}
+use Rattle.group.specs.declared.answers.BeginFault.{BeginFault}
+use Rattle.group.specs.declared.answers.BeginFault.TheVariants as begin
+use Rattle.group.specs.declared.answers.Did.{Did}
+use Rattle.group.specs.declared.answers.Did.TheVariants as did
+use Rattle.group.specs.declared.answers.PumpFault.{PumpFault}
+use Rattle.group.specs.declared.answers.PumpFault.TheVariants as pump
+use Rattle.group.specs.declared.answers.SubmitFault.{SubmitFault}
+use Rattle.group.specs.declared.answers.SubmitFault.TheVariants as submit
+use Rattle.snapshot.specs.declared.txn.TxnFault.{TxnFault}
+use Rattle.snapshot.specs.declared.txn.TxnFault.TheVariants as txn
+use Rattle.store.specs.declared.job.JobDid.{JobDid}
+use Rattle.store.specs.declared.job.JobDid.TheVariants as job
+use Rattle.store.specs.declared.job.StartFault.{StartFault}
+use Rattle.store.specs.declared.job.StartFault.TheVariants as start
 use Rattle.embedded.specs.declared.code.Code.{Code}
 use Rattle.embedded.specs.declared.code.Code.TheVariants as code
+use Rattle.embedded.specs.declared.code.Info.{Info}
 use Rattle.embedded.specs.declared.engine.Engine.{Engine}
 
 -- 0 and more for an answer, less than 0 for a refusal
@@ -37,6 +52,68 @@ code_number code.ArchiveFull = negsuc 22
 code_number code.BadSlots = negsuc 23
 code_number code.InUse = negsuc 24
 code_number code.NeedsArchive = negsuc 25
+
+-- ---- the codes of a store's answers
+
+abbrev pub begin_code : BeginFault → Code
+begin_code begin.NoMemory = code.NoMemory
+begin_code begin.Failed = code.Failed
+
+abbrev pub txn_code : Result (Unit {0}) TxnFault → Code
+txn_code (Ok done) = code.Ok
+txn_code (Err txn.Missing) = code.Missing
+txn_code (Err txn.TooManyKeys) = code.TooManyKeys
+txn_code (Err txn.BadValue) = code.BadValue
+txn_code (Err txn.NoMemory) = code.NoMemory
+
+-- the key of a conflict is told
+abbrev pub IsSubmitCode : SubmitFault → Code → Info → Type 0
+IsSubmitCode (submit.Conflict key) said info = (said ≡ code.Conflict) × (info.a ≡ key.relation) × (info.b ≡ key.«record»)
+IsSubmitCode submit.HeapFull said info = said ≡ code.HeapFull
+IsSubmitCode submit.StatusFull said info = said ≡ code.StatusFull
+IsSubmitCode submit.ClockEnd said info = said ≡ code.ClockEnd
+IsSubmitCode submit.NoMemory said info = said ≡ code.NoMemory
+IsSubmitCode submit.Failed said info = said ≡ code.Failed
+IsSubmitCode submit.Stranger said info = said ≡ code.Stranger
+
+abbrev pub pump_code : PumpFault → Code
+pump_code pump.Busy = code.Busy
+pump_code pump.NoMemory = code.NoMemory
+pump_code pump.Failed = code.Failed
+
+-- the time of the last commit, or the least open snapshot, is told
+abbrev pub IsStartCode : StartFault → Code → Info → Type 0
+IsStartCode start.Failed said info = said ≡ code.Failed
+IsStartCode start.JobBusy said info = said ≡ code.JobBusy
+IsStartCode start.NothingToDo said info = said ≡ code.NothingToDo
+IsStartCode (start.NotYet last) said info = (said ≡ code.NotYet) × (info.a ≡ last)
+IsStartCode (start.InUse oldest) said info = (said ≡ code.InUse) × (info.a ≡ oldest)
+IsStartCode start.StatusFull said info = said ≡ code.StatusFull
+IsStartCode start.ArchiveFull said info = said ≡ code.ArchiveFull
+IsStartCode start.HeapFull said info = said ≡ code.HeapFull
+IsStartCode start.NoMemory said info = said ≡ code.NoMemory
+
+-- what a step of a group did, and how many commits are published
+abbrev pub told_did : Did → Info
+told_did did.Idle = record { a = 0; b = 0 }
+told_did did.WroteExtent = record { a = 1; b = 0 }
+told_did did.HeapSynced = record { a = 2; b = 0 }
+told_did did.BodyWritten = record { a = 3; b = 0 }
+told_did did.BodySynced = record { a = 4; b = 0 }
+told_did did.GateWritten = record { a = 5; b = 0 }
+told_did (did.Published count) = record { a = 6; b = count }
+
+-- what a step of a job did
+abbrev pub job_number : JobDid → ℕ
+job_number job.Idle = 0
+job_number job.WroteRun = 1
+job_number job.RunSynced = 2
+job_number job.BodyWritten = 3
+job_number job.BodySynced = 4
+job_number job.GateWritten = 5
+job_number job.JobDone = 6
+job_number job.WroteExtent = 7
+job_number job.HeapSynced = 8
 
 -- what a call on a handle answers: by the number of a code that the engine says, or that there is none
 abbrev pub AnswersOn : (Engine → Code → Type 0) → Option Engine → ℤ → Type 0

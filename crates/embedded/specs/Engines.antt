@@ -1,5 +1,5 @@
 -- What the calls of an engine do to its store.
-use Rattle.std.specs.Prelude.{◌≡◌, ◌≤◌, ◌⊎◌, ◌==◌, ℕ, Bool, true, false, List, length, take, Result, Ok, Err, Option, Some, None, MatchBool, MatchOption, IfSome}
+use Rattle.std.specs.Prelude.{◌≡◌, ◌≤◌, ◌⊎◌, ◌==◌, ◌&&◌, ℕ, Bool, true, false, IsTrue, ℤ, List, [], filter, length, take, nat_le, Result, Ok, Err, Option, Some, None, MatchBool, MatchOption, IfSome}
 use Rattle.disk.specs.Areas.{Areas}
 use Rattle.disk.specs.Calls.{fresh_on}
 use Rattle.group.specs.Tickets.{TicketValue}
@@ -7,12 +7,15 @@ use Rattle.group.specs.declared.answers.BeginFault.{BeginFault}
 use Rattle.group.specs.declared.answers.Did.{Did}
 use Rattle.group.specs.declared.answers.PumpFault.{PumpFault}
 use Rattle.group.specs.declared.answers.Redeemed.{Redeemed}
+use Rattle.group.specs.declared.answers.Redeemed.TheVariants as redeemed
 use Rattle.group.specs.declared.answers.Submitted.{Submitted}
+use Rattle.group.specs.declared.answers.Submitted.TheVariants.{ReadOnly, Queued}
 use Rattle.group.specs.declared.answers.SubmitFault.{SubmitFault}
 use Rattle.relay.specs.Calls.{LeadsTo}
 use Rattle.relay.specs.declared.device_call.DeviceCall.{DeviceCall}
 use Rattle.relay.specs.declared.device_call.DeviceCall.TheVariants.{Write, Sync}
 use Rattle.snapshot.specs.Txn.{TxnValue}
+use Rattle.snapshot.specs.declared.txn.TxnFault.{TxnFault}
 use Rattle.store.specs.Archives.{StartsArchive}
 use Rattle.store.specs.Calls.{Begins, Aborts, Submits, Redeems, IsTimesOf, IsViewOf, last, floor}
 use Rattle.store.specs.Floors.{StartsFloor}
@@ -23,8 +26,10 @@ use Rattle.store.specs.Reclaims.{StartsReclaim}
 use Rattle.store.specs.Values.{StoreValue}
 use Rattle.store.specs.declared.job.JobDid.{JobDid}
 use Rattle.store.specs.declared.job.StartFault.{StartFault}
+use Rattle.timequery.specs.View.{ViewValue}
 use Rattle.embedded.specs.Areas.{area_number}
-use Rattle.embedded.specs.Held.{view_under}
+use Rattle.embedded.specs.Codes.{begin_code, txn_code, IsSubmitCode, pump_code, IsStartCode, told_did, job_number, code_number}
+use Rattle.embedded.specs.Held.{transaction_under, ticket_under, view_in, named, SameNumbers, IsKept, IsTaken, IsWritten}
 use Rattle.embedded.specs.declared.code.Call.{Call}
 use Rattle.embedded.specs.declared.code.Code.{Code}
 use Rattle.embedded.specs.declared.code.Code.TheVariants as code
@@ -33,28 +38,50 @@ use Rattle.embedded.specs.declared.engine.Engine.{Engine}
 use Rattle.embedded.specs.declared.engine.Published.{Published}
 use Rattle.embedded.specs.declared.engine.Standing.{Standing}
 use Rattle.embedded.specs.declared.engine.Standing.TheVariants.{Settled, Asks, Failed}
+use Rattle.embedded.specs.declared.places.Held.TheVariants.{Transaction, Ticket, View}
+use Rattle.embedded.specs.declared.places.Places.{Places}
 
--- a device call stands out, or one was refused
-abbrev pub is_stopped : Standing → Bool
-is_stopped Settled = false
-is_stopped Asks = true
-is_stopped Failed = true
+-- ---- how an engine stands
+
+-- why nothing is asked of the store now: a device call stands out, or one was refused
+abbrev pub stopped_by : Standing → Option Code
+stopped_by Settled = None
+stopped_by Asks = Some code.Pending
+stopped_by Failed = Some code.Failed
 
 -- the store is what it was, and so is whether it is asked
 abbrev pub KeepsStore : Engine → Engine → Type 0
 KeepsStore old new = (new.store ≡ old.store) × (new.standing ≡ old.standing) × (new.before ≡ old.before)
 
--- what is done while no device call stands out and none was refused; else nothing changes
-abbrev pub WhileSettled : Engine → Engine → Type 0 → Type 0
-WhileSettled old new Does = MatchBool (is_stopped old.standing) (new ≡ old) Does
+-- and so is what stands under each number
+abbrev pub KeepsNumbers : Engine → Engine → Type 0
+KeepsNumbers old new = (new.places ≡ old.places) × (new.standing ≡ old.standing) × (new.before ≡ old.before)
 
--- this was published when the store was so
-abbrev pub WasPublished : StoreValue → Published → Type 0
-WasPublished v p = IsViewOf v p.view × (p.last ≡ last v) × (p.floor ≡ floor v)
+-- there was no memory, and nothing has changed that a call can tell
+abbrev pub IsOutOfNumbers : Engine → Code → Engine → Type 0
+IsOutOfNumbers old said new = (said ≡ code.NoMemory) × KeepsStore old new × SameNumbers old.places new.places
 
--- the device call that the store made, if it made one, stands out, and what was published before it is kept
-abbrev pub StandsOut : ℕ → Published → Engine → Engine → Type 0
-StandsOut made published old new = (new.store ≡ old.store) × MatchBool (old.store.disk.made == made) (new ≡ old) ((new.standing ≡ Asks) × (new.before ≡ Some published))
+-- what is done while no device call stands out and none was refused; else the code says why, and nothing changes
+abbrev pub WhileSettled : Engine → Code → Engine → Type 0 → Type 0
+WhileSettled old said new Does = MatchOption (stopped_by old.standing) Does (λ why. (said ≡ why) × (new ≡ old))
+
+abbrev pub asks : Standing → Bool
+asks Settled = false
+asks Asks = true
+asks Failed = false
+
+abbrev pub is_failed : Standing → Bool
+is_failed Settled = false
+is_failed Asks = false
+is_failed Failed = true
+
+-- what is done while no device call stands out
+abbrev pub UnlessAsked : Engine → Code → Engine → Type 0 → Type 0
+UnlessAsked old said new Does = MatchBool (asks old.standing) ((said ≡ code.Pending) × (new ≡ old)) Does
+
+-- there is what was named, or else nothing changes
+abbrev pub OfNumber : {T : Type 0} → Option T → Engine → Code → Engine → (T → Type 0) → Type 0
+OfNumber found old said new Does = MatchOption found ((said ≡ code.Unknown) × (new ≡ old)) Does
 
 -- a store that is opened from these bytes, with nothing made yet
 abbrev pub OpensEngine : List ℕ → List ℕ → List ℕ → ℕ → Engine → Type 0
@@ -67,67 +94,26 @@ TellsTimes Settled e result info = (result ≡ code.Ok) × (info.a ≡ last e.st
 TellsTimes Asks e result info = result ≡ code.Pending
 TellsTimes Failed e result info = MatchOption e.before (result ≡ code.Failed) (λ p. (result ≡ code.Ok) × (info.a ≡ p.last) × (info.b ≡ p.floor))
 
--- how the engine stands after that
-abbrev pub AfterCall : Bool → Standing → Standing → Type 0
-AfterCall made Settled new = new ≡ Settled
-AfterCall made Failed new = new ≡ Failed
-AfterCall true Asks new = new ≡ Settled
-AfterCall false Asks new = new ≡ Failed
+-- ---- device calls
 
--- a call that stands out was made, and the store goes on, or it was refused, and it goes on no more
-abbrev pub HasCalled : Bool → Engine → Engine → Type 0
-HasCalled made old new = (new.store ≡ old.store) × (new.places ≡ old.places) × AfterCall made old.standing new.standing
+-- this was published when the store was so
+abbrev pub WasPublished : StoreValue → Published → Type 0
+WasPublished v p = IsViewOf v p.view × (p.last ≡ last v) × (p.floor ≡ floor v)
 
--- a transaction begins; where there is no place for its number it is over at once
-abbrev pub BeginsEngine : Engine → Engine → Type 0
-BeginsEngine old new = WhileSettled old new ((answer : Result TxnValue BeginFault) × (begun : StoreValue) × Begins old.store answer begun × ((new.store ≡ begun) ⊎ ((txn : TxnValue) × Aborts begun txn new.store)))
+-- how an engine stands once its store has made a device call, by whether the disk has noted it for the host
+abbrev pub after_call : Bool → Standing
+after_call true = Asks
+after_call false = Failed
 
--- the writes of one of its transactions are queued, or it has no such transaction
-abbrev pub SubmitsEngine : ℕ → ℕ → Engine → Engine → Type 0
-SubmitsEngine label now old new = WhileSettled old new (KeepsStore old new ⊎ ((txn : TxnValue) × (answer : Result Submitted SubmitFault) × Submits old.store txn label now answer new.store))
+-- the device call that the store made, if it made one, stands out, or was refused at once; what was published before it is kept
+abbrev pub StandsOut : ℕ → ℕ → Published → Engine → Engine → Type 0
+StandsOut made refused published old new = (new.store ≡ old.store) × (new.places ≡ old.places)
+    × MatchBool (old.store.disk.made == made) (new ≡ old) ((new.standing ≡ after_call (old.store.disk.refused == refused)) × (new.before ≡ Some published))
 
--- one of its transactions is given up
-abbrev pub AbortsEngine : Engine → Engine → Type 0
-AbortsEngine old new = (txn : TxnValue) × Aborts old.store txn new.store
-
--- one of its tickets is shown to the store
-abbrev pub ShowsTicket : Engine → Engine → Type 0
-ShowsTicket old new = (ticket : TicketValue) × (answer : Redeemed) × Redeems old.store ticket answer new.store
-
--- so it is, or there is no such one
-abbrev pub RedeemsEngine : Engine → Engine → Type 0
-RedeemsEngine old new = KeepsStore old new ⊎ ShowsTicket old new
-
--- a call that stands out has what was published before it beside it
+-- a call that stands out, or was refused at once, has what was published before it beside it
 abbrev pub KeepsPublished : Engine → Engine → Type 0
-KeepsPublished old new = MatchBool (new.store.disk.made == old.store.disk.made) (new.standing ≡ old.standing) ((new.standing ≡ Asks) × IfSome new.before (WasPublished old.store))
-
--- the store takes a step of its group, and the device call that it makes stands out; or there was no memory to keep what is published, and nothing changes
-abbrev pub PumpsEngine : Engine → Engine → Type 0
-PumpsEngine old new = WhileSettled old new ((new ≡ old) ⊎ ((answer : Result Did PumpFault) × Pumps true old.store answer new.store × KeepsPublished old new))
-
--- the same of the job that runs
-abbrev pub PumpsJobOf : Engine → Engine → Type 0
-PumpsJobOf old new = WhileSettled old new ((new ≡ old) ⊎ ((answer : Result JobDid PumpFault) × PumpsJob true old.store answer new.store × KeepsPublished old new))
-
-abbrev pub ArchivesEngine : ℕ → Engine → Engine → Type 0
-ArchivesEngine upto old new = WhileSettled old new ((answer : Result (Unit {0}) StartFault) × StartsArchive old.store upto answer new.store × (new.standing ≡ old.standing))
-
--- the same of a reclaim
-abbrev pub ReclaimsEngine : Engine → Engine → Type 0
-ReclaimsEngine old new = WhileSettled old new ((answer : Result (Unit {0}) StartFault) × StartsReclaim old.store answer new.store × (new.standing ≡ old.standing))
-
--- and of a floor
-abbrev pub RaisesEngine : ℕ → Engine → Engine → Type 0
-RaisesEngine time old new = WhileSettled old new ((answer : Result (Unit {0}) StartFault) × StartsFloor old.store time answer new.store × (new.standing ≡ old.standing))
-
--- the number that is told names a view of what is published
-abbrev pub GivesView : Engine → Engine → Code → Info → Type 0
-GivesView old new said info = old.standing ≡ Settled → said ≡ code.Ok → MatchOption (view_under new info.a) ⊥ (IsViewOf old.store)
-
--- the times of the commits with a label, where they were asked for and there was room for them
-abbrev pub TellsLabels : ℕ → Engine → Code → ℕ → List ℕ → Type 0
-TellsLabels label e result count times = result ≡ code.Ok → IsTimesOf e.store label (take count times) × (count ≤ length times)
+KeepsPublished old new = (new.places ≡ old.places) × MatchBool (new.store.disk.made == old.store.disk.made) ((new.standing ≡ old.standing) × (new.before ≡ old.before))
+    ((new.standing ≡ after_call (new.store.disk.refused == old.store.disk.refused)) × MatchOption new.before ⊥ (WasPublished old.store))
 
 -- the device call as it is told
 abbrev pub IsTold : Call → DeviceCall → Type 0
@@ -138,22 +124,176 @@ IsTold told (Sync area) = (told.kind ≡ 2) × (told.area ≡ area_number area)
 abbrev pub TellsCall : Engine → Code → Call → List ℕ → Type 0
 TellsCall e said told out = said ≡ code.Ok → ∥ ((call : DeviceCall) × (before : Areas) × IsTold told call × LeadsTo call (take told.len out) before e.store.disk.areas) ∥₁
 
--- after a refused call a commit is done only if it was published before
-abbrev pub IsDoneBefore : Engine → Code → ℕ → Type 0
-IsDoneBefore e said time = said ≡ code.Ok → IfSome e.before (λ p. time ≤ p.last)
+-- a call that stands out was made, and the store goes on, or it was refused, and it goes on no more
+abbrev pub HasCalled : Bool → Engine → Code → Engine → Type 0
+HasCalled made old said new = MatchBool (asks old.standing)
+    ((new.store ≡ old.store) × (new.places ≡ old.places)
+    × MatchBool made ((said ≡ code.Ok) × (new.standing ≡ Settled) × (new.before ≡ None)) ((said ≡ code.Failed) × (new.standing ≡ Failed) × (new.before ≡ old.before)))
+    ((said ≡ code.None) × (new ≡ old))
 
--- what a call of a handle does to its engine; a handle with none stays so
-abbrev pub OnHandle : (Engine → Engine → Type 0) → Option Engine → Option Engine → Type 0
-OnHandle Does None new = new ≡ None
-OnHandle Does (Some old) new = MatchOption new ⊥ (λ engine. Does old engine)
+-- ---- transactions
+
+-- what a begin answers is told; a transaction is kept, and its snapshot told
+abbrev pub TellsBegin : Result TxnValue BeginFault → Places → Code → Info → Places → Type 0
+TellsBegin (Ok txn) old said info new = (said ≡ code.Ok) × (info.b ≡ txn.snapshot) × IsKept (Transaction txn) info.a old new
+TellsBegin (Err why) old said info new = (said ≡ begin_code why) × SameNumbers old new
+
+-- there was no memory for one more number, or a transaction begins
+abbrev pub TakesTransaction : Engine → Code → Info → Engine → Type 0
+TakesTransaction old said info new = IsOutOfNumbers old said new
+    ⊎ ((new.standing ≡ old.standing) × (new.before ≡ old.before) × ((answer : Result TxnValue BeginFault) × Begins old.store answer new.store × TellsBegin answer old.places said info new.places))
+
+abbrev pub BeginsEngine : Engine → Code → Info → Engine → Type 0
+BeginsEngine old said info new = WhileSettled old said new (TakesTransaction old said info new)
+
+-- the transaction of this number is written to so
+abbrev pub Writes : ℕ → (TxnValue → Result (Unit {0}) TxnFault → TxnValue → Type 0) → Engine → Code → Engine → Type 0
+Writes number Does old said new = OfNumber (transaction_under old number) old said new
+    (λ _. KeepsStore old new × ((outcome : Result (Unit {0}) TxnFault) × IsWritten number Does outcome old.places new.places × (said ≡ txn_code outcome)))
+
+-- what a submit answers is told; a ticket is kept
+abbrev pub TellsSubmit : Result Submitted SubmitFault → Places → Code → Info → Places → Type 0
+TellsSubmit (Ok (ReadOnly time)) old said info new = (said ≡ code.ReadOnly) × (info.a ≡ time) × (new ≡ old)
+TellsSubmit (Ok (Queued ticket)) old said info new = (said ≡ code.Ok) × IsKept (Ticket ticket) info.a old new
+TellsSubmit (Err why) old said info new = IsSubmitCode why said info × (new ≡ old)
+
+-- the writes of a transaction that was taken out are queued; after a refused call it is given up
+abbrev pub SubmitsTaken : TxnValue → ℕ → ℕ → Engine → Code → Info → Engine → Type 0
+SubmitsTaken txn label now old said info new = (new.standing ≡ old.standing) × (new.before ≡ old.before)
+    × MatchBool (is_failed old.standing) ((said ≡ code.Failed) × (new.places ≡ old.places) × Aborts old.store txn new.store)
+    ((answer : Result Submitted SubmitFault) × Submits old.store txn label now answer new.store × TellsSubmit answer old.places said info new.places)
+
+abbrev pub SubmitsEngine : ℕ → ℕ → ℕ → Engine → Code → Info → Engine → Type 0
+SubmitsEngine number label now old said info new = UnlessAsked old said new (OfNumber (transaction_under old number) old said new
+    (λ txn. (taken : Places) × IsTaken number old.places taken × SubmitsTaken txn label now (record old { places = taken }) said info new))
+
+-- a transaction that was taken out is given up
+abbrev pub AbortsTaken : TxnValue → Engine → Engine → Type 0
+AbortsTaken txn old new = KeepsNumbers old new × Aborts old.store txn new.store
+
+abbrev pub AbortsEngine : ℕ → Engine → Code → Engine → Type 0
+AbortsEngine number old said new = OfNumber (transaction_under old number) old said new
+    (λ txn. (said ≡ code.Ok) × ((taken : Places) × IsTaken number old.places taken × AbortsTaken txn (record old { places = taken }) new))
+
+-- ---- groups and tickets
+
+-- what a step of a group did is told
+abbrev pub TellsStep : Result Did PumpFault → Code → Info → Type 0
+TellsStep (Ok done) said info = (said ≡ code.Ok) × (info ≡ told_did done)
+TellsStep (Err why) said info = said ≡ pump_code why
+
+-- the store takes a step of its group, and the device call that it makes stands out; or there was no memory to keep what is published, and nothing changes
+abbrev pub PumpsEngine : Engine → Code → Info → Engine → Type 0
+PumpsEngine old said info new = WhileSettled old said new (((said ≡ code.NoMemory) × (new ≡ old))
+    ⊎ ((answer : Result Did PumpFault) × Pumps true old.store answer new.store × KeepsPublished old new × TellsStep answer said info))
+
+-- a commit of this time was published, also where a call was refused since
+abbrev pub was_published : Standing → Option Published → ℕ → Bool
+was_published Settled before time = true
+was_published Asks None time = false
+was_published Asks (Some p) time = nat_le time p.last
+was_published Failed None time = false
+was_published Failed (Some p) time = nat_le time p.last
+
+-- a ticket that waits is kept again; after a refused call it is in doubt
+abbrev pub TellsWaiting : TicketValue → Engine → Code → Info → Places → Type 0
+TellsWaiting ticket old said info new = MatchBool (is_failed old.standing) ((said ≡ code.InDoubt) × (new ≡ old.places)) ((said ≡ code.Waiting) × IsKept (Ticket ticket) info.a old.places new)
+
+abbrev pub KeepsTicket : TicketValue → Engine → Code → Info → Engine → Type 0
+KeepsTicket ticket old said info new = KeepsStore old new × TellsWaiting ticket old said info new.places
+
+-- what became of a ticket that was taken out is told
+abbrev pub TellsRedeemed : Redeemed → Engine → Code → Info → Places → Type 0
+TellsRedeemed (redeemed.Done time) old said info new = (new ≡ old.places) × MatchBool (was_published old.standing old.before time) ((said ≡ code.Ok) × (info.a ≡ time)) (said ≡ code.InDoubt)
+TellsRedeemed (redeemed.Waiting ticket) old said info new = TellsWaiting ticket old said info new
+TellsRedeemed redeemed.InDoubt old said info new = (new ≡ old.places) × (said ≡ code.InDoubt)
+TellsRedeemed redeemed.Stranger old said info new = (new ≡ old.places) × (said ≡ code.Stranger)
+
+abbrev pub RedeemsTaken : TicketValue → Engine → Code → Info → Engine → Type 0
+RedeemsTaken ticket old said info new = (new.standing ≡ old.standing) × (new.before ≡ old.before)
+    × ((answer : Redeemed) × Redeems old.store ticket answer new.store × TellsRedeemed answer old said info new.places)
+
+abbrev pub RedeemsEngine : ℕ → Engine → Code → Info → Engine → Type 0
+RedeemsEngine number old said info new = UnlessAsked old said new (OfNumber (ticket_under old number) old said new
+    (λ ticket. (taken : Places) × IsTaken number old.places taken × RedeemsTaken ticket (record old { places = taken }) said info new))
+
+-- a ticket is spent, and the store is what it was
+abbrev pub GivesUp : ℕ → Engine → Code → Engine → Type 0
+GivesUp number old said new = OfNumber (ticket_under old number) old said new (λ _. (said ≡ code.Ok) × KeepsStore old new × IsTaken number old.places new.places)
+
+-- of these times those that were published, also where a call was refused since
+abbrev pub published_of : Standing → Option Published → List ℕ → List ℕ
+published_of Settled before times = times
+published_of Asks before times = times
+published_of Failed None times = []
+published_of Failed (Some p) times = filter (λ time. nat_le time p.last) times
+
+-- so many times are told, and they stand in front, where there is room for all
+abbrev pub AreTimesTold : List ℕ → Code → Info → List ℕ → Type 0
+AreTimesTold found said info times = (info.a ≡ length found) × MatchBool (nat_le (length found) (length times)) ((said ≡ code.Ok) × (take info.a times ≡ found)) (said ≡ code.Small)
+
+-- the times of the commits with a label; after a refused call of those that were published before it
+abbrev pub TellsLabels : ℕ → Engine → Code → Info → List ℕ → Type 0
+TellsLabels label e said info times = MatchBool (asks e.standing) (said ≡ code.Pending)
+    ((said ≡ code.NoMemory) ⊎ ((found : List ℕ) × IsTimesOf e.store label found × AreTimesTold (published_of e.standing e.before found) said info times))
+
+-- ---- views
+
+-- there was no memory for one, or its number is told
+abbrev pub TakesView : Engine → Code → Info → Engine → Type 0
+TakesView old said info new = IsOutOfNumbers old said new ⊎ ((said ≡ code.Ok) × KeepsStore old new × ((view : ViewValue) × IsViewOf old.store view × IsKept (View view) info.a old.places new.places))
+
+-- the number that is told names a view of what is published or, after a refused call, of what was before it
+abbrev pub GivesView : Engine → Code → Info → Engine → Type 0
+GivesView old said info new = UnlessAsked old said new (MatchBool (is_failed old.standing)
+    ((said ≡ code.Ok) × (new ≡ old) × (info.a ≡ 18446744073709551615))
+    (TakesView old said info new))
+
+-- a view is given back; that of before a refused call stays
+abbrev pub EndsView : ℕ → Engine → Code → Engine → Type 0
+EndsView number old said new = MatchBool ((number == 18446744073709551615) && is_failed old.standing) ((said ≡ code.Ok) × (new ≡ old))
+    (MatchOption (view_in (named old.places number)) ((said ≡ code.Unknown) × (new ≡ old)) (λ _. (said ≡ code.Ok) × KeepsStore old new × IsTaken number old.places new.places))
+
+-- ---- jobs
+
+-- whether a job began is told
+abbrev pub TellsStart : Result (Unit {0}) StartFault → Code → Info → Type 0
+TellsStart (Ok done) said info = said ≡ code.Ok
+TellsStart (Err why) said info = IsStartCode why said info
+
+-- a job begins so
+abbrev pub StartsEngine : (StoreValue → Result (Unit {0}) StartFault → StoreValue → Type 0) → Engine → Code → Info → Engine → Type 0
+StartsEngine Starts old said info new = WhileSettled old said new (KeepsNumbers old new × ((answer : Result (Unit {0}) StartFault) × Starts old.store answer new.store × TellsStart answer said info))
+
+abbrev pub ArchivesEngine : ℕ → Engine → Code → Info → Engine → Type 0
+ArchivesEngine upto = StartsEngine (λ old answer new. StartsArchive old upto answer new)
+
+abbrev pub ReclaimsEngine : Engine → Code → Info → Engine → Type 0
+ReclaimsEngine = StartsEngine StartsReclaim
+
+abbrev pub RaisesEngine : ℕ → Engine → Code → Info → Engine → Type 0
+RaisesEngine time = StartsEngine (λ old answer new. StartsFloor old time answer new)
+
+-- what a step of a job did is told
+abbrev pub TellsJobStep : Result JobDid PumpFault → Code → Info → Type 0
+TellsJobStep (Ok done) said info = (said ≡ code.Ok) × (info.a ≡ job_number done)
+TellsJobStep (Err why) said info = said ≡ pump_code why
+
+-- the store takes a step of its job, as it takes one of its group
+abbrev pub PumpsJobOf : Engine → Code → Info → Engine → Type 0
+PumpsJobOf old said info new = WhileSettled old said new (((said ≡ code.NoMemory) × (new ≡ old))
+    ⊎ ((answer : Result JobDid PumpFault) × PumpsJob true old.store answer new.store × KeepsPublished old new × TellsJobStep answer said info))
+
+-- ---- handles
+
+-- what a call of a handle does to its engine, by the number of the code that it says; a handle with none stays so
+abbrev pub OnHandle : (Engine → Code → Engine → Type 0) → Option Engine → ℤ → Option Engine → Type 0
+OnHandle Does None number new = (number ≡ code_number code.Closed) × (new ≡ None)
+OnHandle Does (Some old) number new = MatchOption new ⊥ (λ engine. (said : Code) × (number ≡ code_number said) × Does old said engine)
 
 -- nothing changes
-abbrev pub StaysSame : Engine → Engine → Type 0
+abbrev pub StaysSame : Option Engine → Option Engine → Type 0
 StaysSame old new = new ≡ old
-
--- a transaction is given up, or there is no such one
-abbrev pub MayAbort : Engine → Engine → Type 0
-MayAbort old new = KeepsStore old new ⊎ AbortsEngine old new
 
 -- a handle is opened on these bytes, or stays as it is
 abbrev pub OpensHandle : List ℕ → List ℕ → List ℕ → ℕ → Option Engine → Option Engine → Type 0

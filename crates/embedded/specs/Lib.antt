@@ -7,3 +7,4 @@ pub mod Held
 pub mod Owned
 pub mod Queries
 pub mod Rows
+pub mod Writes

@@ -1,4 +1,6 @@
 //! The codes of a store's answers.
+ghost use Rattle.std.specs.Prelude.{◌≡◌};
+ghost use Rattle.embedded.specs.Codes.{begin_code, txn_code, IsSubmitCode, pump_code, IsStartCode, told_did, job_number};
 ghost use Rattle.embedded.specs.Queries.{IsFaultCode};
 
 use crate::code::{Code, Info};
@@ -7,14 +9,18 @@ use snapshot::TxnFault;
 use store::{JobDid, StartFault};
 use timequery::QueryFault;
 
-pub(crate) fn begin_code(fault: BeginFault) -> Code {
+pub(crate) fn begin_code(fault: BeginFault) -> Code
+    ensures { result ≡ begin_code fault }
+{
     match fault {
         BeginFault::NoMemory => Code::NoMemory,
         BeginFault::Failed => Code::Failed,
     }
 }
 
-pub(crate) fn txn_code(outcome: Result<(), TxnFault>) -> Code {
+pub(crate) fn txn_code(outcome: Result<(), TxnFault>) -> Code
+    ensures { result ≡ txn_code outcome }
+{
     match outcome {
         Ok(()) => Code::Ok,
         Err(TxnFault::Missing) => Code::Missing,
@@ -25,7 +31,9 @@ pub(crate) fn txn_code(outcome: Result<(), TxnFault>) -> Code {
 }
 
 // The key of a conflict is told.
-pub(crate) fn submit_code(fault: SubmitFault, info: &mut Info) -> Code {
+pub(crate) fn submit_code(fault: SubmitFault, info: &mut Info) -> Code
+    ensures { IsSubmitCode fault result info.new }
+{
     match fault {
         SubmitFault::Conflict(key) => {
             info.a = key.relation as u64;
@@ -41,7 +49,9 @@ pub(crate) fn submit_code(fault: SubmitFault, info: &mut Info) -> Code {
     }
 }
 
-pub(crate) fn pump_code(fault: PumpFault) -> Code {
+pub(crate) fn pump_code(fault: PumpFault) -> Code
+    ensures { result ≡ pump_code fault }
+{
     match fault {
         PumpFault::Busy => Code::Busy,
         PumpFault::NoMemory => Code::NoMemory,
@@ -50,7 +60,9 @@ pub(crate) fn pump_code(fault: PumpFault) -> Code {
 }
 
 // The time of the last commit, or the least open snapshot, is told.
-pub(crate) fn start_code(fault: StartFault, info: &mut Info) -> Code {
+pub(crate) fn start_code(fault: StartFault, info: &mut Info) -> Code
+    ensures { IsStartCode fault result info.new }
+{
     match fault {
         StartFault::Failed => Code::Failed,
         StartFault::JobBusy => Code::JobBusy,
@@ -96,7 +108,9 @@ pub(crate) fn query_code(fault: QueryFault, info: &mut Info) -> Code
 }
 
 // What a step of a group did, and how many commits are published.
-pub(crate) fn did_number(did: Did, info: &mut Info) {
+pub(crate) fn did_number(did: Did, info: &mut Info)
+    ensures { info.new ≡ told_did did }
+{
     info.b = 0;
     info.a = match did {
         Did::Idle => 0,
@@ -113,7 +127,9 @@ pub(crate) fn did_number(did: Did, info: &mut Info) {
 }
 
 // What a step of a job did.
-pub(crate) fn job_number(did: JobDid) -> u64 {
+pub(crate) fn job_number(did: JobDid) -> u64
+    ensures { result ≡ job_number did }
+{
     match did {
         JobDid::Idle => 0,
         JobDid::WroteRun => 1,

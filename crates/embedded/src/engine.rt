@@ -1,5 +1,5 @@
 //! A store, what it gave out, and the device call that the host is to make.
-ghost use Rattle.std.specs.Prelude.{◌≡◌, is_some, IfSome};
+ghost use Rattle.std.specs.Prelude.{◌≡◌, IfSome};
 ghost use Rattle.embedded.specs.Areas.{area_number};
 
 use crate::asking::{self, Kept};
@@ -87,7 +87,7 @@ fn put_published(place: &mut Option<Published>, published: Option<Published>)
 }
 
 impl Engine {
-    ghost use Rattle.embedded.specs.Engines.{is_stopped, TellsTimes, HasCalled, StandsOut, WasPublished, TellsCall};
+    ghost use Rattle.embedded.specs.Engines.{stopped_by, TellsTimes, HasCalled, StandsOut, WasPublished, TellsCall};
 
     pub(crate) fn new(alloc: Global, store: Kept) -> Engine
         ensures store { result.store ≡ store }
@@ -104,7 +104,7 @@ impl Engine {
 
     /// Why nothing may be asked of the store now.
     pub(crate) fn stopped(&self) -> Option<Code>
-        ensures { is_some result ≡ is_stopped self.now.standing }
+        ensures { result ≡ stopped_by self.now.standing }
     {
         match self.standing {
             Standing::Settled => None,
@@ -179,7 +179,7 @@ impl Engine {
 
     /// The host has made the device call, or it was refused.
     pub fn called(&mut self, made: bool) -> Code
-        ensures { HasCalled made self.old self.new }
+        ensures { HasCalled made self.old result self.new }
     {
         match self.standing {
             Standing::Settled | Standing::Failed => Code::None,
@@ -209,16 +209,20 @@ impl Engine {
         })
     }
 
-    /// Notes whether a call of the store made a device call, of so many before, and what was published
-    /// before it.
-    pub(crate) fn note_call(&mut self, made: u64, published: Published)
-        ensures { StandsOut made published self.old self.new }
+    /// Notes whether a call of the store made a device call, of so many made and refused before, and what was
+    /// published before it. One that the disk has not noted was refused.
+    pub(crate) fn note_call(&mut self, made: u64, refused: u64, published: Published)
+        ensures { StandsOut made refused published self.old self.new }
     {
         if self.calls() == made {
             published.spend();
             return;
         }
-        self.standing = Standing::Asks;
+        self.standing = if self.refusals() == refused {
+            Standing::Asks
+        } else {
+            Standing::Failed
+        };
         put_published(&mut self.before, Some(published));
     }
 
@@ -226,5 +230,11 @@ impl Engine {
         ensures { result ≡ self.now.store.disk.made }
     {
         self.store.disk().made()
+    }
+
+    pub(crate) fn refusals(&self) -> u64
+        ensures { result ≡ self.now.store.disk.refused }
+    {
+        self.store.disk().refused()
     }
 }

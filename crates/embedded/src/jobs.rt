@@ -8,7 +8,7 @@ impl Engine {
 
     /// Begins an archive of what ended by a time.
     pub fn archive(&mut self, upto: u64, info: &mut Info) -> Code
-        ensures { ArchivesEngine upto self.old self.new }
+        ensures { ArchivesEngine upto self.old result info.new self.new }
     {
         if let Some(code) = self.stopped() {
             return code;
@@ -21,7 +21,7 @@ impl Engine {
 
     /// Begins a reclaim of what is archived.
     pub fn reclaim(&mut self, info: &mut Info) -> Code
-        ensures { ReclaimsEngine self.old self.new }
+        ensures { ReclaimsEngine self.old result info.new self.new }
     {
         if let Some(code) = self.stopped() {
             return code;
@@ -34,7 +34,7 @@ impl Engine {
 
     /// Begins to raise the floor to a time.
     pub fn floor(&mut self, time: u64, info: &mut Info) -> Code
-        ensures { RaisesEngine time self.old self.new }
+        ensures { RaisesEngine time self.old result info.new self.new }
     {
         if let Some(code) = self.stopped() {
             return code;
@@ -47,7 +47,7 @@ impl Engine {
 
     /// One step of the job that runs: its number is told.
     pub fn job_pump(&mut self, info: &mut Info) -> Code
-        ensures { PumpsJobOf self.old self.new }
+        ensures { PumpsJobOf self.old result info.new self.new }
     {
         if let Some(code) = self.stopped() {
             return code;
@@ -55,9 +55,9 @@ impl Engine {
         let Some(published) = self.published() else {
             return Code::NoMemory;
         };
-        let made = self.calls();
+        let (made, refused) = (self.calls(), self.refusals());
         let outcome = self.store.job_pump();
-        self.note_call(made, published);
+        self.note_call(made, refused, published);
         match outcome {
             Ok(did) => {
                 info.a = job_number(did);

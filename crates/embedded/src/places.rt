@@ -1,9 +1,13 @@
 //! What a store gave out, by number.
-ghost use Rattle.std.specs.Prelude.{◌≡◌, ◌<◌, ◌/◌, ◌%◌, ◌^◌, [], IfOk, option_copied};
-ghost use Rattle.embedded.specs.Held.{held_under, transaction_in, view_in, IsKept};
+ghost use Rattle.std.specs.Prelude.{◌≡◌, ◌≢◌, ◌<◌, ◌/◌, ◌%◌, ◌^◌, [], false, IsTrue, None, Some, option_copied, MatchOption};
+ghost use Rattle.embedded.specs.declared.places.Held.TheVariants.{Nothing};
+ghost use Rattle.embedded.specs.Held.{named, transaction_in, ticket_in, view_in, has_free, SameNumbers, IsKept, IsTaken, IsWritten};
+ghost use Rattle.embedded.specs.Writes.{Puts, Deletes};
 
+use crate::values;
 use group::Ticket;
-use snapshot::Txn;
+use history::Key;
+use snapshot::{Txn, TxnFault};
 use std::alloc::Global;
 use std::mem;
 use timequery::View;
@@ -37,12 +41,15 @@ impl Held {
 pub struct Place {
     stamp: u32,
     held: Held,
+    // The place that became free before this one did, while it is free.
+    next: usize,
 }
 
 /// Places of values; a number names a place and its stamp.
 pub struct Places {
     places: Vec<Place>,
-    free: Vec<usize>,
+    // The place that became free last, if that holds nothing.
+    free: usize,
 }
 
 fn number_of(at: usize, stamp: u32) -> u64
@@ -58,73 +65,89 @@ impl Places {
     pub fn new(alloc: Global) -> Places {
         Places {
             places: Vec::new(alloc),
-            free: Vec::new(alloc),
+            free: MAX_PLACES,
         }
     }
 
-    /// Keeps a value under a number; where there is no place for it, it comes back.
-    pub fn keep(&mut self, held: Held) -> Result<u64, Held>
-        ensures { IfOk result (IsKept held self.new) }
+    // Whether the place that became free last holds nothing.
+    fn has_free(&self) -> bool
+        ensures { result ≡ has_free self.now }
     {
-        match self.free.pop() {
-            Some(at) => self.keep_at(at, held),
-            None => self.keep_behind(held),
+        if self.free >= MAX_PLACES {
+            return false;
+        }
+        match self.places.get(self.free) {
+            None => false,
+            Some(place) => matches!(place.held, Held::Nothing),
         }
     }
 
-    fn keep_at(&mut self, at: usize, held: Held) -> Result<u64, Held>
-        ensures { IfOk result (IsKept held self.new) }
+    /// Makes a place free where none is; whether one is free then. None is where all are taken or there is no
+    /// memory for one.
+    pub fn make_free(&mut self) -> bool
+        ensures free { result ≡ has_free self.new }
+        ensures same { SameNumbers self.old self.new }
     {
-        if at >= self.places.len() || at >= MAX_PLACES {
-            return Err(held);
+        if self.has_free() {
+            return true;
         }
-        let place = &mut self.places[at];
-        mem::replace(&mut place.held, held).discard();
-        Ok(number_of(at, place.stamp))
+        self.add_free()
     }
 
-    fn keep_behind(&mut self, held: Held) -> Result<u64, Held>
-        ensures { IfOk result (IsKept held self.new) }
+    // One behind all others.
+    fn add_free(&mut self) -> bool
+        requires { has_free self.old ≡ false }
+        ensures free { result ≡ has_free self.new }
+        ensures same { SameNumbers self.old self.new }
     {
         let at = self.places.len();
-        if at >= MAX_PLACES || self.places.reserve(1).is_err() {
-            return Err(held);
+        if at >= MAX_PLACES {
+            return false;
         }
-        self.places.push_reserved(Place { stamp: 0, held });
-        Ok(number_of(at, 0))
+        if self.places.reserve(1).is_err() {
+            return false;
+        }
+        self.places.push_reserved(Place {
+            stamp: 0,
+            held: Held::Nothing,
+            next: MAX_PLACES,
+        });
+        self.free = at;
+        true
     }
 
-    /// The place of a number.
-    fn place_of(&self, number: u64) -> Option<usize> {
+    /// Keeps a value in the place that became free last.
+    pub fn keep_free(&mut self, held: Held) -> u64
+        requires { IsTrue (has_free self.old) }
+        ensures { IsKept held result self.old self.new }
+    {
+        let at = self.free;
+        let place = &mut self.places[at];
+        let stamp = place.stamp;
+        let next = place.next;
+        mem::replace(&mut place.held, held).discard();
+        self.free = next;
+        number_of(at, stamp)
+    }
+
+    // Takes out what stands under a number, which names nothing from then on.
+    fn take(&mut self, number: u64) -> Held
+        requires { named self.old number ≢ Nothing }
+        ensures held { result ≡ named self.old number }
+        ensures taken { IsTaken number self.old self.new }
+    {
         let at = (number % 65_536) as usize;
-        if at >= self.places.len() {
-            return None;
-        }
-        if self.places[at].stamp as u64 == number / 65_536 {
-            Some(at)
-        } else {
-            None
-        }
-    }
-
-    /// Takes out what stands under a number, which names nothing from then on.
-    pub fn take(&mut self, number: u64) -> Held {
-        let Some(at) = self.place_of(number) else {
-            return Held::Nothing;
-        };
-        if at >= self.places.len() {
-            return Held::Nothing;
-        }
         let place = &mut self.places[at];
         place.stamp = place.stamp.wrapping_add(1);
+        place.next = self.free;
         let held = mem::replace(&mut place.held, Held::Nothing);
-        let _ = self.free.push(at);
+        self.free = at;
         held
     }
 
     // What stands under a number.
     fn held(&self, number: u64) -> Option<&Held>
-        ensures { option_copied result ≡ held_under self.now number }
+        ensures { MatchOption result (named self.now number ≡ Nothing) (λ held. named self.now number ≡ held.now) }
     {
         let place = self.places.get((number % 65_536) as usize)?;
         if place.stamp as u64 == number / 65_536 {
@@ -135,7 +158,7 @@ impl Places {
     }
 
     pub fn transaction(&self, number: u64) -> Option<&Txn>
-        ensures { option_copied result ≡ transaction_in (held_under self.now number) }
+        ensures { option_copied result ≡ transaction_in (named self.now number) }
     {
         match self.held(number) {
             Some(Held::Transaction(txn)) => Some(txn),
@@ -144,7 +167,7 @@ impl Places {
     }
 
     pub fn view(&self, number: u64) -> Option<&View>
-        ensures { option_copied result ≡ view_in (held_under self.now number) }
+        ensures { option_copied result ≡ view_in (named self.now number) }
     {
         match self.held(number) {
             Some(Held::View(view)) => Some(view),
@@ -152,8 +175,19 @@ impl Places {
         }
     }
 
+    pub fn ticket(&self, number: u64) -> Option<&Ticket>
+        ensures { option_copied result ≡ ticket_in (named self.now number) }
+    {
+        match self.held(number) {
+            Some(Held::Ticket(ticket)) => Some(ticket),
+            _ => None,
+        }
+    }
+
     /// Takes a transaction out.
-    pub fn take_transaction(&mut self, number: u64) -> Option<Txn> {
+    pub fn take_transaction(&mut self, number: u64) -> Option<Txn>
+        ensures { MatchOption result ((transaction_in (named self.old number) ≡ None) × (self.new ≡ self.old)) (λ txn. (transaction_in (named self.old number) ≡ Some txn) × IsTaken number self.old self.new) }
+    {
         self.transaction(number)?;
         match self.take(number) {
             Held::Transaction(txn) => Some(txn),
@@ -165,7 +199,9 @@ impl Places {
     }
 
     /// Takes a view out.
-    pub fn take_view(&mut self, number: u64) -> Option<View> {
+    pub fn take_view(&mut self, number: u64) -> Option<View>
+        ensures { MatchOption result ((view_in (named self.old number) ≡ None) × (self.new ≡ self.old)) (λ view. (view_in (named self.old number) ≡ Some view) × IsTaken number self.old self.new) }
+    {
         self.view(number)?;
         match self.take(number) {
             Held::View(view) => Some(view),
@@ -177,7 +213,9 @@ impl Places {
     }
 
     /// Takes a ticket out.
-    pub fn take_ticket(&mut self, number: u64) -> Option<Ticket> {
+    pub fn take_ticket(&mut self, number: u64) -> Option<Ticket>
+        ensures { MatchOption result ((ticket_in (named self.old number) ≡ None) × (self.new ≡ self.old)) (λ ticket. (ticket_in (named self.old number) ≡ Some ticket) × IsTaken number self.old self.new) }
+    {
         self.ticket(number)?;
         match self.take(number) {
             Held::Ticket(ticket) => Some(ticket),
@@ -188,23 +226,32 @@ impl Places {
         }
     }
 
-    pub fn ticket(&self, number: u64) -> Option<&Ticket> {
-        match self.held(number) {
-            Some(Held::Ticket(ticket)) => Some(ticket),
+    /// Writes a value in a transaction; none where the number names none.
+    pub fn put(
+        &mut self,
+        number: u64,
+        alloc: Global,
+        key: Key,
+        value: &[u8],
+    ) -> Option<Result<(), TxnFault>>
+        ensures { MatchOption result ((transaction_in (named self.old number) ≡ None) × (self.new ≡ self.old)) (λ outcome. IsWritten number (Puts key value.now) outcome self.old self.new) }
+    {
+        self.transaction(number)?;
+        let at = (number % 65_536) as usize;
+        match &mut self.places[at].held {
+            Held::Transaction(txn) => Some(values::put(txn, alloc, key, value)),
             _ => None,
         }
     }
 
-    /// The transaction under a number, to be written to.
-    pub fn transaction_mut(&mut self, number: u64) -> Option<&mut Txn> {
-        let at = self.place_of(number)?;
-        match self.places.get_mut(at) {
-            Some(
-                Place {
-                    held: Held::Transaction(txn),
-                    ..
-                },
-            ) => Some(txn),
+    /// Deletes in a transaction; none where the number names none.
+    pub fn delete(&mut self, number: u64, key: Key) -> Option<Result<(), TxnFault>>
+        ensures { MatchOption result ((transaction_in (named self.old number) ≡ None) × (self.new ≡ self.old)) (λ outcome. IsWritten number (Deletes key) outcome self.old self.new) }
+    {
+        self.transaction(number)?;
+        let at = (number % 65_536) as usize;
+        match &mut self.places[at].held {
+            Held::Transaction(txn) => Some(txn.delete(key)),
             _ => None,
         }
     }
@@ -223,7 +270,12 @@ impl Places {
 fn give_up_all(places: &mut Vec<Place>)
     ensures { places.new.items ≡ [] }
 {
-    while let Some(Place { stamp: _, held }) = places.pop() {
+    while let Some(place) = places.pop() {
+        let Place {
+            stamp: _,
+            held,
+            next: _,
+        } = place;
         held.discard();
     }
 }

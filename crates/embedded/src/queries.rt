@@ -1,6 +1,7 @@
 //! Views and queries.
-ghost use Rattle.std.specs.Prelude.{◌≡◌, option_copied};
+ghost use Rattle.std.specs.Prelude.{◌≡◌, IfOk, option_copied};
 ghost use Rattle.store.specs.Values.{StoreValue};
+ghost use Rattle.embedded.specs.Engines.{AreTimesTold};
 ghost use Rattle.embedded.specs.Held.{view_of};
 ghost use Rattle.embedded.specs.Queries.{is_none, takes_bytes, TellsRecent, TellsAt, LentScanAt, LentRows, LentScanRows};
 
@@ -13,7 +14,7 @@ use crate::rows::{records_out, rows_out, scan_out, value_out};
 use archive::RunEntry;
 use chains::SharedValue;
 use history::{Key, Version};
-use std::alloc::Global;
+use std::alloc::{AllocError, Global};
 use timequery::{QueryFault, View};
 
 /// The number of the view of what was published before a device call that was refused.
@@ -127,14 +128,25 @@ fn scan_between(
     lent.scan_between(view, relation, a, b)
 }
 
+// How many times there are is told, and they are copied out where there is room.
+fn times_out(found: &[u64], times: &mut [u64], info: &mut Info) -> Code
+    ensures { AreTimesTold found.now result info.new times.new }
+{
+    info.a = found.len() as u64;
+    if times.len() < found.len() {
+        return Code::Small;
+    }
+    times[..found.len()].copy_from_slice(found);
+    Code::Ok
+}
+
 impl Engine {
-    ghost use Rattle.embedded.specs.Engines.{KeepsStore, TellsLabels, GivesView};
+    ghost use Rattle.embedded.specs.Engines.{GivesView, TakesView, EndsView, TellsLabels, published_of};
     ghost use Rattle.embedded.specs.Queries.{AsksRecent, AsksAt, AsksScanAt, AsksRows, AsksScanRows};
 
     /// A view of what is published now, or was before a call was refused; its number is told.
     pub fn view(&mut self, info: &mut Info) -> Code
-        ensures keeps { KeepsStore self.old self.new }
-        ensures gives { GivesView self.old self.new result info.new }
+        ensures { GivesView self.old result info.new self.new }
     {
         match self.standing {
             Standing::Asks => Code::Pending,
@@ -142,16 +154,29 @@ impl Engine {
                 info.a = LAST_VIEW;
                 Code::Ok
             }
-            Standing::Settled => match asking::view(&self.store) {
-                Err(_) => Code::NoMemory,
-                Ok(view) => self.keep(Held::View(view), info),
-            },
+            Standing::Settled => self.new_view(info),
+        }
+    }
+
+    // One of what is published now.
+    fn new_view(&mut self, info: &mut Info) -> Code
+        ensures { TakesView self.old result info.new self.new }
+    {
+        if !self.places.make_free() {
+            return Code::NoMemory;
+        }
+        match asking::view(&self.store) {
+            Err(_) => Code::NoMemory,
+            Ok(view) => {
+                info.a = self.places.keep_free(Held::View(view));
+                Code::Ok
+            }
         }
     }
 
     /// Ends a view.
     pub fn end(&mut self, view: u64) -> Code
-        ensures { KeepsStore self.old self.new }
+        ensures { EndsView view self.old result self.new }
     {
         if view == LAST_VIEW && self.standing == Standing::Failed {
             return Code::Ok;
@@ -270,25 +295,37 @@ impl Engine {
         }
     }
 
-    /// The times of the commits with a label, rising.
-    pub fn times_of(&self, label: u64, times: &mut [u64], info: &mut Info) -> Code
-        ensures { TellsLabels label self.now result info.new.a times.new }
+    // Of these times those that were published, also where a call was refused since.
+    fn published_of(&self, times: Vec<u64>) -> Result<Vec<u64>, AllocError>
+        ensures { IfOk result (λ found. found.items ≡ published_of self.now.standing self.now.before times.items) }
     {
-        match self.standing {
-            Standing::Settled => {}
-            Standing::Asks => return Code::Pending,
-            Standing::Failed => return Code::Failed,
+        if self.standing != Standing::Failed {
+            return Ok(times);
         }
-        match self.store.times_of(label) {
+        let Some(published) = &self.before else {
+            return Ok(Vec::new(self.alloc));
+        };
+        let last = published.last;
+        times
+            .iter()
+            .copied()
+            .filter(|time| *time <= last)
+            .collect(self.alloc)
+    }
+
+    /// The times of the commits with a label, rising, and how many there are.
+    pub fn times_of(&self, label: u64, times: &mut [u64], info: &mut Info) -> Code
+        ensures { TellsLabels label self.now result info.new times.new }
+    {
+        if self.standing == Standing::Asks {
+            return Code::Pending;
+        }
+        let Ok(found) = self.store.times_of(label) else {
+            return Code::NoMemory;
+        };
+        match self.published_of(found) {
             Err(_) => Code::NoMemory,
-            Ok(found) => {
-                info.a = found.len() as u64;
-                if times.len() < found.len() {
-                    return Code::Small;
-                }
-                times[..found.len()].copy_from_slice(&found);
-                Code::Ok
-            }
+            Ok(found) => times_out(&found, times, info),
         }
     }
 }

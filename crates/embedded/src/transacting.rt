@@ -1,60 +1,50 @@
 //! Transactions and groups.
+ghost use Rattle.std.specs.Prelude.{◌≡◌, IsTrue};
+ghost use Rattle.embedded.specs.Held.{has_free};
+
 use crate::code::{Code, Info, Row};
 use crate::codes::{begin_code, did_number, pump_code, submit_code, txn_code};
 use crate::engine::{Engine, Standing};
 use crate::places::Held;
 use crate::rows::{records_out, value_out};
-use crate::values::put;
 use group::{Redeemed, Submitted, Ticket};
 use history::Key;
 use snapshot::Txn;
 
 impl Engine {
-    ghost use Rattle.std.specs.Prelude.{◌≡◌, ◌≤◌, IsTrue, IfSome};
-    ghost use Rattle.embedded.specs.declared.code.Code.{Code};
-    ghost use Rattle.embedded.specs.Held.{IsKept};
     ghost use Rattle.embedded.specs.Queries.{Sees, SeesScan};
-    ghost use Rattle.embedded.specs.Engines.{BeginsEngine, SubmitsEngine, AbortsEngine, RedeemsEngine, ShowsTicket, IsDoneBefore, PumpsEngine, MayAbort, KeepsStore};
+    ghost use Rattle.embedded.specs.Writes.{Puts, Deletes};
+    ghost use Rattle.embedded.specs.Engines.{BeginsEngine, TakesTransaction, Writes, SubmitsEngine, SubmitsTaken, AbortsEngine, AbortsTaken, PumpsEngine, RedeemsEngine, RedeemsTaken, KeepsTicket, GivesUp, was_published};
 
     /// A transaction on what is published now; its number and the time of its snapshot are told.
     pub fn begin(&mut self, info: &mut Info) -> Code
-        ensures { BeginsEngine self.old self.new }
+        ensures { BeginsEngine self.old result info.new self.new }
     {
-        if let Some(code) = self.stopped() {
-            return code;
+        match self.stopped() {
+            Some(code) => code,
+            None => self.new_transaction(info),
+        }
+    }
+
+    fn new_transaction(&mut self, info: &mut Info) -> Code
+        ensures { TakesTransaction self.old result info.new self.new }
+    {
+        if !self.places.make_free() {
+            return Code::NoMemory;
         }
         match self.store.begin() {
             Err(fault) => begin_code(fault),
             Ok(txn) => {
                 info.b = txn.snapshot();
-                self.keep_transaction(txn, info)
-            }
-        }
-    }
-
-    // The number of the transaction is told; where there is no place for it, it is over.
-    fn keep_transaction(&mut self, txn: Txn, info: &mut Info) -> Code
-        ensures { MayAbort self.old self.new }
-    {
-        match self.places.keep(Held::Transaction(txn)) {
-            Ok(number) => {
-                info.a = number;
+                info.a = self.places.keep_free(Held::Transaction(txn));
                 Code::Ok
-            }
-            Err(Held::Transaction(txn)) => {
-                self.end_transaction(txn);
-                Code::NoMemory
-            }
-            Err(held) => {
-                held.discard();
-                Code::NoMemory
             }
         }
     }
 
     // Gives a transaction up.
     fn end_transaction(&mut self, txn: Txn)
-        ensures { AbortsEngine self.old self.new }
+        ensures { AbortsTaken txn self.old self.new }
     {
         let _writes = txn.writes().len();
         self.store.abort(txn);
@@ -62,22 +52,21 @@ impl Engine {
 
     /// Writes a value in a transaction.
     pub fn put(&mut self, transaction: u64, key: Key, value: &[u8]) -> Code
-        ensures { KeepsStore self.old self.new }
+        ensures { Writes transaction (Puts key value.now) self.old result self.new }
     {
-        let alloc = self.alloc;
-        match self.places.transaction_mut(transaction) {
+        match self.places.put(transaction, self.alloc, key, value) {
             None => Code::Unknown,
-            Some(txn) => txn_code(put(txn, alloc, key, value)),
+            Some(outcome) => txn_code(outcome),
         }
     }
 
     /// Deletes in a transaction.
     pub fn delete(&mut self, transaction: u64, key: Key) -> Code
-        ensures { KeepsStore self.old self.new }
+        ensures { Writes transaction (Deletes key) self.old result self.new }
     {
-        match self.places.transaction_mut(transaction) {
+        match self.places.delete(transaction, key) {
             None => Code::Unknown,
-            Some(txn) => txn_code(txn.delete(key)),
+            Some(outcome) => txn_code(outcome),
         }
     }
 
@@ -111,49 +100,45 @@ impl Engine {
         }
     }
 
-    /// Queues the transaction's writes; the ticket's number is told.
+    /// Queues the transaction's writes; the ticket's number is told. After a refused call it is given up.
     pub fn submit(&mut self, transaction: u64, label: u64, now: u64, info: &mut Info) -> Code
-        ensures { SubmitsEngine label now self.old self.new }
+        ensures { SubmitsEngine transaction label now self.old result info.new self.new }
     {
-        if let Some(code) = self.stopped() {
-            return code;
+        if self.standing == Standing::Asks {
+            return Code::Pending;
         }
         match self.places.take_transaction(transaction) {
             None => Code::Unknown,
-            Some(txn) => {
-                let _writes = txn.writes().len();
-                match self.store.submit(txn, label, now) {
-                    Err(fault) => submit_code(fault, info),
-                    Ok(Submitted::ReadOnly(time)) => {
-                        info.a = time;
-                        Code::ReadOnly
-                    }
-                    Ok(Submitted::Queued(ticket)) => self.keep(Held::Ticket(ticket), info),
-                }
-            }
+            Some(txn) => self.submit_taken(txn, label, now, info),
         }
     }
 
-    // The number of what is kept is told; where there is no place for it, it is given up.
-    pub(crate) fn keep(&mut self, held: Held, info: &mut Info) -> Code
-        ensures keeps { KeepsStore self.old self.new }
-        ensures kept { result ≡ Code.Ok → IsKept held self.new.places info.new.a }
+    // Its place is free for the ticket.
+    fn submit_taken(&mut self, txn: Txn, label: u64, now: u64, info: &mut Info) -> Code
+        requires { IsTrue (has_free self.old.places) }
+        ensures { SubmitsTaken txn label now self.old result info.new self.new }
     {
-        match self.places.keep(held) {
-            Ok(number) => {
-                info.a = number;
-                Code::Ok
+        if self.standing == Standing::Failed {
+            self.end_transaction(txn);
+            return Code::Failed;
+        }
+        let _writes = txn.writes().len();
+        match self.store.submit(txn, label, now) {
+            Err(fault) => submit_code(fault, info),
+            Ok(Submitted::ReadOnly(time)) => {
+                info.a = time;
+                Code::ReadOnly
             }
-            Err(held) => {
-                held.discard();
-                Code::NoMemory
+            Ok(Submitted::Queued(ticket)) => {
+                info.a = self.places.keep_free(Held::Ticket(ticket));
+                Code::Ok
             }
         }
     }
 
     /// Gives a transaction up.
     pub fn abort(&mut self, transaction: u64) -> Code
-        ensures { MayAbort self.old self.new }
+        ensures { AbortsEngine transaction self.old result self.new }
     {
         match self.places.take_transaction(transaction) {
             None => Code::Unknown,
@@ -166,7 +151,7 @@ impl Engine {
 
     /// One step of the group that stands: its number is told, and how many commits are published.
     pub fn pump(&mut self, info: &mut Info) -> Code
-        ensures { PumpsEngine self.old self.new }
+        ensures { PumpsEngine self.old result info.new self.new }
     {
         if let Some(code) = self.stopped() {
             return code;
@@ -174,9 +159,9 @@ impl Engine {
         let Some(published) = self.published() else {
             return Code::NoMemory;
         };
-        let made = self.calls();
+        let (made, refused) = (self.calls(), self.refusals());
         let outcome = self.store.pump();
-        self.note_call(made, published);
+        self.note_call(made, refused, published);
         match outcome {
             Ok(did) => {
                 did_number(did, info);
@@ -188,22 +173,21 @@ impl Engine {
 
     /// What became of a ticket; the time of its commit is told.
     pub fn redeem(&mut self, ticket: u64, info: &mut Info) -> Code
-        ensures is { RedeemsEngine self.old self.new }
-        ensures done { IsDoneBefore self.old result info.new.a }
+        ensures { RedeemsEngine ticket self.old result info.new self.new }
     {
         if self.standing == Standing::Asks {
             return Code::Pending;
         }
         match self.places.take_ticket(ticket) {
             None => Code::Unknown,
-            Some(ticket) => self.redeemed(ticket, info),
+            Some(ticket) => self.redeem_taken(ticket, info),
         }
     }
 
-    // The new number of a ticket that waits is told.
-    fn redeemed(&mut self, ticket: Ticket, info: &mut Info) -> Code
-        ensures is { ShowsTicket self.old self.new }
-        ensures done { IsDoneBefore self.old result info.new.a }
+    // Its place is free for it where it waits.
+    fn redeem_taken(&mut self, ticket: Ticket, info: &mut Info) -> Code
+        requires { IsTrue (has_free self.old.places) }
+        ensures { RedeemsTaken ticket self.old result info.new self.new }
     {
         match self.store.redeem(ticket) {
             Redeemed::Done(time) => {
@@ -213,41 +197,46 @@ impl Engine {
                 info.a = time;
                 Code::Ok
             }
-            Redeemed::Waiting(ticket) => {
-                if self.standing == Standing::Failed {
-                    ticket.give_up();
-                    return Code::InDoubt;
-                }
-                match self.keep(Held::Ticket(ticket), info) {
-                    Code::Ok => Code::Waiting,
-                    code => code,
-                }
-            }
+            Redeemed::Waiting(ticket) => self.keep_ticket(ticket, info),
             Redeemed::InDoubt => Code::InDoubt,
             Redeemed::Stranger => Code::Stranger,
         }
     }
 
-    // Whether a commit of this time was published before a device call was refused.
-    pub(crate) fn was_published(&self, time: u64) -> bool
-        ensures { IsTrue result → IfSome self.now.before (λ p. time ≤ p.last) }
+    // The new number of a ticket that waits is told.
+    fn keep_ticket(&mut self, ticket: Ticket, info: &mut Info) -> Code
+        requires { IsTrue (has_free self.old.places) }
+        ensures { KeepsTicket ticket self.old result info.new self.new }
     {
+        if self.standing == Standing::Failed {
+            ticket.give_up();
+            return Code::InDoubt;
+        }
+        info.a = self.places.keep_free(Held::Ticket(ticket));
+        Code::Waiting
+    }
+
+    // Whether a commit of this time was published, also where a device call was refused since.
+    fn was_published(&self, time: u64) -> bool
+        ensures { result ≡ was_published self.now.standing self.now.before time }
+    {
+        if self.standing == Standing::Settled {
+            return true;
+        }
         match &self.before {
-            None => true,
+            None => false,
             Some(published) => time <= published.last,
         }
     }
 
     /// Gives a ticket up: its commit goes its way.
     pub fn give_up(&mut self, ticket: u64) -> Code
-        ensures { KeepsStore self.old self.new }
+        ensures { GivesUp ticket self.old result self.new }
     {
-        match self.places.take_ticket(ticket) {
-            None => Code::Unknown,
-            Some(ticket) => {
-                ticket.give_up();
-                Code::Ok
-            }
-        }
+        let Some(ticket) = self.places.take_ticket(ticket) else {
+            return Code::Unknown;
+        };
+        ticket.give_up();
+        Code::Ok
     }
 }

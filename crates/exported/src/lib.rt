@@ -4,9 +4,10 @@
 ghost use Rattle.std.specs.Prelude.{◌≡◌, None, Some};
 ghost use Rattle.history.specs.Key.{key_of};
 ghost use Rattle.embedded.specs.Codes.{code_number, AnswersOn};
-ghost use Rattle.embedded.specs.Engines.{OnHandle, StaysSame, KeepsStore, MayAbort, HasCalled, OpensHandle, BeginsEngine, SubmitsEngine, RedeemsEngine, PumpsEngine, PumpsJobOf, ArchivesEngine, ReclaimsEngine, RaisesEngine, TellsTimes, TellsCall, TellsLabels};
+ghost use Rattle.embedded.specs.Engines.{OnHandle, StaysSame, HasCalled, OpensHandle, BeginsEngine, Writes, SubmitsEngine, AbortsEngine, RedeemsEngine, GivesUp, GivesView, EndsView, PumpsEngine, PumpsJobOf, ArchivesEngine, ReclaimsEngine, RaisesEngine, TellsTimes, TellsCall, TellsLabels};
 ghost use Rattle.embedded.specs.Formats.{AnswersFormat};
 ghost use Rattle.embedded.specs.Queries.{Sees, SeesScan, AsksRecent, AsksAt, AsksScanAt, AsksRows, AsksScanRows};
+ghost use Rattle.embedded.specs.Writes.{Puts, Deletes};
 
 use embedded::{Call, Code, Engine, Handle, Info, Row};
 use history::Key;
@@ -66,7 +67,7 @@ pub extern "C" fn ts_close(alloc: Global, handle: &mut Handle) -> i32
 /// The time of the last commit, and the floor.
 #[unsafe(no_mangle)]
 pub extern "C" fn ts_last(alloc: Global, handle: &mut Handle, info: &mut Info) -> i32
-    ensures same { OnHandle StaysSame handle.old.engine handle.new.engine }
+    ensures same { StaysSame handle.old.engine handle.new.engine }
     ensures answers { AnswersOn (λ e said. TellsTimes e.standing e said info.new) handle.old.engine result }
 {
     let Some(engine) = handle.take(alloc) else {
@@ -84,7 +85,7 @@ pub extern "C" fn ts_call(
     call: &mut Call,
     out: &mut [u8],
 ) -> i32
-    ensures same { OnHandle StaysSame handle.old.engine handle.new.engine }
+    ensures same { StaysSame handle.old.engine handle.new.engine }
     ensures answers { AnswersOn (λ e said. TellsCall e said call.new out.new) handle.old.engine result }
 {
     let Some(engine) = handle.take(alloc) else {
@@ -97,7 +98,7 @@ pub extern "C" fn ts_call(
 /// The device call was made, or it was refused.
 #[unsafe(no_mangle)]
 pub extern "C" fn ts_called(alloc: Global, handle: &mut Handle, made: bool) -> i32
-    ensures { OnHandle (HasCalled made) handle.old.engine handle.new.engine }
+    ensures { OnHandle (HasCalled made) handle.old.engine result handle.new.engine }
 {
     let Some(mut engine) = handle.take(alloc) else {
         return Code::Closed.number();
@@ -109,7 +110,7 @@ pub extern "C" fn ts_called(alloc: Global, handle: &mut Handle, made: bool) -> i
 /// A transaction on what is published now.
 #[unsafe(no_mangle)]
 pub extern "C" fn ts_begin(alloc: Global, handle: &mut Handle, info: &mut Info) -> i32
-    ensures { OnHandle BeginsEngine handle.old.engine handle.new.engine }
+    ensures { OnHandle (λ old said new. BeginsEngine old said info.new new) handle.old.engine result handle.new.engine }
 {
     let Some(mut engine) = handle.take(alloc) else {
         return Code::Closed.number();
@@ -128,7 +129,7 @@ pub extern "C" fn ts_put(
     record: u64,
     value: &[u8],
 ) -> i32
-    ensures { OnHandle KeepsStore handle.old.engine handle.new.engine }
+    ensures { OnHandle (Writes transaction (Puts (key_of relation «record») value.now)) handle.old.engine result handle.new.engine }
 {
     let Some(mut engine) = handle.take(alloc) else {
         return Code::Closed.number();
@@ -146,7 +147,7 @@ pub extern "C" fn ts_delete(
     relation: u16,
     record: u64,
 ) -> i32
-    ensures { OnHandle KeepsStore handle.old.engine handle.new.engine }
+    ensures { OnHandle (Writes transaction (Deletes (key_of relation «record»))) handle.old.engine result handle.new.engine }
 {
     let Some(mut engine) = handle.take(alloc) else {
         return Code::Closed.number();
@@ -166,7 +167,7 @@ pub extern "C" fn ts_get(
     out: &mut [u8],
     info: &mut Info,
 ) -> i32
-    ensures same { OnHandle StaysSame handle.old.engine handle.new.engine }
+    ensures same { StaysSame handle.old.engine handle.new.engine }
     ensures answers { AnswersOn (λ e said. Sees transaction (key_of relation «record») e said info.new out.new) handle.old.engine result }
 {
     let Some(engine) = handle.take(alloc) else {
@@ -187,7 +188,7 @@ pub extern "C" fn ts_scan(
     out: &mut [u8],
     info: &mut Info,
 ) -> i32
-    ensures same { OnHandle StaysSame handle.old.engine handle.new.engine }
+    ensures same { StaysSame handle.old.engine handle.new.engine }
     ensures answers { AnswersOn (λ e said. SeesScan transaction relation e said info.new rows.new out.new) handle.old.engine result }
 {
     let Some(engine) = handle.take(alloc) else {
@@ -207,7 +208,7 @@ pub extern "C" fn ts_submit(
     now: u64,
     info: &mut Info,
 ) -> i32
-    ensures { OnHandle (SubmitsEngine label now) handle.old.engine handle.new.engine }
+    ensures { OnHandle (λ old said new. SubmitsEngine transaction label now old said info.new new) handle.old.engine result handle.new.engine }
 {
     let Some(mut engine) = handle.take(alloc) else {
         return Code::Closed.number();
@@ -219,7 +220,7 @@ pub extern "C" fn ts_submit(
 /// Gives a transaction up.
 #[unsafe(no_mangle)]
 pub extern "C" fn ts_abort(alloc: Global, handle: &mut Handle, transaction: u64) -> i32
-    ensures { OnHandle MayAbort handle.old.engine handle.new.engine }
+    ensures { OnHandle (AbortsEngine transaction) handle.old.engine result handle.new.engine }
 {
     let Some(mut engine) = handle.take(alloc) else {
         return Code::Closed.number();
@@ -231,7 +232,7 @@ pub extern "C" fn ts_abort(alloc: Global, handle: &mut Handle, transaction: u64)
 /// The next step of the group that is being written.
 #[unsafe(no_mangle)]
 pub extern "C" fn ts_pump(alloc: Global, handle: &mut Handle, info: &mut Info) -> i32
-    ensures { OnHandle PumpsEngine handle.old.engine handle.new.engine }
+    ensures { OnHandle (λ old said new. PumpsEngine old said info.new new) handle.old.engine result handle.new.engine }
 {
     let Some(mut engine) = handle.take(alloc) else {
         return Code::Closed.number();
@@ -243,7 +244,7 @@ pub extern "C" fn ts_pump(alloc: Global, handle: &mut Handle, info: &mut Info) -
 /// What became of a ticket.
 #[unsafe(no_mangle)]
 pub extern "C" fn ts_redeem(alloc: Global, handle: &mut Handle, ticket: u64, info: &mut Info) -> i32
-    ensures { OnHandle RedeemsEngine handle.old.engine handle.new.engine }
+    ensures { OnHandle (λ old said new. RedeemsEngine ticket old said info.new new) handle.old.engine result handle.new.engine }
 {
     let Some(mut engine) = handle.take(alloc) else {
         return Code::Closed.number();
@@ -255,7 +256,7 @@ pub extern "C" fn ts_redeem(alloc: Global, handle: &mut Handle, ticket: u64, inf
 /// Gives a ticket up.
 #[unsafe(no_mangle)]
 pub extern "C" fn ts_give_up(alloc: Global, handle: &mut Handle, ticket: u64) -> i32
-    ensures { OnHandle KeepsStore handle.old.engine handle.new.engine }
+    ensures { OnHandle (GivesUp ticket) handle.old.engine result handle.new.engine }
 {
     let Some(mut engine) = handle.take(alloc) else {
         return Code::Closed.number();
@@ -267,7 +268,7 @@ pub extern "C" fn ts_give_up(alloc: Global, handle: &mut Handle, ticket: u64) ->
 /// A view of what is published now.
 #[unsafe(no_mangle)]
 pub extern "C" fn ts_view(alloc: Global, handle: &mut Handle, info: &mut Info) -> i32
-    ensures { OnHandle KeepsStore handle.old.engine handle.new.engine }
+    ensures { OnHandle (λ old said new. GivesView old said info.new new) handle.old.engine result handle.new.engine }
 {
     let Some(mut engine) = handle.take(alloc) else {
         return Code::Closed.number();
@@ -279,7 +280,7 @@ pub extern "C" fn ts_view(alloc: Global, handle: &mut Handle, info: &mut Info) -
 /// Ends a view.
 #[unsafe(no_mangle)]
 pub extern "C" fn ts_end(alloc: Global, handle: &mut Handle, view: u64) -> i32
-    ensures { OnHandle KeepsStore handle.old.engine handle.new.engine }
+    ensures { OnHandle (EndsView view) handle.old.engine result handle.new.engine }
 {
     let Some(mut engine) = handle.take(alloc) else {
         return Code::Closed.number();
@@ -301,7 +302,7 @@ pub extern "C" fn ts_recent(
     out: &mut [u8],
     info: &mut Info,
 ) -> i32
-    ensures same { OnHandle StaysSame handle.old.engine handle.new.engine }
+    ensures same { StaysSame handle.old.engine handle.new.engine }
     ensures answers { AnswersOn (λ e said. AsksRecent view (key_of relation «record») time e said info.new out.new) handle.old.engine result }
 {
     let Some(engine) = handle.take(alloc) else {
@@ -325,7 +326,7 @@ pub extern "C" fn ts_at(
     out: &mut [u8],
     info: &mut Info,
 ) -> i32
-    ensures same { OnHandle StaysSame handle.old.engine handle.new.engine }
+    ensures same { StaysSame handle.old.engine handle.new.engine }
     ensures answers { AnswersOn (λ e said. AsksAt archive.now view (key_of relation «record») time e said info.new out.new) handle.old.engine result }
 {
     let Some(engine) = handle.take(alloc) else {
@@ -349,7 +350,7 @@ pub extern "C" fn ts_scan_at(
     out: &mut [u8],
     info: &mut Info,
 ) -> i32
-    ensures same { OnHandle StaysSame handle.old.engine handle.new.engine }
+    ensures same { StaysSame handle.old.engine handle.new.engine }
     ensures answers { AnswersOn (λ e said. AsksScanAt archive.now view relation time e said info.new rows.new out.new) handle.old.engine result }
 {
     let Some(engine) = handle.take(alloc) else {
@@ -375,7 +376,7 @@ pub extern "C" fn ts_between(
     out: &mut [u8],
     info: &mut Info,
 ) -> i32
-    ensures same { OnHandle StaysSame handle.old.engine handle.new.engine }
+    ensures same { StaysSame handle.old.engine handle.new.engine }
     ensures answers { AnswersOn (λ e said. AsksRows archive.now view (key_of relation «record») from upto e said info.new rows.new out.new) handle.old.engine result }
 {
     let Some(engine) = handle.take(alloc) else {
@@ -409,7 +410,7 @@ pub extern "C" fn ts_scan_between(
     out: &mut [u8],
     info: &mut Info,
 ) -> i32
-    ensures same { OnHandle StaysSame handle.old.engine handle.new.engine }
+    ensures same { StaysSame handle.old.engine handle.new.engine }
     ensures answers { AnswersOn (λ e said. AsksScanRows archive.now view relation from upto e said info.new rows.new out.new) handle.old.engine result }
 {
     let Some(engine) = handle.take(alloc) else {
@@ -428,8 +429,8 @@ pub extern "C" fn ts_times_of(
     times: &mut [u64],
     info: &mut Info,
 ) -> i32
-    ensures same { OnHandle StaysSame handle.old.engine handle.new.engine }
-    ensures answers { AnswersOn (λ e said. TellsLabels label e said info.new.a times.new) handle.old.engine result }
+    ensures same { StaysSame handle.old.engine handle.new.engine }
+    ensures answers { AnswersOn (λ e said. TellsLabels label e said info.new times.new) handle.old.engine result }
 {
     let Some(engine) = handle.take(alloc) else {
         return Code::Closed.number();
@@ -441,7 +442,7 @@ pub extern "C" fn ts_times_of(
 /// Begins an archive of what ended by a time.
 #[unsafe(no_mangle)]
 pub extern "C" fn ts_archive(alloc: Global, handle: &mut Handle, upto: u64, info: &mut Info) -> i32
-    ensures { OnHandle (ArchivesEngine upto) handle.old.engine handle.new.engine }
+    ensures { OnHandle (λ old said new. ArchivesEngine upto old said info.new new) handle.old.engine result handle.new.engine }
 {
     let Some(mut engine) = handle.take(alloc) else {
         return Code::Closed.number();
@@ -453,7 +454,7 @@ pub extern "C" fn ts_archive(alloc: Global, handle: &mut Handle, upto: u64, info
 /// Begins a reclaim of what is archived.
 #[unsafe(no_mangle)]
 pub extern "C" fn ts_reclaim(alloc: Global, handle: &mut Handle, info: &mut Info) -> i32
-    ensures { OnHandle ReclaimsEngine handle.old.engine handle.new.engine }
+    ensures { OnHandle (λ old said new. ReclaimsEngine old said info.new new) handle.old.engine result handle.new.engine }
 {
     let Some(mut engine) = handle.take(alloc) else {
         return Code::Closed.number();
@@ -465,7 +466,7 @@ pub extern "C" fn ts_reclaim(alloc: Global, handle: &mut Handle, info: &mut Info
 /// Begins to raise the floor to a time.
 #[unsafe(no_mangle)]
 pub extern "C" fn ts_floor(alloc: Global, handle: &mut Handle, time: u64, info: &mut Info) -> i32
-    ensures { OnHandle (RaisesEngine time) handle.old.engine handle.new.engine }
+    ensures { OnHandle (λ old said new. RaisesEngine time old said info.new new) handle.old.engine result handle.new.engine }
 {
     let Some(mut engine) = handle.take(alloc) else {
         return Code::Closed.number();
@@ -477,7 +478,7 @@ pub extern "C" fn ts_floor(alloc: Global, handle: &mut Handle, time: u64, info: 
 /// The next step of the job that runs.
 #[unsafe(no_mangle)]
 pub extern "C" fn ts_job_pump(alloc: Global, handle: &mut Handle, info: &mut Info) -> i32
-    ensures { OnHandle PumpsJobOf handle.old.engine handle.new.engine }
+    ensures { OnHandle (λ old said new. PumpsJobOf old said info.new new) handle.old.engine result handle.new.engine }
 {
     let Some(mut engine) = handle.take(alloc) else {
         return Code::Closed.number();

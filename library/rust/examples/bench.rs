@@ -3,7 +3,10 @@ use std::time::Instant;
 use timestore::{Result, Store};
 
 fn rate(what: &str, count: u64, start: Instant) {
-    println!("{what:58} {:12.0} /s", count as f64 / start.elapsed().as_secs_f64());
+    println!(
+        "{what:58} {:12.0} /s",
+        count as f64 / start.elapsed().as_secs_f64()
+    );
 }
 
 fn commits(store: &Store, count: u64) -> Result<()> {
@@ -41,5 +44,9 @@ fn main() -> Result<()> {
     timestore::format(folder, 65_536)?;
     let store = Store::open(folder)?;
     commits(&store, number(commit_count))?;
-    queries(&store, number(query_count), number(commit_count).clamp(1, 200))
+    queries(
+        &store,
+        number(query_count),
+        number(commit_count).clamp(1, 200),
+    )
 }

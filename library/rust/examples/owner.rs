@@ -25,9 +25,13 @@ fn own(folder: &str, requests: Receiver<Request>) -> Result<()> {
 /// Commits a record; its time.
 fn commit(owner: &Sender<Request>, record: u64) -> u64 {
     let (answer, answered) = channel();
-    owner.send(Request { record, answer }).expect("the owner takes requests");
+    owner
+        .send(Request { record, answer })
+        .expect("the owner takes requests");
     let committed = answered.recv().expect("the owner answers");
-    committed.expect("the commit is published").expect("something was written")
+    committed
+        .expect("the commit is published")
+        .expect("something was written")
 }
 
 fn main() -> Result<()> {
@@ -43,8 +47,14 @@ fn main() -> Result<()> {
                 scope.spawn(move || (0..25).map(|n| commit(&owner, 25 * number + n)).max())
             })
             .collect();
-        let last = others.into_iter().filter_map(|it| it.join().expect("a thread ended well")).max();
-        println!("4 threads, 100 commits, the last one at {}", last.expect("there were commits"));
+        let last = others
+            .into_iter()
+            .filter_map(|it| it.join().expect("a thread ended well"))
+            .max();
+        println!(
+            "4 threads, 100 commits, the last one at {}",
+            last.expect("there were commits")
+        );
         drop(owner);
         owning.join().expect("the owner ended well")
     })

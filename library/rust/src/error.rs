@@ -7,6 +7,8 @@ use std::{fmt, io};
 #[derive(Debug)]
 #[non_exhaustive]
 pub enum Error {
+    /// Memory was refused amid a commit, which waits: a later flush publishes it.
+    Waiting,
     /// The device failed before the commit was published: opened again, the store has it or not.
     InDoubt,
     /// No such transaction, ticket or view.
@@ -79,7 +81,10 @@ impl Error {
             -5 => Error::NoMemory,
             -6 => Error::Failed,
             -7 => Error::Stranger,
-            -8 => Error::Conflict { relation: info.a as u16, record: info.b },
+            -8 => Error::Conflict {
+                relation: info.a as u16,
+                record: info.b,
+            },
             -9 => Error::HeapFull,
             -10 => Error::StatusFull,
             -11 => Error::ClockEnd,
@@ -107,6 +112,7 @@ impl Error {
 
     fn code(&self) -> i32 {
         match self {
+            Error::Waiting => 2,
             Error::InDoubt => 4,
             Error::Unknown => -3,
             Error::NoMemory => -5,
@@ -145,7 +151,10 @@ impl fmt::Display for Error {
         let text = unsafe { CStr::from_ptr(raw::ts_text(self.code())) }.to_string_lossy();
         match self {
             Error::Conflict { relation, record } => write!(f, "{text} {relation} {record}"),
-            Error::BeforeKept(time) | Error::NotYet(time) | Error::InUse(time) | Error::Damaged(time) => {
+            Error::BeforeKept(time)
+            | Error::NotYet(time)
+            | Error::InUse(time)
+            | Error::Damaged(time) => {
                 write!(f, "{text} {time}")
             }
             Error::System(cause) => write!(f, "{cause}"),
@@ -154,4 +163,11 @@ impl fmt::Display for Error {
     }
 }
 
-impl std::error::Error for Error {}
+impl std::error::Error for Error {
+    fn source(&self) -> Option<&(dyn std::error::Error + 'static)> {
+        match self {
+            Error::System(cause) => Some(cause),
+            _ => None,
+        }
+    }
+}

@@ -1,7 +1,29 @@
 //! A store of records that keeps every version, in files of a folder and in this process.
 //!
+//! ```
+//! # fn main() -> timestore::Result<()> {
+//! # let folder = std::env::temp_dir().join(format!("timestore-doc-{}", std::process::id()));
+//! # std::fs::create_dir(&folder).unwrap();
+//! timestore::format(&folder, 1024)?; // a folder that is there
+//! let store = timestore::Store::open(&folder)?;
+//! let mut txn = store.begin()?;
+//! txn.put(1, 7, &[b"a"])?;
+//! let time = txn.commit(9, 100)?.expect("something was written");
+//! assert_eq!(store.view()?.at(1, 7, time)?, Some(vec![b"a".to_vec()]));
+//! # drop(store);
+//! # std::fs::remove_dir_all(&folder).unwrap();
+//! # Ok(())
+//! # }
+//! ```
+//!
 //! A record is named by its relation and its number; a value is a list of 1 to 16 fields of at most 255
-//! bytes; a time is microseconds since 1970. A store stays on the thread that opened it.
+//! bytes; a time is microseconds since 1970 ([`micros`], [`moment`]). A store stays on the thread that
+//! opened it, and is not used in the child of a fork:
+//!
+//! ```compile_fail
+//! fn sent<T: Send>() {}
+//! sent::<timestore::Store>();
+//! ```
 
 mod error;
 mod raw;
@@ -13,6 +35,7 @@ use std::cell::Cell;
 use std::ffi::CString;
 use std::os::unix::ffi::OsStrExt;
 use std::path::Path;
+use std::time::{Duration, SystemTime, UNIX_EPOCH};
 
 /// What a call gives.
 pub type Result<T> = std::result::Result<T, Error>;
@@ -29,7 +52,11 @@ const IN_DOUBT: i32 = 4;
 const SMALL: i32 = -4;
 
 fn asked(code: i32, info: Info) -> Result<i32> {
-    if code < 0 || code == IN_DOUBT { Err(Error::of(code, info)) } else { Ok(code) }
+    if code < 0 || code == IN_DOUBT {
+        Err(Error::of(code, info))
+    } else {
+        Ok(code)
+    }
 }
 
 fn path_of(folder: &Path) -> Result<CString> {
@@ -59,6 +86,57 @@ fn fields_of(value: &[u8]) -> Fields {
         .collect()
 }
 
+/// Microseconds since 1970 of a time; none before that.
+pub fn micros(time: SystemTime) -> Option<u64> {
+    let since = time.duration_since(UNIX_EPOCH).ok()?;
+    u64::try_from(since.as_micros()).ok()
+}
+
+/// The time of so many microseconds since 1970.
+pub fn moment(time: u64) -> SystemTime {
+    UNIX_EPOCH + Duration::from_micros(time)
+}
+
+/// What a step of a group or of a job did.
+#[derive(Clone, Copy, Debug, PartialEq, Eq)]
+#[non_exhaustive]
+pub enum Step {
+    /// There was nothing to do.
+    Idle,
+    /// An extent of the group, or a piece of an archive, was written.
+    Wrote,
+    /// What was written of it was synced.
+    Synced,
+    /// The body of its slot was written.
+    BodyWritten,
+    /// The body of its slot was synced.
+    BodySynced,
+    /// Its gate was written.
+    GateWritten,
+    /// So many commits are published, or the job is done.
+    Published(u64),
+    /// Of a reclaim: an extent of what stands at its mark was written.
+    KeptWritten,
+    /// Of a reclaim: these were synced.
+    KeptSynced,
+}
+
+impl Step {
+    fn of(info: Info) -> Step {
+        match info.a {
+            1 => Step::Wrote,
+            2 => Step::Synced,
+            3 => Step::BodyWritten,
+            4 => Step::BodySynced,
+            5 => Step::GateWritten,
+            6 => Step::Published(info.b),
+            7 => Step::KeptWritten,
+            8 => Step::KeptSynced,
+            _ => Step::Idle,
+        }
+    }
+}
+
 /// What stood in a record from one time on, up to another.
 #[derive(Clone, Debug, PartialEq, Eq)]
 pub struct Row {
@@ -72,7 +150,9 @@ pub struct Row {
     pub fields: Fields,
 }
 
-/// An open store. What it gives out borrows it, so it is over before the store is closed.
+/// An open store. What it gives out borrows it, so it is over before the store is closed, which it is where
+/// it is dropped: what waits then is not published.
+#[derive(Debug)]
 pub struct Store {
     file: *mut raw::File,
     handle: *mut raw::Handle,
@@ -82,7 +162,10 @@ pub struct Store {
 pub fn format(folder: impl AsRef<Path>, slots: u32) -> Result<()> {
     let path = path_of(folder.as_ref())?;
     // SAFETY: the path is a string that ends in zero.
-    asked(unsafe { raw::ts_file_format(path.as_ptr(), slots) }, Info::default())?;
+    asked(
+        unsafe { raw::ts_file_format(path.as_ptr(), slots) },
+        Info::default(),
+    )?;
     Ok(())
 }
 
@@ -115,13 +198,20 @@ impl Store {
     /// A transaction on what is published now.
     pub fn begin(&self) -> Result<Txn<'_>> {
         let (_, info) = self.ask(|h, info| unsafe { raw::ts_begin(h, info) })?;
-        Ok(Txn { store: self, number: info.a, snapshot: info.b })
+        Ok(Txn {
+            store: self,
+            number: info.a,
+            snapshot: info.b,
+        })
     }
 
     /// What is published now, which later commits do not change.
     pub fn view(&self) -> Result<View<'_>> {
         let (_, info) = self.ask(|h, info| unsafe { raw::ts_view(h, info) })?;
-        Ok(View { store: self, number: info.a })
+        Ok(View {
+            store: self,
+            number: info.a,
+        })
     }
 
     /// Publishes what waits.
@@ -131,33 +221,60 @@ impl Store {
         Ok(())
     }
 
-    /// One step of the group that is being written: what it did, and how many commits are published.
-    pub fn pump(&self) -> Result<(u64, u64)> {
+    /// One step of the group that is being written, with its device call.
+    pub fn pump(&self) -> Result<Step> {
         let file = self.file;
         // SAFETY: the file is open.
         let (_, info) = self.ask(|_, info| unsafe { raw::ts_file_pump(file, info) })?;
-        Ok((info.a, info.b))
+        Ok(Step::of(info))
     }
 
     /// Copies what ended by a time into the archive.
     pub fn archive(&self, upto: u64) -> Result<()> {
+        self.archive_start(upto)?;
+        self.job()
+    }
+
+    /// Begins that copy, of which [`Store::job_pump`] takes each step.
+    pub fn archive_start(&self, upto: u64) -> Result<()> {
         self.ask(|h, info| unsafe { raw::ts_archive(h, upto, info) })?;
-        // SAFETY: the file is open.
-        asked(unsafe { raw::ts_file_job(self.file) }, Info::default())?;
         Ok(())
     }
 
     /// Gives up in the heap and in memory what is archived.
     pub fn reclaim(&self) -> Result<()> {
+        self.reclaim_start()?;
+        self.job()
+    }
+
+    /// Begins that, of which [`Store::job_pump`] takes each step.
+    pub fn reclaim_start(&self) -> Result<()> {
         self.ask(|h, info| unsafe { raw::ts_reclaim(h, info) })?;
-        // SAFETY: the file is open.
-        asked(unsafe { raw::ts_file_job(self.file) }, Info::default())?;
         Ok(())
     }
 
     /// Raises the floor to a time: views that are taken then answer `BeforeKept` at an earlier one.
     pub fn raise_floor(&self, time: u64) -> Result<()> {
+        self.floor_start(time)?;
+        self.job()
+    }
+
+    /// Begins that, of which [`Store::job_pump`] takes each step.
+    pub fn floor_start(&self, time: u64) -> Result<()> {
         self.ask(|h, info| unsafe { raw::ts_floor(h, time, info) })?;
+        Ok(())
+    }
+
+    /// One step of the job that is being made, with its device call.
+    pub fn job_pump(&self) -> Result<Step> {
+        let file = self.file;
+        // SAFETY: the file is open.
+        let (_, info) = self.ask(|_, info| unsafe { raw::ts_file_job_pump(file, info) })?;
+        Ok(Step::of(info))
+    }
+
+    /// All steps of the job that is being made.
+    pub fn job(&self) -> Result<()> {
         // SAFETY: the file is open.
         asked(unsafe { raw::ts_file_job(self.file) }, Info::default())?;
         Ok(())
@@ -172,7 +289,10 @@ impl Store {
     fn archive_area(&self) -> Result<(*const u8, usize)> {
         let (mut at, mut len) = (std::ptr::null(), 0);
         // SAFETY: the file is open.
-        asked(unsafe { raw::ts_file_archive(self.file, &mut at, &mut len) }, Info::default())?;
+        asked(
+            unsafe { raw::ts_file_archive(self.file, &mut at, &mut len) },
+            Info::default(),
+        )?;
         Ok((at, len))
     }
 
@@ -182,7 +302,15 @@ impl Store {
         loop {
             let mut info = Info::default();
             // SAFETY: as many times as there is room for are written.
-            let code = unsafe { raw::ts_times_of(self.handle, label, times.as_mut_ptr(), times.len(), &mut info) };
+            let code = unsafe {
+                raw::ts_times_of(
+                    self.handle,
+                    label,
+                    times.as_mut_ptr(),
+                    times.len(),
+                    &mut info,
+                )
+            };
             times.resize(info.a as usize, 0);
             if code != SMALL {
                 asked(code, info)?;
@@ -197,20 +325,33 @@ impl Store {
         unsafe { raw::ts_file_refuse(self.file, call) }
     }
 
-    fn read(&self, call: impl FnOnce(*mut raw::Handle, *mut u8, usize, &mut Info) -> i32) -> Result<Option<Fields>> {
+    fn read(
+        &self,
+        call: impl FnOnce(*mut raw::Handle, *mut u8, usize, &mut Info) -> i32,
+    ) -> Result<Option<Fields>> {
         let mut value = [0; VALUE_MOST];
         let (code, info) = self.ask(|h, info| call(h, value.as_mut_ptr(), VALUE_MOST, info))?;
-        Ok(if code == NONE { None } else { Some(fields_of(&value[..info.a as usize])) })
+        Ok(if code == NONE {
+            None
+        } else {
+            Some(fields_of(&value[..info.a as usize]))
+        })
     }
 
-    fn rows(&self, mut call: impl FnMut(*mut raw::Handle, &mut [RawRow], &mut [u8], &mut Info) -> i32) -> Result<Vec<Row>> {
+    fn rows(
+        &self,
+        mut call: impl FnMut(*mut raw::Handle, &mut [RawRow], &mut [u8], &mut Info) -> i32,
+    ) -> Result<Vec<Row>> {
         let (mut rows, mut out) = (vec![RawRow::default(); 64], vec![0; 4096]);
         loop {
             let mut info = Info::default();
             let code = call(self.handle, &mut rows, &mut out, &mut info);
             if code != SMALL {
                 asked(code, info)?;
-                return Ok(rows[..info.a as usize].iter().map(|row| full_row(row, &out)).collect());
+                return Ok(rows[..info.a as usize]
+                    .iter()
+                    .map(|row| full_row(row, &out))
+                    .collect());
             }
             rows.resize(info.a as usize, RawRow::default());
             out.resize(info.b as usize, 0);
@@ -220,7 +361,12 @@ impl Store {
 
 fn full_row(row: &RawRow, out: &[u8]) -> Row {
     let value = &out[row.at as usize..(row.at + row.len) as usize];
-    Row { record: row.record, from: row.from, upto: row.upto, fields: fields_of(value) }
+    Row {
+        record: row.record,
+        from: row.from,
+        upto: row.upto,
+        fields: fields_of(value),
+    }
 }
 
 impl Drop for Store {
@@ -231,6 +377,7 @@ impl Drop for Store {
 }
 
 /// An open transaction: what it reads is its snapshot with its own writes over it. Dropped, it is given up.
+#[derive(Debug)]
 pub struct Txn<'a> {
     store: &'a Store,
     number: u64,
@@ -248,51 +395,79 @@ impl<'a> Txn<'a> {
         let value = spelled(fields)?;
         let number = self.number;
         // SAFETY: the value's bytes are read, and no more.
-        self.store.ask(|h, _| unsafe { raw::ts_put(h, number, relation, record, value.as_ptr(), value.len()) })?;
+        self.store.ask(|h, _| unsafe {
+            raw::ts_put(h, number, relation, record, value.as_ptr(), value.len())
+        })?;
         Ok(())
     }
 
     /// Deletes a record that has a value.
     pub fn delete(&mut self, relation: u16, record: u64) -> Result<()> {
         let number = self.number;
-        self.store.ask(|h, _| unsafe { raw::ts_delete(h, number, relation, record) })?;
+        self.store
+            .ask(|h, _| unsafe { raw::ts_delete(h, number, relation, record) })?;
         Ok(())
     }
 
     /// The value that it sees.
     pub fn get(&self, relation: u16, record: u64) -> Result<Option<Fields>> {
         // SAFETY: at most `len` bytes are written at `out`, here and below.
-        self.store.read(|h, out, len, info| unsafe { raw::ts_get(h, self.number, relation, record, out, len, info) })
+        self.store.read(|h, out, len, info| unsafe {
+            raw::ts_get(h, self.number, relation, record, out, len, info)
+        })
     }
 
     /// The records of a relation that it sees, in rising order.
     pub fn scan(&self, relation: u16) -> Result<Vec<(u64, Fields)>> {
         let rows = self.store.rows(|h, rows, out, info| unsafe {
-            raw::ts_scan(h, self.number, relation, rows.as_mut_ptr(), rows.len(), out.as_mut_ptr(), out.len(), info)
+            raw::ts_scan(
+                h,
+                self.number,
+                relation,
+                rows.as_mut_ptr(),
+                rows.len(),
+                out.as_mut_ptr(),
+                out.len(),
+                info,
+            )
         })?;
-        Ok(rows.into_iter().map(|row| (row.record, row.fields)).collect())
+        Ok(rows
+            .into_iter()
+            .map(|row| (row.record, row.fields))
+            .collect())
     }
 
     /// Queues the writes as a commit with a label, at this time or just after the last commit; none where
     /// there are no writes.
     pub fn submit(self, label: u64, now: u64) -> Result<Option<Ticket<'a>>> {
         let (store, number) = (self.store, self.number);
-        let (code, info) = store.ask(|h, info| unsafe { raw::ts_submit(h, number, label, now, info) })?;
+        let (code, info) =
+            store.ask(|h, info| unsafe { raw::ts_submit(h, number, label, now, info) })?;
         // What was submitted is over; `drop` then meets a number that names nothing.
-        Ok(if code == READ_ONLY { None } else { Some(Ticket { store, number: Cell::new(Some(info.a)) }) })
+        Ok(if code == READ_ONLY {
+            None
+        } else {
+            Some(Ticket {
+                store,
+                number: Cell::new(Some(info.a)),
+            })
+        })
     }
 
-    /// Submits, publishes, and gives the commit's time; none where nothing was written.
+    /// Gives it up, as dropping it does.
+    pub fn abort(self) {}
+
+    /// Submits, publishes, and gives the commit's time; none where nothing was written. `InDoubt` where the
+    /// device failed on the way, `Waiting` where memory was refused there; any other refusal says that
+    /// nothing was committed.
     pub fn commit(self, label: u64, now: u64) -> Result<Option<u64>> {
         let store = self.store;
         let Some(ticket) = self.submit(label, now)? else {
             return Ok(None);
         };
-        let flushed = store.flush();
-        match ticket.redeem()? {
-            Some(time) => Ok(Some(time)),
-            None => flushed.and(Err(Error::Busy)),
-        }
+        // Where it is refused, the ticket says what became of the commit.
+        let _ = store.flush();
+        ticket.redeem()?.map(Some).ok_or(Error::Waiting)
     }
 }
 
@@ -303,7 +478,8 @@ impl Drop for Txn<'_> {
     }
 }
 
-/// A commit that waits, or is published.
+/// A commit that waits, or is published. Dropped, the ticket is given up, and the commit goes its way.
+#[derive(Debug)]
 pub struct Ticket<'a> {
     store: &'a Store,
     number: Cell<Option<u64>>,
@@ -313,7 +489,9 @@ impl Ticket<'_> {
     /// The time of the commit once it is published, else none. After a time, or a refusal, it is spent.
     pub fn redeem(&self) -> Result<Option<u64>> {
         let number = self.number.take().ok_or(Error::Unknown)?;
-        let (code, info) = self.store.ask(|h, info| unsafe { raw::ts_redeem(h, number, info) })?;
+        let (code, info) = self
+            .store
+            .ask(|h, info| unsafe { raw::ts_redeem(h, number, info) })?;
         if code == WAITING {
             self.number.set(Some(info.a));
             return Ok(None);
@@ -332,7 +510,8 @@ impl Drop for Ticket<'_> {
     }
 }
 
-/// What was published at one moment.
+/// What was published at one moment. Dropped, it is given back.
+#[derive(Debug)]
 pub struct View<'a> {
     store: &'a Store,
     number: u64,
@@ -341,29 +520,73 @@ pub struct View<'a> {
 impl View<'_> {
     /// The value of a record at a time, from memory alone.
     pub fn recent(&self, relation: u16, record: u64, time: u64) -> Result<Option<Fields>> {
-        self.store.read(|h, out, len, info| unsafe { raw::ts_recent(h, self.number, relation, record, time, out, len, info) })
+        self.store.read(|h, out, len, info| unsafe {
+            raw::ts_recent(h, self.number, relation, record, time, out, len, info)
+        })
     }
 
     /// The value of a record at a time.
     pub fn at(&self, relation: u16, record: u64, time: u64) -> Result<Option<Fields>> {
         let archive = self.store.archive_area()?;
-        self.store.read(|h, out, len, info| unsafe { raw::ts_at(h, self.number, relation, record, time, archive.0, archive.1, out, len, info) })
+        self.store.read(|h, out, len, info| unsafe {
+            raw::ts_at(
+                h,
+                self.number,
+                relation,
+                record,
+                time,
+                archive.0,
+                archive.1,
+                out,
+                len,
+                info,
+            )
+        })
     }
 
     /// The records of a relation that have a value at a time, in rising order.
     pub fn scan_at(&self, relation: u16, time: u64) -> Result<Vec<(u64, Fields)>> {
         let archive = self.store.archive_area()?;
         let rows = self.store.rows(|h, rows, out, info| unsafe {
-            raw::ts_scan_at(h, self.number, relation, time, archive.0, archive.1, rows.as_mut_ptr(), rows.len(), out.as_mut_ptr(), out.len(), info)
+            raw::ts_scan_at(
+                h,
+                self.number,
+                relation,
+                time,
+                archive.0,
+                archive.1,
+                rows.as_mut_ptr(),
+                rows.len(),
+                out.as_mut_ptr(),
+                out.len(),
+                info,
+            )
         })?;
-        Ok(rows.into_iter().map(|row| (row.record, row.fields)).collect())
+        Ok(rows
+            .into_iter()
+            .map(|row| (row.record, row.fields))
+            .collect())
     }
 
     /// What stood in a record from one time up to another, by rising time.
     pub fn between(&self, relation: u16, record: u64, from: u64, upto: u64) -> Result<Vec<Row>> {
         let archive = self.store.archive_area()?;
         self.store.rows(|h, rows, out, info| unsafe {
-            raw::ts_between(h, self.number, relation, record, from, upto, archive.0, archive.1, rows.as_mut_ptr(), rows.len(), out.as_mut_ptr(), out.len(), info)
+            raw::ts_between(
+                h,
+                self.number,
+                relation,
+                record,
+                from,
+                upto,
+                archive.0,
+                archive.1,
+                rows.as_mut_ptr(),
+                rows.len(),
+                out.as_mut_ptr(),
+                out.len(),
+                info,
+            )
         })
     }
 
@@ -371,7 +594,20 @@ impl View<'_> {
     pub fn scan_between(&self, relation: u16, from: u64, upto: u64) -> Result<Vec<Row>> {
         let archive = self.store.archive_area()?;
         self.store.rows(|h, rows, out, info| unsafe {
-            raw::ts_scan_between(h, self.number, relation, from, upto, archive.0, archive.1, rows.as_mut_ptr(), rows.len(), out.as_mut_ptr(), out.len(), info)
+            raw::ts_scan_between(
+                h,
+                self.number,
+                relation,
+                from,
+                upto,
+                archive.0,
+                archive.1,
+                rows.as_mut_ptr(),
+                rows.len(),
+                out.as_mut_ptr(),
+                out.len(),
+                info,
+            )
         })
     }
 }

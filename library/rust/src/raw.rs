@@ -33,22 +33,111 @@ pub struct Row {
 unsafe extern "C" {
     pub fn ts_last(h: *mut Handle, info: &mut Info) -> i32;
     pub fn ts_begin(h: *mut Handle, info: &mut Info) -> i32;
-    pub fn ts_put(h: *mut Handle, txn: u64, relation: u16, record: u64, value: *const u8, len: usize) -> i32;
+    pub fn ts_put(
+        h: *mut Handle,
+        txn: u64,
+        relation: u16,
+        record: u64,
+        value: *const u8,
+        len: usize,
+    ) -> i32;
     pub fn ts_delete(h: *mut Handle, txn: u64, relation: u16, record: u64) -> i32;
-    pub fn ts_get(h: *mut Handle, txn: u64, relation: u16, record: u64, out: *mut u8, len: usize, info: &mut Info) -> i32;
-    pub fn ts_scan(h: *mut Handle, txn: u64, relation: u16, rows: *mut Row, count: usize, out: *mut u8, len: usize, info: &mut Info) -> i32;
+    pub fn ts_get(
+        h: *mut Handle,
+        txn: u64,
+        relation: u16,
+        record: u64,
+        out: *mut u8,
+        len: usize,
+        info: &mut Info,
+    ) -> i32;
+    pub fn ts_scan(
+        h: *mut Handle,
+        txn: u64,
+        relation: u16,
+        rows: *mut Row,
+        count: usize,
+        out: *mut u8,
+        len: usize,
+        info: &mut Info,
+    ) -> i32;
     pub fn ts_submit(h: *mut Handle, txn: u64, label: u64, now: u64, info: &mut Info) -> i32;
     pub fn ts_abort(h: *mut Handle, txn: u64) -> i32;
     pub fn ts_redeem(h: *mut Handle, ticket: u64, info: &mut Info) -> i32;
     pub fn ts_give_up(h: *mut Handle, ticket: u64) -> i32;
     pub fn ts_view(h: *mut Handle, info: &mut Info) -> i32;
     pub fn ts_end(h: *mut Handle, view: u64) -> i32;
-    pub fn ts_recent(h: *mut Handle, view: u64, relation: u16, record: u64, time: u64, out: *mut u8, len: usize, info: &mut Info) -> i32;
-    pub fn ts_at(h: *mut Handle, view: u64, relation: u16, record: u64, time: u64, archive: *const u8, archive_len: usize, out: *mut u8, len: usize, info: &mut Info) -> i32;
-    pub fn ts_scan_at(h: *mut Handle, view: u64, relation: u16, time: u64, archive: *const u8, archive_len: usize, rows: *mut Row, count: usize, out: *mut u8, len: usize, info: &mut Info) -> i32;
-    pub fn ts_between(h: *mut Handle, view: u64, relation: u16, record: u64, from: u64, upto: u64, archive: *const u8, archive_len: usize, rows: *mut Row, count: usize, out: *mut u8, len: usize, info: &mut Info) -> i32;
-    pub fn ts_scan_between(h: *mut Handle, view: u64, relation: u16, from: u64, upto: u64, archive: *const u8, archive_len: usize, rows: *mut Row, count: usize, out: *mut u8, len: usize, info: &mut Info) -> i32;
-    pub fn ts_times_of(h: *mut Handle, label: u64, times: *mut u64, count: usize, info: &mut Info) -> i32;
+    pub fn ts_recent(
+        h: *mut Handle,
+        view: u64,
+        relation: u16,
+        record: u64,
+        time: u64,
+        out: *mut u8,
+        len: usize,
+        info: &mut Info,
+    ) -> i32;
+    pub fn ts_at(
+        h: *mut Handle,
+        view: u64,
+        relation: u16,
+        record: u64,
+        time: u64,
+        archive: *const u8,
+        archive_len: usize,
+        out: *mut u8,
+        len: usize,
+        info: &mut Info,
+    ) -> i32;
+    pub fn ts_scan_at(
+        h: *mut Handle,
+        view: u64,
+        relation: u16,
+        time: u64,
+        archive: *const u8,
+        archive_len: usize,
+        rows: *mut Row,
+        count: usize,
+        out: *mut u8,
+        len: usize,
+        info: &mut Info,
+    ) -> i32;
+    pub fn ts_between(
+        h: *mut Handle,
+        view: u64,
+        relation: u16,
+        record: u64,
+        from: u64,
+        upto: u64,
+        archive: *const u8,
+        archive_len: usize,
+        rows: *mut Row,
+        count: usize,
+        out: *mut u8,
+        len: usize,
+        info: &mut Info,
+    ) -> i32;
+    pub fn ts_scan_between(
+        h: *mut Handle,
+        view: u64,
+        relation: u16,
+        from: u64,
+        upto: u64,
+        archive: *const u8,
+        archive_len: usize,
+        rows: *mut Row,
+        count: usize,
+        out: *mut u8,
+        len: usize,
+        info: &mut Info,
+    ) -> i32;
+    pub fn ts_times_of(
+        h: *mut Handle,
+        label: u64,
+        times: *mut u64,
+        count: usize,
+        info: &mut Info,
+    ) -> i32;
     pub fn ts_archive(h: *mut Handle, upto: u64, info: &mut Info) -> i32;
     pub fn ts_reclaim(h: *mut Handle, info: &mut Info) -> i32;
     pub fn ts_floor(h: *mut Handle, time: u64, info: &mut Info) -> i32;
@@ -57,6 +146,7 @@ unsafe extern "C" {
     pub fn ts_file_store(file: *mut File) -> *mut Handle;
     pub fn ts_file_archive(file: *mut File, at: &mut *const u8, len: &mut usize) -> i32;
     pub fn ts_file_pump(file: *mut File, info: &mut Info) -> i32;
+    pub fn ts_file_job_pump(file: *mut File, info: &mut Info) -> i32;
     pub fn ts_file_flush(file: *mut File) -> i32;
     pub fn ts_file_job(file: *mut File) -> i32;
     pub fn ts_file_refuse(file: *mut File, call: u64);

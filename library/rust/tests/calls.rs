@@ -36,7 +36,10 @@ fn commits_are_read() {
     assert_eq!(view.at(1, 5, 49).unwrap(), None);
     assert_eq!(view.scan_at(1, 50).unwrap().len(), 100);
     let rows = view.scan_between(1, 0, 51).unwrap();
-    assert_eq!((rows.len(), rows[99].record, rows[99].from, rows[99].upto), (100, 99, 50, 51));
+    assert_eq!(
+        (rows.len(), rows[99].record, rows[99].from, rows[99].upto),
+        (100, 99, 50, 51)
+    );
     assert_eq!(view.between(1, 7, 0, 51).unwrap(), rows[7..8]);
     assert_eq!(store.times_of(3).unwrap(), [50]);
     assert!(matches!(view.at(1, 5, 51), Err(Error::NotYet(50))));
@@ -62,7 +65,10 @@ fn a_refused_call_leaves_what_was_published() {
         store.raise_floor(10).unwrap();
         assert_eq!(store.floor().unwrap(), 10);
         assert!(matches!(store.raise_floor(10), Err(Error::NothingToDo)));
-        assert!(matches!(store.view().unwrap().at(1, 7, 9), Err(Error::BeforeKept(10))));
+        assert!(matches!(
+            store.view().unwrap().at(1, 7, 9),
+            Err(Error::BeforeKept(10))
+        ));
         assert_eq!(view.at(1, 7, 9).unwrap(), None);
     }
     store.refuse(6);
@@ -70,6 +76,9 @@ fn a_refused_call_leaves_what_was_published() {
     txn.put(1, 7, &[b"lost"]).unwrap();
     assert!(matches!(txn.commit(1, 20), Err(Error::InDoubt)));
     assert_eq!(store.last().unwrap(), 10);
-    assert_eq!(store.view().unwrap().at(1, 7, 10).unwrap(), Some(vec![b"kept".to_vec()]));
+    assert_eq!(
+        store.view().unwrap().at(1, 7, 10).unwrap(),
+        Some(vec![b"kept".to_vec()])
+    );
     assert!(matches!(store.begin().map(|_| ()), Err(Error::Failed)));
 }
