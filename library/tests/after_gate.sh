@@ -12,7 +12,7 @@ done
 log=$(mktemp)
 trap 'rm -f "$log"' EXIT
 start=$(date +%s)
-if ! { make gate-core && make all; } > "$log" 2>&1; then
+if ! { timeout 1200 make gate-core && make all; } > "$log" 2>&1; then
     tail -n 20 "$log"
     echo "the library is not tested: it was not built over what the gate has left"
     exit 0
