@@ -185,32 +185,36 @@ pub(crate) struct Opened {
     ghost upto_last: { latest frozen ≤ last },
 }
 
-/// The same with these writes, later than all others.
-fn with_writes(
-    alloc: Global,
-    opened: Opened,
-    writes: &[KeyWrite<SharedValue>],
-) -> Result<Opened, AllocError>
-    requires { IsStrictlySortedBy key_cmp (map (λ w. w.key) writes.now) }
-{
-    let Opened { frozen, last } = opened;
-    if last >= LAST_TIME {
-        return Err(AllocError);
+impl Opened {
+    fn new() -> Self {
+        let frozen = Frozen::new();
+        Opened { frozen, last: 0 }
     }
-    let time = last + 1;
-    let frozen = frozen.into_commit(alloc, time, writes)?;
-    Ok(Opened { frozen, last: time })
+
+    /// The same with these writes, later than all others.
+    fn with_writes(
+        self,
+        alloc: Global,
+        writes: &[KeyWrite<SharedValue>],
+    ) -> Result<Self, AllocError>
+        requires { IsStrictlySortedBy key_cmp (map (λ w. w.key) writes.now) }
+    {
+        let Opened { frozen, last } = self;
+        if last >= LAST_TIME {
+            return Err(AllocError);
+        }
+        let time = last + 1;
+        let frozen = frozen.into_commit(alloc, time, writes)?;
+        Ok(Opened { frozen, last: time })
+    }
 }
 
 /// The versions of `with_history`, made as a store's are that is opened.
 pub(crate) fn open_history(alloc: Global, keys: u64, versions: u64) -> Result<Opened, AllocError> {
-    let mut opened = Opened {
-        frozen: Frozen::new(),
-        last: 0,
-    };
+    let mut opened = Opened::new();
     for _ in 0..versions {
         let writes = writes(alloc, 0, 1, keys, &FIELDS)?;
-        opened = with_writes(alloc, opened, &writes)?;
+        opened = opened.with_writes(alloc, &writes)?;
     }
     Ok(opened)
 }
