@@ -83,7 +83,7 @@ enum {
     TS_SMALL = -4,          /* too little room for the answer; info has what is needed */
     TS_NO_MEMORY = -5,
     TS_FAILED = -6,         /* a device call was refused */
-    TS_STRANGER = -7,
+    TS_STRANGER = -7,       /* a transaction, ticket or view of another store */
     TS_CONFLICT = -8,       /* a: relation, b: record of the least key that a later commit wrote too */
     TS_HEAP_FULL = -9,      /* the records need more extents than are free */
     TS_STATUS_FULL = -10,   /* too few slots of the status log are left */
@@ -94,7 +94,8 @@ enum {
     TS_BEFORE_KEPT = -15,   /* a: the floor; history before it may be gone */
     TS_NOT_YET = -16,       /* a: the time of the last commit; a later one may still change the answer */
     TS_EMPTY_INTERVAL = -17,
-    TS_DAMAGED = -18,       /* a: the place of what breaks a rule, in bytes */
+    TS_DAMAGED = -18,       /* what a stop cannot leave. b: the area; a: of the status area the slot, of the heap
+                               the chain's first extent, of the archive the run's first byte */
     TS_NOT_A_STORE = -19,
     TS_BUSY = -20,          /* one slot is in the writing at a time: pump the other one; ts_open: the handle is full */
     TS_JOB_BUSY = -21,      /* an archive, a reclaim or a floor is being made */
