@@ -175,7 +175,7 @@ compare python3 "$top/examples/owner.py" "$work/owner-python" <<'END'
 END
 if command -v mypy > /dev/null; then
     say "Python, types"
-    typed() { mypy --strict --cache-dir "$work/mypy" "$top/python/timestore.py" > "$work/types" || { cat "$work/types"; false; }; }
+    typed() { MYPYPATH="$top/python" mypy --strict --cache-dir "$work/mypy" "$top/python/timestore.py" "$top"/examples/*.py > "$work/types" || { cat "$work/types"; false; }; }
     passes typed
 fi
 say "Python, calls"
