@@ -47,7 +47,7 @@ if ! { echo 'int main(void){return 0;}' | gcc -x c - $sanitized -o "$work/probe"
     echo "gcc's sanitizers do not run here: the tests run without"
     sanitized=""
 fi
-for test in rows refused memory; do
+for test in rows worked refused memory; do
     say "C, $test${sanitized:+ (address, undefined, leak)}"
     wrapped=
     [ "$test" != memory ] || wrapped="-Wl,--wrap=malloc,--wrap=calloc,--wrap=realloc"
