@@ -80,7 +80,7 @@ enum {
     TS_PENDING = -1,        /* the last device call was not made yet */
     TS_CLOSED = -2,         /* the handle has no store */
     TS_UNKNOWN = -3,        /* no such transaction, ticket or view */
-    TS_SMALL = -4,          /* too little room for the answer; info has what is needed */
+    TS_SMALL = -4,          /* too little room for the answer; info, or the device call, has what is needed */
     TS_NO_MEMORY = -5,
     TS_FAILED = -6,         /* a device call was refused */
     TS_STRANGER = -7,       /* a transaction, ticket or view of another store */
@@ -124,8 +124,9 @@ enum {
    syncs it, writes the first 512 bytes, and syncs it. The other two areas begin empty. */
 int32_t ts_format(uint32_t slots, uint8_t *out, size_t len, ts_info *info);
 
-/* Opens the store of these bytes; a: the time of the last commit, b: the floor. The mark is a number of the
-   host's own, which numbers of this store carry in the library. */
+/* Opens the store of these bytes; a: the time of the last commit, b: the floor. TS_NOT_A_STORE and TS_DAMAGED by
+   the first rule of the format that they break. The mark is a number of the host's own, which numbers of this
+   store carry in the library. */
 int32_t ts_open(ts *h, const uint8_t *status, size_t status_len, const uint8_t *heap, size_t heap_len,
                 const uint8_t *archive, size_t archive_len, uint64_t mark, ts_info *info);
 
@@ -135,7 +136,7 @@ int32_t ts_close(ts *h);
 /* a: the time of the last commit, b: the floor. */
 int32_t ts_last(ts *h, ts_info *info);
 
-/* The device call that stands out, with the bytes of a write; TS_NONE where none does. */
+/* The device call that stands out, with the bytes of a write, as often as it is asked; TS_NONE where none does. */
 int32_t ts_call(ts *h, ts_device *call, uint8_t *out, size_t len);
 
 /* The device call was made, or was refused, which gives TS_FAILED. TS_NONE where none stands out. */
