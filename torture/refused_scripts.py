@@ -13,9 +13,6 @@ from scripts import LARGE, check_left, questions
 from wrong import HARMLESS, Wrong
 
 BY_A_REFUSED_CALL = ("refused: no memory", "refused: device", "refused: failed")
-# a refused growth may pass here alone: in the cache of the archive's blocks, and where room for a
-# list of known length is asked ahead
-PASSES = ("at", "between", "scan", "times", "reopen")
 # lines that write, in which a growth of the disk in memory may be refused
 WRITES = ("pump", "job", "flush", "finish")
 # of a new store in memory
@@ -257,13 +254,12 @@ class Case:
             self.may_be_left(before)
             if said == wanted:
                 if is_due and self.wrong.came() and self.wrong.how not in HARMLESS:
-                    if not self.may_pass(number, line):
+                    if not self.may_pass():
                         raise self.failure(
                             f"{line}: answered {said}, and nothing is refused", said, ["a refusal"]
                         )
                     if self.wrong.kind == "growth":
-                        where = line.split(" ")[0] if number else "the first line"
-                        outcome = f"no change of {where}"
+                        outcome = f"no change of {line.split(' ')[0]}, the block is not kept"
                 continue
             is_refusable = self.wrong.came() and self.wrong.how not in HARMLESS
             if not outcome.startswith("no change") or not is_refusable:
@@ -273,13 +269,11 @@ class Case:
                 return outcome
         return self.at_the_end(outcome)
 
-    def may_pass(self, number: int, line: str) -> bool:
-        """Whether the refused call may change nothing here: a growth in a cache or ahead of need;
-        a read of the input behind this line's answer; a write of the answer, which is gathered and
-        written again as the program ends."""
-        if self.wrong.kind == "growth":
-            return number == 0 or line.split(" ")[0] in PASSES
-        return self.wrong.kind in ("input", "output")
+    def may_pass(self) -> bool:
+        """Whether the refused call may change nothing here: a growth of the cache of archive
+        blocks; a read of the input behind this line's answer; a write of the answer, which is
+        gathered and written again as the program ends."""
+        return self.wrong.was_in_cache() or self.wrong.kind in ("input", "output")
 
     def at_the_end(self, outcome: str) -> str:
         status, rest = self.session.end()
@@ -290,6 +284,8 @@ class Case:
             raise self.failure(f"the script ends with status {status}, and says {rest!r}")
         if self.wrong.at and not self.wrong.came():
             raise self.failure("the call that was to go wrong never came")
+        if self.wrong.at and outcome == "no change" and self.wrong.how not in HARMLESS:
+            raise self.failure("the call that went wrong at the end has changed nothing")
         self.may_be_left(self.small)
         return outcome
 
