@@ -1,7 +1,7 @@
 #!/usr/bin/env python3
 """Each call that the program makes of the system, refused: every growth, read, length, write,
 sync, opening and lock of a script and of each command, one at a time; reads and writes that move
-one byte or are interrupted.
+one byte or are interrupted; and the program killed before each write and sync.
 
 refusals.py PROGRAM [--only NAME] [--seconds S]
 

@@ -3,6 +3,7 @@ machine's."""
 from __future__ import annotations
 
 import copy
+import signal
 from collections.abc import Iterable
 
 import image
@@ -320,9 +321,11 @@ class Case:
         return "write" if is_of_disk and self.wrong.kind == "growth" else self.wrong.kind
 
     def ended(self, said: list[str] | None, is_first: bool) -> str:
-        """The input or the output is refused, or there is no memory for either or for the
-        program's words: it ends."""
+        """The program is killed, the input or the output is refused, or there is no memory for
+        either or for the program's words: it ends."""
         status, _ = self.session.end()
+        if self.wrong.how == "killed" and status == -signal.SIGKILL and said is None:
+            return "ended"
         # want of memory while the words are read is told on standard error, with the status of a
         # usage fault
         may_end = status == 1 or status == 2 and is_first and said is None

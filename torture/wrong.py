@@ -20,8 +20,8 @@ MOVES = ("before", "short", "interrupted")
 # how a call of a class goes wrong
 HOWS = {
     "growth": ("before",), "input": MOVES, "output": MOVES, "read": MOVES, "length": ("before",),
-    "write": ("before", "part", "made", "short", "interrupted"), "sync": ("before", "made"),
-    "open": ("before",), "lock": ("before",),
+    "write": ("before", "part", "made", "short", "interrupted", "killed"),
+    "sync": ("before", "made", "killed"), "open": ("before",), "lock": ("before",),
 }
 # nothing is refused: the program asks again for the rest
 HARMLESS = ("short", "interrupted")
