@@ -253,7 +253,7 @@ class Case:
             is_due = not self.wrong.came()
             said, wanted, before = self.tell(line)
             self.may_be_left(before)
-            if said == wanted:
+            if said is not None and said == wanted:
                 if is_due and self.wrong.came() and self.wrong.how not in HARMLESS:
                     if not self.may_pass():
                         raise self.failure(

@@ -25,9 +25,9 @@ HOWS = {
 }
 # nothing is refused: the program asks again for the rest
 HARMLESS = ("short", "interrupted")
-# what reads a block of an archive that is not kept, and keeps it if there is memory: the growths
-# in it are those of the cache
-READS_A_BLOCK = "archive::blocks::BlockReader::read_missing"
+# what keeps a block of an archive, if there is memory for it; and what calls it, which stays a
+# function of its own: no growth in it is another's
+KEEPS, READS = "archive::cache::BlockCache::keep", "archive::blocks::BlockReader::read_missing"
 
 # places in words of what refuse.c writes, how many calls it can write down, and its length in
 # bytes
@@ -65,7 +65,8 @@ class Wrong:
             "REFUSE_AT": str(self.at), "REFUSE_HOW": self.how,
         }
         if program and self.kind == "growth":
-            self.environment["REFUSE_TRACED"] = places_of(program, READS_A_BLOCK)
+            places = places_of(program, KEEPS) or places_of(program, READS)
+            self.environment["REFUSE_TRACED"] = places
 
     def words(self, first: int, count: int) -> tuple[int, ...]:
         with open(self.place, "rb") as it:
