@@ -9,7 +9,7 @@ from collections.abc import Iterable
 import image
 import machine
 from machine import Front, Machine, Transaction
-from program import Areas, Failure, Session, read_areas, write_areas
+from program import Areas, Failure, Session, is_whole, read_areas, write_areas
 from scripts import LARGE, check_left, questions
 from wrong import HARMLESS, Wrong
 
@@ -42,6 +42,7 @@ at 1 7 100
 WIDE = f"""begin a
 put a 1 7 61 62
 put a 1 8 -
+put a 2 0 61
 put a 2 1 {LARGE}
 put a 2 2 {LARGE}
 submit a 1 100
@@ -295,8 +296,9 @@ class Case:
         before: Machine,
     ) -> str:
         kind = self.kind_of(line, said, number == 0)
-        if said is None or kind in ("input", "output"):
-            return self.ended(said, number == 0)
+        is_cut = said is None or kind == "growth" and not is_whole(line, said)
+        if is_cut or kind in ("input", "output"):
+            return self.ended(said, wanted, number == 0)
         opening = "refused: no memory" if kind == "growth" else "refused: device"
         refusal = "refused: failed" if kind in ("write", "sync") else opening
         if (number == 0 or line == "reopen") and said == [opening]:
@@ -320,17 +322,20 @@ class Case:
         is_of_disk = not self.folder and said == [refusal] and (is_opening or line in WRITES)
         return "write" if is_of_disk and self.wrong.kind == "growth" else self.wrong.kind
 
-    def ended(self, said: list[str] | None, is_first: bool) -> str:
+    def ended(
+        self, said: list[str] | None, wanted: list[str] | None, is_first: bool
+    ) -> str:
         """The program is killed, the input or the output is refused, or there is no memory for
-        either or for the program's words: it ends."""
+        either or for the program's words: it ends, and has given out a front of the answer."""
         status, _ = self.session.end()
         if self.wrong.how == "killed" and status == -signal.SIGKILL and said is None:
             return "ended"
         # want of memory while the words are read is told on standard error, with the status of a
         # usage fault
         may_end = status == 1 or status == 2 and is_first and said is None
-        if not may_end or self.wrong.kind not in ("growth", "input", "output"):
-            raise self.failure(f"ends with {said} and status {status}")
+        is_front = "\n".join(wanted or []).startswith("\n".join(said or []))
+        if not (may_end and is_front) or self.wrong.kind not in ("growth", "input", "output"):
+            raise self.failure(f"ends with {said} and status {status}", said, wanted)
         return "ended"
 
     def not_opened(self, before: Machine) -> str:
