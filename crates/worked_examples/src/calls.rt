@@ -12,7 +12,7 @@ use store::{Did, QueryFault, Redeemed, Store, SubmitFault, Submitted, Ticket, Tx
 
 /// An empty store with this mark, opened.
 fn opened(rt: &impl Abort, alloc: Global, mark: u64) -> Result<Store<MemDisk>, Fail> {
-    match Store::open(alloc, new_store(rt, alloc, 16)?, mark) {
+    match Store::open(alloc, new_store(alloc, 16)?, mark) {
         Ok(store) => Ok(store),
         Err(_) => Err(Fail::from("not opened")),
     }
