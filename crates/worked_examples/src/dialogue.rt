@@ -258,7 +258,7 @@ pub fn converses_by_parts(
 }
 
 /// A dialogue on a store that is opened after another one.
-#[derive(Clone, Copy, Debug)]
+#[derive(Clone, Copy)]
 pub struct Script {
     pub name: &'static str,
     pub slots: u32,

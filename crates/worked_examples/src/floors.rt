@@ -316,13 +316,18 @@ at 1 7 130
 /// What is said of it where a step is refused, from there on.
 const FAILED: &str = "refused: failed\nrefused: failed\nvalue 62\nvalue 63\n";
 
+/// What a floor bars, and what stood before it was raised.
+const BARRED: &[Step] = &[At("119", "refused: before kept 120"), At("130", "value 63")];
+
+const NOT_BARRED: &[Step] = &[At("119", "value 62"), At("130", "value 63")];
+
 /// What stands by what is left of the disk on which this was said: the floor bars what stood at 119 once
 /// its slot is open, and, while the gate is written and not synced, where its byte is that of an open one.
 fn steps_left(said: &str, fill: u8) -> &'static [Step] {
     if said.contains("job done") || (said.contains("body synced") && fill == 0xC7) {
-        &[At("119", "refused: before kept 120"), At("130", "value 63")]
+        BARRED
     } else {
-        &[At("119", "value 62"), At("130", "value 63")]
+        NOT_BARRED
     }
 }
 

@@ -113,7 +113,7 @@ refused: failed
 ";
 
 /// How many calls were refused of each part of the script.
-#[derive(Clone, Copy, Debug, Default, PartialEq, Eq)]
+#[derive(Clone, Copy, Default)]
 struct Refused {
     opening: u32,
     commit: u32,
@@ -197,16 +197,20 @@ fn refuses_each_call(alloc: Global, write_reaches: bool) -> Result<Refused, Fail
     Err(Fail::new("the script has no end"))
 }
 
-/// The commit has six steps, the archive, whose run is empty, five, and the reclaim six. Opening
-/// syncs three areas, and asks for a length.
+/// Opening syncs three areas, and asks for a length.
+fn is_often(opening: u32, reopening: u32) -> Result<(), Fail> {
+    if opening > 3 && reopening > opening {
+        return Ok(());
+    }
+    Err(Fail::new(format_args!("{opening} and {reopening}")))
+}
+
+/// The commit has six steps, the archive, whose run is empty, five, and the reclaim six.
 fn is_counted(refused: &Refused) -> Result<(), Fail> {
     is_count(refused.commit, 6)?;
     is_count(refused.archive, 5)?;
     is_count(refused.reclaim, 6)?;
-    if refused.opening > 3 && refused.reopening > refused.opening {
-        return Ok(());
-    }
-    Err(Fail::new(format_args!("{refused:?}")))
+    is_often(refused.opening, refused.reopening)
 }
 
 #[test]

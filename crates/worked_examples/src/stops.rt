@@ -18,13 +18,17 @@ pump
 pump
 ";
 
-/// What stands at 100 where a stop left a store in which this was said before: nothing before the gate
-/// is written, by what the gate has then until it is synced, and from then on the value committed.
+const KEPT: &[Step] = &[At("100", "value 61")];
+
+const NOT_KEPT: &[Step] = &[At("100", "refused: not yet 0")];
+
+/// What stands where a stop left a store in which this was said before: nothing before the gate is
+/// written, by what the gate has then until it is synced, and from then on the value committed.
 fn steps_left(said: &str, fill: u8) -> &'static [Step] {
     if said.contains("published 1") || (said.contains("body synced") && fill == 0xC7) {
-        &[At("100", "value 61")]
+        KEPT
     } else {
-        &[At("100", "refused: not yet 0")]
+        NOT_KEPT
     }
 }
 

@@ -5,7 +5,7 @@ use std::alloc::Global;
 use std::test::Fail;
 
 /// A dialogue on a new store of 16 slots, and the extents that it leaves.
-#[derive(Clone, Copy, Debug)]
+#[derive(Clone, Copy)]
 pub struct Stored {
     pub name: &'static str,
     /// The dialogue's parts, as `repeated` has them.

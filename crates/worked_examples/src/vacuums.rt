@@ -141,7 +141,7 @@ const VACUUM: Trial<'static> = Trial {
 };
 
 /// How many calls were refused of the archive and of the reclaim, and whether none was.
-#[derive(Clone, Copy, Debug, Default, PartialEq, Eq)]
+#[derive(Clone, Copy, Default)]
 struct Refused {
     archives: u32,
     reclaims: u32,
