@@ -94,11 +94,14 @@ pub fn put(
     alloc: Global,
     disk: &mut MemDisk,
     area: Area,
-    place: u64,
+    place: u32,
     text: &str,
 ) -> Result<(), Fail> {
     let bytes = spelled(alloc, text)?;
-    disk.write_at(area, place, bytes.as_slice())?;
+    if bytes.len() > 8192 {
+        return Err(Fail::new(format_args!("more bytes than an extent has")));
+    }
+    disk.write_at(area, u64::from(place), bytes.as_slice())?;
     disk.sync(area)?;
     Ok(())
 }

@@ -59,14 +59,22 @@ pub fn told<D: Disk + Drop>(
     Ok((String::from_utf8(said.into_writer())?, status, disk))
 }
 
-/// That something else was said under this name: the first line that differs.
-fn differs(name: &str, said: &str, answers: &str) -> Fail {
+/// How many lines are the same before the first that differs.
+fn same_lines(said: &str, answers: &str) -> u32 {
+    let mut same = 0u32;
     for (found, line) in said.lines().zip(answers.lines()) {
         if found != line {
-            return Fail::new(format_args!("{name}: {found:?} and not {line:?}"));
+            return same;
         }
+        same = same.saturating_add(1);
     }
-    Fail::new(format_args!("{name}: {said:?} and not {answers:?}"))
+    same
+}
+
+/// That something else was said under this name: from which line on, and all of it.
+fn differs(name: &str, said: &str, answers: &str) -> Fail {
+    let same = same_lines(said, answers);
+    Fail::new(format_args!("{name}, behind {same} lines: {said:?} and not {answers:?}"))
 }
 
 /// It must have ended with this status.

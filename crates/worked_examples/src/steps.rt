@@ -43,7 +43,7 @@ pub enum Step {
     /// The bytes with which each of the heap's extents begins, and no more extents.
     Extents(&'static [&'static str]),
     /// Bytes that are put from a place on.
-    Puts(Area, u64, &'static str),
+    Puts(Area, u32, &'static str),
     /// A byte that is changed.
     Changes(Area, u32, u8),
     /// An area of which only so many bytes are kept.
