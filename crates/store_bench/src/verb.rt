@@ -1,5 +1,8 @@
 //! What the words ask for.
 
+use crate::together;
+use crate::together::Together;
+
 /// How a measurement of commits is made up: so many transactions under one gate, each of so many
 /// records, all in so many extents.
 #[derive(Clone, Copy, Debug)]
@@ -69,6 +72,7 @@ pub(crate) enum Verb {
     Past(Question),
     Reopening,
     Memory,
+    Together(Together),
 }
 
 /// A measurement: its verb, the folder for its files, how often it is done or of how many versions, and
@@ -108,7 +112,10 @@ fn known(name: &str) -> Option<(Verb, u64)> {
         "v4" => Some((Verb::Past(Question::Scan), 10)),
         "v5" => Some((Verb::Reopening, 5)),
         "v6" => Some((Verb::Memory, 100_000)),
-        _ => None,
+        _ => {
+            let (what, often) = together::known(name)?;
+            Some((Verb::Together(what), often))
+        }
     }
 }
 
