@@ -84,7 +84,8 @@ fn commit_one<D: Disk, L: Opening, R: Wait>(
 {
     let seen = store.last_published(rt, me);
     let puts = below(random, RECORDS);
-    let other = (puts + 1 + below(random, RECORDS - 1)) % RECORDS;
+    let step = below(random, RECORDS - 1).wrapping_add(1);
+    let other = puts.wrapping_add(step) % RECORDS;
     let deletes = below(random, 2) == 0;
     let bytes = label.to_le_bytes();
     let fields = [bytes.as_slice()];

@@ -5,5 +5,5 @@ use Rattle.store_bench.proofs.crew.Load.TheSendSync as load
 use Rattle.store_bench.proofs.crew.Writer.TheSendSync as writer
 use Rattle.store_bench.proofs.crew.call_all.Goals as goal
 
-pub join-requires-send-F : goal.join-requires-send-F
-join-requires-send-F g c κs within = search (shared-sync, load.the_send, writer.the_send, sendable, crosses) depth 20
+pub join-commits-requires-send-F : goal.join-commits-requires-send-F
+join-commits-requires-send-F g c κs within = search (shared-sync, load.the_send, writer.the_send, sendable, crosses) depth 20
