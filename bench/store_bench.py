@@ -33,10 +33,6 @@ VERBS = {
     "w6": ("scans of 1,000 records as of a random time, /s", 2_000),
     "w7": ("opening after so many commits, ms", 3_000),
     "w8": ("bytes on disk a version", 1),
-    **{f"c{count}": (f"commits of one record by {count} writers of a shared store, /s", 2_000 * count) for count in (1, 2, 4, 8, 16)},
-    **{f"r{count}": (f"views by {count} readers beside a writer, /s", 10_000) for count in (1, 2, 3, 4)},
-    **{f"q{count}": (f"values by {count} readers of a view each, beside a writer, /s", 5_000_000) for count in (1, 2, 3, 4)},
-    "h": ("the lock held for a sync, µs", 200),
 }
 # What is aimed at: of a verb the least value, or a share of what the raw writes and syncs allow.
 MOST_TIMES_RAW = 1.15
@@ -82,7 +78,7 @@ def measured(program, verb, count, base):
 
 def all_rounds(contenders, verbs, share, rounds, base):
     """Of each contender and verb the answers of all rounds; every second round goes backwards."""
-    found = {(name, verb): [] for name in contenders for verb in verbs if name == "timestore" or verb[0] == "w"}
+    found = {(name, verb): [] for name in contenders for verb in verbs}
     for turn in range(rounds):
         calls = list(found)
         for name, verb in calls if turn % 2 == 0 else reversed(calls):
@@ -110,15 +106,6 @@ def beside(verb, answers):
     if verb in ("w1", "w2g", "w3"):
         raw = f"raw {shown(median(answers, 'raw'))} ({median(answers, 'raw_median_us'):,.0f} µs)"
         return f"{raw}: {median(answers, 'times_raw'):.2f} times"
-    if verb[0] == "c":
-        raw = f"raw {shown(median(answers, 'raw'))}: {median(answers, 'of_raw'):.2f} of it"
-        return f"{raw}; {median(answers, 'members'):.1f} a group"
-    if verb[0] in "rq":
-        return f"the writer's commits {shown(median(answers, 'commits_s'))} /s"
-    if verb == "h":
-        kinds = ("begin", "submit", "redeem", "view", "write", "job", "start")
-        held = (f"{kind} {median(answers, kind + '_us'):.1f} (most {median(answers, kind + '_most_us'):,.0f})" for kind in kinds)
-        return f"most {median(answers, 'sync_most_us'):,.0f}; {', '.join(held)}"
     if verb in ("w4", "w5", "w6"):
         return f"copies {shown(median(answers, 'copies'))}; opening {median(answers, 'opening_ms'):.0f} ms"
     if verb == "w7":
@@ -134,12 +121,6 @@ def aimed(verb, answers):
         raw = median(answers, "raw")
         least = max(LEAST_OF_RAW * raw, LEAST_IN_GATES if raw >= LEAST_IN_GATES else 0)
         text, met = f"{LEAST_OF_RAW:.0%} of raw, {LEAST_IN_GATES:,} where raw allows it", median(answers, "value") >= least
-    elif verb[0] == "c":
-        raw = median(answers, "raw")
-        least = max(LEAST_OF_RAW * raw, LEAST_IN_GATES if raw >= LEAST_IN_GATES else 0) if verb == "c16" else LEAST_OF_RAW * raw
-        text, met = f"{LEAST_OF_RAW:.0%} of raw", median(answers, "value") >= least
-        if verb == "c16":
-            text += f", {LEAST_IN_GATES:,} where raw allows it"
     elif verb in LEAST:
         text, met = shown(LEAST[verb]), median(answers, "value") >= LEAST[verb]
     else:
@@ -301,7 +282,7 @@ def print_verbs(found, verbs, share):
     print("|---" * (6 + len(peers)) + "|")
     for verb in verbs:
         answers = found["timestore", verb]
-        others = "".join(f" {value(found[name, verb])} |" if (name, verb) in found else " |" for name in peers)
+        others = "".join(f" {value(found[name, verb])} |" for name in peers)
         count = max(1, int(VERBS[verb][1] * share))
         store = f"{value(answers)} | {beside(verb, answers)} | {aimed(verb, answers)}"
         print(f"| {verb} | {VERBS[verb][0]} | {count:,} | {store} |{others}")

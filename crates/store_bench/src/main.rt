@@ -9,11 +9,8 @@
 mod asking;
 mod committing;
 mod copying;
-mod crew;
 mod fault;
-mod holding;
 mod memory;
-mod notes;
 mod numbers;
 mod opening;
 mod past;
@@ -22,11 +19,7 @@ mod preparing;
 mod raw;
 mod records;
 mod reopening;
-mod sharing;
-mod soak;
-mod soaking;
 mod stores;
-mod together;
 mod vacuuming;
 mod verb;
 mod writing;
@@ -37,8 +30,6 @@ use std::fs::File;
 use std::io;
 use std::process::ExitCode;
 use std::rt::Files;
-use std::sync::Wait;
-use std::thread::Threads;
 use std::time::Clock;
 use verb::{Asked, Request, Verb};
 
@@ -61,17 +52,12 @@ v3   values a second, each of a key as of a random time before the last commit
 v4   scans a second of 1,000 records as of such a time
 v5   milliseconds of opening with a first answer, the median of COUNT
 v6   bytes of memory that the opened store holds, for each of COUNT versions
-c1   commits a second of one record each, COUNT by one writer of a shared store; c2, c4, c8, c16: by so many together
-r1   views a second, COUNT by one reader beside a writer; r2, r3, r4: by so many, COUNT each
-q1   values a second by one view, COUNT by one reader beside a writer; q2, q3, q4: by so many, COUNT each
-h    microseconds that the lock is held, over COUNT groups of 16 commits and a vacuum
-soak a line for each thing that a thread was told: 8 writers in COUNT rounds of 40 ms, 8 readers, a committer and a vacuum; RUNS is a seed; rush: with no pause
 ";
 
 /// The status of words that ask for nothing.
 const MISUSED: u8 = 2;
 
-fn measure<R: Files<File = File> + AllocGlobal + Print + Clock + Threads + Wait + Sync>(
+fn measure<R: Files<File = File> + AllocGlobal + Print + Clock>(
     rt: &R,
     alloc: Global,
     request: &Request<'_>,
@@ -88,7 +74,6 @@ fn measure<R: Files<File = File> + AllocGlobal + Print + Clock + Threads + Wait 
         Verb::Past(question) => past::measure(rt, alloc, folder, question, count),
         Verb::Reopening => reopening::measure(rt, alloc, folder, count),
         Verb::Memory => memory::measure(rt, alloc, folder, count),
-        Verb::Together(what) => together::measure(rt, alloc, folder, what, count, request.runs),
     }
 }
 

@@ -76,15 +76,6 @@ impl Times {
         sum
     }
 
-    /// The greatest time; 0 of none.
-    pub(crate) fn most(&self) -> u64 {
-        let mut most = 0;
-        for time in &self.each {
-            most = (*time).max(most);
-        }
-        most
-    }
-
     /// The time that half of them are at most; 0 of none.
     pub(crate) fn median(&mut self) -> Result<u64, AllocError> {
         self.each.sort()?;

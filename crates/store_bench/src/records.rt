@@ -52,17 +52,6 @@ pub(crate) fn fields(record: u64, version: u64) -> [[u8; FIELD_LEN]; 4] {
     ]
 }
 
-/// The fields as a commit takes them.
-pub(crate) fn slices(fields: &[[u8; FIELD_LEN]; 4]) -> [&[u8]; 4] {
-    let [first, second, third, fourth] = fields;
-    [
-        first.as_slice(),
-        second.as_slice(),
-        third.as_slice(),
-        fourth.as_slice(),
-    ]
-}
-
 /// Whether a value is that of a record's version, by its first field.
 pub(crate) fn is_version(value: &SharedValue, record: u64, version: u64) -> bool {
     match value.value().field(0) {

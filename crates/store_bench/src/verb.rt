@@ -1,8 +1,5 @@
 //! What the words ask for.
 
-use crate::together;
-use crate::together::Together;
-
 /// How a measurement of commits is made up: so many transactions under one gate, each of so many
 /// records, all in so many extents.
 #[derive(Clone, Copy, Debug)]
@@ -72,7 +69,6 @@ pub(crate) enum Verb {
     Past(Question),
     Reopening,
     Memory,
-    Together(Together),
 }
 
 /// A measurement: its verb, the folder for its files, how often it is done or of how many versions, and
@@ -112,10 +108,7 @@ fn known(name: &str) -> Option<(Verb, u64)> {
         "v4" => Some((Verb::Past(Question::Scan), 10)),
         "v5" => Some((Verb::Reopening, 5)),
         "v6" => Some((Verb::Memory, 100_000)),
-        _ => {
-            let (what, often) = together::known(name)?;
-            Some((Verb::Together(what), often))
-        }
+        _ => None,
     }
 }
 
