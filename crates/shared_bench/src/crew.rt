@@ -6,6 +6,7 @@ ghost use Rattle.shared.specs.Counts.{told_count};
 ghost use Rattle.shared.specs.Seen.{seen_of};
 
 use crate::fault::Fault;
+use crate::groups::{Spent, Watch};
 use crate::numbers::nanoseconds;
 use crate::records;
 use crate::records::KEYS;
@@ -17,7 +18,7 @@ use std::sync::atomic::{AtomicBool, Ordering};
 use std::sync::ledger::Share;
 use std::thread::{Threads, join, map_vec};
 use std::time::{Clock, Instant};
-use store::{Did, PumpFault, Store};
+use store::{Did, Store};
 
 /// What the readers do.
 #[derive(Clone, Copy, Debug, PartialEq, Eq)]
@@ -43,7 +44,7 @@ pub(crate) struct Load {
 #[derive(Clone, Copy, Debug)]
 pub(crate) struct Work {
     pub(crate) commits: u64,
-    pub(crate) groups: u64,
+    pub(crate) spent: Spent,
     pub(crate) reads: u64,
     pub(crate) nanoseconds: u64,
 }
@@ -277,17 +278,11 @@ fn call_all<D: Disk + Send, L: Opening + Send + Sync, R: Threads + Wait + Sync>(
     Called { commits, reads }
 }
 
-fn note_group(groups: &mut u64, did: &Result<Did, PumpFault>) {
-    if let Ok(Did::Published(_)) = did {
-        *groups = groups.wrapping_add(1);
-    }
-}
-
-// Publishes until told to end. How many groups.
-fn publish_all<D: Disk, L: Opening, R: Wait>(rt: &R, store: &SharedStore<D, L>) -> u64 {
-    let mut groups = 0u64;
-    store.run_committer(rt, |_, did| note_group(&mut groups, did));
-    groups
+// Publishes until told to end. What it spent.
+fn publish_all<D: Disk, L: Opening, R: Wait + Clock>(rt: &R, store: &SharedStore<D, L>) -> Spent {
+    let mut watch = Watch::new(rt);
+    store.run_committer(rt, |rt, did| watch.note(rt, did));
+    watch.spent()
 }
 
 // The keys that are read, each with a version 0 at 1.
@@ -325,7 +320,7 @@ fn run_threads<D: Disk + Send, L: Opening + Send + Sync, R: Threads + Wait + Clo
     load: Load,
 ) -> Result<Work, Fault> {
     let start = Instant::now(rt)?;
-    let (called, groups) = join(
+    let (called, spent) = join(
         rt,
         move || call_all(rt, store, writers, readers, load),
         move || publish_all(rt, store),
@@ -334,7 +329,7 @@ fn run_threads<D: Disk + Send, L: Opening + Send + Sync, R: Threads + Wait + Clo
     match (called.commits, called.reads) {
         (Some(commits), Some(reads)) => Ok(Work {
             commits,
-            groups,
+            spent,
             reads,
             nanoseconds,
         }),

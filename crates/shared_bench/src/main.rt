@@ -6,6 +6,7 @@
 
 mod crew;
 mod fault;
+mod groups;
 mod holding;
 mod notes;
 mod numbers;
@@ -24,7 +25,7 @@ use verb::Asked;
 /// How the program is called.
 const USAGE: &str = "usage: shared_bench VERB FOLDER [COUNT [SEED]]
 FOLDER is there and empty; COUNT says how often
-c1   commits a second of one record each, COUNT by one writer; c2, c4, c8, c16: by so many together
+c1   commits a second of one record each, COUNT by one writer; c2, c4, c8, c16, c32: by so many together
 r1   views a second, COUNT by one reader beside a writer; r2, r3, r4: by so many, COUNT each
 q1   values a second by one view, COUNT by one reader beside a writer; q2, q3, q4: by so many, COUNT each
 h    microseconds that the lock is held, over COUNT groups of 16 commits and a vacuum

@@ -6,7 +6,7 @@ ghost use Rattle.shared.specs.Counts.{told_count};
 
 use crate::crew::{Load, Reading, Work};
 use crate::fault::Fault;
-use crate::numbers::{nanoseconds, quotient, rate};
+use crate::numbers::{Thousandths, nanoseconds, quotient, rate};
 use crate::raw::RawFiles;
 use crate::sharing::{MOST_SLOTS, fresh};
 use crate::verb::{Request, Verb};
@@ -83,9 +83,14 @@ fn run_load<R: Threads + Wait + Clock + Sync>(
     }
 }
 
-/// Prints how many commits or, where some read, reads there were in a second; both; how many groups, and how
-/// many commits a second raw groups of three syncs would make of as many members as there are writers, up
-/// to 16.
+/// Microseconds a group.
+fn each(nanoseconds: u64, groups: u64) -> Thousandths {
+    quotient(nanoseconds / 1000, groups)
+}
+
+/// Prints how many commits or, where some read, reads there were in a second; both; how many groups, with
+/// the microseconds of each; and how many commits a second raw groups of three syncs would make of as many
+/// members as there are writers, up to 16.
 fn print<R: Print>(
     rt: &R,
     load: Load,
@@ -101,12 +106,17 @@ fn print<R: Print>(
         work.commits.saturating_mul(raws / 1000),
         raw_commits.saturating_mul(work.nanoseconds / 1000),
     );
+    let spent = work.spent;
     println!(rt;
-        "{{\"value\": {value}, \"commits_s\": {commits}, \"reads_s\": {reads}, \"commits\": {}, \"groups\": {}, \"members\": {}, \"raw\": {}, \"of_raw\": {of_raw}}}",
+        "{{\"value\": {value}, \"commits_s\": {commits}, \"reads_s\": {reads}, \"commits\": {}, \"groups\": {}, \"members\": {}, \"raw\": {}, \"of_raw\": {of_raw}, \"raw_us\": {}, \"gathering_us\": {}, \"writing_us\": {}, \"syncing_us\": {}}}",
         work.commits,
-        work.groups,
-        quotient(work.commits, work.groups),
+        spent.groups,
+        quotient(work.commits, spent.groups),
         rate(raw_commits, raws),
+        each(raws, raw_groups),
+        each(spent.gathering, spent.groups),
+        each(spent.writing, spent.groups),
+        each(spent.syncing, spent.groups),
     )?;
     Ok(())
 }

@@ -45,6 +45,7 @@ fn known(name: &str) -> Option<(Verb, u64)> {
         "c4" => Some((Verb::Writers(4), 8_000)),
         "c8" => Some((Verb::Writers(8), 16_000)),
         "c16" => Some((Verb::Writers(16), 32_000)),
+        "c32" => Some((Verb::Writers(32), 32_000)),
         "r1" => Some((Verb::Readers(1, Reading::Views), 10_000)),
         "r2" => Some((Verb::Readers(2, Reading::Views), 10_000)),
         "r3" => Some((Verb::Readers(3, Reading::Views), 10_000)),
