@@ -49,10 +49,12 @@ pub(crate) struct Work {
     pub(crate) nanoseconds: u64,
 }
 
-/// A thread that commits: its number, from 0 on, one part of the ledger, and what it has seen.
+/// A thread that commits: its number, from 0 on, how often it does, one part of the ledger, and what it
+/// has seen.
 #[derive(Drop)]
 pub(crate) struct Writer<L: Opening> {
     pub(crate) number: u64,
+    pub(crate) rounds: u64,
     pub(crate) share: Share<L>,
     pub(crate) me: Observer<L>,
     pub(crate) ghost one_part: { share.parts ≡ 1 },
@@ -65,19 +67,25 @@ struct Called {
     reads: Option<u64>,
 }
 
-fn make_writer<L: Opening>(number: u64, share: Share<L>, me: Observer<L>) -> Writer<L>
+fn make_writer<L: Opening>(number: u64, rounds: u64, share: Share<L>, me: Observer<L>) -> Writer<L>
     requires { share.parts ≡ 1 }
 {
-    Writer { number, share, me }
+    Writer {
+        number,
+        rounds,
+        share,
+        me,
+    }
 }
 
-/// Threads that are to write, with a part of the ledger each.
+/// Threads that are to write so often, with a part of the ledger each.
 pub(crate) fn writers_for<D: Disk, L: Opening>(
     alloc: Global,
     store: &SharedStore<D, L>,
     all: &mut Share<L>,
     me: &mut Observer<L>,
     writers: u8,
+    rounds: u64,
 ) -> Result<Vec<Writer<L>>, AllocError>
     requires parts { all.old.parts ≡ writers + 1 }
     requires amount { all.old.amount ≡ 0 }
@@ -85,7 +93,7 @@ pub(crate) fn writers_for<D: Disk, L: Opening>(
     let mut made = Vec::new(alloc);
     for number in 0..writers {
         let share = all.split_off(1, 0);
-        made.push(make_writer(u64::from(number), share, store.another(me)))?;
+        made.push(make_writer(u64::from(number), rounds, share, store.another(me)))?;
     }
     Ok(made)
 }
@@ -126,32 +134,33 @@ fn write_one<D: Disk, L: Opening, R: Wait>(
     matches!(done, Ok(Committed::Done(_)))
 }
 
-// Commits records of its own, one at a time. How many, or none where one was refused.
+// Commits records of its own, one at a time, until the readers have ended. How many, or none where one
+// was refused.
 fn write<D: Disk, L: Opening, R: Wait>(
     rt: &R,
     store: &SharedStore<D, L>,
     writer: Writer<L>,
-    load: Load,
-    read: &AtomicBool,
+    done: &AtomicBool,
 ) -> Option<u64> {
     let Writer {
         number,
+        rounds,
         mut share,
         mut me,
     } = writer;
     let first = number.wrapping_add(1).wrapping_mul(KEYS);
-    let mut done = 0u64;
-    for version in 0..load.commits {
-        if load.readers > 0 && read.load(Ordering::SeqCst) {
+    let mut commits = 0u64;
+    for version in 0..rounds {
+        if done.load(Ordering::SeqCst) {
             break;
         }
         let record = first.wrapping_add(version % KEYS);
         if !write_one(rt, store, record, version, &mut share, &mut me) {
             return None;
         }
-        done = done.wrapping_add(1);
+        commits = commits.wrapping_add(1);
     }
-    Some(done)
+    Some(commits)
 }
 
 // Takes a view and asks it for a key that was written before. Whether it was answered right.
@@ -237,14 +246,9 @@ fn write_all<D: Disk + Send, L: Opening + Send + Sync, R: Threads + Wait + Sync>
     rt: &R,
     store: &SharedStore<D, L>,
     writers: Vec<Writer<L>>,
-    load: Load,
     done: &AtomicBool,
 ) -> Option<u64> {
-    sum(map_vec(
-        rt,
-        writers,
-        &|writer| { write(rt, store, writer, load, done) },
-    ))
+    sum(map_vec(rt, writers, &|writer| write(rt, store, writer, done)))
 }
 
 fn read_all<D: Disk + Send, L: Opening + Send + Sync, R: Threads + Wait + Sync>(
@@ -254,8 +258,9 @@ fn read_all<D: Disk + Send, L: Opening + Send + Sync, R: Threads + Wait + Sync>(
     load: Load,
     done: &AtomicBool,
 ) -> Option<u64> {
+    let some = !readers.is_empty();
     let read = sum(map_vec(rt, readers, &|me| read(rt, store, me, load)));
-    done.store(true, Ordering::SeqCst);
+    done.store(some, Ordering::SeqCst);
     read
 }
 
@@ -271,7 +276,7 @@ fn call_all<D: Disk + Send, L: Opening + Send + Sync, R: Threads + Wait + Sync>(
     let flag = &done;
     let (commits, reads) = join(
         rt,
-        move || write_all(rt, store, writers, load, flag),
+        move || write_all(rt, store, writers, flag),
         move || read_all(rt, store, readers, load, flag),
     );
     store.stop(rt);
@@ -360,7 +365,7 @@ pub(crate) fn run<D: Disk + Send, L: Opening + Send + Sync, R: Threads + Wait + 
     } else {
         Ok(())
     };
-    let writers = writers_for(alloc, &store, &mut all, &mut me, load.writers);
+    let writers = writers_for(alloc, &store, &mut all, &mut me, load.writers, load.commits);
     let readers = readers_for(alloc, &store, &mut me, load.readers);
     let done = match (loaded, writers, readers) {
         (Ok(()), Ok(writers), Ok(readers)) => run_threads(rt, &store, writers, readers, load),

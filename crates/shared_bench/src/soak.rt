@@ -20,7 +20,7 @@ use std::fs::File;
 use std::marker::Brand;
 use std::rt::Files;
 use std::sync::Wait;
-use std::sync::atomic::{AtomicBool, AtomicU64, Ordering};
+use std::sync::atomic::{AtomicBool, Ordering};
 use std::thread;
 use std::thread::{Threads, join, map_vec};
 use std::time::{Clock, Duration};
@@ -45,25 +45,82 @@ struct Plan {
     pace: u64,
 }
 
+/// A thread that writes, with what it needs.
+#[derive(Drop)]
+struct Writing<L: Opening> {
+    alloc: Global,
+    plan: Plan,
+    writer: Writer<L>,
+}
+
+/// One that reads, with its number.
+#[derive(Drop)]
+struct Reading<L: Opening> {
+    alloc: Global,
+    seed: u64,
+    number: u64,
+    me: Observer<L>,
+}
+
 /// What the threads noted; none of a thread that met a refusal that is not a named one.
 type Noted = Result<Vec<Option<Vec<Note>>>, AllocError>;
 
+fn writing_of<L: Opening>(
+    alloc: Global,
+    writers: Vec<Writer<L>>,
+    plan: Plan,
+) -> Result<Vec<Writing<L>>, AllocError> {
+    let mut all = Vec::new(alloc);
+    for writer in writers {
+        all.push(Writing {
+            alloc,
+            plan,
+            writer,
+        })?;
+    }
+    Ok(all)
+}
+
+// The readers' numbers go on from those of the writers.
+fn reading_of<L: Opening>(
+    alloc: Global,
+    readers: Vec<Observer<L>>,
+    plan: Plan,
+) -> Result<Vec<Reading<L>>, AllocError> {
+    let mut all = Vec::new(alloc);
+    let mut number = u64::from(WRITERS);
+    for me in readers {
+        all.push(Reading {
+            alloc,
+            seed: plan.seed,
+            number,
+            me,
+        })?;
+        number = number.wrapping_add(1);
+    }
+    Ok(all)
+}
+
 fn write_notes<D: Disk, L: Opening, R: Wait + Clock>(
     rt: &R,
-    alloc: Global,
     store: &SharedStore<D, L>,
-    writer: Writer<L>,
-    plan: Plan,
+    writing: Writing<L>,
 ) -> Option<Vec<Note>> {
+    let Writing {
+        alloc,
+        plan,
+        writer,
+    } = writing;
     let Writer {
         number,
+        rounds,
         mut share,
         mut me,
     } = writer;
     let worker = Worker {
         seed: plan.seed,
         number,
-        rounds: plan.rounds,
+        rounds,
         pace: plan.pace,
     };
     write(rt, alloc, store, worker, &mut share, &mut me)
@@ -72,16 +129,17 @@ fn write_notes<D: Disk, L: Opening, R: Wait + Clock>(
 // Reads again and again, until the writers are done.
 fn read_notes<D: Disk, L: Opening, R: Wait + Clock>(
     rt: &R,
-    alloc: Global,
     store: &SharedStore<D, L>,
-    me: Observer<L>,
-    plan: Plan,
+    reading: Reading<L>,
     done: &AtomicBool,
-    numbers: &AtomicU64,
 ) -> Option<Vec<Note>> {
-    let mut me = me;
-    let number = numbers.fetch_add(1, Ordering::SeqCst);
-    let mut random = source(plan.seed, number);
+    let Reading {
+        alloc,
+        seed,
+        number,
+        mut me,
+    } = reading;
+    let mut random = source(seed, number);
     let mut notes = Vec::new(alloc);
     for _ in rt.forever() {
         if done.load(Ordering::SeqCst) {
@@ -95,53 +153,41 @@ fn read_notes<D: Disk, L: Opening, R: Wait + Clock>(
 
 fn write_all<D: Disk + Send, L: Opening + Send + Sync, R: Threads + Wait + Clock + Sync>(
     rt: &R,
-    alloc: Global,
     store: &SharedStore<D, L>,
-    writers: Vec<Writer<L>>,
-    plan: Plan,
+    writers: Vec<Writing<L>>,
     done: &AtomicBool,
 ) -> Noted {
-    let noted = map_vec(
-        rt,
-        writers,
-        &|writer| { write_notes(rt, alloc, store, writer, plan) },
-    );
+    let noted = map_vec(rt, writers, &|writing| write_notes(rt, store, writing));
     done.store(true, Ordering::SeqCst);
     noted
 }
 
 fn read_all<D: Disk + Send, L: Opening + Send + Sync, R: Threads + Wait + Clock + Sync>(
     rt: &R,
-    alloc: Global,
     store: &SharedStore<D, L>,
-    readers: Vec<Observer<L>>,
-    plan: Plan,
+    readers: Vec<Reading<L>>,
     done: &AtomicBool,
 ) -> Noted {
-    let numbers = AtomicU64::new(u64::from(WRITERS));
-    let next = &numbers;
     map_vec(
         rt,
         readers,
-        &|me| { read_notes(rt, alloc, store, me, plan, done, next) },
+        &|reading| { read_notes(rt, store, reading, done) },
     )
 }
 
 // Writers and readers, until all have ended. Then both loops are told to end.
 fn call_all<D: Disk + Send, L: Opening + Send + Sync, R: Threads + Wait + Clock + Sync>(
     rt: &R,
-    alloc: Global,
     store: &SharedStore<D, L>,
-    writers: Vec<Writer<L>>,
-    readers: Vec<Observer<L>>,
-    plan: Plan,
+    writers: Vec<Writing<L>>,
+    readers: Vec<Reading<L>>,
 ) -> (Noted, Noted) {
     let done = AtomicBool::new(false);
     let flag = &done;
     let noted = join(
         rt,
-        move || write_all(rt, alloc, store, writers, plan, flag),
-        move || read_all(rt, alloc, store, readers, plan, flag),
+        move || write_all(rt, store, writers, flag),
+        move || read_all(rt, store, readers, flag),
     );
     store.stop(rt);
     noted
@@ -171,6 +217,25 @@ fn keep_up<D: Disk + Send, L: Opening + Send + Sync, R: Threads + Wait + Clock +
     );
 }
 
+fn run_threads<D: Disk + Send, L: Opening + Send + Sync, R: Threads + Wait + Clock + Sync>(
+    rt: &R,
+    alloc: Global,
+    store: &SharedStore<D, L>,
+    writers: Vec<Writer<L>>,
+    readers: Vec<Observer<L>>,
+    me: Observer<L>,
+    plan: Plan,
+) -> Result<(Noted, Noted), Fault> {
+    let writers = writing_of(alloc, writers, plan)?;
+    let readers = reading_of(alloc, readers, plan)?;
+    let (noted, ()) = join(
+        rt,
+        move || call_all(rt, store, writers, readers),
+        move || keep_up(rt, store, me),
+    );
+    Ok(noted)
+}
+
 // The soak on a store that was just opened, which is given back.
 fn run<D: Disk + Send, L: Opening + Send + Sync, R: Threads + Wait + Clock + Sync>(
     rt: &R,
@@ -188,18 +253,10 @@ fn run<D: Disk + Send, L: Opening + Send + Sync, R: Threads + Wait + Clock + Syn
     requires writer { ((cell_view opened.writer).seen ≡ seen_of L.start) × ((cell_view opened.writer).writes ≡ true) }
 {
     let (store, mut all, mut me) = opened.named::<L>();
-    let writers = writers_for(alloc, &store, &mut all, &mut me, WRITERS);
+    let writers = writers_for(alloc, &store, &mut all, &mut me, WRITERS, plan.rounds);
     let readers = readers_for(alloc, &store, &mut me, READERS);
     let noted = match (writers, readers) {
-        (Ok(writers), Ok(readers)) => {
-            let shared = &store;
-            let (noted, ()) = join(
-                rt,
-                move || call_all(rt, alloc, shared, writers, readers, plan),
-                move || keep_up(rt, shared, me),
-            );
-            Ok(noted)
-        }
+        (Ok(writers), Ok(readers)) => run_threads(rt, alloc, &store, writers, readers, me, plan),
         _ => Err(Fault::Memory(AllocError)),
     };
     (store.into_store(&mut all), noted)

@@ -6,5 +6,5 @@ use Rattle.shared_bench.proofs.crew.Load.TheSendSync as load
 use Rattle.shared_bench.proofs.crew.Writer.TheSendSync as writer
 use Rattle.shared_bench.proofs.crew.run_threads.Goals as goal
 
-pub join-spent-requires-send-F : goal.join-spent-requires-send-F
-join-spent-requires-send-F g c κs within = search (shared-sync, load.the_send, writer.the_send, observer.the_send, sendable, crosses) depth 20
+pub join-requires-send-F : goal.join-requires-send-F
+join-requires-send-F g c κs within = search (shared-sync, load.the_send, writer.the_send, observer.the_send, sendable, crosses) depth 20
