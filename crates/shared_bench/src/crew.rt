@@ -14,7 +14,7 @@ use disk::Disk;
 use shared::{Change, Committed, Observer, Opened, Opening, SharedStore};
 use std::alloc::{AllocError, Global};
 use std::sync::Wait;
-use std::sync::atomic::{AtomicBool, Ordering};
+use std::sync::atomic::{AtomicU64, Ordering};
 use std::sync::ledger::Share;
 use std::thread::{Threads, join, map_vec};
 use std::time::{Clock, Instant};
@@ -140,7 +140,7 @@ fn write<D: Disk, L: Opening, R: Wait>(
     rt: &R,
     store: &SharedStore<D, L>,
     writer: Writer<L>,
-    done: &AtomicBool,
+    done: &AtomicU64,
 ) -> Option<u64> {
     let Writer {
         number,
@@ -151,7 +151,7 @@ fn write<D: Disk, L: Opening, R: Wait>(
     let first = number.wrapping_add(1).wrapping_mul(KEYS);
     let mut commits = 0u64;
     for version in 0..rounds {
-        if done.load(Ordering::SeqCst) {
+        if done.load(Ordering::SeqCst) != 0 {
             break;
         }
         let record = first.wrapping_add(version % KEYS);
@@ -246,7 +246,7 @@ fn write_all<D: Disk + Send, L: Opening + Send + Sync, R: Threads + Wait + Sync>
     rt: &R,
     store: &SharedStore<D, L>,
     writers: Vec<Writer<L>>,
-    done: &AtomicBool,
+    done: &AtomicU64,
 ) -> Option<u64> {
     sum(map_vec(rt, writers, &|writer| write(rt, store, writer, done)))
 }
@@ -256,11 +256,11 @@ fn read_all<D: Disk + Send, L: Opening + Send + Sync, R: Threads + Wait + Sync>(
     store: &SharedStore<D, L>,
     readers: Vec<Observer<L>>,
     load: Load,
-    done: &AtomicBool,
+    done: &AtomicU64,
 ) -> Option<u64> {
     let some = !readers.is_empty();
     let read = sum(map_vec(rt, readers, &|me| read(rt, store, me, load)));
-    done.store(some, Ordering::SeqCst);
+    done.store(u64::from(some), Ordering::SeqCst);
     read
 }
 
@@ -272,7 +272,7 @@ fn call_all<D: Disk + Send, L: Opening + Send + Sync, R: Threads + Wait + Sync>(
     readers: Vec<Observer<L>>,
     load: Load,
 ) -> Called {
-    let done = AtomicBool::new(false);
+    let done = AtomicU64::new(0);
     let flag = &done;
     let (commits, reads) = join(
         rt,

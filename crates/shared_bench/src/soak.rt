@@ -20,7 +20,7 @@ use std::fs::File;
 use std::marker::Brand;
 use std::rt::Files;
 use std::sync::Wait;
-use std::sync::atomic::{AtomicBool, Ordering};
+use std::sync::atomic::{AtomicU64, Ordering};
 use std::thread;
 use std::thread::{Threads, join, map_vec};
 use std::time::{Clock, Duration};
@@ -131,7 +131,7 @@ fn read_notes<D: Disk, L: Opening, R: Wait + Clock>(
     rt: &R,
     store: &SharedStore<D, L>,
     reading: Reading<L>,
-    done: &AtomicBool,
+    done: &AtomicU64,
 ) -> Option<Vec<Note>> {
     let Reading {
         alloc,
@@ -142,7 +142,7 @@ fn read_notes<D: Disk, L: Opening, R: Wait + Clock>(
     let mut random = source(seed, number);
     let mut notes = Vec::new(alloc);
     for _ in rt.forever() {
-        if done.load(Ordering::SeqCst) {
+        if done.load(Ordering::SeqCst) != 0 {
             break;
         }
         read_once(rt, store, &mut random, &mut me, &mut notes)?;
@@ -155,10 +155,10 @@ fn write_all<D: Disk + Send, L: Opening + Send + Sync, R: Threads + Wait + Clock
     rt: &R,
     store: &SharedStore<D, L>,
     writers: Vec<Writing<L>>,
-    done: &AtomicBool,
+    done: &AtomicU64,
 ) -> Noted {
     let noted = map_vec(rt, writers, &|writing| write_notes(rt, store, writing));
-    done.store(true, Ordering::SeqCst);
+    done.store(1, Ordering::SeqCst);
     noted
 }
 
@@ -166,7 +166,7 @@ fn read_all<D: Disk + Send, L: Opening + Send + Sync, R: Threads + Wait + Clock 
     rt: &R,
     store: &SharedStore<D, L>,
     readers: Vec<Reading<L>>,
-    done: &AtomicBool,
+    done: &AtomicU64,
 ) -> Noted {
     map_vec(
         rt,
@@ -182,7 +182,7 @@ fn call_all<D: Disk + Send, L: Opening + Send + Sync, R: Threads + Wait + Clock 
     writers: Vec<Writing<L>>,
     readers: Vec<Reading<L>>,
 ) -> (Noted, Noted) {
-    let done = AtomicBool::new(false);
+    let done = AtomicU64::new(0);
     let flag = &done;
     let noted = join(
         rt,
