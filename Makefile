@@ -3,10 +3,11 @@
 PROGRAM = crates/timestore/out/timestore
 LEAVES = crates/leaves_bench/out/leaves_bench
 STORE = crates/store_bench/out/store_bench
+SHARED = crates/shared_bench/out/shared_bench
 # The most processor minutes that the gate may take: what three hours on four cores hold, with a little to spare. It is to stay under 330 on a machine at rest; four checks side by side on four cores take a third more, and a slower machine more than that.
 BUDGET = 680
 
-.PHONY: demo test more-edits build try examples bench trials torture torture-short hostile try-refused planted rates lib install library-test library-bench
+.PHONY: demo test more-edits build try examples bench trials torture torture-short soak hostile try-refused planted rates lib install library-test library-bench
 
 test:
 	@command -v rt >/dev/null || { echo "the Rattle kit's command rt is not on PATH" >&2; exit 1; }
@@ -53,6 +54,11 @@ torture-short:
 	torture/between.py $(PROGRAM) --seconds 20
 	torture/torture.py $(PROGRAM) --minutes 0.4
 
+# Many threads over one store for some minutes, and then all that they were told compared with a small machine. FOLDER=DIR makes the store there.
+soak: build
+	cd crates/shared_bench && rt run > /dev/null
+	torture/soak.py $(SHARED) $(PROGRAM) --minutes $(or $(MINUTES),10) --seed $(or $(SEED),1) $(if $(FOLDER),--folder $(FOLDER))
+
 # Each call of the system refused in turn; each check of opening broken, and pairs of them; each byte of a small store; a job with commits
 # between stopped at each device call, and again; kills, full disks, folders without rights.
 hostile: build
@@ -86,7 +92,9 @@ examples: build
 bench: build
 	cd crates/leaves_bench && rt run > /dev/null
 	cd crates/store_bench && rt run > /dev/null
+	cd crates/shared_bench && rt run > /dev/null
 	bench/store_bench.py $(STORE) --program $(PROGRAM) $(if $(FOLDER),--folder $(FOLDER))
+	bench/shared_bench.py $(SHARED) $(if $(FOLDER),--folder $(FOLDER))
 	bench/bench.py $(PROGRAM) $(FOLDER)
 	bench/rates.py $(PROGRAM) $(if $(FOLDER),--folder $(FOLDER))
 	$(LEAVES) times

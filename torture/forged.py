@@ -65,7 +65,10 @@ def check(program: str, areas: Areas, what: str, keys: list[Key], has_dump: bool
     lines, wanted, outcome = asked_of(areas, keys)
     with tempfile.TemporaryDirectory(prefix="forged-") as folder:
         write_areas(folder, areas)
-        found = run(program, folder, lines)
+        try:
+            found = run(program, folder, lines)
+        except Failure as why:
+            raise Failure(f"{what}: {why}", Shown(areas, lines, wanted[1], {})) from None
         if found != wanted:
             raise Failure(
                 f"{what}: {differing(found, wanted)}", Shown(areas, lines, wanted[1], {})

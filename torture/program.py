@@ -16,7 +16,7 @@ import time
 from collections.abc import Callable, Iterable, Iterator, Sequence
 from dataclasses import dataclass
 from types import FrameType
-from typing import Any, NoReturn, TypeVar
+from typing import Any, TypeVar
 
 # the words of refuse.c that a script of its own needs
 REFUSES = ("REFUSE_CLASS", "REFUSE_AT", "REFUSE_HOW")
@@ -25,7 +25,8 @@ Areas = dict[str, bytes]
 Item = TypeVar("Item")
 # a status and the lines that are said
 Answer = tuple[int, list[str]]
-# an answer or a run of the program that takes longer is a failure, in seconds
+# an answer or a run of the program that takes longer is a failure, in seconds; counted one by one,
+# so that none passes while the machine or the tests are stopped
 PATIENCE = 60
 MEMORY = "/dev/shm"
 # of a test, behind which it ends
@@ -144,16 +145,20 @@ def report(title: str, why: Failure) -> None:
 @contextlib.contextmanager
 def patience(failure: Callable[[str], Failure]) -> Iterator[None]:
     """What hangs is a failure, and does not hold up the tests."""
+    left = PATIENCE
 
-    def too_long(number: int, frame: FrameType | None) -> NoReturn:
-        raise failure(f"nothing in {PATIENCE} seconds")
+    def second(number: int, frame: FrameType | None) -> None:
+        nonlocal left
+        left -= 1
+        if not left:
+            raise failure(f"nothing in {PATIENCE} seconds")
 
-    before = signal.signal(signal.SIGALRM, too_long)
-    signal.alarm(PATIENCE)
+    before = signal.signal(signal.SIGALRM, second)
+    signal.setitimer(signal.ITIMER_REAL, 1, 1)
     try:
         yield
     finally:
-        signal.alarm(0)
+        signal.setitimer(signal.ITIMER_REAL, 0)
         signal.signal(signal.SIGALRM, before)
 
 
@@ -176,13 +181,11 @@ def ended(
     words: Sequence[str], lines: Iterable[str] = (), **how: Any
 ) -> subprocess.CompletedProcess[str]:
     """A run of the program to its end, given these lines."""
-    try:
+    with patience(lambda why: Failure(f"{words}: {why}")):
         return subprocess.run(
             words, input="".join(f"{it}\n" for it in lines), stdout=subprocess.PIPE,
-            stderr=subprocess.PIPE, text=True, timeout=PATIENCE, check=False, **how,
+            stderr=subprocess.PIPE, text=True, check=False, **how,
         )
-    except subprocess.TimeoutExpired:
-        raise Failure(f"{words} has not ended in {PATIENCE} seconds") from None
 
 
 def run(program: str, folder: str, lines: Iterable[str]) -> Answer:

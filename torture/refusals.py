@@ -1,7 +1,7 @@
 #!/usr/bin/env python3
 """Each call that the program makes of the system, refused: every growth, read, length, write,
 sync, opening and lock of a script and of each command, one at a time; reads and writes that move
-one byte or are interrupted.
+one byte or are interrupted; and the program killed before each write and sync.
 
 refusals.py PROGRAM [--only NAME] [--seconds S]
 
@@ -10,6 +10,8 @@ wrong. Each answer is compared with the small machine's (machine.py): at the cal
 the refusal that docs/USING.md names, then the same line again as where nothing is refused; after a
 refused write or sync `failed`, every ticket that was not published in doubt, and queries as
 before. Then the store is opened again: a front of the commits with each that was answered done.
+One refused growth alone may change no answer, that of the cache of archive blocks: it is traced
+that the function which keeps a block was running.
 
 With --seconds it ends after so many: first comes each call of the files that is not made, and then
 the others, spread over all of them. The status is 1 where a case fails; the script that shows it
@@ -45,7 +47,7 @@ class Refusals:
         self.bad = 0
 
     def wrong(self, what: What = NONE) -> Wrong:
-        return Wrong(self.folder, what)
+        return Wrong(self.folder, what, self.program)
 
     def guard(self, name: str, play: Callable[[Wrong], str], wrong: Wrong) -> None:
         """Runs one case."""

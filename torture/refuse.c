@@ -1,17 +1,19 @@
 /* Stands between the program and the system, in its process (LD_PRELOAD): counts its calls by class, writes down those of
  * a store's files, and lets the Nth of a class go wrong. All this lies in a file of SIZE bytes that is shared with the
  * tests (REFUSE_COUNTS), in words of 8 bytes: a count for each class; whether a call went wrong; how many calls were
- * written down; from word FIRST on three for each of these: its class and the file (1 status, 2 heap, 3 archive), its
- * place, its length.
+ * written down; whether the call that went wrong was made within a traced function; from word FIRST on three for each of
+ * the calls: its class and the file (1 status, 2 heap, 3 archive), its place, its length.
  *
  * REFUSE_CLASS  growth, input, output, read, length, write, sync, open, lock
  * REFUSE_AT     which call of the class, from 1; 0 for none
  * REFUSE_HOW    before: nothing is done; made: it is done, and refused; part: half of it is done, and it is refused;
  *               short: one byte is moved; interrupted: nothing is done, and it may be asked again; killed: the process ends
+ * REFUSE_TRACED where functions of the program begin, counted from where it is loaded, in hexadecimal: they are traced
  */
 #define _GNU_SOURCE
 #include <errno.h>
 #include <fcntl.h>
+#include <link.h>
 #include <signal.h>
 #include <stdarg.h>
 #include <stdint.h>
@@ -20,6 +22,7 @@
 #include <sys/mman.h>
 #include <sys/stat.h>
 #include <sys/syscall.h>
+#include <ucontext.h>
 #include <unistd.h>
 
 enum { GROWTH, INPUT, OUTPUT, READ, LENGTH, WRITE, SYNC, OPEN, LOCK, CLASSES };
@@ -28,7 +31,7 @@ static const char *const NAMES[] = {"growth", "input", "output", "read", "length
 extern void *__libc_malloc(size_t size);
 extern void *__libc_realloc(void *old, size_t size);
 
-enum { CAME = CLASSES, CALLS, FIRST = 16, SIZE = 1 << 20, MOST = (SIZE / 8 - FIRST) / 3, FILES = 64 };
+enum { CAME = CLASSES, CALLS, WITHIN, FIRST = 16, SIZE = 1 << 20, MOST = (SIZE / 8 - FIRST) / 3, FILES = 64 };
 static const char *const AREAS[] = {"status", "heap", "archive"};
 
 static volatile uint64_t none[SIZE / 8], *counts = none;
@@ -38,8 +41,73 @@ static int chosen = -1;
 static uint64_t due;
 static char how = 'b';
 
+/* ---- functions that are traced: each begins with a breakpoint, and returns to another one */
+
+enum { TRACED = 8, DEEPEST = 64, STEP_FLAG = 0x100 };
+static unsigned char *starts[TRACED], firsts[TRACED];
+static int traced, depth;
+/* where the traced functions that run return to */
+static uint64_t backs[DEEPEST];
+/* of which the first instruction is made now, its breakpoint being lifted */
+static unsigned char *lifted;
+
+void refuse_returns(void);
+__asm__(".text\nrefuse_returns:\n int3\n");
+
+static void trapped(int number, siginfo_t *info, void *context)
+{
+    greg_t *now = ((ucontext_t *)context)->uc_mcontext.gregs;
+    unsigned char *at = (unsigned char *)now[REG_RIP] - 1;
+    (void)number, (void)info;
+    if (lifted) {
+        *lifted = 0xCC;
+        lifted = NULL;
+        now[REG_EFL] &= ~STEP_FLAG;
+    } else if (at == (unsigned char *)refuse_returns) {
+        now[REG_RIP] = backs[--depth];
+    } else {
+        uint64_t *back = (uint64_t *)now[REG_RSP];
+        int which = 0;
+        while (which < traced && starts[which] != at)
+            which++;
+        if (which == traced || depth == DEEPEST)
+            abort();
+        backs[depth++] = *back;
+        *back = (uint64_t)refuse_returns;
+        *at = firsts[which];
+        lifted = at;
+        now[REG_RIP] = (uint64_t)at;
+        now[REG_EFL] |= STEP_FLAG;
+    }
+}
+
+static int first_loaded(struct dl_phdr_info *info, size_t size, void *base)
+{
+    (void)size;
+    *(uint64_t *)base = info->dlpi_addr;
+    return 1;
+}
+
+static void trace(const char *places)
+{
+    struct sigaction by = {.sa_sigaction = trapped, .sa_flags = SA_SIGINFO};
+    uint64_t base = 0, page = sysconf(_SC_PAGESIZE);
+    char *rest;
+    dl_iterate_phdr(first_loaded, &base);
+    sigaction(SIGTRAP, &by, NULL);
+    for (uint64_t place; traced < TRACED && (place = strtoull(places, &rest, 16)); places = rest) {
+        unsigned char *at = (unsigned char *)(base + place);
+        if (mprotect((void *)((base + place) & -page), page, PROT_READ | PROT_WRITE | PROT_EXEC))
+            abort();
+        firsts[traced] = *at;
+        starts[traced++] = at;
+        *at = 0xCC;
+    }
+}
+
 __attribute__((constructor)) static void begin(void)
 {
+    const char *places = getenv("REFUSE_TRACED");
     const char *file = getenv("REFUSE_COUNTS"), *name = getenv("REFUSE_CLASS"), *at = getenv("REFUSE_AT"), *which = getenv("REFUSE_HOW");
     int fd = file ? (int)syscall(SYS_openat, AT_FDCWD, file, O_RDWR) : -1;
     if (fd >= 0) {
@@ -53,6 +121,8 @@ __attribute__((constructor)) static void begin(void)
             chosen = it;
     due = at ? strtoull(at, NULL, 10) : 0;
     how = which ? which[0] : 'b';
+    if (places)
+        trace(places);
 }
 
 /* Counts a call; whether it goes wrong. */
@@ -62,6 +132,7 @@ static int goes_wrong(int class)
     if (class != chosen || count != due)
         return 0;
     counts[CAME] = 1;
+    counts[WITHIN] = depth;
     if (how == 'k')
         syscall(SYS_kill, syscall(SYS_getpid), SIGKILL);
     return 1;

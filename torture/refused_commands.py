@@ -3,6 +3,7 @@ from __future__ import annotations
 
 import copy
 import shutil
+import signal
 from collections.abc import Callable
 
 import image
@@ -91,8 +92,9 @@ class Command:
         (status, said), usual = self.do(wrong), self.usual()
         if wrong.kind and not wrong.came():
             raise self.failure(wrong, "the call never came", usual)
-        if not wrong.kind or wrong.how in HARMLESS or (status, said) == (0, usual):
-            if (status, said) != (0, usual):
+        may_pass = not wrong.kind or wrong.how in HARMLESS or wrong.was_in_cache()
+        if may_pass or (status, said) == (0, usual):
+            if not may_pass or (status, said) != (0, usual):
                 raise self.failure(wrong, f"answers {said} with status {status}", usual)
             outcome = "no change"
         else:
@@ -102,8 +104,10 @@ class Command:
 
     def refused(self, wrong: Wrong, status: int, said: list[str], usual: list[str]) -> str:
         """The refusal, behind what was answered before; nothing or a part of it where the output
-        is refused; nothing where the words found no memory."""
+        is refused; nothing where the words found no memory, or where it is killed."""
         wanted = refusal_of(self.name, wrong)
+        if wrong.how == "killed" and status == -signal.SIGKILL and not said:
+            return "ended"
         if wrong.kind == "output" and status == 1:
             return "ended"
         if wrong.kind == "growth" and status == 2 and not said and self.complaint:

@@ -3,19 +3,17 @@ machine's."""
 from __future__ import annotations
 
 import copy
+import signal
 from collections.abc import Iterable
 
 import image
 import machine
 from machine import Front, Machine, Transaction
-from program import Areas, Failure, Session, read_areas, write_areas
+from program import Areas, Failure, Session, is_whole, read_areas, write_areas
 from scripts import LARGE, check_left, questions
 from wrong import HARMLESS, Wrong
 
 BY_A_REFUSED_CALL = ("refused: no memory", "refused: device", "refused: failed")
-# a refused growth may pass here alone: in the cache of the archive's blocks, and where room for a
-# list of known length is asked ahead
-PASSES = ("at", "between", "scan", "times", "reopen")
 # lines that write, in which a growth of the disk in memory may be refused
 WRITES = ("pump", "job", "flush", "finish")
 # of a new store in memory
@@ -44,6 +42,7 @@ at 1 7 100
 WIDE = f"""begin a
 put a 1 7 61 62
 put a 1 8 -
+put a 2 0 61
 put a 2 1 {LARGE}
 put a 2 2 {LARGE}
 submit a 1 100
@@ -255,15 +254,14 @@ class Case:
             is_due = not self.wrong.came()
             said, wanted, before = self.tell(line)
             self.may_be_left(before)
-            if said == wanted:
+            if said is not None and said == wanted:
                 if is_due and self.wrong.came() and self.wrong.how not in HARMLESS:
-                    if not self.may_pass(number, line):
+                    if not self.may_pass():
                         raise self.failure(
                             f"{line}: answered {said}, and nothing is refused", said, ["a refusal"]
                         )
                     if self.wrong.kind == "growth":
-                        where = line.split(" ")[0] if number else "the first line"
-                        outcome = f"no change of {where}"
+                        outcome = f"no change of {line.split(' ')[0]}, the block is not kept"
                 continue
             is_refusable = self.wrong.came() and self.wrong.how not in HARMLESS
             if not outcome.startswith("no change") or not is_refusable:
@@ -273,13 +271,11 @@ class Case:
                 return outcome
         return self.at_the_end(outcome)
 
-    def may_pass(self, number: int, line: str) -> bool:
-        """Whether the refused call may change nothing here: a growth in a cache or ahead of need;
-        a read of the input behind this line's answer; a write of the answer, which is gathered and
-        written again as the program ends."""
-        if self.wrong.kind == "growth":
-            return number == 0 or line.split(" ")[0] in PASSES
-        return self.wrong.kind in ("input", "output")
+    def may_pass(self) -> bool:
+        """Whether the refused call may change nothing here: a growth of the cache of archive
+        blocks; a read of the input behind this line's answer; a write of the answer, which is
+        gathered and written again as the program ends."""
+        return self.wrong.was_in_cache() or self.wrong.kind in ("input", "output")
 
     def at_the_end(self, outcome: str) -> str:
         status, rest = self.session.end()
@@ -290,6 +286,8 @@ class Case:
             raise self.failure(f"the script ends with status {status}, and says {rest!r}")
         if self.wrong.at and not self.wrong.came():
             raise self.failure("the call that was to go wrong never came")
+        if self.wrong.at and outcome == "no change" and self.wrong.how not in HARMLESS:
+            raise self.failure("the call that went wrong at the end has changed nothing")
         self.may_be_left(self.small)
         return outcome
 
@@ -298,8 +296,9 @@ class Case:
         before: Machine,
     ) -> str:
         kind = self.kind_of(line, said, number == 0)
-        if said is None or kind in ("input", "output"):
-            return self.ended(said, number == 0)
+        is_cut = said is None or kind == "growth" and not is_whole(line, said)
+        if is_cut or kind in ("input", "output"):
+            return self.ended(said, wanted, number == 0)
         opening = "refused: no memory" if kind == "growth" else "refused: device"
         refusal = "refused: failed" if kind in ("write", "sync") else opening
         if (number == 0 or line == "reopen") and said == [opening]:
@@ -323,15 +322,20 @@ class Case:
         is_of_disk = not self.folder and said == [refusal] and (is_opening or line in WRITES)
         return "write" if is_of_disk and self.wrong.kind == "growth" else self.wrong.kind
 
-    def ended(self, said: list[str] | None, is_first: bool) -> str:
-        """The input or the output is refused, or there is no memory for either or for the
-        program's words: it ends."""
+    def ended(
+        self, said: list[str] | None, wanted: list[str] | None, is_first: bool
+    ) -> str:
+        """The program is killed, the input or the output is refused, or there is no memory for
+        either or for the program's words: it ends, and has given out a front of the answer."""
         status, _ = self.session.end()
+        if self.wrong.how == "killed" and status == -signal.SIGKILL and said is None:
+            return "ended"
         # want of memory while the words are read is told on standard error, with the status of a
         # usage fault
         may_end = status == 1 or status == 2 and is_first and said is None
-        if not may_end or self.wrong.kind not in ("growth", "input", "output"):
-            raise self.failure(f"ends with {said} and status {status}")
+        is_front = "\n".join(wanted or []).startswith("\n".join(said or []))
+        if not (may_end and is_front) or self.wrong.kind not in ("growth", "input", "output"):
+            raise self.failure(f"ends with {said} and status {status}", said, wanted)
         return "ended"
 
     def not_opened(self, before: Machine) -> str:

@@ -301,7 +301,8 @@ def refused_case(program: str, chance: random.Random, folder: str) -> Counter:
         # mostly behind the opening
         least = opened[kind] if counts[kind] > opened[kind] and chance.random() < 0.9 else 0
         what = (kind, chance.randrange(least, counts[kind]) + 1, chance.choice(wrong.HOWS[kind]))
-        outcome = Case(program, store, start, wrong.Wrong(folder, what)).play(first.session.lines)
+        refused = wrong.Wrong(folder, what, program)
+        outcome = Case(program, store, start, refused).play(first.session.lines)
         tried += Counter({f"{kind} {outcome}": 1, "images": 1})
     return tried
 

@@ -20,15 +20,18 @@ MOVES = ("before", "short", "interrupted")
 # how a call of a class goes wrong
 HOWS = {
     "growth": ("before",), "input": MOVES, "output": MOVES, "read": MOVES, "length": ("before",),
-    "write": ("before", "part", "made", "short", "interrupted"), "sync": ("before", "made"),
-    "open": ("before",), "lock": ("before",),
+    "write": ("before", "part", "made", "short", "interrupted", "killed"),
+    "sync": ("before", "made", "killed"), "open": ("before",), "lock": ("before",),
 }
 # nothing is refused: the program asks again for the rest
 HARMLESS = ("short", "interrupted")
+# what keeps a block of an archive, if there is memory for it; and what calls it, which stays a
+# function of its own: no growth in it is another's
+KEEPS, READS = "archive::cache::BlockCache::keep", "archive::blocks::BlockReader::read_missing"
 
 # places in words of what refuse.c writes, how many calls it can write down, and its length in
 # bytes
-CAME, CALLS, FIRST = len(CLASSES), len(CLASSES) + 1, 16
+CAME, CALLS, WITHIN, FIRST = len(CLASSES), len(CLASSES) + 1, len(CLASSES) + 2, 16
 SIZE = 1 << 20
 MOST = (SIZE // 8 - FIRST) // 3
 
@@ -48,9 +51,10 @@ class Call:
 
 
 class Wrong:
-    """What is to go wrong, the counts of the calls, and those on a store's files."""
+    """What is to go wrong, the counts of the calls, and those on a store's files. Of a program that
+    is named it is traced whether a refused growth is one of the cache of archive blocks."""
 
-    def __init__(self, folder: str, what: What = NONE) -> None:
+    def __init__(self, folder: str, what: What = NONE, program: str = "") -> None:
         self.kind, self.at, self.how = what
         self.place = os.path.join(folder, "counts")
         with open(self.place, "wb") as it:
@@ -60,6 +64,9 @@ class Wrong:
             "LD_PRELOAD": library(), "REFUSE_COUNTS": self.place, "REFUSE_CLASS": self.kind,
             "REFUSE_AT": str(self.at), "REFUSE_HOW": self.how,
         }
+        if program and self.kind == "growth":
+            places = places_of(program, KEEPS) or places_of(program, READS)
+            self.environment["REFUSE_TRACED"] = places
 
     def words(self, first: int, count: int) -> tuple[int, ...]:
         with open(self.place, "rb") as it:
@@ -71,6 +78,10 @@ class Wrong:
 
     def came(self) -> bool:
         return self.words(CAME, 1) == (1,)
+
+    def was_in_cache(self) -> bool:
+        """Whether what went wrong was a growth of the cache of archive blocks."""
+        return self.words(WITHIN, 1) != (0,)
 
     def calls(self) -> list[Call]:
         """The calls on a store's files that were not told before."""
@@ -99,8 +110,20 @@ def is_first(what: What) -> bool:
     return what[0] in ON_FILES and what[2] == "before"
 
 
+@functools.cache
+def places_of(program: str, function: str) -> str:
+    """Where each instance of a function begins in a program, as refuse.c takes it; nothing where
+    its names are not in it."""
+    said = subprocess.run(
+        ["nm", program], stdout=subprocess.PIPE, stderr=subprocess.DEVNULL, text=True, check=False
+    ).stdout
+    rows = (line.split(" ", 2) for line in said.splitlines())
+    return " ".join(place for place, _, name in rows if name.split("::<")[0] == function)
+
+
 def has_compiler() -> bool:
-    return shutil.which(os.environ.get("CC", "cc")) is not None
+    """Whether there is one, and what reads the names of a program."""
+    return all(shutil.which(it) for it in (os.environ.get("CC", "cc"), "nm"))
 
 
 @functools.cache

@@ -7,6 +7,8 @@
 
 enum { SLOTS = 65536, ROWS = 1024 };
 struct conn { ts_file *file; ts *store; };
+static ts_row rows[ROWS]; /* what a query finds */
+static uint8_t values[ROWS * VALUE_MAX];
 
 static int32_t asked(const char *what, int32_t code) {
     if (code < 0 || code == TS_IN_DOUBT) die("timestore %s: %s", what, ts_text(code));
@@ -29,12 +31,12 @@ void peer_close(conn *c) {
     free(c);
 }
 
-void peer_commit(conn *c, int64_t time, const row *rows, int n) {
+void peer_commit(conn *c, int64_t time, const row *written, int n) {
     ts_info info;
     asked("begin", ts_begin(c->store, &info));
     uint64_t txn = info.a;
     for (int i = 0; i < n; i++)
-        asked("put", ts_put(c->store, txn, RELATION, rows[i].record, rows[i].value, (size_t)rows[i].len));
+        asked("put", ts_put(c->store, txn, RELATION, written[i].record, written[i].value, (size_t)written[i].len));
     if (asked("commit", ts_file_commit(c->file, txn, 0, (uint64_t)time, &info)) != TS_OK) die("timestore: a commit waits");
 }
 
@@ -63,31 +65,27 @@ int peer_as_of(conn *c, uint64_t record, int64_t time, unsigned char *out) {
     return code == TS_NONE ? -1 : (int)info.a;
 }
 
-static int give(const ts_row *rows, const uint8_t *values, uint64_t count, row_sink sink, void *arg) {
+static int give(uint64_t count, row_sink sink, void *arg) {
     for (uint64_t i = 0; i < count; i++) sink(arg, rows[i].record, values + rows[i].at, (int)rows[i].len);
     return (int)count;
 }
 
 int peer_history(conn *c, uint64_t record, int64_t a, int64_t b, row_sink sink, void *arg) {
-    static ts_row rows[ROWS];
-    static uint8_t values[ROWS * VALUE_MAX];
     const uint8_t *archive;
     size_t len;
     ts_info info;
     uint64_t view = begin(c, &archive, &len), upto = known(c, b - 1) + 1;
     asked("between", ts_between(c->store, view, RELATION, record, (uint64_t)a, upto, archive, len, rows, ROWS, values, sizeof values, &info));
     asked("end", ts_end(c->store, view));
-    return give(rows, values, info.a, sink, arg);
+    return give(info.a, sink, arg);
 }
 
 int peer_scan(conn *c, int64_t time, row_sink sink, void *arg) {
-    static ts_row rows[ROWS];
-    static uint8_t values[ROWS * VALUE_MAX];
     const uint8_t *archive;
     size_t len;
     ts_info info;
     uint64_t view = begin(c, &archive, &len), at = known(c, time);
     asked("scan_at", ts_scan_at(c->store, view, RELATION, at, archive, len, rows, ROWS, values, sizeof values, &info));
     asked("end", ts_end(c->store, view));
-    return give(rows, values, info.a, sink, arg);
+    return give(info.a, sink, arg);
 }

@@ -80,10 +80,10 @@ enum {
     TS_PENDING = -1,        /* the last device call was not made yet */
     TS_CLOSED = -2,         /* the handle has no store */
     TS_UNKNOWN = -3,        /* no such transaction, ticket or view */
-    TS_SMALL = -4,          /* too little room for the answer; info has what is needed */
+    TS_SMALL = -4,          /* too little room for the answer; info, or the device call, has what is needed */
     TS_NO_MEMORY = -5,
     TS_FAILED = -6,         /* a device call was refused */
-    TS_STRANGER = -7,
+    TS_STRANGER = -7,       /* a transaction, ticket or view of another store */
     TS_CONFLICT = -8,       /* a: relation, b: record of the least key that a later commit wrote too */
     TS_HEAP_FULL = -9,      /* the records need more extents than are free */
     TS_STATUS_FULL = -10,   /* too few slots of the status log are left */
@@ -94,7 +94,8 @@ enum {
     TS_BEFORE_KEPT = -15,   /* a: the floor; history before it may be gone */
     TS_NOT_YET = -16,       /* a: the time of the last commit; a later one may still change the answer */
     TS_EMPTY_INTERVAL = -17,
-    TS_DAMAGED = -18,       /* a: the place of what breaks a rule, in bytes */
+    TS_DAMAGED = -18,       /* what a stop cannot leave. b: the area; a: of the status area the slot, of the heap
+                               the chain's first extent, of the archive the run's first byte */
     TS_NOT_A_STORE = -19,
     TS_BUSY = -20,          /* one slot is in the writing at a time: pump the other one; ts_open: the handle is full */
     TS_JOB_BUSY = -21,      /* an archive, a reclaim or a floor is being made */
@@ -123,8 +124,9 @@ enum {
    syncs it, writes the first 512 bytes, and syncs it. The other two areas begin empty. */
 int32_t ts_format(uint32_t slots, uint8_t *out, size_t len, ts_info *info);
 
-/* Opens the store of these bytes; a: the time of the last commit, b: the floor. The mark is a number of the
-   host's own, which numbers of this store carry in the library. */
+/* Opens the store of these bytes; a: the time of the last commit, b: the floor. TS_NOT_A_STORE and TS_DAMAGED by
+   the first rule of the format that they break. The mark is a number of the host's own, which numbers of this
+   store carry in the library. */
 int32_t ts_open(ts *h, const uint8_t *status, size_t status_len, const uint8_t *heap, size_t heap_len,
                 const uint8_t *archive, size_t archive_len, uint64_t mark, ts_info *info);
 
@@ -134,7 +136,7 @@ int32_t ts_close(ts *h);
 /* a: the time of the last commit, b: the floor. */
 int32_t ts_last(ts *h, ts_info *info);
 
-/* The device call that stands out, with the bytes of a write; TS_NONE where none does. */
+/* The device call that stands out, with the bytes of a write, as often as it is asked; TS_NONE where none does. */
 int32_t ts_call(ts *h, ts_device *call, uint8_t *out, size_t len);
 
 /* The device call was made, or was refused, which gives TS_FAILED. TS_NONE where none stands out. */

@@ -35,8 +35,8 @@ Time = datetime | int
 
 _EPOCH = datetime(1970, 1, 1, tzinfo=timezone.utc)
 _VALUE_MOST = 4097
-_OK, _NONE, _WAITING, _READ_ONLY, _IN_DOUBT = range(5)
-_SMALL = -4
+# Codes that are no refusals of a caller.
+_NONE, _READ_ONLY, _SMALL = 1, 3, -4
 
 
 class Step(IntEnum):
@@ -58,65 +58,56 @@ class Refused(Exception):
 
     code = 0
 
+    def __init_subclass__(cls, code: int | None = None) -> None:
+        if code is not None:
+            cls.code = code
+            _FAULTS[code] = cls
+
     def __init__(self, text: str, first: int = 0, second: int = 0) -> None:
         super().__init__(text)
         self.first = first
         self.second = second
 
 
-class Waiting(Refused):
+_FAULTS: dict[int, type[Refused]] = {}
+
+
+class Waiting(Refused, code=2):
     """Memory was refused amid a commit, which waits: a later flush publishes it."""
 
-    code = 2
     ticket: "Ticket"
 
 
-class InDoubt(Refused):
+class InDoubt(Refused, code=4):
     """The device failed before the commit was published: opened again, the store has it or not."""
 
-    code = 4
 
-
-class Pending(Refused):
+class Pending(Refused, code=-1):
     """The last device call was not made yet."""
 
-    code = -1
 
-
-class Closed(Refused):
+class Closed(Refused, code=-2):
     """No store is open."""
 
-    code = -2
 
-
-class Unknown(Refused):
+class Unknown(Refused, code=-3):
     """No such transaction, ticket or view: it was given back."""
 
-    code = -3
 
-
-class NoMemory(Refused):
+class NoMemory(Refused, code=-5):
     """Memory was refused."""
 
-    code = -5
 
-
-class Failed(Refused):
+class Failed(Refused, code=-6):
     """A device call was refused, now or before."""
 
-    code = -6
 
-
-class Stranger(Refused):
+class Stranger(Refused, code=-7):
     """A transaction, ticket or view of another store."""
 
-    code = -7
 
-
-class Conflict(Refused):
+class Conflict(Refused, code=-8):
     """Another transaction wrote a record too, and was first: `relation` and `record` name it."""
-
-    code = -8
 
     @property
     def relation(self) -> int:
@@ -129,46 +120,32 @@ class Conflict(Refused):
         return self.second
 
 
-class HeapFull(Refused):
+class HeapFull(Refused, code=-9):
     """The records need more extents than are free."""
 
-    code = -9
 
-
-class StatusFull(Refused):
+class StatusFull(Refused, code=-10):
     """Too few slots of the status log are left."""
 
-    code = -10
 
-
-class ClockEnd(Refused):
+class ClockEnd(Refused, code=-11):
     """No commit time is left."""
 
-    code = -11
 
-
-class Missing(Refused):
+class Missing(Refused, code=-12):
     """A delete of a record that has no value."""
 
-    code = -12
 
-
-class TooManyKeys(Refused):
+class TooManyKeys(Refused, code=-13):
     """A transaction writes at most 1,024 records."""
 
-    code = -13
 
-
-class BadValue(Refused):
+class BadValue(Refused, code=-14):
     """A value has 1 to 16 fields of at most 255 bytes."""
 
-    code = -14
 
-
-class BeforeKept(Refused):
+class BeforeKept(Refused, code=-15):
     """History before the floor may be gone."""
-
-    code = -15
 
     @property
     def floor(self) -> int:
@@ -176,10 +153,8 @@ class BeforeKept(Refused):
         return self.first
 
 
-class NotYet(Refused):
+class NotYet(Refused, code=-16):
     """The time is after the last commit: a later one may change the answer."""
-
-    code = -16
 
     @property
     def last(self) -> int:
@@ -187,63 +162,50 @@ class NotYet(Refused):
         return self.first
 
 
-class EmptyInterval(Refused):
+class EmptyInterval(Refused, code=-17):
     """An interval that ends where it begins, or before."""
 
-    code = -17
 
-
-class Damaged(Refused):
+class Damaged(Refused, code=-18):
     """The files are not what a stop can leave."""
 
-    code = -18
+    @property
+    def area(self) -> str:
+        """The file that breaks a rule: `status`, `heap` or `archive`."""
+        return ("status", "heap", "archive")[self.second]
 
     @property
     def place(self) -> int:
-        """The place of what breaks a rule, in bytes."""
+        """Where: a slot, the first extent of a chain, or the first byte of a run."""
         return self.first
 
 
-class NotAStore(Refused):
+class NotAStore(Refused, code=-19):
     """The folder has no store."""
 
-    code = -19
 
-
-class Busy(Refused):
+class Busy(Refused, code=-20):
     """One slot is in the writing at a time: pump the other one."""
 
-    code = -20
 
-
-class JobBusy(Refused):
+class JobBusy(Refused, code=-21):
     """An archive, a reclaim or a floor is being made."""
 
-    code = -21
 
-
-class NothingToDo(Refused):
+class NothingToDo(Refused, code=-22):
     """All of it is archived or reclaimed, or the floor is as late."""
 
-    code = -22
 
-
-class ArchiveFull(Refused):
+class ArchiveFull(Refused, code=-23):
     """The archive is full."""
 
-    code = -23
 
-
-class BadSlots(Refused):
+class BadSlots(Refused, code=-24):
     """A store has 16 to 65,536 slots."""
 
-    code = -24
 
-
-class InUse(Refused):
+class InUse(Refused, code=-25):
     """An open transaction reads below that."""
-
-    code = -25
 
     @property
     def snapshot(self) -> int:
@@ -251,31 +213,20 @@ class InUse(Refused):
         return self.first
 
 
-class NeedsArchive(Refused):
+class NeedsArchive(Refused, code=-26):
     """The answer needs the archive."""
 
-    code = -26
 
-
-class System(Refused):
+class System(Refused, code=-100):
     """The system refused a call."""
 
-    code = -100
 
-
-class Locked(Refused):
+class Locked(Refused, code=-101):
     """Another process has the store open."""
 
-    code = -101
 
-
-class Occupied(Refused):
+class Occupied(Refused, code=-102):
     """A store, or something else, stands there."""
-
-    code = -102
-
-
-_FAULTS = {fault.code: fault for fault in Refused.__subclasses__()}
 
 
 class _Handle(ctypes.Structure):
@@ -373,7 +324,7 @@ _library = _load()
 
 def _ask(code: int, info: _Info | None = None) -> int:
     """The code of an answer; raises what a refusal is named."""
-    if code >= 0 and code != _IN_DOUBT:
+    if code >= 0 and code != InDoubt.code:
         return code
     text = _library.ts_text(code).decode()
     if code == System.code:
@@ -521,22 +472,22 @@ class Store:
         return View(self, self._info.a)
 
     def at(self, relation: int, record: int, time: Time) -> Fields | None:
-        """The value of a record at a time, None where it had none."""
+        """`View.at` of a view that is taken for it, as those below are."""
         with self.view() as view:
             return view.at(relation, record, time)
 
     def scan_at(self, relation: int, time: Time) -> Iterator[tuple[int, Fields]]:
-        """The records of a relation that have a value at a time, in rising order."""
+        """`View.scan_at`."""
         with self.view() as view:
             return view.scan_at(relation, time)
 
     def between(self, relation: int, record: int, start: Time, end: Time) -> Iterator[Row]:
-        """What stood in a record from one time up to another, by rising time."""
+        """`View.between`."""
         with self.view() as view:
             return view.between(relation, record, start, end)
 
     def scan_between(self, relation: int, start: Time, end: Time) -> Iterator[Row]:
-        """The same of a relation's records, by record and then by time."""
+        """`View.scan_between`."""
         with self.view() as view:
             return view.scan_between(relation, start, end)
 
@@ -646,7 +597,7 @@ class Ticket:
             raise Unknown("unknown")
         number, self._number = self._number, None
         code = self._store._ask(_library.ts_redeem, number)
-        if code == _WAITING:
+        if code == Waiting.code:
             self._number = self._store._info.a
             return None
         return self._store._info.a

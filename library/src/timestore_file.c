@@ -190,40 +190,34 @@ static int32_t make_call(ts_file *file) {
     return ts_called(&file->store, made);
 }
 
-int32_t ts_file_pump(ts_file *file, ts_info *info) {
-    int32_t code = ts_pump(&file->store, info);
+typedef int32_t step(ts *store, ts_info *info);
+
+/* A step with its device call. */
+static int32_t take(ts_file *file, step *next, ts_info *info) {
+    int32_t code = next(&file->store, info);
     int32_t made = make_call(file);
     return made < 0 ? made : code;
 }
 
-int32_t ts_file_job_pump(ts_file *file, ts_info *info) {
-    int32_t code = ts_job_pump(&file->store, info);
-    int32_t made = make_call(file);
-    return made < 0 ? made : code;
-}
-
-/* A group and a job may each wait for the other's slot: TS_BUSY, and then that one goes on. */
-int32_t ts_file_flush(ts_file *file) {
+/* All steps. A group and a job may each wait for the other's slot: TS_BUSY, and then that one goes on. */
+static int32_t take_all(ts_file *file, step *next, step *other) {
     ts_info info = {0, 0};
     int32_t code;
     do {
-        code = ts_file_pump(file, &info);
-        if (code == TS_BUSY) code = ts_file_job_pump(file, &info);
+        code = take(file, next, &info);
+        if (code == TS_BUSY) code = take(file, other, &info);
         else if (code == TS_OK && info.a == TS_IDLE) return TS_OK;
     } while (code == TS_OK);
     return code;
 }
 
-int32_t ts_file_job(ts_file *file) {
-    ts_info info = {0, 0};
-    int32_t code;
-    do {
-        code = ts_file_job_pump(file, &info);
-        if (code == TS_BUSY) code = ts_file_pump(file, &info);
-        else if (code == TS_OK && info.a == TS_IDLE) return TS_OK;
-    } while (code == TS_OK);
-    return code;
-}
+int32_t ts_file_pump(ts_file *file, ts_info *info) { return take(file, ts_pump, info); }
+
+int32_t ts_file_job_pump(ts_file *file, ts_info *info) { return take(file, ts_job_pump, info); }
+
+int32_t ts_file_flush(ts_file *file) { return take_all(file, ts_pump, ts_job_pump); }
+
+int32_t ts_file_job(ts_file *file) { return take_all(file, ts_job_pump, ts_pump); }
 
 int32_t ts_file_commit(ts_file *file, uint64_t txn, uint64_t label, uint64_t now, ts_info *info) {
     int32_t code = ts_submit(&file->store, txn, label, now, info);

@@ -6,7 +6,7 @@ const char *ts_text(int32_t code) {
     case TS_OK: return "ok";
     case TS_NONE: return "none";
     case TS_WAITING: return "waiting";
-    case TS_READ_ONLY: return "read only";
+    case TS_READ_ONLY: return "readonly";
     case TS_IN_DOUBT: return "in doubt";
     case TS_PENDING: return "a device call stands out";
     case TS_CLOSED: return "no store is open";
@@ -34,7 +34,7 @@ const char *ts_text(int32_t code) {
     case TS_BAD_SLOTS: return "bad slots";
     case TS_IN_USE: return "in use";
     case TS_NEEDS_ARCHIVE: return "needs disk";
-    case TS_SYSTEM: return "the system refused a call";
+    case TS_SYSTEM: return "device";
     case TS_LOCKED: return "another process has this store open";
     case TS_OCCUPIED: return "occupied";
     default: return "no such code";

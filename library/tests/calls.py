@@ -105,6 +105,15 @@ def test_refused_call(folder: Path) -> None:
         assert store.at(2, 5, before) == (b"first",)
 
 
+def test_damaged(folder: Path) -> None:
+    """A file that is cut is named, and where."""
+    (folder / "archive").write_bytes(b"")
+    why = refuses(timestore.Damaged, timestore.Store, folder)
+    assert (why.area, why.place) == ("archive", 0)
+    (folder / "heap").write_bytes(b"")
+    assert refuses(timestore.Damaged, timestore.Store, folder).area == "heap"
+
+
 def test_numbers(store: timestore.Store) -> None:
     """What C would cut to its bits is refused, and changes nothing."""
     with store.begin() as txn:
@@ -181,6 +190,7 @@ def main() -> None:
         test_threads(store)
         test_fork(store)
     test_refused_call(folder)
+    test_damaged(folder)
 
 
 if __name__ == "__main__":

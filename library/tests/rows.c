@@ -1,5 +1,7 @@
 /* What the calls answer, on a store in files: rows FOLDER, an empty one. */
+#define _GNU_SOURCE
 #include "check.h"
+#include <unistd.h>
 
 static uint64_t begun(ts *h) {
     ts_info info;
@@ -221,6 +223,7 @@ static void test_reclaim(ts_file *file) {
     CHECK(TS_OK, ts_scan_between(h, view.a, 1, 150, 401, archive, len, rows, 8, out, sizeof out, &info));
     HOLDS(info.a == 4 && rows[2].record == 8 && rows[2].from == 200 && rows[2].upto == 400);
     CHECK(TS_DAMAGED, ts_at(h, view.a, 1, 7, 150, archive, 8, out, sizeof out, &info));
+    HOLDS(info.a == 0 && info.b == TS_ARCHIVE);
     CHECK(TS_OK, ts_end(h, view.a));
     CHECK(TS_OK, ts_end(h, old.a));
 }
@@ -281,6 +284,25 @@ static void test_reopened(ts_file *file) {
     CHECK(TS_OK, ts_end(h, view.a));
 }
 
+/* Cuts a file of the folder; what the store then opens as. */
+static int32_t cut(const char *folder, const char *name, off_t len, ts_info *info) {
+    ts_file *file;
+    char path[4096];
+    snprintf(path, sizeof path, "%s/%s", folder, name);
+    HOLDS(truncate(path, len) == 0);
+    return ts_file_open(folder, &file, info);
+}
+
+/* A store that is damaged says where, by the first check that fails. */
+static void test_damaged(const char *folder) {
+    ts_info info;
+    CHECK(TS_DAMAGED, cut(folder, "archive", 8, &info));
+    HOLDS(info.a == 0 && info.b == TS_ARCHIVE);
+    CHECK(TS_DAMAGED, cut(folder, "heap", 0, &info));
+    HOLDS(info.a > 0 && info.b == TS_HEAP);
+    CHECK(TS_NOT_A_STORE, cut(folder, "status", 511, &info));
+}
+
 int main(int argc, char **argv) {
     ts_file *file, *second;
     ts_info info;
@@ -305,5 +327,6 @@ int main(int argc, char **argv) {
     HOLDS(now_has(ts_file_store(file), 7, 401, "d"));
     test_reopened(file);
     ts_file_close(file);
+    test_damaged(argv[1]);
     return 0;
 }

@@ -1,5 +1,5 @@
 //! A tree of chains in the order of their keys.
-ghost use Rattle.std.specs.Prelude.{◌≡◌, IfOk, IsTrue, find};
+ghost use Rattle.std.specs.Prelude.{◌≡◌, ◌∷◌, ◌++◌, [], IfOk, IsTrue, find};
 ghost use Rattle.std.specs.Option.{option_copied, option_or};
 ghost use Rattle.chains.specs.Bounds.{is_in};
 ghost use Rattle.chains.specs.KeyWrites.{is_of, forgotten, IsOrdered};
@@ -9,6 +9,8 @@ use crate::chain::Chain;
 use crate::tree::Tree;
 use history::Key;
 use std::alloc::{AllocError, Global};
+use std::mem;
+use std::sync::Arc;
 
 impl Tree<Chain> {
     /// The chain of a key.
@@ -50,6 +52,22 @@ impl Tree<Chain> {
         } else {
             node.right.least_or(bound, behind)
         }
+    }
+
+    /// The tree with a chain behind the others, put there in place where no other tree holds the way.
+    pub(crate) fn with_last(self, alloc: Global, chain: Chain) -> Result<Self, AllocError>
+        ensures { IfOk result (λ t. t.pieces ≡ self.pieces ++ chain ∷ []) }
+    {
+        let Some(mut shared) = self.root else {
+            return Tree::node(alloc, Tree::new(), chain, Tree::new());
+        };
+        let Some(node) = Arc::get_mut(&mut shared) else {
+            let tree = Tree { root: Some(shared) };
+            return Tree::join(alloc, tree, chain, Tree::new());
+        };
+        let right = mem::replace(&mut node.right, Tree::new());
+        node.right = right.with_last(alloc, chain)?;
+        Tree::levelled(alloc, shared)
     }
 
     /// Whether every write says something of times from the mark on.

@@ -1,5 +1,6 @@
 -- Codes: their numbers, and which of them a store's answers have.
 use Rattle.std.specs.Prelude.{◌≡◌, ℕ, ℤ, pos, negsuc, Option, None, Some, Result, Ok, Err}
+use Rattle.disk.specs.declared.area.Area.{Area}
 use Rattle.group.specs.declared.answers.BeginFault.{BeginFault}
 use Rattle.group.specs.declared.answers.BeginFault.TheVariants as begin
 use Rattle.group.specs.declared.answers.Did.{Did}
@@ -8,12 +9,15 @@ use Rattle.group.specs.declared.answers.PumpFault.{PumpFault}
 use Rattle.group.specs.declared.answers.PumpFault.TheVariants as pump
 use Rattle.group.specs.declared.answers.SubmitFault.{SubmitFault}
 use Rattle.group.specs.declared.answers.SubmitFault.TheVariants as submit
+use Rattle.recovery.specs.declared.fault.OpenFault.{OpenFault}
+use Rattle.recovery.specs.declared.fault.OpenFault.TheVariants as fault
 use Rattle.snapshot.specs.declared.txn.TxnFault.{TxnFault}
 use Rattle.snapshot.specs.declared.txn.TxnFault.TheVariants as txn
 use Rattle.store.specs.declared.job.JobDid.{JobDid}
 use Rattle.store.specs.declared.job.JobDid.TheVariants as job
 use Rattle.store.specs.declared.job.StartFault.{StartFault}
 use Rattle.store.specs.declared.job.StartFault.TheVariants as start
+use Rattle.embedded.specs.Areas.{area_number}
 use Rattle.embedded.specs.declared.code.Code.{Code}
 use Rattle.embedded.specs.declared.code.Code.TheVariants as code
 use Rattle.embedded.specs.declared.code.Info.{Info}
@@ -54,6 +58,16 @@ code_number code.InUse = negsuc 24
 code_number code.NeedsArchive = negsuc 25
 
 -- ---- the codes of a store's answers
+
+-- the place of what is damaged, and its area, are told
+abbrev pub IsDamagedCode : Area → ℕ → Code → Info → Type 0
+IsDamagedCode area place said info = (said ≡ code.Damaged) × (info.a ≡ place) × (info.b ≡ area_number area)
+
+abbrev pub IsOpenCode : OpenFault → Code → Info → Type 0
+IsOpenCode fault.NotAStore said info = said ≡ code.NotAStore
+IsOpenCode (fault.Damaged area place) said info = IsDamagedCode area place said info
+IsOpenCode fault.Device said info = said ≡ code.Failed
+IsOpenCode fault.NoMemory said info = said ≡ code.NoMemory
 
 abbrev pub begin_code : BeginFault → Code
 begin_code begin.NoMemory = code.NoMemory

@@ -11,6 +11,8 @@ use Rattle.group.specs.declared.answers.Redeemed.TheVariants as redeemed
 use Rattle.group.specs.declared.answers.Submitted.{Submitted}
 use Rattle.group.specs.declared.answers.Submitted.TheVariants.{ReadOnly, Queued}
 use Rattle.group.specs.declared.answers.SubmitFault.{SubmitFault}
+use Rattle.recovery.specs.Faults.{IsImageFault}
+use Rattle.recovery.specs.declared.fault.OpenFault.{OpenFault}
 use Rattle.relay.specs.Calls.{LeadsTo}
 use Rattle.relay.specs.declared.device_call.DeviceCall.{DeviceCall}
 use Rattle.relay.specs.declared.device_call.DeviceCall.TheVariants.{Write, Sync}
@@ -28,7 +30,7 @@ use Rattle.store.specs.declared.job.JobDid.{JobDid}
 use Rattle.store.specs.declared.job.StartFault.{StartFault}
 use Rattle.timequery.specs.View.{ViewValue}
 use Rattle.embedded.specs.Areas.{area_number}
-use Rattle.embedded.specs.Codes.{begin_code, txn_code, IsSubmitCode, pump_code, IsStartCode, told_did, job_number, code_number}
+use Rattle.embedded.specs.Codes.{IsOpenCode, begin_code, txn_code, IsSubmitCode, pump_code, IsStartCode, told_did, job_number, code_number}
 use Rattle.embedded.specs.Held.{transaction_under, ticket_under, view_in, named, SameNumbers, IsKept, IsTaken, IsWritten}
 use Rattle.embedded.specs.declared.code.Call.{Call}
 use Rattle.embedded.specs.declared.code.Code.{Code}
@@ -83,10 +85,14 @@ UnlessAsked old said new Does = MatchBool (asks old.standing) ((said ≡ code.Pe
 abbrev pub OfNumber : {T : Type 0} → Option T → Engine → Code → Engine → (T → Type 0) → Type 0
 OfNumber found old said new Does = MatchOption found ((said ≡ code.Unknown) × (new ≡ old)) Does
 
--- a store that is opened from these bytes, with nothing made yet
-abbrev pub OpensEngine : List ℕ → List ℕ → List ℕ → ℕ → Engine → Type 0
-OpensEngine status heap archive mark e = (opened : StoreValue) × Opens true (fresh_on (record { status = status; heap = heap; archive = archive })) mark opened
-    × (e.store ≡ record opened { disk = record { areas = opened.disk.areas; made = 0; refused = 0 } }) × (e.standing ≡ Settled)
+-- a store that is opened from these bytes, with nothing made yet; the times of its last commit and of its floor are told
+abbrev pub OpensEngine : List ℕ → List ℕ → List ℕ → ℕ → Info → Engine → Type 0
+OpensEngine status heap archive mark info e = (opened : StoreValue) × Opens true (fresh_on (record { status = status; heap = heap; archive = archive })) mark opened
+    × (e.store ≡ record opened { disk = record { areas = opened.disk.areas; made = 0; refused = 0 } }) × (e.standing ≡ Settled) × (info.a ≡ last e.store) × (info.b ≡ floor e.store)
+
+-- no store is opened from these bytes, and why is told
+abbrev pub RefusesEngine : List ℕ → List ℕ → List ℕ → Code → Info → Type 0
+RefusesEngine status heap archive said info = (why : OpenFault) × IsImageFault (record { status = status; heap = heap; archive = archive }) why × IsOpenCode why said info
 
 -- the times of the last commit and of the floor; after a refused call those of before it
 abbrev pub TellsTimes : Standing → Engine → Code → Info → Type 0
@@ -115,14 +121,23 @@ abbrev pub KeepsPublished : Engine → Engine → Type 0
 KeepsPublished old new = (new.places ≡ old.places) × MatchBool (new.store.disk.made == old.store.disk.made) ((new.standing ≡ old.standing) × (new.before ≡ old.before))
     ((new.standing ≡ after_call (new.store.disk.refused == old.store.disk.refused)) × MatchOption new.before ⊥ (WasPublished old.store))
 
--- the device call as it is told
-abbrev pub IsTold : Call → DeviceCall → Type 0
-IsTold told (Write area at) = (told.kind ≡ 1) × (told.area ≡ area_number area) × (told.at ≡ at)
-IsTold told (Sync area) = (told.kind ≡ 2) × (told.area ≡ area_number area)
+-- the device call as it is told, of a write its place and how many bytes it has
+abbrev pub IsTold : Call → DeviceCall → List ℕ → Type 0
+IsTold told (Write area at) bytes = (told.kind ≡ 1) × (told.area ≡ area_number area) × (told.at ≡ at) × (told.len ≡ length bytes)
+IsTold told (Sync area) bytes = (told.kind ≡ 2) × (told.area ≡ area_number area) × (told.len ≡ 0)
 
--- a call that is told, with its bytes, has made of some areas those of the store's disk: it is the last one that the store made
+-- no device call is told
+abbrev pub TellsNoCall : Code → Call → Type 0
+TellsNoCall said told = (said ≡ code.None) × (told ≡ record { kind = 0; area = 0; at = 0; len = 0 })
+
+-- a device call is told that has made of some areas those of the store's disk: it is the last one that the store made. Its bytes stand in front, where there is room for them
+abbrev pub TellsLastCall : Engine → Code → Call → List ℕ → Type 0
+TellsLastCall e said told out = (call : DeviceCall) × (bytes : List ℕ) × (before : Areas) × IsTold told call bytes × LeadsTo call bytes before e.store.disk.areas
+    × MatchBool (nat_le told.len (length out)) ((said ≡ code.Ok) × (take told.len out ≡ bytes)) (said ≡ code.Small)
+
+-- the device call that stands out is told, and none where none does
 abbrev pub TellsCall : Engine → Code → Call → List ℕ → Type 0
-TellsCall e said told out = said ≡ code.Ok → ∥ ((call : DeviceCall) × (before : Areas) × IsTold told call × LeadsTo call (take told.len out) before e.store.disk.areas) ∥₁
+TellsCall e said told out = MatchBool (asks e.standing) (TellsNoCall said told ⊎ ∥ TellsLastCall e said told out ∥₁) (TellsNoCall said told)
 
 -- a call that stands out was made, and the store goes on, or it was refused, and it goes on no more
 abbrev pub HasCalled : Bool → Engine → Code → Engine → Type 0
@@ -295,7 +310,13 @@ OnHandle Does (Some old) number new = MatchOption new ⊥ (λ engine. (said : Co
 abbrev pub StaysSame : Option Engine → Option Engine → Type 0
 StaysSame old new = new ≡ old
 
--- a handle is opened on these bytes, or stays as it is
-abbrev pub OpensHandle : List ℕ → List ℕ → List ℕ → ℕ → Option Engine → Option Engine → Type 0
-OpensHandle status heap archive mark None new = MatchOption new (Unit {0}) (OpensEngine status heap archive mark)
-OpensHandle status heap archive mark (Some old) new = new ≡ Some old
+-- a handle is opened on these bytes, or stays without a store, and why is told; one that has a store keeps it
+abbrev pub OpensHandle : List ℕ → List ℕ → List ℕ → ℕ → Option Engine → ℤ → Info → Option Engine → Type 0
+OpensHandle status heap archive mark None number info None = (said : Code) × (number ≡ code_number said) × RefusesEngine status heap archive said info
+OpensHandle status heap archive mark None number info (Some engine) = (number ≡ code_number code.Ok) × OpensEngine status heap archive mark info engine
+OpensHandle status heap archive mark (Some old) number info new = (number ≡ code_number code.Busy) × (new ≡ Some old)
+
+-- the store of a handle is ended, if it has one
+abbrev pub ClosesHandle : Option Engine → ℤ → Option Engine → Type 0
+ClosesHandle None number new = (number ≡ code_number code.Closed) × (new ≡ None)
+ClosesHandle (Some old) number new = (number ≡ code_number code.Ok) × (new ≡ None)

@@ -3,6 +3,7 @@ use Rattle.std.specs.Prelude.{◌≡◌, ◌≤◌, ◌⊎◌, ◌==◌, ◌&&�
 use Rattle.std.specs.declared.alloc.Global.{Global}
 use Rattle.std.specs.declared.vec.Vec.{Vec}
 use Rattle.disk.specs.Calls.{fresh_on}
+use Rattle.disk.specs.declared.area.Area.TheVariants.{Archive}
 use Rattle.history.specs.declared.key.Key.{Key}
 use Rattle.history.specs.declared.time.Version.{Version}
 use Rattle.history.specs.Queries.{IsScan}
@@ -22,6 +23,7 @@ use Rattle.timequery.specs.View.{ViewValue, AnswersAt, AnswersBetween, RefusesRe
 use Rattle.timequery.specs.declared.fault.QueryFault.{QueryFault}
 use Rattle.timequery.specs.declared.fault.QueryFault.TheVariants.{BeforeKept, NotYet, EmptyInterval, Device, NoMemory, Damaged, NeedsDisk, Stranger}
 use Rattle.embedded.specs.Bytes.{AreBytesTold}
+use Rattle.embedded.specs.Codes.{IsDamagedCode}
 use Rattle.embedded.specs.Held.{transaction_under, view_under}
 use Rattle.embedded.specs.Rows.{Shown, shown_record, shown_version, shown_entry, AreTold}
 use Rattle.embedded.specs.declared.asking.Lent.{Lent}
@@ -93,7 +95,7 @@ IsFaultCode (NotYet last) said info = (said ≡ code.NotYet) × (info.a ≡ last
 IsFaultCode EmptyInterval said info = said ≡ code.EmptyInterval
 IsFaultCode Device said info = said ≡ code.Failed
 IsFaultCode NoMemory said info = said ≡ code.NoMemory
-IsFaultCode (Damaged start) said info = (said ≡ code.Damaged) × (info.a ≡ start)
+IsFaultCode (Damaged start) said info = IsDamagedCode Archive start said info
 IsFaultCode NeedsDisk said info = said ≡ code.NeedsArchive
 IsFaultCode Stranger said info = said ≡ code.Stranger
 

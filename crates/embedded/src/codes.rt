@@ -1,13 +1,45 @@
 //! The codes of a store's answers.
 ghost use Rattle.std.specs.Prelude.{◌≡◌};
-ghost use Rattle.embedded.specs.Codes.{begin_code, txn_code, IsSubmitCode, pump_code, IsStartCode, told_did, job_number};
+ghost use Rattle.embedded.specs.Areas.{area_number};
+ghost use Rattle.embedded.specs.Codes.{IsDamagedCode, IsOpenCode, begin_code, txn_code, IsSubmitCode, pump_code, IsStartCode, told_did, job_number};
 ghost use Rattle.embedded.specs.Queries.{IsFaultCode};
 
 use crate::code::{Code, Info};
+use disk::Area;
 use group::{BeginFault, Did, PumpFault, SubmitFault};
 use snapshot::TxnFault;
-use store::{JobDid, StartFault};
+use store::{JobDid, OpenFault, StartFault};
 use timequery::QueryFault;
+
+pub(crate) fn area_number(area: Area) -> u32
+    ensures { result ≡ area_number area }
+{
+    match area {
+        Area::Status => 0,
+        Area::Heap => 1,
+        Area::Archive => 2,
+    }
+}
+
+// The place of what is damaged, and its area, are told.
+fn damaged_code(area: Area, place: u64, info: &mut Info) -> Code
+    ensures { IsDamagedCode area place result info.new }
+{
+    info.a = place;
+    info.b = area_number(area) as u64;
+    Code::Damaged
+}
+
+pub(crate) fn open_code(fault: OpenFault, info: &mut Info) -> Code
+    ensures { IsOpenCode fault result info.new }
+{
+    match fault {
+        OpenFault::NotAStore => Code::NotAStore,
+        OpenFault::Damaged(area, place) => damaged_code(area, place, info),
+        OpenFault::Device => Code::Failed,
+        OpenFault::NoMemory => Code::NoMemory,
+    }
+}
 
 pub(crate) fn begin_code(fault: BeginFault) -> Code
     ensures { result ≡ begin_code fault }
@@ -82,7 +114,7 @@ pub(crate) fn start_code(fault: StartFault, info: &mut Info) -> Code
     }
 }
 
-// The bound that a time breaks is told.
+// The bound that a time breaks is told, and what is damaged.
 pub(crate) fn query_code(fault: QueryFault, info: &mut Info) -> Code
     ensures { IsFaultCode fault result info.new }
 {
@@ -95,10 +127,7 @@ pub(crate) fn query_code(fault: QueryFault, info: &mut Info) -> Code
             info.a = time;
             Code::NotYet
         }
-        QueryFault::Damaged(place) => {
-            info.a = place;
-            Code::Damaged
-        }
+        QueryFault::Damaged(place) => damaged_code(Area::Archive, place, info),
         QueryFault::EmptyInterval => Code::EmptyInterval,
         QueryFault::Device => Code::Failed,
         QueryFault::NeedsDisk => Code::NeedsArchive,

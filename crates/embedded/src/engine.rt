@@ -1,12 +1,12 @@
 //! A store, what it gave out, and the device call that the host is to make.
 ghost use Rattle.std.specs.Prelude.{◌≡◌, IfSome};
-ghost use Rattle.embedded.specs.Areas.{area_number};
 
 use crate::asking::{self, Kept};
 use crate::code::{Call, Code, Info};
+use crate::codes::area_number;
 use crate::places::Places;
 use crate::values::copy_bytes;
-use disk::{Area, Disk};
+use disk::Disk;
 use relay::DeviceCall;
 use std::alloc::Global;
 use std::mem;
@@ -65,16 +65,6 @@ impl Drop for Engine {
         }
         places.give_up();
         let _disk = store.close();
-    }
-}
-
-fn area_number(area: Area) -> u32
-    ensures { result ≡ area_number area }
-{
-    match area {
-        Area::Status => 0,
-        Area::Heap => 1,
-        Area::Archive => 2,
     }
 }
 

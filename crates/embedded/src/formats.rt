@@ -1,15 +1,16 @@
 //! Making a store and opening one.
-ghost use Rattle.std.specs.Prelude.{IfOk};
-ghost use Rattle.embedded.specs.Engines.{OpensEngine};
+ghost use Rattle.std.specs.Prelude.{IfOk, IfErr};
+ghost use Rattle.embedded.specs.Engines.{OpensEngine, RefusesEngine};
 ghost use Rattle.embedded.specs.Formats.{FormatsStore};
 
 use crate::code::{Code, Info};
+use crate::codes::open_code;
 use crate::engine::Engine;
 use disk::{Area, Disk, MemDisk};
 use recovery::FormatFault;
 use relay::{RelayDisk, SliceDisk};
 use std::alloc::Global;
-use store::{OpenFault, Store};
+use store::Store;
 
 /// The bytes of the status area of a new store. The host writes them from 512 on, syncs, writes the
 /// first 512, and syncs; the other areas are empty.
@@ -35,18 +36,6 @@ pub fn format(alloc: Global, slots: u32, out: &mut [u8], info: &mut Info) -> Cod
     }
 }
 
-fn open_code(fault: OpenFault, info: &mut Info) -> Code {
-    match fault {
-        OpenFault::NotAStore => Code::NotAStore,
-        OpenFault::Damaged(_, place) => {
-            info.a = place;
-            Code::Damaged
-        }
-        OpenFault::Device => Code::Failed,
-        OpenFault::NoMemory => Code::NoMemory,
-    }
-}
-
 /// Opens the store that these bytes are, which the host has synced. They are read in place, and none of
 /// them is needed once it is open. The times of the last commit and of the floor are told.
 pub fn open(
@@ -57,7 +46,8 @@ pub fn open(
     mark: u64,
     info: &mut Info,
 ) -> Result<Box<Engine>, Code>
-    ensures { IfOk result (λ engine. OpensEngine status.now heap.now archive.now mark engine.value) }
+    ensures opened { IfOk result (λ engine. OpensEngine status.now heap.now archive.now mark info.new engine.value) }
+    ensures refused { IfErr result (λ code. RefusesEngine status.now heap.now archive.now code info.new) }
 {
     match Store::open(alloc, SliceDisk::new(status, heap, archive), mark) {
         Err((fault, _)) => Err(open_code(fault, info)),

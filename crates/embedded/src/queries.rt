@@ -1,5 +1,5 @@
 //! Views and queries.
-ghost use Rattle.std.specs.Prelude.{◌≡◌, IfOk, option_copied};
+ghost use Rattle.std.specs.Prelude.{◌≡◌, option_copied};
 ghost use Rattle.store.specs.Values.{StoreValue};
 ghost use Rattle.embedded.specs.Engines.{AreTimesTold};
 ghost use Rattle.embedded.specs.Held.{view_of};
@@ -14,7 +14,7 @@ use crate::rows::{records_out, rows_out, scan_out, value_out};
 use archive::RunEntry;
 use chains::SharedValue;
 use history::{Key, Version};
-use std::alloc::{AllocError, Global};
+use std::alloc::Global;
 use timequery::{QueryFault, View};
 
 /// The number of the view of what was published before a device call that was refused.
@@ -295,22 +295,20 @@ impl Engine {
         }
     }
 
-    // Of these times those that were published, also where a call was refused since.
-    fn published_of(&self, times: Vec<u64>) -> Result<Vec<u64>, AllocError>
-        ensures { IfOk result (λ found. found.items ≡ published_of self.now.standing self.now.before times.items) }
+    // Keeps of these times those that were published, also where a call was refused since. It takes no memory.
+    fn keep_published(&self, times: &mut Vec<u64>)
+        ensures { times.new.items ≡ published_of self.now.standing self.now.before times.old.items }
     {
         if self.standing != Standing::Failed {
-            return Ok(times);
+            return;
         }
-        let Some(published) = &self.before else {
-            return Ok(Vec::new(self.alloc));
-        };
-        let last = published.last;
-        times
-            .iter()
-            .copied()
-            .filter(|time| *time <= last)
-            .collect(self.alloc)
+        match &self.before {
+            None => times.clear(),
+            Some(published) => {
+                let last = published.last;
+                times.retain(|time| *time <= last);
+            }
+        }
     }
 
     /// The times of the commits with a label, rising, and how many there are.
@@ -320,12 +318,10 @@ impl Engine {
         if self.standing == Standing::Asks {
             return Code::Pending;
         }
-        let Ok(found) = self.store.times_of(label) else {
+        let Ok(mut found) = self.store.times_of(label) else {
             return Code::NoMemory;
         };
-        match self.published_of(found) {
-            Err(_) => Code::NoMemory,
-            Ok(found) => times_out(&found, times, info),
-        }
+        self.keep_published(&mut found);
+        times_out(&found, times, info)
     }
 }

@@ -1,10 +1,10 @@
 //! A store for C, as functions over a handle. The header `timestore.h` says what a caller must uphold.
 #![tactic(auto)]
 
-ghost use Rattle.std.specs.Prelude.{◌≡◌, None, Some};
+ghost use Rattle.std.specs.Prelude.{◌≡◌, Some};
 ghost use Rattle.history.specs.Key.{key_of};
 ghost use Rattle.embedded.specs.Codes.{code_number, AnswersOn};
-ghost use Rattle.embedded.specs.Engines.{OnHandle, StaysSame, HasCalled, OpensHandle, BeginsEngine, Writes, SubmitsEngine, AbortsEngine, RedeemsEngine, GivesUp, GivesView, EndsView, PumpsEngine, PumpsJobOf, ArchivesEngine, ReclaimsEngine, RaisesEngine, TellsTimes, TellsCall, TellsLabels};
+ghost use Rattle.embedded.specs.Engines.{OnHandle, StaysSame, HasCalled, OpensHandle, ClosesHandle, BeginsEngine, Writes, SubmitsEngine, AbortsEngine, RedeemsEngine, GivesUp, GivesView, EndsView, PumpsEngine, PumpsJobOf, ArchivesEngine, ReclaimsEngine, RaisesEngine, TellsTimes, TellsCall, TellsLabels};
 ghost use Rattle.embedded.specs.Formats.{AnswersFormat};
 ghost use Rattle.embedded.specs.Queries.{Sees, SeesScan, AsksRecent, AsksAt, AsksScanAt, AsksRows, AsksScanRows};
 ghost use Rattle.embedded.specs.Writes.{Puts, Deletes};
@@ -42,7 +42,7 @@ pub extern "C" fn ts_open(
     mark: u64,
     info: &mut Info,
 ) -> i32
-    ensures { OpensHandle status.now heap.now archive.now mark handle.old.engine handle.new.engine }
+    ensures { OpensHandle status.now heap.now archive.now mark handle.old.engine result info.new handle.new.engine }
 {
     if let Some(engine) = handle.take(alloc) {
         return put_back(handle, engine, Code::Busy);
@@ -56,7 +56,7 @@ pub extern "C" fn ts_open(
 /// Ends the store of a handle.
 #[unsafe(no_mangle)]
 pub extern "C" fn ts_close(alloc: Global, handle: &mut Handle) -> i32
-    ensures { handle.new.engine ≡ None }
+    ensures { ClosesHandle handle.old.engine result handle.new.engine }
 {
     match handle.take(alloc) {
         None => Code::Closed.number(),

@@ -147,11 +147,15 @@ impl CommitOrder {
 fn published_times(alloc: Global, heads: &[CommitHead], label: u64) -> Result<Vec<u64>, AllocError>
     ensures { IfOk result (λ times. times.items ≡ map (λ (head : CommitHead). head.time) (filter (λ (head : CommitHead). head.label == label) heads.now)) }
 {
-    heads
-        .iter()
-        .filter(|head| head.label == label)
-        .map(|head| head.time)
-        .collect(alloc)
+    let mut times = Vec::new(alloc);
+    let mut rest = heads;
+    while let [head, after @ ..] = rest {
+        if head.label == label {
+            times.push(head.time)?;
+        }
+        rest = after;
+    }
+    Ok(times)
 }
 
 /// Where a commit stands of which a ticket was given out.

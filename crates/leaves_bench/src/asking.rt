@@ -1,6 +1,6 @@
 //! What stood at some time, in maps of keys of more and more versions.
 
-use crate::publishing::{Published, with_history};
+use crate::publishing::{Published, open_history, with_history};
 use crate::table::{Scale, nanoseconds, print_rate};
 use chains::Frozen;
 use history::Key;
@@ -174,6 +174,26 @@ fn measure_scans<R: Print + Clock>(
     )
 }
 
+/// The same versions, made in place as those of a store that is opened.
+fn measure_opening<R: Print + Clock>(
+    rt: &R,
+    alloc: Global,
+    scale: Scale,
+    versions: u64,
+) -> io::Result<()> {
+    let start = Instant::now(rt)?;
+    let _opened = open_history(alloc, ASKED_KEYS, versions)?;
+    let time = nanoseconds(rt, &start)?;
+    print_rate(
+        rt,
+        scale,
+        "chains: writes by a thousand in place, versions",
+        versions,
+        time,
+        ASKED_KEYS.saturating_mul(versions),
+    )
+}
+
 /// A map of a thousand keys of this many versions: what its making takes, and what it answers.
 fn measure_map<R: Print + Clock>(
     rt: &R,
@@ -202,6 +222,7 @@ fn measure_map<R: Print + Clock>(
 pub(crate) fn measure<R: Print + Clock>(rt: &R, alloc: Global, scale: Scale) -> io::Result<()> {
     for versions in [1, 10, 100, 1_000] {
         if scale == Scale::Whole || versions <= TRIAL_VERSIONS {
+            measure_opening(rt, alloc, scale, versions)?;
             measure_map(rt, alloc, scale, versions)?;
         }
     }

@@ -3,6 +3,7 @@
 ghost use Rattle.std.specs.Prelude.{◌≡◌, ◌<◌, ◌≤◌, ◌^◌, IfOk, map};
 ghost use Rattle.std.specs.List.Sorted.{IsStrictlySortedBy};
 ghost use Rattle.history.specs.Key.{key_cmp};
+ghost use Rattle.chains.specs.KeyWrites.{latest};
 
 use crate::table::{Scale, nanoseconds, print_time};
 use chains::{ChainMap, Frozen, Pending, SharedValue};
@@ -21,6 +22,14 @@ const MOST: u64 = 1_000;
 
 /// The commits that are timed on each map.
 const COMMITS: u64 = 10;
+
+/// The fields of each value that is asked for.
+const FIELDS: [&[u8]; 4] = [
+    b"0123456789abcdef",
+    b"ghijklmnopqrstuv",
+    b"wxyz0123456789ab",
+    b"cdefghijklmnopqr",
+];
 
 /// The last time of a commit, in microseconds since 1970.
 const LAST_TIME: u64 = (1 << 63) - 1;
@@ -160,18 +169,54 @@ pub(crate) fn with_history(
     keys: u64,
     versions: u64,
 ) -> Result<Published, AllocError> {
-    let fields: [&[u8]; 4] = [
-        b"0123456789abcdef",
-        b"ghijklmnopqrstuv",
-        b"wxyz0123456789ab",
-        b"cdefghijklmnopqr",
-    ];
     let mut published = Published::new();
     for _ in 0..versions {
-        let writes = writes(alloc, 0, 1, keys, &fields)?;
+        let writes = writes(alloc, 0, 1, keys, &FIELDS)?;
         published.publish(alloc, &writes)?;
     }
     Ok(published)
+}
+
+/// Versions that nothing else holds, and the time of their last commit, in microseconds since 1970.
+#[derive(Drop)]
+pub(crate) struct Opened {
+    frozen: Frozen,
+    last: u64,
+    ghost upto_last: { latest frozen ≤ last },
+}
+
+impl Opened {
+    fn new() -> Self {
+        let frozen = Frozen::new();
+        Opened { frozen, last: 0 }
+    }
+
+    /// The same with these writes, later than all others.
+    fn with_writes(
+        self,
+        alloc: Global,
+        writes: &[KeyWrite<SharedValue>],
+    ) -> Result<Self, AllocError>
+        requires { IsStrictlySortedBy key_cmp (map (λ w. w.key) writes.now) }
+    {
+        let Opened { frozen, last } = self;
+        if last >= LAST_TIME {
+            return Err(AllocError);
+        }
+        let time = last + 1;
+        let frozen = frozen.into_commit(alloc, time, writes)?;
+        Ok(Opened { frozen, last: time })
+    }
+}
+
+/// The versions of `with_history`, made as a store's are that is opened.
+pub(crate) fn open_history(alloc: Global, keys: u64, versions: u64) -> Result<Opened, AllocError> {
+    let mut opened = Opened::new();
+    for _ in 0..versions {
+        let writes = writes(alloc, 0, 1, keys, &FIELDS)?;
+        opened = opened.with_writes(alloc, &writes)?;
+    }
+    Ok(opened)
 }
 
 /// The nanoseconds of some commits of these writes, one after another.

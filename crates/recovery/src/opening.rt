@@ -50,13 +50,16 @@ fn entries(alloc: Global, slots: &[Slot]) -> Result<Vec<Member>, AllocError>
 fn names(alloc: Global, entries: &[Member]) -> Result<Vec<CommitName>, AllocError>
     ensures { IfOk result (λ names. names.items ≡ map name_of entries.now) }
 {
-    entries
-        .iter()
-        .map(|entry| CommitName {
+    let mut names = Vec::with_capacity(alloc, entries.len())?;
+    let mut rest = entries;
+    while let [entry, after @ ..] = rest {
+        names.push(CommitName {
             time: entry.time,
             label: entry.label,
-        })
-        .collect(alloc)
+        })?;
+        rest = after;
+    }
+    Ok(names)
 }
 
 // The commits, as their slots name them.

@@ -21,14 +21,17 @@ use transactions::Transactions;
 fn heads_of(alloc: Global, commits: &[CommitName]) -> Result<Vec<CommitHead>, AllocError>
     ensures { IfOk result (λ heads. heads.items ≡ map head_as commits.now) }
 {
-    commits
-        .iter()
-        .map(|commit| CommitHead {
+    let mut heads = Vec::with_capacity(alloc, commits.len())?;
+    let mut rest = commits;
+    while let [commit, after @ ..] = rest {
+        heads.push(CommitHead {
             time: commit.time,
             label: commit.label,
             awaited: false,
-        })
-        .collect(alloc)
+        })?;
+        rest = after;
+    }
+    Ok(heads)
 }
 
 // Where the last of these runs ends.

@@ -11,7 +11,8 @@ use session::{Answers, LineInput, Lines};
 use shared::Plan;
 use shell::{Action, Need, OpenFault, WordsFault, act, folder_need, read_words, refuse_folder};
 use status::{LogFault, read_header};
-use std::alloc::Global;
+use std::alloc::{AllocError, Global};
+use std::env::Args;
 use std::fs::File;
 use std::io;
 use std::io::{BufReader, BufWriter, Write};
@@ -75,10 +76,28 @@ fn act_in<R: Files<File = File> + AllocGlobal + Eprint, I: LineInput, W: Write>(
     }
 }
 
+/// The program's words. Want of memory for any of them is answered, where `collect` would go on.
+fn words_of(alloc: Global, args: Args) -> Result<Vec<String>, AllocError> {
+    let mut words = Vec::with_capacity(alloc, args.len())?;
+    for word in args {
+        words.push(word)?;
+    }
+    Ok(words)
+}
+
+/// The texts of words.
+fn texts_of(alloc: Global, words: &[String]) -> Result<Vec<&str>, AllocError> {
+    let mut texts = Vec::with_capacity(alloc, words.len())?;
+    for word in words {
+        texts.push(word.as_str())?;
+    }
+    Ok(texts)
+}
+
 fn main(rt: HostRuntime) -> io::Result<ExitCode> {
     let alloc = rt.alloc();
-    let words: Vec<String> = std::env::args(&rt)?.collect(alloc)?;
-    let texts: Vec<&str> = words.iter().map(|word| word.as_str()).collect(alloc)?;
+    let words = words_of(alloc, std::env::args(&rt)?)?;
+    let texts = texts_of(alloc, &words)?;
     let action = match read_words(alloc, texts.as_slice()) {
         Ok(action) => action,
         Err(WordsFault::Usage(error)) => return print_usage(&rt, &error),

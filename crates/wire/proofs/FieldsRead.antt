@@ -2,7 +2,6 @@
 use Rattle.std.proofs.Common.{◌≡◌, ℕ, zero, suc, ◌+◌, ◌≤◌, List, [], ◌∷◌, ◌++◌, ◌*◌, ◌<◌, get_or, length, take, drop, refl, sym, ◌∙◌, ap, arith, append_assoc, take-append-drop, length-append, subst, ◌-◌, ◌↔◌}
 use Rattle.std.proofs.Math.Seq.{drop-append_seam, take-append_seam}
 use Rattle.std.proofs.lemmas.List.{length-take, length-drop, get_or-drop, append-nil, take_all}
-use Rattle.std.specs.Prelude.{All}
 use Rattle.std.proofs.lemmas.Grind.{get_or_default_zero}
 use Rattle.wire.specs.Fields.{fields_bytes, HasFields, fields_at, rest_at, AreFields, IsField, AreAllFields, AreShort}
 use Rattle.wire.proofs.Zeros.{AreBytes, AreBytes-take, AreBytes-drop}

@@ -2,14 +2,18 @@
 
 ghost use Rattle.std.specs.Prelude.{◌≡◌, ◌≤◌, ℕ, length, MatchOption, IfOk, IfSome, IsTrue, ◌↔◌, [], ◌∷◌, ◌++◌, ◌+◌, ◌-◌, ◌<◌, ◌⊎◌, map};
 
+use smallvec::SmallVec;
 use std::alloc::{AllocError, Global};
 use std::marker::Model;
+
+/// How many bytes lie in the value itself: four fields of 16 bytes with their lengths, and a little more.
+const INLINE: usize = 72;
 
 /// 0 to 16 fields of 0 to 255 bytes. One piece of memory holds each as its length and its bytes.
 #[derive(Drop)]
 pub struct Fields {
     count: u8,
-    spelled: Vec<u8>,
+    spelled: SmallVec<u8, INLINE>,
 }
 
 impl Model for Fields {
@@ -99,7 +103,7 @@ impl Fields {
         let Some(rest) = skip_fields(count, bytes) else {
             return Ok(None);
         };
-        let spelled = bytes[..bytes.len() - rest.len()].to_vec(alloc)?;
+        let spelled = SmallVec::from_slice(alloc, &bytes[..bytes.len() - rest.len()])?;
         Ok(Some((Fields { count, spelled }, rest)))
     }
 
@@ -118,7 +122,7 @@ impl Fields {
     {
         Fields {
             count: 0,
-            spelled: Vec::new(alloc),
+            spelled: SmallVec::new(alloc),
         }
     }
 
@@ -128,7 +132,7 @@ impl Fields {
     {
         Ok(Fields {
             count: 0,
-            spelled: Vec::with_capacity(alloc, bytes)?,
+            spelled: SmallVec::with_capacity(alloc, bytes)?,
         })
     }
 
@@ -177,7 +181,7 @@ impl Fields {
     {
         Ok(Fields {
             count: self.count,
-            spelled: self.spelled.as_slice().to_vec(alloc)?,
+            spelled: SmallVec::from_slice(alloc, self.spelled.as_slice())?,
         })
     }
 

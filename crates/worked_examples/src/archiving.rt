@@ -1,13 +1,11 @@
 //! Archives that a script makes, step by step.
 use crate::archived::{RUN, SLOT};
-use crate::bytes::{bytes_of, spells};
-use crate::dialogue::{
-    FOUR_COMMITS, Script, converses, hold, new_store, repeated, stored, stored_by_parts, told,
-};
-use disk::{Area, Fault, FaultDisk, MemDisk};
-use shell::Action;
+use crate::dialogue::{FOUR_COMMITS, SCRIPT, Script, hold, is_text};
+use crate::steps::Step::{Ends, Long, New, Parts, Says, Spells};
+use crate::steps::{Step, go};
+use crate::trials::{TORN, Trial, is_count, left_goes_on, tried};
+use disk::{Area, FaultDisk};
 use std::alloc::Global;
-use std::process::Abort;
 use std::test::Fail;
 
 /// All that stood after the four commits.
@@ -26,10 +24,10 @@ job | gate written
 job | job done
 ";
 
-#[test]
-fn an_archive_is_made_step_by_step(rt: HostRuntime) -> Result<(), Fail> {
-    let alloc = rt.alloc();
-    let parts = [
+/// Archives of the four commits up to the third, up to the last, and where there is nothing to do.
+const STEP_BY_STEP: &[Step] = &[
+    New(16),
+    Parts(&[
         (FOUR_COMMITS, 1),
         (ROWS, 1),
         (
@@ -42,16 +40,12 @@ fn an_archive_is_made_step_by_step(rt: HostRuntime) -> Result<(), Fail> {
             1,
         ),
         (ROWS, 1),
-    ];
-    let mut disk = stored_by_parts(&rt, alloc, 16, parts.as_slice())?;
-    spells(&rt, alloc, &mut disk, Area::Status, 2560, SLOT)?;
-    spells(&rt, alloc, &mut disk, Area::Archive, 0, RUN)?;
-    assert_eq!(rt; bytes_of(alloc, &mut disk, Area::Archive)?.len(), 74);
-    let disk = converses(&rt, alloc, disk, ROWS)?;
-    let _disk = converses(
-        &rt,
-        alloc,
-        disk,
+    ]),
+    Spells(Area::Status, 2560, SLOT),
+    Spells(Area::Archive, 0, RUN),
+    Long(Area::Archive, 74),
+    Says(ROWS),
+    Says(
         "archive 120 | refused: nothing to do
 archive 131 | refused: not yet 130
 archive 1970-01-01T00:00:00Z | refused: nothing to do
@@ -61,8 +55,12 @@ archive 131 | refused: job busy
 finish | idle
 archive 130 | refused: nothing to do
 ",
-    )?;
-    Ok(())
+    ),
+];
+
+#[test]
+fn an_archive_is_made_step_by_step(rt: HostRuntime) -> Result<(), Fail> {
+    go(rt.alloc(), STEP_BY_STEP)
 }
 
 /// A value from 100 on and another from 110 on.
@@ -76,10 +74,10 @@ submit b 9 110 | queued
 flush | idle
 ";
 
-#[test]
-fn an_archive_is_what_ended_by_its_time(rt: HostRuntime) -> Result<(), Fail> {
-    let alloc = rt.alloc();
-    let parts = [
+/// An archive up to the last commit, a deletion.
+const ENDED: &[Step] = &[
+    New(16),
+    Parts(&[
         (TWO_COMMITS, 1),
         (
             "begin c | snapshot 110
@@ -94,20 +92,21 @@ archive 120 | refused: job busy
         ),
         (STEPS, 1),
         ("job | idle\n", 1),
-    ];
-    let mut disk = stored_by_parts(&rt, alloc, 16, parts.as_slice())?;
-    assert_eq!(rt; bytes_of(alloc, &mut disk, Area::Archive)?.len(), 74);
-    spells(&rt, alloc, &mut disk, Area::Archive, 0, RUN)?;
-    let _disk = converses(&rt, alloc, disk, "archive 120 | refused: nothing to do\n")?;
-    Ok(())
-}
+    ]),
+    Long(Area::Archive, 74),
+    Spells(Area::Archive, 0, RUN),
+    Says("archive 120 | refused: nothing to do\n"),
+];
 
 #[test]
-fn a_run_may_be_empty(rt: HostRuntime) -> Result<(), Fail> {
-    let alloc = rt.alloc();
-    let mut disk = stored(
-        &rt,
-        alloc,
+fn an_archive_is_what_ended_by_its_time(rt: HostRuntime) -> Result<(), Fail> {
+    go(rt.alloc(), ENDED)
+}
+
+/// An archive up to the second of three commits, by when nothing had ended.
+const EMPTY: &[Step] = &[
+    New(16),
+    Says(
         "begin a | snapshot 0
 put a 1 7 61 | ok
 submit a 1 100 | queued
@@ -132,18 +131,24 @@ at 1 7 105 | value 61
 at 1 8 105 | value 78
 at 1 7 110 | value 62
 ",
-    )?;
-    let slot =
-        "c7 02 00 00 03000000 6900000000000000 0000000000000000 0000000000000000 0000000000000000 ..z 472";
-    spells(&rt, alloc, &mut disk, Area::Status, 2048, slot)?;
-    assert_eq!(rt; bytes_of(alloc, &mut disk, Area::Archive)?.len(), 0);
-    Ok(())
-}
+    ),
+    Spells(
+        Area::Status,
+        2048,
+        "c7 02 00 00 03000000 6900000000000000 0000000000000000 0000000000000000 0000000000000000 ..z 472",
+    ),
+    Long(Area::Archive, 0),
+];
 
 #[test]
-fn a_long_run_is_written_in_pieces(rt: HostRuntime) -> Result<(), Fail> {
-    let alloc = rt.alloc();
-    let parts = [(
+fn a_run_may_be_empty(rt: HostRuntime) -> Result<(), Fail> {
+    go(rt.alloc(), EMPTY)
+}
+
+/// An archive of two values of 16 long fields.
+const TWO_PIECES: &[Step] = &[
+    New(16),
+    Parts(&[(
         "begin a | snapshot 0
 put a 1 7A | ok
 submit a 1 100 | queued
@@ -170,17 +175,22 @@ at 1 7 119 | valueA
 at 1 7 120 | value 63
 ",
         1,
-    )];
-    let mut disk = stored_by_parts(&rt, alloc, 16, parts.as_slice())?;
-    let slot =
-        "c7 02 00 00 03000000 7800000000000000 0000000000000000 4620000000000000 0200000000000000 ..z 472";
-    spells(&rt, alloc, &mut disk, Area::Status, 2048, slot)?;
-    assert_eq!(rt; bytes_of(alloc, &mut disk, Area::Archive)?.len(), 8262);
-    Ok(())
+    )]),
+    Spells(
+        Area::Status,
+        2048,
+        "c7 02 00 00 03000000 7800000000000000 0000000000000000 4620000000000000 0200000000000000 ..z 472",
+    ),
+    Long(Area::Archive, 8262),
+];
+
+#[test]
+fn a_long_run_is_written_in_pieces(rt: HostRuntime) -> Result<(), Fail> {
+    go(rt.alloc(), TWO_PIECES)
 }
 
 /// Scripts of archives beside commits.
-const SCRIPTS: [Script; 4] = [
+const SCRIPTS: &[Script] = &[
     Script {
         name: "one_slot_is_in_the_writing_at_a_time",
         slots: 16,
@@ -335,13 +345,13 @@ at 1 60 200 | value 61
 
 #[test]
 fn archives_beside_commits_are_answered(rt: HostRuntime) -> Result<(), Fail> {
-    hold(&rt, rt.alloc(), &SCRIPTS)
+    hold(rt.alloc(), SCRIPTS)
 }
 
-#[test]
-fn what_is_not_finished_is_given_up(rt: HostRuntime) -> Result<(), Fail> {
-    let alloc = rt.alloc();
-    let parts = [
+/// An archive that was not finished is made anew.
+const GIVEN_UP: &[Step] = &[
+    New(16),
+    Parts(&[
         (FOUR_COMMITS, 1),
         (
             "archive 120 | started
@@ -355,45 +365,41 @@ job | wrote run
 ",
             1,
         ),
-    ];
-    let disk = stored_by_parts(&rt, alloc, 16, parts.as_slice())?;
-    let parts = [
+    ]),
+    Parts(&[
         ("job | idle\narchive 120 | started\n", 1),
         (STEPS, 1),
         (ROWS, 1),
-    ];
-    let dialogue = repeated(alloc, parts.as_slice())?;
-    let mut disk = converses(&rt, alloc, disk, dialogue.as_str())?;
-    spells(&rt, alloc, &mut disk, Area::Status, 2560, SLOT)?;
-    spells(&rt, alloc, &mut disk, Area::Archive, 0, RUN)
+    ]),
+    Spells(Area::Status, 2560, SLOT),
+    Spells(Area::Archive, 0, RUN),
+];
+
+#[test]
+fn what_is_not_finished_is_given_up(rt: HostRuntime) -> Result<(), Fail> {
+    go(rt.alloc(), GIVEN_UP)
 }
 
-/// What a torn place may hold.
-const FILLS: [u8; 3] = [0x00, 0xC7, 0xFF];
+/// What the four commits answer, whatever stands of the archive.
+const ALIKE: Step = Parts(&[
+    (ROWS, 1),
+    ("at 1 7 10# | value 61\n", 10),
+    ("at 1 7 11# | value 62\n", 10),
+    ("at 1 7 12# | none\n", 10),
+    ("at 1 7 130 | value 63\n", 1),
+]);
 
 /// Whatever stands of the archive, the four commits answer alike, and the archive can be made.
-fn answers_alike(rt: &impl Abort, alloc: Global, disk: MemDisk) -> Result<(), Fail> {
-    let parts = [
-        (ROWS, 1),
-        ("at 1 7 10# | value 61\n", 10),
-        ("at 1 7 11# | value 62\n", 10),
-        ("at 1 7 12# | none\n", 10),
-        ("at 1 7 130 | value 63\n", 1),
-    ];
-    let dialogue = repeated(alloc, parts.as_slice())?;
-    let disk = converses(rt, alloc, disk, dialogue.as_str())?;
-    let (_, status, disk) = told(
-        alloc,
-        Action::Run { dir: "" },
-        disk,
-        "archive 120\nfinish\n",
-    )?;
-    assert_eq!(rt; status, 0);
-    let mut disk = converses(rt, alloc, disk, "archive 120 | refused: nothing to do\n")?;
-    spells(rt, alloc, &mut disk, Area::Archive, 0, RUN)?;
-    let _disk = converses(rt, alloc, disk, dialogue.as_str())?;
-    Ok(())
-}
+const ANSWERS_ALIKE: &[Step] = &[
+    ALIKE,
+    Ends("archive 120\nfinish\n"),
+    Says("archive 120 | refused: nothing to do\n"),
+    Spells(Area::Archive, 0, RUN),
+    ALIKE,
+];
+
+/// The four commits on a new store.
+const STORE: &[Step] = &[New(16), Says(FOUR_COMMITS)];
 
 const ONE_ARCHIVE: &str = "archive 120
 job
@@ -404,40 +410,27 @@ job
 job
 ";
 
-/// An archive of the four commits on a disk that refuses a call: what was said, and the disk.
-fn refused_at(
-    rt: &impl Abort,
-    alloc: Global,
-    fault: Fault,
-    script: &str,
-) -> Result<(String, FaultDisk), Fail> {
-    let disk = FaultDisk::new(stored(rt, alloc, FOUR_COMMITS)?, fault);
-    let (said, _, disk) = told(alloc, Action::Run { dir: "" }, disk, script)?;
-    Ok((said, disk))
-}
-
 /// Opens what a stop may leave of a disk, with each filling of what is torn.
-fn each_left_answers_alike(rt: &impl Abort, alloc: Global, disk: &FaultDisk) -> Result<(), Fail> {
-    for fill in FILLS {
-        let long = [fill; 700];
-        for tail in [b"".as_slice(), long.as_slice()] {
-            answers_alike(rt, alloc, disk.left(alloc, fill, tail)?)?;
-        }
+fn each_left_answers_alike(alloc: Global, disk: &FaultDisk) -> Result<(), Fail> {
+    for torn in TORN {
+        left_goes_on(alloc, disk, *torn, ANSWERS_ALIKE)?;
     }
     Ok(())
 }
 
 /// Stops at each call in turn. A stop is met by each of the six calls of the archive once.
-fn stops_at_each_call(rt: &impl Abort, alloc: Global, write_reaches: bool) -> Result<(), Fail> {
+fn stops_at_each_call(alloc: Global, write_reaches: bool) -> Result<(), Fail> {
+    let trial = Trial {
+        before: STORE,
+        action: SCRIPT,
+        script: ONE_ARCHIVE,
+        write_reaches,
+        stops: true,
+    };
     let mut stops: u32 = 0;
     for calls_before in 0..100 {
-        let fault = Fault {
-            calls_before,
-            write_reaches,
-            stops: true,
-        };
-        let (said, disk) = refused_at(rt, alloc, fault, ONE_ARCHIVE)?;
-        each_left_answers_alike(rt, alloc, &disk)?;
+        let (said, _, disk) = tried(alloc, &trial, calls_before)?;
+        each_left_answers_alike(alloc, &disk)?;
         if said.contains("job done") {
             break;
         }
@@ -445,36 +438,34 @@ fn stops_at_each_call(rt: &impl Abort, alloc: Global, write_reaches: bool) -> Re
             stops = stops.saturating_add(1);
         }
     }
-    assert_eq!(rt; stops, 6);
-    Ok(())
+    is_count(stops, 6)
 }
 
 #[test]
 fn a_stop_in_an_archive_changes_no_answer(rt: HostRuntime) -> Result<(), Fail> {
-    stops_at_each_call(&rt, rt.alloc(), false)
+    stops_at_each_call(rt.alloc(), false)
 }
 
 #[test]
 fn a_stop_after_a_write_of_an_archive_changes_no_answer(rt: HostRuntime) -> Result<(), Fail> {
-    stops_at_each_call(&rt, rt.alloc(), true)
+    stops_at_each_call(rt.alloc(), true)
 }
 
-/// A new store answers no archive at all.
-#[test]
-fn nothing_is_archived_of_nothing(rt: HostRuntime) -> Result<(), Fail> {
-    let alloc = rt.alloc();
-    let disk = new_store(&rt, alloc, 16)?;
-    let _disk = converses(
-        &rt,
-        alloc,
-        disk,
+/// A new store has nothing to archive.
+const OF_NOTHING: &[Step] = &[
+    New(16),
+    Says(
         "job | idle
 finish | idle
 archive 0 | refused: nothing to do
 archive 1 | refused: not yet 0
 ",
-    )?;
-    Ok(())
+    ),
+];
+
+#[test]
+fn nothing_is_archived_of_nothing(rt: HostRuntime) -> Result<(), Fail> {
+    go(rt.alloc(), OF_NOTHING)
 }
 
 /// A job's step of an archive of the four commits is refused, and reading goes on.
@@ -502,54 +493,63 @@ value 62
 rows 3
 ";
 
+/// Whether a step of the archive was refused, and then this was said.
+fn is_failed(said: &str) -> Result<bool, Fail> {
+    if !said.starts_with("started\n") {
+        return Ok(false);
+    }
+    is_text("refused", said, FAILED)?;
+    Ok(true)
+}
+
 /// Each call is refused in turn; once the store is opened it fails at each of the archive's six.
-fn refuses_each_call(rt: &impl Abort, alloc: Global, write_reaches: bool) -> Result<(), Fail> {
+fn refuses_each_call(alloc: Global, write_reaches: bool) -> Result<(), Fail> {
+    let trial = Trial {
+        before: STORE,
+        action: SCRIPT,
+        script: REFUSED_JOB,
+        write_reaches,
+        stops: false,
+    };
     let mut refusals: u32 = 0;
     for calls_before in 0..100 {
-        let fault = Fault {
-            calls_before,
-            write_reaches,
-            stops: false,
-        };
-        let (said, disk) = refused_at(rt, alloc, fault, REFUSED_JOB)?;
+        let (said, _, disk) = tried(alloc, &trial, calls_before)?;
         if said.starts_with("started\nidle\n") {
             break;
         }
-        if said.starts_with("started\n") {
-            assert_eq!(rt; said.as_str(), FAILED);
-            refusals = refusals.saturating_add(1);
-        }
-        answers_alike(rt, alloc, disk.left(alloc, 0xC7, b"")?)?;
+        refusals = refusals.saturating_add(u32::from(is_failed(said.as_str())?));
+        left_goes_on(alloc, &disk, (0xC7, 0), ANSWERS_ALIKE)?;
     }
-    assert_eq!(rt; refusals, 6);
-    Ok(())
+    is_count(refusals, 6)
 }
 
 #[test]
 fn after_a_refused_step_of_a_job_reading_goes_on(rt: HostRuntime) -> Result<(), Fail> {
-    refuses_each_call(&rt, rt.alloc(), false)
+    refuses_each_call(rt.alloc(), false)
 }
 
 #[test]
 fn after_a_refused_step_that_was_made_reading_goes_on(rt: HostRuntime) -> Result<(), Fail> {
-    refuses_each_call(&rt, rt.alloc(), true)
+    refuses_each_call(rt.alloc(), true)
 }
+
+/// An archive whose second call of the disk is to be refused.
+const RUN_SYNC: Trial<'static> = Trial {
+    before: STORE,
+    action: SCRIPT,
+    script: "archive 120\njob\njob\nbegin u\nat 1 7 110\nat 1 7 130\n",
+    write_reaches: false,
+    stops: false,
+};
 
 #[test]
 fn a_refused_sync_of_a_run_fails_the_store(rt: HostRuntime) -> Result<(), Fail> {
-    let alloc = rt.alloc();
-    let script = "archive 120\njob\njob\nbegin u\nat 1 7 110\nat 1 7 130\n";
     let answers = "started\nwrote run\nrefused: failed\nrefused: failed\nvalue 62\nvalue 63\n";
-    let mut found = false;
     for calls_before in 0..100 {
-        let fault = Fault {
-            calls_before,
-            write_reaches: false,
-            stops: false,
-        };
-        let (said, _disk) = refused_at(&rt, alloc, fault, script)?;
-        found = found || said.as_str() == answers;
+        let (said, _, _disk) = tried(rt.alloc(), &RUN_SYNC, calls_before)?;
+        if said.as_str() == answers {
+            return Ok(());
+        }
     }
-    assert!(rt; found);
-    Ok(())
+    Err(Fail::new("no call was the sync of the run"))
 }

@@ -1,12 +1,10 @@
 //! The bytes of a disk in memory.
-use crate::dialogue::stored_by_parts;
 use disk::{Area, Disk, MemDisk};
 use std::alloc::Global;
-use std::process::Abort;
 use std::test::Fail;
 
 /// All bytes of an area.
-pub fn bytes_of(alloc: Global, disk: &mut MemDisk, area: Area) -> Result<Vec<u8>, Fail> {
+fn bytes_of(alloc: Global, disk: &mut MemDisk, area: Area) -> Result<Vec<u8>, Fail> {
     let len = disk.len(area)?;
     let mut bytes = vec![in alloc; 0; len as usize]?;
     disk.read(area, 0, &mut bytes)?;
@@ -49,9 +47,18 @@ pub fn spelled(alloc: Global, text: &str) -> Result<Vec<u8>, Fail> {
     Ok(bytes)
 }
 
+/// These bytes must stand at a place of all bytes of an area.
+fn are_bytes(bytes: &[u8], place: usize, expected: &[u8]) -> Result<(), Fail> {
+    let found = bytes.get(place..).unwrap_or(b"");
+    if found.starts_with(expected) {
+        return Ok(());
+    }
+    let found = found.get(..expected.len()).unwrap_or(found);
+    Err(Fail::new(format_args!("at {place}: {found:?}")))
+}
+
 /// From a place on an area must have the bytes that a text spells.
 pub fn spells(
-    rt: &impl Abort,
     alloc: Global,
     disk: &mut MemDisk,
     area: Area,
@@ -60,54 +67,53 @@ pub fn spells(
 ) -> Result<(), Fail> {
     let expected = spelled(alloc, text)?;
     let bytes = bytes_of(alloc, disk, area)?;
-    let found = bytes.get(place..).ok_or("no such place")?;
-    let found = found.get(..expected.len()).ok_or("too few bytes")?;
-    assert!(rt; found == expected.as_slice(), "at {place}: {found:?}");
-    Ok(())
+    are_bytes(bytes.as_slice(), place, expected.as_slice())
+}
+
+/// An area must have so many bytes.
+pub fn is_long(disk: &mut MemDisk, area: Area, len: u64) -> Result<(), Fail> {
+    let found = disk.len(area)?;
+    if found == len {
+        return Ok(());
+    }
+    Err(Fail::new(format_args!("{area:?} has {found} bytes and not {len}")))
 }
 
 /// The heap must be so many extents, each beginning with the bytes that its text spells.
-pub fn has_extents(
-    rt: &impl Abort,
-    alloc: Global,
-    disk: &mut MemDisk,
-    extents: &[&str],
-) -> Result<(), Fail> {
+pub fn has_extents(alloc: Global, disk: &mut MemDisk, extents: &[&str]) -> Result<(), Fail> {
     let mut place: usize = 0;
     for text in extents {
-        spells(rt, alloc, disk, Area::Heap, place, text)?;
+        spells(alloc, disk, Area::Heap, place, text)?;
         place = place.saturating_add(8192);
     }
-    assert_eq!(rt; bytes_of(alloc, disk, Area::Heap)?.len(), place);
-    Ok(())
+    is_long(disk, Area::Heap, place as u64)
 }
 
-/// A dialogue on a new store of 16 slots, and the extents that it leaves.
-#[derive(Clone, Copy, Debug)]
-pub struct Stored {
-    pub name: &'static str,
-    /// The dialogue's parts, as `repeated` has them.
-    pub parts: &'static [(&'static str, u32)],
-    /// The bytes with which each extent begins.
-    pub extents: &'static [&'static str],
-}
-
-/// Each dialogue must leave its extents.
-pub fn are_stored(rt: &impl Abort, alloc: Global, all: &[Stored]) -> Result<(), Fail> {
-    for stored in all {
-        let mut disk = stored_by_parts(rt, alloc, 16, stored.parts)?;
-        assert_eq!(rt;
-            bytes_of(alloc, &mut disk, Area::Heap)?.len(),
-            stored.extents.len().saturating_mul(8192),
-            "{}",
-            stored.name
-        );
-        has_extents(rt, alloc, &mut disk, stored.extents)?;
+/// Puts bytes in the place of others, as a text spells them.
+pub fn put(
+    alloc: Global,
+    disk: &mut MemDisk,
+    area: Area,
+    place: u32,
+    text: &str,
+) -> Result<(), Fail> {
+    let bytes = spelled(alloc, text)?;
+    if bytes.len() > 8192 {
+        return Err(Fail::new(format_args!("more bytes than an extent has")));
     }
+    disk.write_at(area, u64::from(place), bytes.as_slice())?;
+    disk.sync(area)?;
     Ok(())
 }
 
-/// A disk with the first bytes of an area, and all of the others.
+/// Puts a byte in the place of another.
+pub fn change(disk: &mut MemDisk, area: Area, place: u32, byte: u8) -> Result<(), Fail> {
+    disk.write_at(area, u64::from(place), &[byte])?;
+    disk.sync(area)?;
+    Ok(())
+}
+
+/// The first bytes of an area, and all of the others.
 pub fn cut(alloc: Global, disk: &mut MemDisk, area: Area, len: usize) -> Result<MemDisk, Fail> {
     let mut status = bytes_of(alloc, disk, Area::Status)?;
     let mut heap = bytes_of(alloc, disk, Area::Heap)?;
@@ -120,9 +126,7 @@ pub fn cut(alloc: Global, disk: &mut MemDisk, area: Area, len: usize) -> Result<
     Ok(MemDisk::with_bytes(status, heap, archive))
 }
 
-/// Puts a byte in the place of another.
-pub fn change(disk: &mut MemDisk, area: Area, place: u32, byte: u8) -> Result<(), Fail> {
-    disk.write_at(area, u64::from(place), &[byte])?;
-    disk.sync(area)?;
-    Ok(())
+/// What a stop leaves of a disk, where each torn place has this byte.
+pub fn stopped(alloc: Global, disk: &MemDisk, fill: u8) -> Result<MemDisk, Fail> {
+    Ok(disk.left(alloc, fill, b"")?)
 }

@@ -12,7 +12,7 @@ use store::{Did, QueryFault, Redeemed, Store, SubmitFault, Submitted, Ticket, Tx
 
 /// An empty store with this mark, opened.
 fn opened(rt: &impl Abort, alloc: Global, mark: u64) -> Result<Store<MemDisk>, Fail> {
-    match Store::open(alloc, new_store(rt, alloc, 16)?, mark) {
+    match Store::open(alloc, new_store(alloc, 16)?, mark) {
         Ok(store) => Ok(store),
         Err(_) => Err(Fail::from("not opened")),
     }
@@ -253,8 +253,20 @@ fn answered(
     }
 }
 
+/// The session must answer each of these lines with its text.
+fn answers_all(
+    rt: &impl Abort,
+    alloc: Global,
+    session: &mut Session<MemDisk>,
+    lines: &[(&str, &str)],
+) {
+    for line in lines {
+        answered(rt, alloc, session, *line);
+    }
+}
+
 /// Lines of a commit, and of an archive of nothing behind it.
-const LINES: [(&str, &str); 7] = [
+const LINES: &[(&str, &str)] = &[
     ("begin t", "snapshot 0\n"),
     ("put t 1 7 61", "ok\n"),
     ("submit t 9 100", "queued\n"),
@@ -280,9 +292,7 @@ fn new_session(rt: &impl Abort, alloc: Global) -> Result<Session<MemDisk>, Fail>
 fn a_session_answers_line_by_line(rt: HostRuntime) -> Result<(), Fail> {
     let alloc = rt.alloc();
     let mut session = new_session(&rt, alloc)?;
-    for line in LINES {
-        answered(&rt, alloc, &mut session, line);
-    }
+    answers_all(&rt, alloc, &mut session, LINES);
     assert_eq!(rt; session.ends(), (100, 0));
     let _disk = session.close();
     Ok(())

@@ -1,11 +1,12 @@
 //! Commits, one after another and beside each other.
-use crate::bytes::{has_extents, spells};
-use crate::dialogue::{FOUR_COMMITS, Script, hold, stored};
+use crate::dialogue::{FOUR_COMMITS, Script, hold};
+use crate::steps::Step::{Extents, New, Says, Spells};
+use crate::steps::{Step, go};
 use disk::Area;
 use std::test::Fail;
 
 /// Scripts on a new store, and on one that is opened after the four commits.
-const SCRIPTS: [Script; 10] = [
+const SCRIPTS: &[Script] = &[
     Script {
         name: "one_record_step_by_step",
         slots: 16,
@@ -257,14 +258,13 @@ redeem a | done 140
 
 #[test]
 fn commits_are_answered(rt: HostRuntime) -> Result<(), Fail> {
-    hold(&rt, rt.alloc(), &SCRIPTS)
+    hold(rt.alloc(), SCRIPTS)
 }
 
-#[test]
-fn nothing_written_uses_no_slot(rt: HostRuntime) -> Result<(), Fail> {
-    let mut disk = stored(
-        &rt,
-        rt.alloc(),
+/// A deletion of what was put, and what was given up.
+const NOTHING: &[Step] = &[
+    New(16),
+    Says(
         "begin t | snapshot 0
 put t 1 7 61 | ok
 del t 1 7 | ok
@@ -278,7 +278,12 @@ abort t | ok
 flush | idle
 times 9 | times
 ",
-    )?;
-    has_extents(&rt, rt.alloc(), &mut disk, &[])?;
-    spells(&rt, rt.alloc(), &mut disk, Area::Status, 512, "..z 8192")
+    ),
+    Extents(&[]),
+    Spells(Area::Status, 512, "..z 8192"),
+];
+
+#[test]
+fn nothing_written_uses_no_slot(rt: HostRuntime) -> Result<(), Fail> {
+    go(rt.alloc(), NOTHING)
 }

@@ -5,7 +5,6 @@ use session::{Answers, Lines};
 use shell::{Action, act};
 use std::alloc::{AllocError, Global};
 use std::fmt::Write;
-use std::process::Abort;
 use std::test::Fail;
 
 /// The key of most examples.
@@ -13,6 +12,9 @@ pub const KEY: Key = Key {
     relation: 1,
     record: 7,
 };
+
+/// The script of the input, on the store of a folder.
+pub const SCRIPT: Action<'static> = Action::Run { dir: "" };
 
 /// Four commits of one key: a value, another, none, and a third.
 pub const FOUR_COMMITS: &str = "begin a | snapshot 0
@@ -37,6 +39,13 @@ flush | idle
 redeem d | done 130
 ";
 
+/// One commit, at 100, of the key.
+pub const ONE_COMMIT: &str = "begin t | snapshot 0
+put t 1 7 61 | ok
+submit t 9 100 | queued
+flush | idle
+";
+
 /// Does an action on a disk. What it said, its status and the disk come back.
 pub fn told<D: Disk + Drop>(
     alloc: Global,
@@ -50,46 +59,133 @@ pub fn told<D: Disk + Drop>(
     Ok((String::from_utf8(said.into_writer())?, status, disk))
 }
 
+/// How many lines are the same before the first that differs.
+fn same_lines(said: &str, answers: &str) -> u32 {
+    let mut same = 0u32;
+    for (found, line) in said.lines().zip(answers.lines()) {
+        if found != line {
+            return same;
+        }
+        same = same.saturating_add(1);
+    }
+    same
+}
+
+/// That something else was said under this name: from which line on, and all of it.
+fn differs(name: &str, said: &str, answers: &str) -> Fail {
+    let same = same_lines(said, answers);
+    Fail::new(format_args!("{name}, behind {same} lines: {said:?} and not {answers:?}"))
+}
+
+/// It must have ended with this status.
+pub fn is_status(ended: u8, status: u8) -> Result<(), Fail> {
+    if ended == status {
+        return Ok(());
+    }
+    Err(Fail::new(format_args!("status {ended} and not {status}")))
+}
+
+/// This must have been said under this name.
+pub fn is_text(name: &str, said: &str, answers: &str) -> Result<(), Fail> {
+    if said == answers {
+        return Ok(());
+    }
+    Err(differs(name, said, answers))
+}
+
+/// This must have been said, with this status.
+pub fn is_said(said: &str, ended: u8, answers: &str, status: u8) -> Result<(), Fail> {
+    is_text("said", said, answers)?;
+    is_status(ended, status)
+}
+
+/// The action must say this, and end with this status.
+pub fn says(
+    alloc: Global,
+    disk: MemDisk,
+    action: Action<'_>,
+    script: &str,
+    (answers, status): (&str, u8),
+) -> Result<MemDisk, Fail> {
+    let (said, ended, disk) = told(alloc, action, disk, script)?;
+    is_said(said.as_str(), ended, answers, status)?;
+    Ok(disk)
+}
+
 /// An empty store of this many slots.
-pub fn new_store(rt: &impl Abort, alloc: Global, slots: u32) -> Result<MemDisk, Fail> {
+pub fn new_store(alloc: Global, slots: u32) -> Result<MemDisk, Fail> {
     let action = Action::Format { dir: "", slots };
     let (_, status, disk) = told(alloc, action, MemDisk::new(alloc), "")?;
-    assert_eq!(rt; status, 0);
+    is_status(status, 0)?;
     Ok(disk)
 }
 
-/// Runs a script on a store: it must say these answers, and end with this status.
-pub fn runs<D: Disk + Drop>(
-    rt: &impl Abort,
-    alloc: Global,
-    disk: D,
-    script: &str,
-    answers: &str,
-    status: u8,
-) -> Result<D, Fail> {
-    let (said, ended, disk) = told(alloc, Action::Run { dir: "" }, disk, script)?;
-    assert_eq!(rt; said.as_str(), answers);
-    assert_eq!(rt; ended, status);
-    Ok(disk)
-}
-
-/// Asks a store for the value at a time: it must answer with this line.
-pub fn answers<D: Disk + Drop>(
-    rt: &impl Abort,
-    alloc: Global,
-    disk: D,
-    time: &str,
-    line: &str,
-) -> Result<D, Fail> {
-    let action = Action::At {
+/// The question for the example's key at a time.
+pub fn at(time: &str) -> Action<'_> {
+    Action::At {
         dir: "",
         key: KEY,
         time,
-    };
-    let (said, status, disk) = told(alloc, action, disk, "")?;
-    assert_eq!(rt; said.strip_suffix('\n'), Some(line));
-    assert_eq!(rt; status, if line.starts_with("refused: ") { 1 } else { 0 });
+    }
+}
+
+/// The question for the rows of the example's key from one time up to another.
+pub fn rows<'a>(from: &'a str, to: &'a str) -> Action<'a> {
+    Action::Between {
+        dir: "",
+        key: KEY,
+        from,
+        to,
+    }
+}
+
+/// This one line must have been said, with status 1 if it is a refusal.
+pub fn is_line(said: &str, ended: u8, line: &str) -> Result<(), Fail> {
+    let status = if line.starts_with("refused: ") { 1 } else { 0 };
+    is_said(said.strip_suffix('\n').unwrap_or(""), ended, line, status)
+}
+
+/// Asks a store for the value at a time: it must answer with this line.
+pub fn answers(alloc: Global, disk: MemDisk, time: &str, line: &str) -> Result<MemDisk, Fail> {
+    let (said, ended, disk) = told(alloc, at(time), disk, "")?;
+    is_line(said.as_str(), ended, line)?;
     Ok(disk)
+}
+
+/// Appends a line.
+fn push_line(text: &mut String, line: &str) -> Result<(), AllocError> {
+    text.push_str(line)?;
+    text.push('\n')
+}
+
+/// Appends a number.
+fn push_number(text: &mut String, number: u32) -> Result<(), AllocError> {
+    write!(text, "{number}")?;
+    Ok(())
+}
+
+/// Opening must be refused with this text, by a script and by a question.
+pub fn is_refused(alloc: Global, disk: MemDisk, text: &str) -> Result<MemDisk, Fail> {
+    let (said, ended, disk) = told(alloc, SCRIPT, disk, "at 1 7 100\n")?;
+    is_line(said.as_str(), ended, text)?;
+    answers(alloc, disk, "100", text)
+}
+
+/// Runs a script on a store, which must end with status 0.
+pub fn ends_well(alloc: Global, disk: MemDisk, script: &str) -> Result<MemDisk, Fail> {
+    let (_, ended, disk) = told(alloc, SCRIPT, disk, script)?;
+    is_status(ended, 0)?;
+    Ok(disk)
+}
+
+/// The log of a store must be this text, with this status. Nothing is written meanwhile, or synced.
+pub fn dumps(alloc: Global, disk: MemDisk, text: &str, status: u8) -> Result<MemDisk, Fail> {
+    let made = disk.made();
+    let disk = says(alloc, disk, Action::Dump { dir: "" }, "", (text, status))?;
+    if disk.made() == made {
+        return Ok(disk);
+    }
+    Err(Fail::new("it was written"))
 }
 
 /// The lines of a script, and their answers: each line of a dialogue is a line of the script, a bar
@@ -99,39 +195,19 @@ fn parted(alloc: Global, dialogue: &str) -> Result<(String, String), AllocError>
     let mut answers = String::new(alloc);
     for line in dialogue.lines() {
         if let Some((said, answer)) = line.split_once(" | ") {
-            script.push_str(said)?;
-            script.push('\n')?;
-            answers.push_str(answer)?;
-            answers.push('\n')?;
+            push_line(&mut script, said)?;
+            push_line(&mut answers, answer)?;
         } else if let Some(answer) = line.strip_prefix("| ") {
-            answers.push_str(answer)?;
-            answers.push('\n')?;
+            push_line(&mut answers, answer)?;
         }
     }
     Ok((script, answers))
 }
 
 /// Runs a script on a store, each line of which must be answered as the dialogue says.
-pub fn converses<D: Disk + Drop>(
-    rt: &impl Abort,
-    alloc: Global,
-    disk: D,
-    dialogue: &str,
-) -> Result<D, Fail> {
+pub fn converses(alloc: Global, disk: MemDisk, dialogue: &str) -> Result<MemDisk, Fail> {
     let (script, answers) = parted(alloc, dialogue)?;
-    runs(rt, alloc, disk, script.as_str(), answers.as_str(), 0)
-}
-
-/// The disk of a new store of 16 slots, after a dialogue.
-pub fn stored(rt: &impl Abort, alloc: Global, dialogue: &str) -> Result<MemDisk, Fail> {
-    let disk = new_store(rt, alloc, 16)?;
-    converses(rt, alloc, disk, dialogue)
-}
-
-/// A dialogue on a new store of 16 slots.
-pub fn says(rt: &impl Abort, alloc: Global, dialogue: &str) -> Result<(), Fail> {
-    let _disk = stored(rt, alloc, dialogue)?;
-    Ok(())
+    says(alloc, disk, SCRIPT, script.as_str(), (answers.as_str(), 0))
 }
 
 /// So many fields of this many bytes each.
@@ -145,18 +221,23 @@ fn push_fields(text: &mut String, count: u32, len: u32) -> Result<(), AllocError
     Ok(())
 }
 
-/// One repetition of a part of a dialogue, as `repeated` says.
+/// One sign of a part of a dialogue, as `repeated` says.
+fn push_sign(text: &mut String, sign: char, number: u32) -> Result<(), AllocError> {
+    match sign {
+        '#' => push_number(text, number),
+        '+' => push_number(text, number.saturating_add(1)),
+        '@' => push_number(text, number.saturating_add(100)),
+        'A' => push_fields(text, 16, 255),
+        'B' => push_fields(text, 17, 1),
+        'C' => push_fields(text, 1, 256),
+        other => text.push(other),
+    }
+}
+
+/// One repetition of a part of a dialogue.
 fn push_part(text: &mut String, part: &str, number: u32) -> Result<(), AllocError> {
     for sign in part.chars() {
-        match sign {
-            '#' => write!(text, "{number}")?,
-            '+' => write!(text, "{}", number.saturating_add(1))?,
-            '@' => write!(text, "{}", number.saturating_add(100))?,
-            'A' => push_fields(text, 16, 255)?,
-            'B' => push_fields(text, 17, 1)?,
-            'C' => push_fields(text, 1, 256)?,
-            other => text.push(other)?,
-        }
+        push_sign(text, sign, number)?;
     }
     Ok(())
 }
@@ -174,20 +255,18 @@ pub fn repeated(alloc: Global, parts: &[(&str, u32)]) -> Result<String, AllocErr
     Ok(text)
 }
 
-/// The disk of a new store of this many slots, after a dialogue of repeated parts.
-pub fn stored_by_parts(
-    rt: &impl Abort,
+/// A dialogue of repeated parts on a store.
+pub fn converses_by_parts(
     alloc: Global,
-    slots: u32,
+    disk: MemDisk,
     parts: &[(&str, u32)],
 ) -> Result<MemDisk, Fail> {
     let dialogue = repeated(alloc, parts)?;
-    let disk = new_store(rt, alloc, slots)?;
-    converses(rt, alloc, disk, dialogue.as_str())
+    converses(alloc, disk, dialogue.as_str())
 }
 
 /// A dialogue on a store that is opened after another one.
-#[derive(Clone, Copy, Debug)]
+#[derive(Clone, Copy)]
 pub struct Script {
     pub name: &'static str,
     pub slots: u32,
@@ -197,20 +276,20 @@ pub struct Script {
     pub parts: &'static [(&'static str, u32)],
 }
 
+/// The script must be answered as its dialogue says.
+fn holds(alloc: Global, script: &Script) -> Result<(), Fail> {
+    let disk = converses(alloc, new_store(alloc, script.slots)?, script.before)?;
+    let dialogue = repeated(alloc, script.parts)?;
+    let (lines, answers) = parted(alloc, dialogue.as_str())?;
+    let (said, status, _disk) = told(alloc, SCRIPT, disk, lines.as_str())?;
+    is_text(script.name, said.as_str(), answers.as_str())?;
+    is_status(status, 0)
+}
+
 /// Each script must be answered as its dialogue says.
-pub fn hold(rt: &impl Abort, alloc: Global, scripts: &[Script]) -> Result<(), Fail> {
+pub fn hold(alloc: Global, scripts: &[Script]) -> Result<(), Fail> {
     for script in scripts {
-        let disk = converses(
-            rt,
-            alloc,
-            new_store(rt, alloc, script.slots)?,
-            script.before,
-        )?;
-        let dialogue = repeated(alloc, script.parts)?;
-        let (lines, answers) = parted(alloc, dialogue.as_str())?;
-        let (said, status, _disk) = told(alloc, Action::Run { dir: "" }, disk, lines.as_str())?;
-        assert_eq!(rt; said.as_str(), answers.as_str(), "{}", script.name);
-        assert_eq!(rt; status, 0, "{}", script.name);
+        holds(alloc, script)?;
     }
     Ok(())
 }

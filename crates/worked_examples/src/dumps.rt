@@ -1,45 +1,20 @@
 //! Logs as text.
-use crate::bytes::{change, cut};
-use crate::dialogue::{FOUR_COMMITS, converses, new_store, stored, stored_by_parts, told};
+use crate::dialogue::{FOUR_COMMITS, ONE_COMMIT};
 use crate::floors::RAISED;
-use disk::{Area, Disk, MemDisk};
-use shell::Action;
-use std::alloc::Global;
-use std::process::Abort;
+use crate::steps::Step::{Changes, Cuts, Dumps, New, Parts, Says};
+use crate::steps::{Step, each_goes, go};
+use disk::Area;
 use std::test::Fail;
 
-/// The log of a store must be this text, with this status. Nothing is written meanwhile, or synced.
-fn dumps(
-    rt: &impl Abort,
-    alloc: Global,
-    disk: MemDisk,
-    text: &str,
-    status: u8,
-) -> Result<MemDisk, Fail> {
-    let made = disk.made();
-    let (said, ended, disk) = told(alloc, Action::Dump { dir: "" }, disk, "")?;
-    assert_eq!(rt; said.as_str(), text);
-    assert_eq!(rt; ended, status);
-    assert_eq!(rt; disk.made(), made);
-    Ok(disk)
-}
+/// All that ended by 120 goes to the archive.
+const ARCHIVED: &str = "archive 120 | started\nfinish | idle\n";
 
-#[test]
-fn commits_a_deletion_and_an_archive(rt: HostRuntime) -> Result<(), Fail> {
-    let alloc = rt.alloc();
-    let disk = dumps(
-        &rt,
-        alloc,
-        new_store(&rt, alloc, 16)?,
-        "header 16\nused 0 of 16\n",
-        0,
-    )?;
-    let disk = converses(&rt, alloc, disk, FOUR_COMMITS)?;
-    let disk = converses(&rt, alloc, disk, "archive 120 | started\nfinish | idle\n")?;
-    let _disk = dumps(
-        &rt,
-        alloc,
-        disk,
+const COMMITS: &[Step] = &[
+    New(16),
+    Dumps("header 16\nused 0 of 16\n", 0),
+    Says(FOUR_COMMITS),
+    Says(ARCHIVED),
+    Dumps(
         "header 16
 slot 0 commit
 member 1 100 1 1 1 1970-01-01T00:00:00Z
@@ -53,26 +28,16 @@ slot 4 archived 120 0 74 2
 used 5 of 16
 ",
         0,
-    )?;
-    Ok(())
-}
-
-/// The bytes that are not zero of slot 5, a reclaim up to 120 that needs no anchors.
-const RECLAIMED_SLOT: [(u32, u8); 4] = [(3072, 0xC7), (3073, 3), (3076, 5), (3080, 120)];
+    ),
+];
 
 #[test]
-fn a_reclaim_behind_an_archive(rt: HostRuntime) -> Result<(), Fail> {
-    let alloc = rt.alloc();
-    let disk = stored(&rt, alloc, FOUR_COMMITS)?;
-    let mut disk = converses(&rt, alloc, disk, "archive 120 | started\nfinish | idle\n")?;
-    for (place, byte) in RECLAIMED_SLOT {
-        change(&mut disk, Area::Status, place, byte)?;
-    }
-    let _disk = dumps(
-        &rt,
-        alloc,
-        disk,
-        "header 16
+fn commits_a_deletion_and_an_archive(rt: HostRuntime) -> Result<(), Fail> {
+    go(rt.alloc(), COMMITS)
+}
+
+/// The log of the four commits, an archive and a reclaim up to 120.
+pub const RECLAIMED_LOG: &str = "header 16
 slot 0 commit
 member 1 100 1 1 1 1970-01-01T00:00:00Z
 slot 1 commit
@@ -84,20 +49,29 @@ member 4 130 4 1 1 1970-01-01T00:00:00Z
 slot 4 archived 120 0 74 2
 slot 5 reclaimed 120 0 0 0
 used 6 of 16
-",
-        0,
-    )?;
-    Ok(())
-}
+";
+
+/// Slot 5 becomes a reclaim up to 120 that needs no anchors, by its bytes that are not zero.
+const RECLAIMED: &[Step] = &[
+    New(16),
+    Says(FOUR_COMMITS),
+    Says(ARCHIVED),
+    Changes(Area::Status, 3072, 0xC7),
+    Changes(Area::Status, 3073, 3),
+    Changes(Area::Status, 3076, 5),
+    Changes(Area::Status, 3080, 120),
+    Dumps(RECLAIMED_LOG, 0),
+];
 
 #[test]
-fn a_floor_behind_a_reclaim(rt: HostRuntime) -> Result<(), Fail> {
-    let alloc = rt.alloc();
-    let disk = stored_by_parts(&rt, alloc, 16, &[(FOUR_COMMITS, 1), (RAISED, 1)])?;
-    let _disk = dumps(
-        &rt,
-        alloc,
-        disk,
+fn a_reclaim_behind_an_archive(rt: HostRuntime) -> Result<(), Fail> {
+    go(rt.alloc(), RECLAIMED)
+}
+
+const FLOORED: &[Step] = &[
+    New(16),
+    Parts(&[(FOUR_COMMITS, 1), (RAISED, 1)]),
+    Dumps(
         "header 16
 slot 0 commit
 member 1 100 1 1 1 1970-01-01T00:00:00Z
@@ -113,8 +87,12 @@ slot 6 floor 120
 used 7 of 16
 ",
         0,
-    )?;
-    Ok(())
+    ),
+];
+
+#[test]
+fn a_floor_behind_a_reclaim(rt: HostRuntime) -> Result<(), Fail> {
+    go(rt.alloc(), FLOORED)
 }
 
 /// A group of two, one of which has two records in two extents, and commits at the last time that has
@@ -140,13 +118,10 @@ submit e 5 9223372036854775807 | queued
 flush | idle
 ";
 
-#[test]
-fn groups_and_instants(rt: HostRuntime) -> Result<(), Fail> {
-    let disk = stored_by_parts(&rt, rt.alloc(), 17, &[(LATE_COMMITS, 1)])?;
-    let _disk = dumps(
-        &rt,
-        rt.alloc(),
-        disk,
+const LATE: &[Step] = &[
+    New(17),
+    Parts(&[(LATE_COMMITS, 1)]),
+    Dumps(
         "header 17
 slot 0 commit
 member 18446744073709551615 1000000000000000 1 2 2 2001-09-09T01:46:40Z
@@ -159,48 +134,49 @@ member 5 9223372036854775807 6 1 1 -
 used 3 of 17
 ",
         0,
-    )?;
-    Ok(())
+    ),
+];
+
+#[test]
+fn groups_and_instants(rt: HostRuntime) -> Result<(), Fail> {
+    go(rt.alloc(), LATE)
 }
 
 /// The log of a store with one commit at 100.
-const ONE_COMMIT: &str = "header 16
+const ONE_MEMBER: &str = "header 16
 slot 0 commit
 member 9 100 1 1 1 1970-01-01T00:00:00Z
 used 1 of 16
 ";
 
-/// Bytes of the log that are changed, and what is then said, with its status.
-const CHANGED: [(u32, u8, &str, u8); 6] = [
-    (512, 0x37, "header 16\nused 0 of 16\n", 0),
-    (513, 3, "refused: damaged status 0\n", 1),
-    (1023, 1, "refused: damaged status 0\n", 1),
-    (1024, 0xC7, "refused: damaged status 1\n", 1),
-    (1536, 0xC7, ONE_COMMIT, 0),
-    (8, 9, "refused: not a store\n", 1),
+/// Bytes that are not of the log are cut, and bytes of the log are changed.
+const CHANGED: &[&[Step]] = &[
+    &[Cuts(Area::Heap, 0), Dumps(ONE_MEMBER, 0)],
+    &[
+        Changes(Area::Status, 512, 0x37),
+        Dumps("header 16\nused 0 of 16\n", 0),
+    ],
+    &[
+        Changes(Area::Status, 513, 3),
+        Dumps("refused: damaged status 0\n", 1),
+    ],
+    &[
+        Changes(Area::Status, 1023, 1),
+        Dumps("refused: damaged status 0\n", 1),
+    ],
+    &[
+        Changes(Area::Status, 1024, 0xC7),
+        Dumps("refused: damaged status 1\n", 1),
+    ],
+    &[Changes(Area::Status, 1536, 0xC7), Dumps(ONE_MEMBER, 0)],
+    &[
+        Changes(Area::Status, 8, 9),
+        Dumps("refused: not a store\n", 1),
+    ],
 ];
 
 #[test]
 fn only_the_log_is_read(rt: HostRuntime) -> Result<(), Fail> {
-    let alloc = rt.alloc();
-    let commit = "begin t | snapshot 0
-put t 1 7 61 | ok
-submit t 9 100 | queued
-flush | idle
-";
-    let mut disk = stored(&rt, alloc, commit)?;
-    let _disk = dumps(
-        &rt,
-        alloc,
-        cut(alloc, &mut disk, Area::Heap, 0)?,
-        ONE_COMMIT,
-        0,
-    )?;
-    for (place, byte, text, status) in CHANGED {
-        let mut changed = cut(alloc, &mut disk, Area::Heap, 8192)?;
-        change(&mut changed, Area::Status, place, byte)?;
-        let _disk = dumps(&rt, alloc, changed, text, status)?;
-    }
-    let _disk = dumps(&rt, alloc, MemDisk::new(alloc), "refused: not a store\n", 1)?;
-    Ok(())
+    each_goes(rt.alloc(), &[New(16), Says(ONE_COMMIT)], CHANGED)?;
+    go(rt.alloc(), &[Dumps("refused: not a store\n", 1)])
 }

@@ -1,18 +1,20 @@
 //! Stores in the files of a folder: which file has which bytes, which of them opening makes, and who
 //! is kept out meanwhile.
-use crate::dialogue::{KEY, told};
+use crate::dialogue::{KEY, is_said, told};
 use disk::{Area, Disk};
 use disk_file::{Access, FileDisk, FolderFault};
 use shell::Action;
 use std::alloc::Global;
 use std::fs;
-use std::process::Abort;
 use std::rt::Files;
 use std::test::Fail;
 
-const AREAS: [Area; 3] = [Area::Status, Area::Heap, Area::Archive];
-
-const NAMES: [&str; 3] = ["status", "heap", "archive"];
+/// The areas, their files, and what each has once all was written that is.
+const FILES: &[(Area, &str, &[u8])] = &[
+    (Area::Status, "status", b"the header"),
+    (Area::Heap, "heap", b"\0\0\0records of a heap"),
+    (Area::Archive, "archive", b"\0run"),
+];
 
 /// A new folder of this name, in the one where the tests are run.
 fn new_folder<R: Files + AllocGlobal>(rt: &R, folder: &str) -> Result<(), Fail> {
@@ -28,77 +30,118 @@ fn opened<R: Files<File = fs::File> + AllocGlobal>(
 ) -> Result<FileDisk, Fail> {
     match FileDisk::open(rt, folder, access) {
         Ok(disk) => Ok(disk),
-        Err(fault) => Err(Fail::from(format!(in rt.alloc(); "{fault}")?)),
+        Err(fault) => Err(Fail::new(format_args!("{fault}"))),
     }
 }
 
-/// What was written in each area, from a place on.
-const WRITTEN: [(Area, u64, &[u8]); 4] = [
+/// Opens the files, and closes them.
+fn is_opened<R: Files<File = fs::File> + AllocGlobal>(
+    rt: &R,
+    folder: &str,
+    access: Access,
+) -> Result<(), Fail> {
+    let _disk = opened(rt, folder, access)?;
+    Ok(())
+}
+
+/// What is written in each area, from a place on.
+const WRITES: &[(Area, u64, &[u8])] = &[
     (Area::Status, 0, b"the log"),
     (Area::Heap, 3, b"records of a heap"),
     (Area::Archive, 1, b"run"),
     (Area::Status, 4, b"header"),
 ];
 
-/// What each file then has.
-const BYTES: [&[u8]; 3] = [b"the header", b"\0\0\0records of a heap", b"\0run"];
+/// So many calls must have been made and refused, and the first refused one be told as this area's.
+fn is_told(disk: &FileDisk, (made, refused): (u64, u64), area: Option<Area>) -> Result<(), Fail> {
+    let told = match disk.trouble() {
+        Some(trouble) => Some(trouble.area),
+        None => None,
+    };
+    if disk.made() == made && disk.refused() == refused && told == area {
+        return Ok(());
+    }
+    Err(Fail::new("other calls were made or refused"))
+}
 
 /// Writes and syncs what is to be written, each by one call.
-fn write_all(rt: &impl Abort, disk: &mut FileDisk) -> Result<(), Fail> {
-    for (area, at, bytes) in WRITTEN {
-        disk.write_at(area, at, bytes)?;
+fn write_all(disk: &mut FileDisk) -> Result<(), Fail> {
+    for (area, at, bytes) in WRITES {
+        disk.write_at(*area, *at, bytes)?;
     }
-    for area in AREAS {
-        disk.sync(area)?;
+    for (area, _, _) in FILES {
+        disk.sync(*area)?;
     }
-    assert_eq!(rt; (disk.made(), disk.refused()), (7, 0));
-    Ok(())
+    is_told(disk, (7, 0), None)
+}
+
+/// These must be the bytes.
+fn are_bytes(found: &[u8], bytes: &[u8]) -> Result<(), Fail> {
+    if found == bytes {
+        return Ok(());
+    }
+    Err(Fail::new(format_args!("{found:?}")))
 }
 
 /// The area must have these bytes, and no more.
-fn has_bytes(
-    rt: &impl Abort,
-    alloc: Global,
-    disk: &mut FileDisk,
-    area: Area,
-    bytes: &[u8],
-) -> Result<(), Fail> {
-    assert_eq!(rt; disk.len(area)?, bytes.len() as u64);
+fn has_bytes(alloc: Global, disk: &mut FileDisk, area: Area, bytes: &[u8]) -> Result<(), Fail> {
+    if disk.len(area)? != bytes.len() as u64 {
+        return Err(Fail::new("another length"));
+    }
     let mut found = vec![in alloc; 0; bytes.len()]?;
     disk.read(area, 0, &mut found)?;
-    assert_eq!(rt; found.as_slice(), bytes);
-    Ok(())
+    are_bytes(found.as_slice(), bytes)
 }
 
 /// Each area must have its bytes where the files are opened once more.
-fn are_read_back<R: Files<File = fs::File> + AllocGlobal + Abort>(
+fn are_read_back<R: Files<File = fs::File> + AllocGlobal>(
     rt: &R,
     folder: &str,
     access: Access,
 ) -> Result<(), Fail> {
     let mut disk = opened(rt, folder, access)?;
-    for (area, bytes) in AREAS.into_iter().zip(BYTES) {
-        has_bytes(rt, rt.alloc(), &mut disk, area, bytes)?;
+    for (area, _, bytes) in FILES {
+        has_bytes(rt.alloc(), &mut disk, *area, bytes)?;
     }
     Ok(())
 }
 
+/// The file of this name in the folder.
+fn path_of(alloc: Global, folder: &str, name: &str) -> Result<String, Fail> {
+    Ok(format!(in alloc; "{folder}/{name}")?)
+}
+
+/// The file must have these bytes.
+fn is_in_file<R: Files + AllocGlobal>(
+    rt: &R,
+    folder: &str,
+    name: &str,
+    bytes: &[u8],
+) -> Result<(), Fail> {
+    let path = path_of(rt.alloc(), folder, name)?;
+    let found = fs::read(rt, path.as_str())?;
+    are_bytes(found.as_slice(), bytes)
+}
+
 /// Each file must have the bytes of its area.
-fn are_in_files<R: Files + AllocGlobal + Abort>(rt: &R, folder: &str) -> Result<(), Fail> {
-    for (name, bytes) in NAMES.into_iter().zip(BYTES) {
-        let path = format!(in rt.alloc(); "{folder}/{name}")?;
-        assert_eq!(rt; fs::read(rt, path.as_str())?.as_slice(), bytes);
+fn are_in_files<R: Files + AllocGlobal>(rt: &R, folder: &str) -> Result<(), Fail> {
+    for (_, name, bytes) in FILES {
+        is_in_file(rt, folder, name, bytes)?;
     }
     Ok(())
+}
+
+/// Writes the files of a folder, by opening that makes them.
+fn make_files<R: Files<File = fs::File> + AllocGlobal>(rt: &R, folder: &str) -> Result<(), Fail> {
+    let mut disk = opened(rt, folder, Access::Make)?;
+    write_all(&mut disk)
 }
 
 #[test]
 fn each_area_is_a_file_of_its_own(rt: HostRuntime) -> Result<(), Fail> {
     let folder = "own_files";
     new_folder(&rt, folder)?;
-    let mut disk = opened(&rt, folder, Access::Make)?;
-    write_all(&rt, &mut disk)?;
-    drop(disk);
+    make_files(&rt, folder)?;
     for access in [Access::Change, Access::Read, Access::Make] {
         are_read_back(&rt, folder, access)?;
     }
@@ -107,50 +150,92 @@ fn each_area_is_a_file_of_its_own(rt: HostRuntime) -> Result<(), Fail> {
     Ok(())
 }
 
-/// Opening must find no such file, and name it.
-fn is_missing<R: Files<File = fs::File> + AllocGlobal + Abort>(
+/// The file that opening misses.
+fn missed<R: Files<File = fs::File> + AllocGlobal>(
     rt: &R,
     folder: &str,
     access: Access,
-    name: &str,
-) -> Result<(), Fail> {
-    let expected = format!(in rt.alloc(); "{folder}/{name}")?;
+) -> Option<String> {
     match FileDisk::open(rt, folder, access) {
-        Err(FolderFault::Missing { path, cause: _ }) => {
-            assert_eq!(rt; path.as_str(), expected.as_str());
-            Ok(())
-        }
-        _ => Err(Fail::from(expected)),
+        Err(FolderFault::Missing { path, cause: _ }) => Some(path),
+        _ => None,
     }
 }
 
+/// Opening must find no such file, and name it.
+fn is_missing<R: Files<File = fs::File> + AllocGlobal>(
+    rt: &R,
+    folder: &str,
+    access: Access,
+    name: &str,
+) -> Result<(), Fail> {
+    let expected = path_of(rt.alloc(), folder, name)?;
+    match missed(rt, folder, access) {
+        Some(path) => are_bytes(path.as_bytes(), expected.as_bytes()),
+        None => Err(Fail::new("no file was missed")),
+    }
+}
+
+/// There must be nothing of this name.
+fn is_gone<R: Files + AllocGlobal>(rt: &R, path: &str) -> Result<(), Fail> {
+    if fs::exists(rt, path)? {
+        return Err(Fail::new("it is there"));
+    }
+    Ok(())
+}
+
+/// Whether opening is refused as the system's.
+fn is_refused<R: Files<File = fs::File> + AllocGlobal>(
+    rt: &R,
+    folder: &str,
+    access: Access,
+) -> bool {
+    matches!(
+        FileDisk::open(rt, folder, access),
+        Err(FolderFault::System { path: _, cause: _ })
+    )
+}
+
 /// A folder that is not there must be refused, and not be made.
-fn is_nowhere<R: Files<File = fs::File> + AllocGlobal + Abort>(
+fn is_nowhere<R: Files<File = fs::File> + AllocGlobal>(
     rt: &R,
     folder: &str,
     access: Access,
 ) -> Result<(), Fail> {
-    let opened = FileDisk::open(rt, folder, access);
-    assert!(rt;
-        matches!(opened, Err(FolderFault::System { path: _, cause: _ })),
-        "{access:?}"
-    );
-    assert!(rt; !fs::exists(rt, folder)?);
-    Ok(())
+    if !is_refused(rt, folder, access) {
+        return Err(Fail::new(format_args!("{access:?}")));
+    }
+    is_gone(rt, folder)
 }
 
 /// The file must be there and empty; without it, it must be missed, and not be made.
-fn is_missed<R: Files<File = fs::File> + AllocGlobal + Abort>(
+fn is_missed<R: Files<File = fs::File> + AllocGlobal>(
     rt: &R,
     folder: &str,
     name: &str,
 ) -> Result<(), Fail> {
-    let path = format!(in rt.alloc(); "{folder}/{name}")?;
-    assert_eq!(rt; fs::read(rt, path.as_str())?.len(), 0);
+    let path = path_of(rt.alloc(), folder, name)?;
+    is_in_file(rt, folder, name, b"")?;
     fs::remove_file(rt, path.as_str())?;
     is_missing(rt, folder, Access::Change, name)?;
-    assert!(rt; !fs::exists(rt, path.as_str())?);
+    is_gone(rt, path.as_str())?;
     fs::write(rt, path.as_str(), b"".as_slice())?;
+    Ok(())
+}
+
+/// A folder without files: they are missed, and so is the folder once it is gone. It is still empty, or
+/// it would not go.
+fn makes_nothing<R: Files<File = fs::File> + AllocGlobal>(
+    rt: &R,
+    folder: &str,
+) -> Result<(), Fail> {
+    for access in [Access::Change, Access::Read] {
+        is_missing(rt, folder, access, "status")?;
+    }
+    fs::remove_dir(rt, folder)?;
+    for access in [Access::Change, Access::Read, Access::Make] {
+        is_nowhere(rt, folder, access)?;
+    }
     Ok(())
 }
 
@@ -158,17 +243,10 @@ fn is_missed<R: Files<File = fs::File> + AllocGlobal + Abort>(
 fn only_making_makes_files(rt: HostRuntime) -> Result<(), Fail> {
     let folder = "no_files";
     new_folder(&rt, folder)?;
-    for access in [Access::Change, Access::Read] {
-        is_missing(&rt, folder, access, "status")?;
-    }
-    // It is still empty, or it would not go.
-    fs::remove_dir(&rt, folder)?;
-    for access in [Access::Change, Access::Read, Access::Make] {
-        is_nowhere(&rt, folder, access)?;
-    }
-    fs::create_dir(&rt, folder)?;
-    drop(opened(&rt, folder, Access::Make)?);
-    for name in NAMES {
+    makes_nothing(&rt, folder)?;
+    new_folder(&rt, folder)?;
+    is_opened(&rt, folder, Access::Make)?;
+    for (_, name, _) in FILES {
         is_missed(&rt, folder, name)?;
     }
     fs::remove_dir_all(&rt, folder)?;
@@ -176,7 +254,7 @@ fn only_making_makes_files(rt: HostRuntime) -> Result<(), Fail> {
 }
 
 /// Whether files that are opened in one way may be opened in another meanwhile.
-const TOGETHER: [(Access, Access, bool); 9] = [
+const TOGETHER: &[(Access, Access, bool)] = &[
     (Access::Make, Access::Make, false),
     (Access::Make, Access::Change, false),
     (Access::Make, Access::Read, false),
@@ -188,59 +266,84 @@ const TOGETHER: [(Access, Access, bool); 9] = [
     (Access::Read, Access::Read, true),
 ];
 
-/// Files that are held must be opened once more, or not until they are given up.
-fn are_together<R: Files<File = fs::File> + AllocGlobal + Abort>(
+/// Whether opening succeeds, or is kept out. None where it is refused otherwise.
+fn goes<R: Files<File = fs::File> + AllocGlobal>(
     rt: &R,
     folder: &str,
-    (held, asked, goes): (Access, Access, bool),
+    access: Access,
+) -> Option<bool> {
+    match FileDisk::open(rt, folder, access) {
+        Ok(_disk) => Some(true),
+        Err(FolderFault::InUse { path: _ }) => Some(false),
+        Err(_) => None,
+    }
+}
+
+/// Whether opening succeeds while the files are held in this way, as `goes` says.
+fn goes_beside<R: Files<File = fs::File> + AllocGlobal>(
+    rt: &R,
+    folder: &str,
+    held: Access,
+    asked: Access,
+) -> Result<Option<bool>, Fail> {
+    let _first = opened(rt, folder, held)?;
+    Ok(goes(rt, folder, asked))
+}
+
+/// Files that are held must be opened once more, or not until they are given up.
+fn are_together<R: Files<File = fs::File> + AllocGlobal>(
+    rt: &R,
+    folder: &str,
+    (held, asked, together): (Access, Access, bool),
 ) -> Result<(), Fail> {
-    let first = opened(rt, folder, held)?;
-    let second = FileDisk::open(rt, folder, asked);
-    let is_kept_out = matches!(second, Err(FolderFault::InUse { path: _ }));
-    assert_eq!(rt;
-        (second.is_ok(), is_kept_out),
-        (goes, !goes),
-        "{held:?} {asked:?}"
-    );
-    drop(second);
-    drop(first);
-    drop(opened(rt, folder, asked)?);
-    Ok(())
+    if goes_beside(rt, folder, held, asked)? != Some(together) {
+        return Err(Fail::new(format_args!("{held:?} {asked:?}")));
+    }
+    is_opened(rt, folder, asked)
 }
 
 #[test]
 fn who_comes_second_is_kept_out(rt: HostRuntime) -> Result<(), Fail> {
     let folder = "one_writer";
     new_folder(&rt, folder)?;
-    drop(opened(&rt, folder, Access::Make)?);
+    is_opened(&rt, folder, Access::Make)?;
     for together in TOGETHER {
-        are_together(&rt, folder, together)?;
+        are_together(&rt, folder, *together)?;
     }
     fs::remove_dir_all(&rt, folder)?;
     Ok(())
 }
 
 /// Reads that must be refused: past the end, and of no bytes past it.
-const PAST_THE_END: [(Area, u64, usize); 4] = [
+const PAST_THE_END: &[(Area, u64, usize)] = &[
     (Area::Heap, 19, 2),
     (Area::Status, 10, 1),
     (Area::Status, 11, 0),
     (Area::Archive, 5, 0),
 ];
 
-/// So many calls must have been made and refused, and the first refused one be told as this area's.
-fn is_told(rt: &impl Abort, disk: &FileDisk, counts: (u64, u64), area: Option<Area>) {
-    assert_eq!(rt; (disk.made(), disk.refused()), counts);
-    assert_eq!(rt; disk.trouble().map(|trouble| trouble.area), area);
+/// The read must be refused.
+fn refuses_past_the_end(
+    alloc: Global,
+    disk: &mut FileDisk,
+    (area, at, len): (Area, u64, usize),
+) -> Result<(), Fail> {
+    let mut bytes = vec![in alloc; 0; len]?;
+    if disk.read(area, at, &mut bytes).is_err() {
+        return Ok(());
+    }
+    Err(Fail::new(format_args!("{area:?} {at}")))
 }
 
-/// Each of these reads must be refused.
-fn refuses_past_the_end(rt: &impl Abort, alloc: Global, disk: &mut FileDisk) -> Result<(), Fail> {
-    for (area, at, len) in PAST_THE_END {
-        let mut bytes = vec![in alloc; 0; len]?;
-        assert!(rt; disk.read(area, at, &mut bytes).is_err(), "{area:?} {at}");
+/// What is written reads up to the end, and no further.
+fn tells_the_first(alloc: Global, disk: &mut FileDisk) -> Result<(), Fail> {
+    write_all(disk)?;
+    disk.read(Area::Status, 10, &mut [])?;
+    is_told(disk, (7, 0), None)?;
+    for read in PAST_THE_END {
+        refuses_past_the_end(alloc, disk, *read)?;
     }
-    Ok(())
+    is_told(disk, (7, 4), Some(Area::Heap))
 }
 
 #[test]
@@ -248,25 +351,27 @@ fn the_first_refused_call_is_told(rt: HostRuntime) -> Result<(), Fail> {
     let folder = "past_the_end";
     new_folder(&rt, folder)?;
     let mut disk = opened(&rt, folder, Access::Make)?;
-    write_all(&rt, &mut disk)?;
-    disk.read(Area::Status, 10, &mut [])?;
-    is_told(&rt, &disk, (7, 0), None);
-    refuses_past_the_end(&rt, rt.alloc(), &mut disk)?;
-    is_told(&rt, &disk, (7, 4), Some(Area::Heap));
+    tells_the_first(rt.alloc(), &mut disk)?;
     fs::remove_dir_all(&rt, folder)?;
     Ok(())
+}
+
+/// Writes on files that are opened to be read must be refused.
+fn refuses_writes(disk: &mut FileDisk) -> Result<(), Fail> {
+    let archive = disk.write_at(Area::Archive, 0, b"x");
+    let status = disk.write_at(Area::Status, 0, b"x");
+    if archive.is_ok() || status.is_ok() {
+        return Err(Fail::new("it was written"));
+    }
+    is_told(disk, (2, 2), Some(Area::Archive))
 }
 
 #[test]
 fn files_that_are_read_are_not_written(rt: HostRuntime) -> Result<(), Fail> {
     let folder = "read_only";
     new_folder(&rt, folder)?;
-    write_all(&rt, &mut opened(&rt, folder, Access::Make)?)?;
-    let mut disk = opened(&rt, folder, Access::Read)?;
-    assert!(rt; disk.write_at(Area::Archive, 0, b"x").is_err());
-    assert!(rt; disk.write_at(Area::Status, 0, b"x").is_err());
-    is_told(&rt, &disk, (2, 2), Some(Area::Archive));
-    drop(disk);
+    make_files(&rt, folder)?;
+    refuses_writes(&mut opened(&rt, folder, Access::Read)?)?;
     are_in_files(&rt, folder)?;
     fs::remove_dir_all(&rt, folder)?;
     Ok(())
@@ -274,7 +379,9 @@ fn files_that_are_read_are_not_written(rt: HostRuntime) -> Result<(), Fail> {
 
 /// What is done to a store of files, each time with the files opened once more: the action, the
 /// script, and what is said.
-const SAID: [(Access, Action<'static>, &str, &str); 5] = [
+type Doing = (Access, Action<'static>, &'static str, &'static str);
+
+const DOINGS: &[Doing] = &[
     (
         Access::Make,
         Action::Format { dir: "", slots: 16 },
@@ -319,15 +426,24 @@ used 3 of 16
     ),
 ];
 
+/// What was asked for must be said, with status 0.
+fn is_done<R: Files<File = fs::File> + AllocGlobal>(
+    rt: &R,
+    folder: &str,
+    doing: &Doing,
+) -> Result<(), Fail> {
+    let (access, action, script, answers) = *doing;
+    let disk = opened(rt, folder, access)?;
+    let (said, status, _disk) = told(rt.alloc(), action, disk, script)?;
+    is_said(said.as_str(), status, answers, 0)
+}
+
 #[test]
 fn a_store_of_files_is_opened_again(rt: HostRuntime) -> Result<(), Fail> {
     let folder = "a_store";
     new_folder(&rt, folder)?;
-    for (access, action, script, answers) in SAID {
-        let disk = opened(&rt, folder, access)?;
-        let (said, status, _disk) = told(rt.alloc(), action, disk, script)?;
-        assert_eq!(rt; said.as_str(), answers);
-        assert_eq!(rt; status, 0);
+    for doing in DOINGS {
+        is_done(&rt, folder, doing)?;
     }
     fs::remove_dir_all(&rt, folder)?;
     Ok(())

@@ -1,12 +1,10 @@
 //! Floors: from when on a store answers, what bars one, and what a stop leaves of one.
-use crate::bytes::{bytes_of, spells};
-use crate::dialogue::{
-    FOUR_COMMITS, Script, answers, converses, hold, stored, stored_by_parts, told,
-};
-use disk::{Area, Fault, FaultDisk};
-use shell::Action;
+use crate::dialogue::{FOUR_COMMITS, SCRIPT, Script, hold};
+use crate::steps::Step::{At, Long, New, Parts, Says, Spells};
+use crate::steps::{Step, go};
+use crate::trials::{Trial, is_count, left_goes_on, tried};
+use disk::{Area, FaultDisk};
 use std::alloc::Global;
-use std::process::Abort;
 use std::test::Fail;
 
 /// What ended by 120 is archived and reclaimed, and the floor is raised to it.
@@ -37,22 +35,25 @@ floor 131 | refused: not yet 130
 /// The slot of the floor, the seventh.
 const SLOT: &str = "c7 04 00 00 06000000 7800000000000000 ..z 496";
 
-#[test]
-fn a_floor_bars_what_stood_before_it(rt: HostRuntime) -> Result<(), Fail> {
-    let alloc = rt.alloc();
-    let parts = [
+/// A floor, and the store opened again behind it.
+const FLOORED: &[Step] = &[
+    New(16),
+    Parts(&[
         (FOUR_COMMITS, 1),
         (RAISED, 1),
         (FROM_120, 1),
         ("reopen | last 130 floor 120\n", 1),
         (FROM_120, 1),
-    ];
-    let mut disk = stored_by_parts(&rt, alloc, 16, parts.as_slice())?;
-    spells(&rt, alloc, &mut disk, Area::Status, 3584, SLOT)?;
-    let disk = converses(&rt, alloc, disk, FROM_120)?;
-    let disk = answers(&rt, alloc, disk, "119", "refused: before kept 120")?;
-    let _disk = answers(&rt, alloc, disk, "120", "none")?;
-    Ok(())
+    ]),
+    Spells(Area::Status, 3584, SLOT),
+    Says(FROM_120),
+    At("119", "refused: before kept 120"),
+    At("120", "none"),
+];
+
+#[test]
+fn a_floor_bars_what_stood_before_it(rt: HostRuntime) -> Result<(), Fail> {
+    go(rt.alloc(), FLOORED)
 }
 
 /// What is answered of the four commits once the floor is raised to 115.
@@ -68,27 +69,30 @@ at 1 7 115 | value 62
 const RUN: &str =
     "0100 0700000000000000 6e00000000000000 7800000000000000 01 01 62 0000000000000000";
 
-#[test]
-fn an_archive_leaves_out_what_ended_by_the_floor(rt: HostRuntime) -> Result<(), Fail> {
-    let alloc = rt.alloc();
-    let parts = [
+/// A floor, and behind it an archive and a reclaim.
+const LEFT_OUT: &[Step] = &[
+    New(16),
+    Parts(&[
         (FOUR_COMMITS, 1),
         ("floor 115 | started\nfinish | idle\n", 1),
         ("archive 120 | started\nfinish | idle\n", 1),
         (FROM_115, 1),
         ("reopen | last 130 floor 115\n", 1),
         (FROM_115, 1),
-    ];
-    let mut disk = stored_by_parts(&rt, alloc, 16, parts.as_slice())?;
-    spells(&rt, alloc, &mut disk, Area::Archive, 0, RUN)?;
-    assert_eq!(rt; bytes_of(alloc, &mut disk, Area::Archive)?.len(), 37);
-    let disk = converses(&rt, alloc, disk, "reclaim | started\nfinish | idle\n")?;
-    let _disk = converses(&rt, alloc, disk, FROM_115)?;
-    Ok(())
+    ]),
+    Spells(Area::Archive, 0, RUN),
+    Long(Area::Archive, 37),
+    Says("reclaim | started\nfinish | idle\n"),
+    Says(FROM_115),
+];
+
+#[test]
+fn an_archive_leaves_out_what_ended_by_the_floor(rt: HostRuntime) -> Result<(), Fail> {
+    go(rt.alloc(), LEFT_OUT)
 }
 
 /// Scripts of floors beside transactions, commits and other jobs.
-const SCRIPTS: [Script; 7] = [
+const SCRIPTS: &[Script] = &[
     Script {
         name: "a_floor_is_made_step_by_step",
         slots: 16,
@@ -295,7 +299,7 @@ at 1 7 110 | value 62
 
 #[test]
 fn floors_beside_other_work_are_answered(rt: HostRuntime) -> Result<(), Fail> {
-    hold(&rt, rt.alloc(), &SCRIPTS)
+    hold(rt.alloc(), SCRIPTS)
 }
 
 /// A floor of the four commits, step by step. Its four calls are all that the disk is asked for.
@@ -312,68 +316,68 @@ at 1 7 130
 /// What is said of it where a step is refused, from there on.
 const FAILED: &str = "refused: failed\nrefused: failed\nvalue 62\nvalue 63\n";
 
-/// A floor on a disk that refuses a call: what was said, and the disk.
-fn raised_with(rt: &impl Abort, alloc: Global, fault: Fault) -> Result<(String, FaultDisk), Fail> {
-    let disk = FaultDisk::new(stored(rt, alloc, FOUR_COMMITS)?, fault);
-    let (said, _, disk) = told(alloc, Action::Run { dir: "" }, disk, ONE_FLOOR)?;
-    Ok((said, disk))
-}
+/// What a floor bars, and what stood before it was raised.
+const BARRED: &[Step] = &[At("119", "refused: before kept 120"), At("130", "value 63")];
 
-/// What stood at 119, by what is left of the disk on which this was said: the floor bars it once its
-/// slot is open, and, while the gate is written and not synced, where its byte is that of an open one.
-fn answer_left(said: &str, fill: u8) -> &'static str {
+const NOT_BARRED: &[Step] = &[At("119", "value 62"), At("130", "value 63")];
+
+/// What stands by what is left of the disk on which this was said: the floor bars what stood at 119 once
+/// its slot is open, and, while the gate is written and not synced, where its byte is that of an open one.
+fn steps_left(said: &str, fill: u8) -> &'static [Step] {
     if said.contains("job done") || (said.contains("body synced") && fill == 0xC7) {
-        "refused: before kept 120"
+        BARRED
     } else {
-        "value 62"
+        NOT_BARRED
     }
 }
 
 /// Opens what a stop may leave of a disk, with each filling of what is torn, and asks.
-fn asks_each_left(
-    rt: &impl Abort,
-    alloc: Global,
-    said: &str,
-    disk: &FaultDisk,
-) -> Result<(), Fail> {
+fn asks_each_left(alloc: Global, said: &str, disk: &FaultDisk) -> Result<(), Fail> {
     for fill in [0x00, 0xC7, 0xFF] {
-        let left = disk.left(alloc, fill, b"")?;
-        let left = answers(rt, alloc, left, "119", answer_left(said, fill))?;
-        let _disk = answers(rt, alloc, left, "130", "value 63")?;
+        left_goes_on(alloc, disk, (fill, 0), steps_left(said, fill))?;
     }
     Ok(())
+}
+
+/// Whether a step of the floor was refused: then the store failed and read on.
+fn is_failed(said: &str) -> Result<bool, Fail> {
+    if !said.contains("started") {
+        return Ok(false);
+    }
+    if said.ends_with(FAILED) {
+        return Ok(true);
+    }
+    Err(Fail::new(format_args!("{said}")))
 }
 
 /// Each call is refused in turn, and the machine may stop there. Each of the four calls of the floor is
 /// met once: the store fails and reads on, and the floor is not raised.
-fn refuses_each_call(rt: &impl Abort, alloc: Global, write_reaches: bool) -> Result<(), Fail> {
+fn refuses_each_call(alloc: Global, write_reaches: bool) -> Result<(), Fail> {
+    let trial = Trial {
+        before: &[New(16), Says(FOUR_COMMITS)],
+        action: SCRIPT,
+        script: ONE_FLOOR,
+        write_reaches,
+        stops: false,
+    };
     let mut refusals: u32 = 0;
     for calls_before in 0..100 {
-        let fault = Fault {
-            calls_before,
-            write_reaches,
-            stops: false,
-        };
-        let (said, disk) = raised_with(rt, alloc, fault)?;
-        asks_each_left(rt, alloc, said.as_str(), &disk)?;
+        let (said, _, disk) = tried(alloc, &trial, calls_before)?;
+        asks_each_left(alloc, said.as_str(), &disk)?;
         if said.contains("job done") {
             break;
         }
-        if said.contains("started") {
-            assert!(rt; said.ends_with(FAILED), "{said}");
-            refusals = refusals.saturating_add(1);
-        }
+        refusals = refusals.saturating_add(u32::from(is_failed(said.as_str())?));
     }
-    assert_eq!(rt; refusals, 4);
-    Ok(())
+    is_count(refusals, 4)
 }
 
 #[test]
 fn a_floor_is_raised_whole_or_not_at_all(rt: HostRuntime) -> Result<(), Fail> {
-    refuses_each_call(&rt, rt.alloc(), false)
+    refuses_each_call(rt.alloc(), false)
 }
 
 #[test]
 fn a_floor_whose_refused_write_was_made_is_raised_or_not(rt: HostRuntime) -> Result<(), Fail> {
-    refuses_each_call(&rt, rt.alloc(), true)
+    refuses_each_call(rt.alloc(), true)
 }

@@ -1,14 +1,16 @@
 //! A script of commits and an archive, stopped before, within and after each call of the disk: what is
 //! opened again is what the lines `done` say, or that with the whole group whose gate was begun.
-use crate::dialogue::{converses, new_store, says, told};
-use disk::{Fault, FaultDisk, MemDisk};
-use shell::Action;
+use crate::bytes::stopped;
+use crate::dialogue::{SCRIPT, is_status, new_store, told};
+use crate::steps::Step::{New, Says};
+use crate::steps::{Step, go, goes_on};
+use crate::trials::{TORN, Trial, is_count, left_goes_on, tried};
+use disk::{FaultDisk, MemDisk};
 use std::alloc::{AllocError, Global};
-use std::process::Abort;
 use std::test::Fail;
 
 /// Three groups, of two commits, one and three, and an archive before the last, step by step.
-const SCRIPT: &str = "begin a | snapshot 0
+const LINES: &str = "begin a | snapshot 0
 begin b | snapshot 0
 put a 1 7 61 | ok
 put b 1 8 62 | ok
@@ -68,8 +70,9 @@ redeem f | done 122
 const STEPS: u32 = 27;
 
 /// All that is to be had of the store once so many of the groups are published.
-const FRONTS: [&str; 4] = [
-    "reopen | last 0 floor 0
+const FRONTS: &[&[Step]] = &[
+    &[Says(
+        "reopen | last 0 floor 0
 between 1 7 0 1 | rows 0
 between 1 8 0 1 | rows 0
 between 1 9 0 1 | rows 0
@@ -82,7 +85,9 @@ times 4 | times
 times 5 | times
 times 6 | times
 ",
-    "reopen | last 101 floor 0
+    )],
+    &[Says(
+        "reopen | last 101 floor 0
 between 1 7 0 102 | 100 102 61
 | rows 1
 between 1 8 0 102 | 101 102 62
@@ -99,7 +104,9 @@ times 4 | times
 times 5 | times
 times 6 | times
 ",
-    "reopen | last 110 floor 0
+    )],
+    &[Says(
+        "reopen | last 110 floor 0
 between 1 7 0 111 | 100 110 61
 | 110 111 63
 | rows 2
@@ -116,7 +123,9 @@ times 4 | times
 times 5 | times
 times 6 | times
 ",
-    "reopen | last 122 floor 0
+    )],
+    &[Says(
+        "reopen | last 122 floor 0
 between 1 7 0 123 | 100 110 61
 | 110 121 63
 | 121 123 65
@@ -139,6 +148,7 @@ times 4 | times 120
 times 5 | times 121
 times 6 | times 122
 ",
+    )],
 ];
 
 /// The last line `done` of each group.
@@ -195,35 +205,28 @@ fn groups_between(said: &str, fill: u8) -> usize {
     groups_published(said).saturating_add(usize::from(begun && fill == 0xC7))
 }
 
-/// What a torn place may hold.
-const FILLS: [u8; 3] = [0x00, 0xC7, 0xFF];
+/// What must be had of a store that has just these groups.
+fn front(groups: usize) -> Result<&'static [Step], Fail> {
+    match FRONTS.get(groups) {
+        Some(front) => Ok(front),
+        None => Err(Fail::new("no such front")),
+    }
+}
 
-/// The store that a stop left must have just these groups.
-fn has_groups(rt: &impl Abort, alloc: Global, left: MemDisk, groups: usize) -> Result<(), Fail> {
-    let front = FRONTS.get(groups).ok_or("no such front")?;
-    let _disk = converses(rt, alloc, left, front)?;
+/// No write found no memory, and what the lines `done` name is what was published.
+fn is_whole(said: &str, disk: &FaultDisk) -> Result<(), Fail> {
+    if disk.ran_short() || groups_done(said) != groups_published(said) {
+        return Err(Fail::new(format_args!("{said}")));
+    }
     Ok(())
 }
 
 /// Opens what a stop within a call may leave, with each filling of what is torn.
-fn opens_each_left(
-    rt: &impl Abort,
-    alloc: Global,
-    said: &str,
-    disk: &FaultDisk,
-) -> Result<(), Fail> {
-    assert!(rt; !disk.ran_short());
-    assert_eq!(rt; groups_done(said), groups_published(said));
-    for fill in FILLS {
-        let long = [fill; 700];
-        for tail in [b"".as_slice(), long.as_slice()] {
-            has_groups(
-                rt,
-                alloc,
-                disk.left(alloc, fill, tail)?,
-                groups_within(said, fill),
-            )?;
-        }
+fn opens_each_left(alloc: Global, said: &str, disk: &FaultDisk) -> Result<(), Fail> {
+    is_whole(said, disk)?;
+    for torn in TORN {
+        let groups = groups_within(said, torn.0);
+        left_goes_on(alloc, disk, *torn, front(groups)?)?;
     }
     Ok(())
 }
@@ -231,7 +234,7 @@ fn opens_each_left(
 /// The commands of the script's first lines.
 fn commands(alloc: Global, lines: usize) -> Result<String, AllocError> {
     let mut text = String::new(alloc);
-    for line in SCRIPT.lines().take(lines) {
+    for line in LINES.lines().take(lines) {
         if let Some((command, _)) = line.split_once(" | ") {
             text.push_str(command)?;
             text.push('\n')?;
@@ -240,75 +243,65 @@ fn commands(alloc: Global, lines: usize) -> Result<String, AllocError> {
     Ok(text)
 }
 
-/// The whole script on a disk that stops at a call: what was said, and the disk.
-fn stopped(
-    rt: &impl Abort,
-    alloc: Global,
-    script: &str,
-    calls_before: u64,
-    write_reaches: bool,
-) -> Result<(String, FaultDisk), Fail> {
-    let fault = Fault {
-        calls_before,
+/// Stops at each call in turn. A stop is met by each step once, and before them by the opening.
+fn stops_within_each_call(alloc: Global, write_reaches: bool) -> Result<(), Fail> {
+    let script = commands(alloc, usize::MAX)?;
+    let trial = Trial {
+        before: &[New(16)],
+        action: SCRIPT,
+        script: script.as_str(),
         write_reaches,
         stops: true,
     };
-    let disk = FaultDisk::new(new_store(rt, alloc, 16)?, fault);
-    let (said, _, disk) = told(alloc, Action::Run { dir: "" }, disk, script)?;
-    Ok((said, disk))
-}
-
-/// Stops at each call in turn. A stop is met by each step once, and before them by the opening.
-fn stops_within_each_call(rt: &impl Abort, alloc: Global, write_reaches: bool) -> Result<(), Fail> {
-    let script = commands(alloc, usize::MAX)?;
     let mut stops: u32 = 0;
     for calls in 0..200 {
-        let (said, disk) = stopped(rt, alloc, script.as_str(), calls, write_reaches)?;
-        opens_each_left(rt, alloc, said.as_str(), &disk)?;
+        let (said, _, disk) = tried(alloc, &trial, calls)?;
+        opens_each_left(alloc, said.as_str(), &disk)?;
         if said.contains("done 122\n") {
             break;
         }
-        if said.contains("refused: failed\n") {
-            stops = stops.saturating_add(1);
-        }
+        stops = stops.saturating_add(u32::from(said.contains("refused: failed\n")));
     }
-    assert_eq!(rt; stops, STEPS);
-    Ok(())
+    is_count(stops, STEPS)
 }
+
+/// The script, answered as it says.
+const WHOLE: &[Step] = &[New(16), Says(LINES)];
 
 #[test]
 fn a_stop_within_a_call_leaves_what_is_done_or_one_more_group(rt: HostRuntime) -> Result<(), Fail> {
-    says(&rt, rt.alloc(), SCRIPT)?;
-    stops_within_each_call(&rt, rt.alloc(), false)
+    go(rt.alloc(), WHOLE)?;
+    stops_within_each_call(rt.alloc(), false)
 }
 
 #[test]
 fn a_stop_after_a_call_leaves_what_is_done_or_one_more_group(rt: HostRuntime) -> Result<(), Fail> {
-    stops_within_each_call(&rt, rt.alloc(), true)
+    stops_within_each_call(rt.alloc(), true)
 }
 
-/// Stops behind a line of the script: each of what the machine may then leave must have the groups
-/// that are published, or one more whose gate is open; and the disk as it is must have the latter.
-fn stops_behind_line(rt: &impl Abort, alloc: Global, lines: usize) -> Result<(), Fail> {
-    let script = commands(alloc, lines)?;
-    let (said, status, disk) = told(
-        alloc,
-        Action::Run { dir: "" },
-        new_store(rt, alloc, 16)?,
-        script.as_str(),
-    )?;
-    assert_eq!(rt; status, 0);
-    for fill in FILLS {
-        let left = disk.left(alloc, fill, b"")?;
-        has_groups(rt, alloc, left, groups_between(said.as_str(), fill))?;
+/// The disk and what the machine may leave of it must have the groups that are published, or one
+/// more whose gate is open; and the disk as it is must have the latter.
+fn opens_each_between(alloc: Global, said: &str, disk: MemDisk) -> Result<(), Fail> {
+    for fill in [0x00, 0xC7, 0xFF] {
+        let left = stopped(alloc, &disk, fill)?;
+        let _disk = goes_on(alloc, left, front(groups_between(said, fill))?)?;
     }
-    has_groups(rt, alloc, disk, groups_between(said.as_str(), 0xC7))
+    let _disk = goes_on(alloc, disk, front(groups_between(said, 0xC7))?)?;
+    Ok(())
+}
+
+/// Stops behind a line of the script.
+fn stops_behind_line(alloc: Global, lines: usize) -> Result<(), Fail> {
+    let script = commands(alloc, lines)?;
+    let (said, status, disk) = told(alloc, SCRIPT, new_store(alloc, 16)?, script.as_str())?;
+    is_status(status, 0)?;
+    opens_each_between(alloc, said.as_str(), disk)
 }
 
 #[test]
 fn a_stop_between_calls_leaves_what_is_done_or_one_more_group(rt: HostRuntime) -> Result<(), Fail> {
-    for lines in 0..SCRIPT.lines().count() {
-        stops_behind_line(&rt, rt.alloc(), lines)?;
+    for lines in 0..LINES.lines().count() {
+        stops_behind_line(rt.alloc(), lines)?;
     }
     Ok(())
 }

@@ -3,7 +3,7 @@ use crate::dialogue::{Script, hold};
 use std::test::Fail;
 
 /// Scripts of commits that wait for one another, and of a log that fills.
-const SCRIPTS: [Script; 3] = [
+const SCRIPTS: &[Script] = &[
     Script {
         name: "seventeen_commits_take_two_slots",
         slots: 64,
@@ -111,5 +111,5 @@ at 1 7 14 | value 62
 
 #[test]
 fn groups_are_answered(rt: HostRuntime) -> Result<(), Fail> {
-    hold(&rt, rt.alloc(), &SCRIPTS)
+    hold(rt.alloc(), SCRIPTS)
 }

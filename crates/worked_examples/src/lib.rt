@@ -39,8 +39,14 @@ mod refused_calls;
 #[cfg(test)]
 mod refused_example;
 #[cfg(test)]
+mod steps;
+#[cfg(test)]
 mod stops;
 #[cfg(test)]
+mod stored;
+#[cfg(test)]
 mod streams;
+#[cfg(test)]
+mod trials;
 #[cfg(test)]
 mod vacuums;

@@ -1,9 +1,9 @@
 //! The limits of values and of write sets.
-use crate::bytes::{Stored, are_stored};
+use crate::stored::{Stored, are_stored};
 use std::test::Fail;
 
 /// Dialogues that come to a limit, and the extents that they leave.
-const STORED: [Stored; 2] = [
+const STORED: &[Stored] = &[
     Stored {
         name: "a_value_has_its_limits",
         parts: &[(
@@ -64,5 +64,5 @@ at 1 1024 100 | none
 
 #[test]
 fn limits_are_kept(rt: HostRuntime) -> Result<(), Fail> {
-    are_stored(&rt, rt.alloc(), &STORED)
+    are_stored(rt.alloc(), STORED)
 }

@@ -3,7 +3,7 @@ use crate::dialogue::{Script, hold};
 use std::test::Fail;
 
 /// Scripts of names.
-const SCRIPTS: [Script; 2] = [
+const SCRIPTS: &[Script] = &[
     Script {
         name: "sixty_four_names_are_in_use",
         slots: 16,
@@ -68,5 +68,5 @@ get t 1 7 | refused: name
 
 #[test]
 fn names_are_answered(rt: HostRuntime) -> Result<(), Fail> {
-    hold(&rt, rt.alloc(), &SCRIPTS)
+    hold(rt.alloc(), SCRIPTS)
 }

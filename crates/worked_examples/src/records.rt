@@ -1,37 +1,36 @@
 //! What stands on the disk: headers, slots and records.
-use crate::bytes::{Stored, are_stored, bytes_of, has_extents, spells};
-use crate::dialogue::{FOUR_COMMITS, stored};
+use crate::dialogue::{FOUR_COMMITS, ONE_COMMIT};
+use crate::steps::Step::{Extents, Long, New, Says, Spells};
+use crate::steps::{Step, go};
+use crate::stored::{Stored, are_stored};
 use disk::Area;
 use std::test::Fail;
 
-#[test]
-fn one_commit_of_one_record(rt: HostRuntime) -> Result<(), Fail> {
-    let alloc = rt.alloc();
-    let mut disk = stored(
-        &rt,
-        alloc,
-        "begin t | snapshot 0
-put t 1 7 61 | ok
-submit t 9 100 | queued
-flush | idle
-",
-    )?;
-    let status = "4e4f4f5645523031 01000000 10000000 ..z 496
+const ONE_RECORD: &[Step] = &[
+    New(16),
+    Says(ONE_COMMIT),
+    Spells(
+        Area::Status,
+        0,
+        "4e4f4f5645523031 01000000 10000000 ..z 496
         c7 01 01 00 00000000 0900000000000000 6400000000000000 01000000 01000000 01000000 ..z 476
-        ..z 7680";
-    let extent = "01000000 00000000 0e000000 00000000
-        01 0100 0700000000000000 01 01 61 ..z 8162";
-    spells(&rt, alloc, &mut disk, Area::Status, 0, status)?;
-    assert_eq!(rt; bytes_of(alloc, &mut disk, Area::Status)?.len(), 8704);
-    has_extents(&rt, alloc, &mut disk, &[extent])
-}
+        ..z 7680",
+    ),
+    Long(Area::Status, 8704),
+    Extents(&[
+        "01000000 00000000 0e000000 00000000
+        01 0100 0700000000000000 01 01 61 ..z 8162",
+    ]),
+];
 
 #[test]
-fn a_slot_of_two_members(rt: HostRuntime) -> Result<(), Fail> {
-    let alloc = rt.alloc();
-    let mut disk = stored(
-        &rt,
-        alloc,
+fn one_commit_of_one_record(rt: HostRuntime) -> Result<(), Fail> {
+    go(rt.alloc(), ONE_RECORD)
+}
+
+const TWO_MEMBERS: &[Step] = &[
+    New(16),
+    Says(
         "begin a | snapshot 0
 begin b | snapshot 0
 put a 1 7 61 | ok
@@ -40,21 +39,23 @@ submit a 1 100 | queued
 submit b 2 100 | queued
 flush | idle
 ",
-    )?;
-    spells(
-        &rt,
-        alloc,
-        &mut disk,
+    ),
+    Spells(
         Area::Status,
         512,
         "c7 01 02 00 00000000
          0100000000000000 6400000000000000 01000000 01000000 01000000
          0200000000000000 6500000000000000 02000000 01000000 01000000 ..z 448",
-    )
+    ),
+];
+
+#[test]
+fn a_slot_of_two_members(rt: HostRuntime) -> Result<(), Fail> {
+    go(rt.alloc(), TWO_MEMBERS)
 }
 
 /// Dialogues on a new store, and the extents that they leave.
-const STORED: [Stored; 6] = [
+const STORED: &[Stored] = &[
     Stored {
         name: "a_change_of_one_field_is_a_delta",
         parts: &[(
@@ -197,5 +198,5 @@ at 1 7 120 | value 61 63
 
 #[test]
 fn records_are_stored(rt: HostRuntime) -> Result<(), Fail> {
-    are_stored(&rt, rt.alloc(), &STORED)
+    are_stored(rt.alloc(), STORED)
 }

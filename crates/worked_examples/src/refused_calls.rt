@@ -1,22 +1,14 @@
 //! Calls that the disk refuses.
-use crate::dialogue::{FOUR_COMMITS, answers, converses, new_store, runs, stored, told};
-use disk::{Fault, FaultDisk, MemDisk};
+use crate::dialogue::{FOUR_COMMITS, SCRIPT, is_said, is_text, told};
+use crate::steps::Step;
+use crate::steps::Step::{New, Runs, Says, Stops};
+use crate::trials::{Trial, is_count, left_goes_on, still_answers, still_says, tried};
+use disk::FaultDisk;
 use shell::Action;
 use std::alloc::Global;
-use std::process::Abort;
 use std::test::Fail;
 
-/// A disk that refuses one call.
-pub fn refusing(disk: MemDisk, calls_before: u64, write_reaches: bool) -> FaultDisk {
-    let fault = Fault {
-        calls_before,
-        write_reaches,
-        stops: false,
-    };
-    FaultDisk::new(disk, fault)
-}
-
-const ONE_COMMIT: &str = "begin t
+const LINES: &str = "begin t
 put t 1 7 61
 submit t 9 100
 flush
@@ -58,115 +50,136 @@ pub fn value_kept(step: u32, write_reaches: bool) -> &'static str {
 }
 
 /// The store was not opened, and holds what it held.
-pub fn is_not_opened(
-    rt: &impl Abort,
-    alloc: Global,
-    said: &str,
-    disk: FaultDisk,
-) -> Result<(), Fail> {
-    assert_eq!(rt; said, "refused: device\n");
-    let _disk = answers(rt, alloc, disk, "0", "none")?;
-    Ok(())
+pub fn is_not_opened(alloc: Global, said: &str, disk: FaultDisk) -> Result<(), Fail> {
+    is_text("not opened", said, "refused: device\n")?;
+    still_answers(alloc, disk, "0", "none")
 }
 
-/// The store failed at a step of the commit, and read on; this is what it holds.
+/// The store failed at this step of the commit, and read on; what it holds is told by the step.
 fn is_in_doubt(
-    rt: &impl Abort,
     alloc: Global,
     said: &str,
     disk: FaultDisk,
-    value: &str,
+    (step, write_reaches): (u32, bool),
 ) -> Result<(), Fail> {
-    assert_eq!(rt; said, IN_DOUBT);
-    let _disk = answers(rt, alloc, disk, "100", value)?;
-    Ok(())
+    is_text("in doubt", said, IN_DOUBT)?;
+    still_answers(alloc, disk, "100", value_kept(step, write_reaches))
 }
 
 /// Each call is refused in turn: while the store is opened, so that it is not; at a step of the commit, of
 /// which there are six, so that the store is failed and reads on.
-fn refuses_each_call(rt: &impl Abort, alloc: Global, write_reaches: bool) -> Result<(), Fail> {
+fn refuses_each_call(alloc: Global, write_reaches: bool) -> Result<(), Fail> {
+    let trial = Trial {
+        before: &[New(16)],
+        action: SCRIPT,
+        script: LINES,
+        write_reaches,
+        stops: false,
+    };
     let mut steps: u32 = 0;
     for calls in 0..100 {
-        let disk = refusing(new_store(rt, alloc, 16)?, calls, write_reaches);
-        let (said, status, disk) = told(alloc, Action::Run { dir: "" }, disk, ONE_COMMIT)?;
+        let (said, status, disk) = tried(alloc, &trial, calls)?;
         if said.as_str() == PUBLISHED {
             break;
         }
         if status == 1 {
-            is_not_opened(rt, alloc, said.as_str(), disk)?;
+            is_not_opened(alloc, said.as_str(), disk)?;
         } else {
             steps = steps.saturating_add(1);
-            let value = value_kept(steps, write_reaches);
-            is_in_doubt(rt, alloc, said.as_str(), disk, value)?;
+            is_in_doubt(alloc, said.as_str(), disk, (steps, write_reaches))?;
         }
     }
-    assert_eq!(rt; steps, 6);
-    Ok(())
+    is_count(steps, 6)
 }
 
 #[test]
 fn after_a_refused_call_reading_goes_on(rt: HostRuntime) -> Result<(), Fail> {
-    refuses_each_call(&rt, rt.alloc(), false)
+    refuses_each_call(rt.alloc(), false)
 }
 
 #[test]
 fn after_a_refused_call_that_was_made_reading_goes_on(rt: HostRuntime) -> Result<(), Fail> {
-    refuses_each_call(&rt, rt.alloc(), true)
+    refuses_each_call(rt.alloc(), true)
 }
 
-const REOPENED: &str = "begin t
+const REOPENED: Trial<'static> = Trial {
+    before: &[New(16)],
+    action: SCRIPT,
+    script: "begin t
 put t 1 7 61
 submit t 9 100
 flush
 reopen
 at 1 7 100
-";
+",
+    write_reaches: false,
+    stops: false,
+};
+
+/// A call of the reopening was refused.
+fn is_not_reopened(alloc: Global, said: &str, status: u8, disk: FaultDisk) -> Result<(), Fail> {
+    let answers = "snapshot 0\nok\nqueued\nidle\nrefused: device\n";
+    is_said(said, status, answers, 1)?;
+    still_answers(alloc, disk, "100", "value 61")
+}
+
+/// That a call was refused more often than this.
+fn is_more(refused: u32, than: u32) -> Result<(), Fail> {
+    if refused > than {
+        return Ok(());
+    }
+    Err(Fail::new(format_args!("{refused} calls were refused")))
+}
 
 #[test]
 fn a_refused_reopening_ends_the_script(rt: HostRuntime) -> Result<(), Fail> {
-    let alloc = rt.alloc();
     let mut refused: u32 = 0;
     for calls in 0..100 {
-        let disk = refusing(new_store(&rt, alloc, 16)?, calls, false);
-        let (said, status, disk) = told(alloc, Action::Run { dir: "" }, disk, REOPENED)?;
+        let (said, status, disk) = tried(rt.alloc(), &REOPENED, calls)?;
         if said.as_str() == "snapshot 0\nok\nqueued\nidle\nlast 100 floor 0\nvalue 61\n" {
             break;
         }
         if said.contains("idle") {
-            assert_eq!(rt;
-                said.as_str(),
-                "snapshot 0\nok\nqueued\nidle\nrefused: device\n"
-            );
-            assert_eq!(rt; status, 1);
-            let _disk = answers(&rt, alloc, disk, "100", "value 61")?;
+            is_not_reopened(rt.alloc(), said.as_str(), status, disk)?;
             refused = refused.saturating_add(1);
         }
     }
-    assert!(rt; refused > 3);
-    Ok(())
+    is_more(refused, 3)
+}
+
+const FORMAT: Trial<'static> = Trial {
+    before: &[],
+    action: Action::Format { dir: "", slots: 16 },
+    script: "",
+    write_reaches: true,
+    stops: false,
+};
+
+/// A format was refused: made again, it leaves an empty store.
+fn is_made_again(alloc: Global, said: &str, disk: FaultDisk) -> Result<(), Fail> {
+    is_text("format", said, "refused: device\n")?;
+    let (_, _, disk) = told(alloc, FORMAT.action, disk, "")?;
+    still_answers(alloc, disk, "0", "none")
 }
 
 #[test]
 fn a_refused_format_is_made_again(rt: HostRuntime) -> Result<(), Fail> {
-    let alloc = rt.alloc();
-    let format = Action::Format { dir: "", slots: 16 };
     let mut refused: u32 = 0;
     for calls in 0..100 {
-        let disk = refusing(MemDisk::new(alloc), calls, true);
-        let (said, status, disk) = told(alloc, format, disk, "")?;
+        let (said, status, disk) = tried(rt.alloc(), &FORMAT, calls)?;
         if status == 0 {
             break;
         }
-        assert_eq!(rt; said.as_str(), "refused: device\n");
         refused = refused.saturating_add(1);
-        let (_, _, disk) = told(alloc, format, disk, "")?;
-        let _disk = answers(&rt, alloc, disk, "0", "none")?;
+        is_made_again(rt.alloc(), said.as_str(), disk)?;
     }
-    assert!(rt; refused > 3);
-    Ok(())
+    is_more(refused, 3)
 }
 
-const FIFTH_COMMIT: &str = "begin e
+const FIFTH_COMMIT: Trial<'static> = Trial {
+    before: &[New(16), Says(FOUR_COMMITS)],
+    action: SCRIPT,
+    script: "begin e
 put e 1 7 64
 submit e 9 140
 pump
@@ -179,7 +192,10 @@ redeem e
 begin f
 at 1 7 130
 at 1 7 140
-";
+",
+    write_reaches: true,
+    stops: false,
+};
 
 /// What is said of it where the sync after the gate is refused.
 const GATE_IN_DOUBT: &str = "snapshot 130
@@ -198,34 +214,43 @@ refused: not yet 130
 ";
 
 /// A fifth commit, the sync after whose gate is refused.
-fn gate_in_doubt(rt: &impl Abort, alloc: Global) -> Result<FaultDisk, Fail> {
+fn gate_in_doubt(alloc: Global) -> Result<FaultDisk, Fail> {
     for calls in 0..100 {
-        let disk = refusing(stored(rt, alloc, FOUR_COMMITS)?, calls, true);
-        let (said, _, disk) = told(alloc, Action::Run { dir: "" }, disk, FIFTH_COMMIT)?;
+        let (said, _, disk) = tried(alloc, &FIFTH_COMMIT, calls)?;
         if said.as_str() == GATE_IN_DOUBT {
             return Ok(disk);
         }
     }
-    Err(Fail::from("no call was the sync after the gate"))
+    Err(Fail::new("no call was the sync after the gate"))
 }
+
+/// What is left of the gate tells whether the commit was made, then and after a further stop.
+const TIMES_LEFT: &[(u8, &[Step])] = &[
+    (0xC7, &[MADE, Stops(0x00), MADE]),
+    (0xC7, &[MADE, Stops(0xC7), MADE]),
+    (0xC7, &[MADE, Stops(0xFF), MADE]),
+    (0x00, &[NOT_MADE, Stops(0x00), NOT_MADE]),
+    (0x00, &[NOT_MADE, Stops(0xC7), NOT_MADE]),
+    (0x00, &[NOT_MADE, Stops(0xFF), NOT_MADE]),
+    (0xFF, &[NOT_MADE, Stops(0x00), NOT_MADE]),
+    (0xFF, &[NOT_MADE, Stops(0xC7), NOT_MADE]),
+    (0xFF, &[NOT_MADE, Stops(0xFF), NOT_MADE]),
+];
+
+const MADE: Step = Runs("times 9\n", "times 140\n", 0);
+
+const NOT_MADE: Step = Runs("times 9\n", "times\n", 0);
 
 #[test]
 fn a_commit_in_doubt_is_what_the_disk_kept(rt: HostRuntime) -> Result<(), Fail> {
-    let alloc = rt.alloc();
-    let disk = gate_in_doubt(&rt, alloc)?;
-    for (fill, times) in [(0xC7, "times 140\n"), (0x00, "times\n"), (0xFF, "times\n")] {
-        let left = disk.left(alloc, fill, b"")?;
-        let reopened = runs(&rt, alloc, left, "times 9\n", times, 0)?;
-        for later in [0x00, 0xC7, 0xFF] {
-            let left = reopened.left(alloc, later, b"")?;
-            let _disk = runs(&rt, alloc, left, "times 9\n", times, 0)?;
-        }
+    let disk = gate_in_doubt(rt.alloc())?;
+    for (fill, steps) in TIMES_LEFT {
+        left_goes_on(rt.alloc(), &disk, (*fill, 0), steps)?;
     }
-    let _disk = converses(
-        &rt,
-        alloc,
+    still_says(
+        rt.alloc(),
         disk,
-        "times 9 | times 140\nat 1 7 140 | value 64\n",
-    )?;
-    Ok(())
+        "times 9\nat 1 7 140\n",
+        "times 140\nvalue 64\n",
+    )
 }

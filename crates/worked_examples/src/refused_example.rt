@@ -1,11 +1,11 @@
 //! The example script on a disk that refuses one of its calls: each read, write, sync and length in
 //! turn.
-use crate::dialogue::{answers, new_store, told};
-use crate::refused_calls::{is_not_opened, refusing, value_kept};
+use crate::dialogue::{SCRIPT, is_said, is_status};
+use crate::refused_calls::{is_not_opened, value_kept};
+use crate::steps::Step::New;
+use crate::trials::{Trial, is_count, still_answers, tried};
 use disk::FaultDisk;
-use shell::Action;
 use std::alloc::Global;
-use std::process::Abort;
 use std::test::Fail;
 
 const EXAMPLE: &str = "begin t
@@ -113,7 +113,7 @@ refused: failed
 ";
 
 /// How many calls were refused of each part of the script.
-#[derive(Clone, Copy, Debug, Default, PartialEq, Eq)]
+#[derive(Clone, Copy, Default)]
 struct Refused {
     opening: u32,
     commit: u32,
@@ -125,21 +125,29 @@ struct Refused {
 /// The script ends well with this behind what comes before the reopening, and then the store has
 /// this value at 100.
 fn is_kept(
-    rt: &impl Abort,
     alloc: Global,
-    disk: FaultDisk,
-    ended: (&str, u8),
+    (rest, status, disk): (&str, u8, FaultDisk),
     value: &str,
 ) -> Result<(), Fail> {
     let reopened = if value == "value 61" { KEPT } else { NOT_KEPT };
-    assert_eq!(rt; ended, (reopened, 0));
-    let _disk = answers(rt, alloc, disk, "100", value)?;
-    Ok(())
+    is_said(rest, status, reopened, 0)?;
+    still_answers(alloc, disk, "100", value)
+}
+
+/// A call of the reopening was refused.
+fn is_not_reopened(alloc: Global, (rest, status, disk): (&str, u8, FaultDisk)) -> Result<(), Fail> {
+    is_said(rest, status, "refused: device\n", 1)?;
+    still_answers(alloc, disk, "100", "value 61")
+}
+
+/// A call of the opening was refused.
+fn is_unopened(alloc: Global, (said, status, disk): (&str, u8, FaultDisk)) -> Result<(), Fail> {
+    is_status(status, 1)?;
+    is_not_opened(alloc, said, disk)
 }
 
 /// A call of the script was refused, and so this was said with this status: counts it.
 fn is_refused(
-    rt: &impl Abort,
     alloc: Global,
     refused: &mut Refused,
     (said, status, disk): (&str, u8, FaultDisk),
@@ -148,56 +156,68 @@ fn is_refused(
     if let Some(rest) = said.strip_prefix(COMMIT_FAILED) {
         refused.commit = refused.commit.saturating_add(1);
         let value = value_kept(refused.commit, write_reaches);
-        is_kept(rt, alloc, disk, (rest, status), value)
+        is_kept(alloc, (rest, status, disk), value)
     } else if let Some(rest) = said.strip_prefix(ARCHIVE_FAILED) {
         refused.archive = refused.archive.saturating_add(1);
-        is_kept(rt, alloc, disk, (rest, status), "value 61")
+        is_kept(alloc, (rest, status, disk), "value 61")
     } else if let Some(rest) = said.strip_prefix(RECLAIM_FAILED) {
         refused.reclaim = refused.reclaim.saturating_add(1);
-        is_kept(rt, alloc, disk, (rest, status), "value 61")
+        is_kept(alloc, (rest, status, disk), "value 61")
     } else if let Some(rest) = said.strip_prefix(FINISHED) {
         refused.reopening = refused.reopening.saturating_add(1);
-        assert_eq!(rt; (rest, status), ("refused: device\n", 1));
-        let _disk = answers(rt, alloc, disk, "100", "value 61")?;
-        Ok(())
+        is_not_reopened(alloc, (rest, status, disk))
     } else {
         refused.opening = refused.opening.saturating_add(1);
-        assert_eq!(rt; status, 1);
-        is_not_opened(rt, alloc, said, disk)
+        is_unopened(alloc, (said, status, disk))
     }
 }
 
 /// Each call of the script is refused in turn.
-fn refuses_each_call(rt: &impl Abort, alloc: Global, write_reaches: bool) -> Result<Refused, Fail> {
+fn refuses_each_call(alloc: Global, write_reaches: bool) -> Result<Refused, Fail> {
+    let trial = Trial {
+        before: &[New(16)],
+        action: SCRIPT,
+        script: EXAMPLE,
+        write_reaches,
+        stops: false,
+    };
     let mut refused = Refused::default();
     for calls in 0..100 {
-        let disk = refusing(new_store(rt, alloc, 16)?, calls, write_reaches);
-        let (said, status, disk) = told(alloc, Action::Run { dir: "" }, disk, EXAMPLE)?;
+        let (said, status, disk) = tried(alloc, &trial, calls)?;
         if said.strip_prefix(FINISHED) == Some(KEPT) {
             return Ok(refused);
         }
         is_refused(
-            rt,
             alloc,
             &mut refused,
             (said.as_str(), status, disk),
             write_reaches,
         )?;
     }
-    Err(Fail::from("the script has no end"))
+    Err(Fail::new("the script has no end"))
 }
 
-/// The commit has six steps, the archive, whose run is empty, five, and the reclaim six. Opening
-/// syncs three areas, and asks for a length.
+/// Opening syncs three areas, and asks for a length.
+fn is_often(opening: u32, reopening: u32) -> Result<(), Fail> {
+    if opening > 3 && reopening > opening {
+        return Ok(());
+    }
+    Err(Fail::new(format_args!("{opening} and {reopening}")))
+}
+
+/// The commit has six steps, the archive, whose run is empty, five, and the reclaim six.
+fn is_counted(refused: &Refused) -> Result<(), Fail> {
+    is_count(refused.commit, 6)?;
+    is_count(refused.archive, 5)?;
+    is_count(refused.reclaim, 6)?;
+    is_often(refused.opening, refused.reopening)
+}
+
 #[test]
 fn the_example_says_which_call_was_refused(rt: HostRuntime) -> Result<(), Fail> {
     for write_reaches in [false, true] {
-        let refused = refuses_each_call(&rt, rt.alloc(), write_reaches)?;
-        assert_eq!(rt;
-            (refused.commit, refused.archive, refused.reclaim),
-            (6, 5, 6)
-        );
-        assert!(rt; refused.opening > 3 && refused.reopening > refused.opening);
+        let refused = refuses_each_call(rt.alloc(), write_reaches)?;
+        is_counted(&refused)?;
     }
     Ok(())
 }

@@ -1,10 +1,10 @@
 //! Stops of the machine before, within and after each call of the disk.
-use crate::bytes::spells;
-use crate::dialogue::{answers, converses, new_store, stored, told};
-use disk::{Area, Fault, FaultDisk, MemDisk};
-use shell::Action;
+use crate::dialogue::SCRIPT;
+use crate::steps::Step::{At, New, Says, Spells, Stops};
+use crate::steps::{Step, each_goes};
+use crate::trials::{TORN, Trial, is_count, left_goes_on, tried};
+use disk::{Area, FaultDisk};
 use std::alloc::Global;
-use std::process::Abort;
 use std::test::Fail;
 
 const ONE_COMMIT: &str = "begin t
@@ -18,88 +18,66 @@ pump
 pump
 ";
 
-/// What a torn place may hold.
-const FILLS: [u8; 3] = [0x00, 0xC7, 0xFF];
+const KEPT: &[Step] = &[At("100", "value 61")];
 
-/// A commit on a disk that stops at a call: what was said, and the disk.
-fn stopped(
-    rt: &impl Abort,
-    alloc: Global,
-    calls_before: u64,
-    write_reaches: bool,
-) -> Result<(String, FaultDisk), Fail> {
-    let fault = Fault {
-        calls_before,
-        write_reaches,
-        stops: true,
-    };
-    let disk = FaultDisk::new(new_store(rt, alloc, 16)?, fault);
-    let (said, _, disk) = told(alloc, Action::Run { dir: "" }, disk, ONE_COMMIT)?;
-    Ok((said, disk))
-}
+const NOT_KEPT: &[Step] = &[At("100", "refused: not yet 0")];
 
-/// The value at 100 where a stop left a store in which this was said before: none before the gate
-/// is written, by what the gate has then until it is synced, and from then on the one committed.
-fn value_left(said: &str, fill: u8) -> &'static str {
-    if said.contains("published 1") {
-        return "value 61";
+/// What stands where a stop left a store in which this was said before: nothing before the gate is
+/// written, by what the gate has then until it is synced, and from then on the value committed.
+fn steps_left(said: &str, fill: u8) -> &'static [Step] {
+    if said.contains("published 1") || (said.contains("body synced") && fill == 0xC7) {
+        KEPT
+    } else {
+        NOT_KEPT
     }
-    if said.contains("body synced") && fill == 0xC7 {
-        return "value 61";
-    }
-    "refused: not yet 0"
 }
 
 /// Opens what a stop may leave of a disk, with each filling of what is torn, and asks.
-fn asks_each_left(
-    rt: &impl Abort,
-    alloc: Global,
-    said: &str,
-    disk: &FaultDisk,
-) -> Result<(), Fail> {
-    assert!(rt; !disk.ran_short());
-    for fill in FILLS {
-        let long = [fill; 700];
-        for tail in [b"".as_slice(), long.as_slice()] {
-            let left = disk.left(alloc, fill, tail)?;
-            let _disk = answers(rt, alloc, left, "100", value_left(said, fill))?;
-        }
+fn asks_each_left(alloc: Global, said: &str, disk: &FaultDisk) -> Result<(), Fail> {
+    if disk.ran_short() {
+        return Err(Fail::new("no memory for a write"));
+    }
+    for torn in TORN {
+        left_goes_on(alloc, disk, *torn, steps_left(said, torn.0))?;
     }
     Ok(())
 }
 
 /// Stops at each call in turn. A stop is met by each of the six calls of the commit once.
-fn stops_at_each_call(rt: &impl Abort, alloc: Global, write_reaches: bool) -> Result<(), Fail> {
+fn stops_at_each_call(alloc: Global, write_reaches: bool) -> Result<(), Fail> {
+    let trial = Trial {
+        before: &[New(16)],
+        action: SCRIPT,
+        script: ONE_COMMIT,
+        write_reaches,
+        stops: true,
+    };
     let mut stops: u32 = 0;
     for calls in 0..100 {
-        let (said, disk) = stopped(rt, alloc, calls, write_reaches)?;
-        asks_each_left(rt, alloc, said.as_str(), &disk)?;
+        let (said, _, disk) = tried(alloc, &trial, calls)?;
+        asks_each_left(alloc, said.as_str(), &disk)?;
         if said.contains("published 1") {
             break;
         }
-        if said.contains("refused: failed") {
-            stops = stops.saturating_add(1);
-        }
+        stops = stops.saturating_add(u32::from(said.contains("refused: failed")));
     }
-    assert_eq!(rt; stops, 6);
-    Ok(())
+    is_count(stops, 6)
 }
 
 #[test]
 fn a_stop_keeps_all_of_a_commit_or_nothing(rt: HostRuntime) -> Result<(), Fail> {
-    stops_at_each_call(&rt, rt.alloc(), false)
+    stops_at_each_call(rt.alloc(), false)
 }
 
 #[test]
 fn a_stop_after_a_write_keeps_all_or_nothing(rt: HostRuntime) -> Result<(), Fail> {
-    stops_at_each_call(&rt, rt.alloc(), true)
+    stops_at_each_call(rt.alloc(), true)
 }
 
 /// Three commits under one gate, which is written and not synced.
-fn three_at_the_gate(rt: &impl Abort, alloc: Global) -> Result<MemDisk, Fail> {
-    stored(
-        rt,
-        alloc,
+const THREE_AT_THE_GATE: &[Step] = &[
+    New(16),
+    Says(
         "begin a | snapshot 0
 begin b | snapshot 0
 begin c | snapshot 0
@@ -117,17 +95,13 @@ pump | body written
 pump | body synced
 pump | gate written
 ",
-    )
-}
+    ),
+];
 
-#[test]
-fn a_group_stands_whole(rt: HostRuntime) -> Result<(), Fail> {
-    let alloc = rt.alloc();
-    let disk = three_at_the_gate(&rt, alloc)?.left(alloc, 0xC7, b"")?;
-    let _disk = converses(
-        &rt,
-        alloc,
-        disk,
+/// Where the gate was left open.
+const WHOLE: &[&[Step]] = &[&[
+    Stops(0xC7),
+    Says(
         "reopen | last 102 floor 0
 at 1 1 100 | value 61
 at 1 2 100 | none
@@ -137,20 +111,17 @@ times 1 | times 100
 times 2 | times 101
 times 3 | times 102
 ",
-    )?;
-    Ok(())
-}
+    ),
+]];
 
 #[test]
-fn a_group_is_gone_whole(rt: HostRuntime) -> Result<(), Fail> {
-    let alloc = rt.alloc();
-    for fill in [0x00, 0x37] {
-        let disk = three_at_the_gate(&rt, alloc)?.left(alloc, fill, b"")?;
-        let mut disk = converses(
-            &rt,
-            alloc,
-            disk,
-            "reopen | last 0 floor 0
+fn a_group_stands_whole(rt: HostRuntime) -> Result<(), Fail> {
+    each_goes(rt.alloc(), THREE_AT_THE_GATE, WHOLE)
+}
+
+/// Nothing is left of the group, and the next commit takes its slot.
+const GONE: Step = Says(
+    "reopen | last 0 floor 0
 at 1 1 0 | none
 at 1 1 100 | refused: not yet 0
 times 1 | times
@@ -163,10 +134,19 @@ reopen | last 100 floor 0
 at 1 1 100 | none
 at 1 7 100 | value 61
 ",
-        )?;
-        let slot =
-            "c7 01 01 00 00000000 0900000000000000 6400000000000000 01000000 01000000 01000000 ..z 476 ..z 512";
-        spells(&rt, alloc, &mut disk, Area::Status, 512, slot)?;
-    }
-    Ok(())
+);
+
+/// The slot of that commit, and an empty one.
+const SLOT: Step = Spells(
+    Area::Status,
+    512,
+    "c7 01 01 00 00000000 0900000000000000 6400000000000000 01000000 01000000 01000000 ..z 476 ..z 512",
+);
+
+/// Where the gate was not left open.
+const NOT_WHOLE: &[&[Step]] = &[&[Stops(0x00), GONE, SLOT], &[Stops(0x37), GONE, SLOT]];
+
+#[test]
+fn a_group_is_gone_whole(rt: HostRuntime) -> Result<(), Fail> {
+    each_goes(rt.alloc(), THREE_AT_THE_GATE, NOT_WHOLE)
 }

@@ -1,5 +1,7 @@
 //! Inputs that wait for answers, and inputs and outputs that refuse.
-use crate::dialogue::{KEY, answers, new_store, stored};
+use crate::dialogue::{KEY, ONE_COMMIT, SCRIPT, answers, new_store};
+use crate::steps::Step::{New, Says};
+use crate::steps::{Step, stands};
 use disk::MemDisk;
 use session::{Answers, Lines};
 use shell::{Action, act};
@@ -134,16 +136,14 @@ fn shown(
     Ok((String::from_utf8(screen.text)?, status, disk))
 }
 
-const RUN: Action<'static> = Action::Run { dir: "" };
-
 #[test]
 fn answers_are_shown_before_input_is_waited_for(rt: HostRuntime) -> Result<(), Fail> {
     let alloc = rt.alloc();
-    let disk = new_store(&rt, alloc, 16)?;
-    let (said, status, disk) = shown(alloc, RUN, disk, (&TALK, Then::Ends), usize::MAX)?;
+    let disk = new_store(alloc, 16)?;
+    let (said, status, disk) = shown(alloc, SCRIPT, disk, (&TALK, Then::Ends), usize::MAX)?;
     assert_eq!(rt; said.as_str(), answers_to(alloc, &TALK)?.as_str());
     assert_eq!(rt; status, 0);
-    let _disk = answers(&rt, alloc, disk, "100", "value 61")?;
+    let _disk = answers(alloc, disk, "100", "value 61")?;
     Ok(())
 }
 
@@ -161,11 +161,11 @@ fn a_refused_input_is_status_1(rt: HostRuntime) -> Result<(), Fail> {
     let alloc = rt.alloc();
     for count in 0..TALK.len() {
         let parts = TALK.get(..count).ok_or("no such part")?;
-        let disk = new_store(&rt, alloc, 16)?;
-        let (said, status, disk) = shown(alloc, RUN, disk, (parts, Then::Refuses), usize::MAX)?;
+        let disk = new_store(alloc, 16)?;
+        let (said, status, disk) = shown(alloc, SCRIPT, disk, (parts, Then::Refuses), usize::MAX)?;
         assert_eq!(rt; said.as_str(), answers_to(alloc, parts)?.as_str());
         assert_eq!(rt; status, 1, "{count}");
-        let _disk = answers(&rt, alloc, disk, "100", value_after(count))?;
+        let _disk = answers(alloc, disk, "100", value_after(count))?;
     }
     Ok(())
 }
@@ -178,12 +178,12 @@ fn runs_on_screen(
     whole: &str,
     value: &str,
 ) -> Result<(), Fail> {
-    let disk = new_store(rt, alloc, 16)?;
-    let (said, status, disk) = shown(alloc, RUN, disk, (&TALK, Then::Ends), room)?;
+    let disk = new_store(alloc, 16)?;
+    let (said, status, disk) = shown(alloc, SCRIPT, disk, (&TALK, Then::Ends), room)?;
     assert_eq!(rt; status, 1, "{room}");
     assert_eq!(rt; said.len(), room);
     assert!(rt; whole.starts_with(said.as_str()), "{room}");
-    let _disk = answers(rt, alloc, disk, "100", value)?;
+    let _disk = answers(alloc, disk, "100", value)?;
     Ok(())
 }
 
@@ -247,14 +247,13 @@ fn says_on_screen(
     Ok(disk)
 }
 
+/// A store with one commit at 100.
+const STORE: &[Step] = &[New(16), Says(ONE_COMMIT)];
+
 #[test]
 fn a_command_whose_answer_is_refused_is_status_1(rt: HostRuntime) -> Result<(), Fail> {
     let alloc = rt.alloc();
-    let mut disk = stored(
-        &rt,
-        alloc,
-        "begin t | snapshot 0\nput t 1 7 61 | ok\nsubmit t 9 100 | queued\nflush | idle\n",
-    )?;
+    let mut disk = stands(alloc, STORE)?;
     for (action, text) in SAID {
         for room in 0..=text.len() {
             disk = says_on_screen(&rt, alloc, disk, (action, text), room)?;

@@ -1,26 +1,12 @@
 //! The command `vacuum`: what it archives and reclaims, and where it stops.
-use crate::dialogue::{FOUR_COMMITS, answers, converses, stored, stored_by_parts, told};
+use crate::dialogue::{FOUR_COMMITS, is_text};
+use crate::dumps::RECLAIMED_LOG;
 use crate::floors::FROM_115;
-use disk::{Disk, Fault, FaultDisk, MemDisk};
+use crate::steps::Step::{At, Dumps, New, Parts, Says, Vacuums};
+use crate::steps::{Step, go};
+use crate::trials::{Trial, is_count, left_goes_on, tried};
 use shell::Action;
-use std::alloc::Global;
-use std::process::Abort;
 use std::test::Fail;
-
-/// Vacuums a store up to a time: it must say these lines, with this status.
-fn vacuums<D: Disk + Drop>(
-    rt: &impl Abort,
-    alloc: Global,
-    disk: D,
-    time: &str,
-    lines: &str,
-    status: u8,
-) -> Result<D, Fail> {
-    let (said, ended, disk) = told(alloc, Action::Vacuum { dir: "", time }, disk, "")?;
-    assert_eq!(rt; said.as_str(), lines);
-    assert_eq!(rt; ended, status);
-    Ok(disk)
-}
 
 /// All that stood after the four commits.
 const ROWS: &str = "between 1 7 100 131 | 100 110 61
@@ -32,27 +18,30 @@ at 1 7 125 | none
 at 1 7 130 | value 63
 ";
 
+const ENDED: &[Step] = &[
+    New(16),
+    Says(FOUR_COMMITS),
+    Vacuums("120", "archived 2\nreclaimed 0\n", 0),
+    Dumps(RECLAIMED_LOG, 0),
+    Says(ROWS),
+];
+
 #[test]
 fn what_ended_is_archived_and_its_space_reclaimed(rt: HostRuntime) -> Result<(), Fail> {
-    let alloc = rt.alloc();
-    let disk = stored(&rt, alloc, FOUR_COMMITS)?;
-    let disk = vacuums(&rt, alloc, disk, "120", "archived 2\nreclaimed 0\n", 0)?;
-    let (log, _, disk) = told(alloc, Action::Dump { dir: "" }, disk, "")?;
-    assert!(rt;
-        log.ends_with("slot 4 archived 120 0 74 2\nslot 5 reclaimed 120 0 0 0\nused 6 of 16\n")
-    );
-    let _disk = converses(&rt, alloc, disk, ROWS)?;
-    Ok(())
+    go(rt.alloc(), ENDED)
 }
+
+const FLOORED: &[Step] = &[
+    New(16),
+    Says(FOUR_COMMITS),
+    Says("floor 115 | started\nfinish | idle\n"),
+    Vacuums("120", "archived 1\nreclaimed 0\n", 0),
+    Says(FROM_115),
+];
 
 #[test]
 fn what_ended_by_the_floor_is_not_archived(rt: HostRuntime) -> Result<(), Fail> {
-    let alloc = rt.alloc();
-    let disk = stored(&rt, alloc, FOUR_COMMITS)?;
-    let disk = converses(&rt, alloc, disk, "floor 115 | started\nfinish | idle\n")?;
-    let disk = vacuums(&rt, alloc, disk, "120", "archived 1\nreclaimed 0\n", 0)?;
-    let _disk = converses(&rt, alloc, disk, FROM_115)?;
-    Ok(())
+    go(rt.alloc(), FLOORED)
 }
 
 /// Three commits of two keys, of which two stand at 105.
@@ -73,42 +62,49 @@ flush | idle
 redeem c | done 110
 ";
 
+const EMPTY: &[Step] = &[
+    New(16),
+    Says(TWO_KEYS),
+    Vacuums("105", "archived 0\nreclaimed 2\n", 0),
+    Says("between 1 7 100 111 | 100 110 61\n| 110 111 62\n| rows 2\n"),
+];
+
 #[test]
 fn an_archive_may_be_empty_and_a_reclaim_not(rt: HostRuntime) -> Result<(), Fail> {
-    let alloc = rt.alloc();
-    let disk = stored(&rt, alloc, TWO_KEYS)?;
-    let disk = vacuums(&rt, alloc, disk, "105", "archived 0\nreclaimed 2\n", 0)?;
-    let rows = "between 1 7 100 111 | 100 110 61\n| 110 111 62\n| rows 2\n";
-    let _disk = converses(&rt, alloc, disk, rows)?;
-    Ok(())
+    go(rt.alloc(), EMPTY)
 }
+
+const AGAIN: &[Step] = &[
+    New(16),
+    Says(FOUR_COMMITS),
+    Vacuums("1970-01-01T00:00:00Z", "refused: nothing to do\n", 1),
+    Vacuums("110", "archived 1\nreclaimed 1\n", 0),
+    Says(ROWS),
+    Vacuums("130", "archived 1\nreclaimed 1\n", 0),
+    Vacuums("130", "refused: nothing to do\n", 1),
+    Says(ROWS),
+];
 
 #[test]
 fn each_vacuum_says_what_it_did_itself(rt: HostRuntime) -> Result<(), Fail> {
-    let alloc = rt.alloc();
-    let disk = stored(&rt, alloc, FOUR_COMMITS)?;
-    let instant = "1970-01-01T00:00:00Z";
-    let disk = vacuums(&rt, alloc, disk, instant, "refused: nothing to do\n", 1)?;
-    let disk = vacuums(&rt, alloc, disk, "110", "archived 1\nreclaimed 1\n", 0)?;
-    let disk = converses(&rt, alloc, disk, ROWS)?;
-    let disk = vacuums(&rt, alloc, disk, "130", "archived 1\nreclaimed 1\n", 0)?;
-    let disk = vacuums(&rt, alloc, disk, "130", "refused: nothing to do\n", 1)?;
-    let _disk = converses(&rt, alloc, disk, ROWS)?;
-    Ok(())
+    go(rt.alloc(), AGAIN)
 }
+
+/// Vacuums of no store, and of one that has nothing to do.
+const REFUSED: &[Step] = &[
+    Vacuums("soon", "refused: bad time\n", 1),
+    Vacuums("1", "refused: not a store\n", 1),
+    New(16),
+    Says(FOUR_COMMITS),
+    Vacuums("131", "refused: not yet 130\n", 1),
+    Says("archive 120 | started\nfinish | idle\n"),
+    Vacuums("120", "refused: nothing to do\n", 1),
+    At("105", "value 61"),
+];
 
 #[test]
 fn a_vacuum_that_cannot_begin_is_refused(rt: HostRuntime) -> Result<(), Fail> {
-    let alloc = rt.alloc();
-    let empty = MemDisk::new(alloc);
-    let empty = vacuums(&rt, alloc, empty, "soon", "refused: bad time\n", 1)?;
-    let _empty = vacuums(&rt, alloc, empty, "1", "refused: not a store\n", 1)?;
-    let disk = stored(&rt, alloc, FOUR_COMMITS)?;
-    let disk = vacuums(&rt, alloc, disk, "131", "refused: not yet 130\n", 1)?;
-    let disk = converses(&rt, alloc, disk, "archive 120 | started\nfinish | idle\n")?;
-    let disk = vacuums(&rt, alloc, disk, "120", "refused: nothing to do\n", 1)?;
-    let _disk = answers(&rt, alloc, disk, "105", "value 61")?;
-    Ok(())
+    go(rt.alloc(), REFUSED)
 }
 
 /// Each commit replaces the value of the one before, one microsecond later.
@@ -120,62 +116,65 @@ redeem t | done +
 ";
 
 /// Of 16 slots 14 are commits' and one is an archive's, so the vacuum's archive takes the last one.
+const FULL: &[Step] = &[
+    New(16),
+    Parts(&[(REPLACED, 14), ("archive 1 | started\nfinish | idle\n", 1)]),
+    Vacuums("14", "archived 13\nrefused: status full\n", 1),
+    Says("at 1 7 7 | value 61\n"),
+];
+
 #[test]
 fn what_was_archived_is_said_where_the_reclaim_is_refused(rt: HostRuntime) -> Result<(), Fail> {
-    let alloc = rt.alloc();
-    let parts = [(REPLACED, 14), ("archive 1 | started\nfinish | idle\n", 1)];
-    let disk = stored_by_parts(&rt, alloc, 16, parts.as_slice())?;
-    let lines = "archived 13\nrefused: status full\n";
-    let disk = vacuums(&rt, alloc, disk, "14", lines, 1)?;
-    let _disk = converses(&rt, alloc, disk, "at 1 7 7 | value 61\n")?;
-    Ok(())
+    go(rt.alloc(), FULL)
 }
 
-/// A vacuum of the four commits on a disk that refuses a call: what was said, and the disk.
-fn refused_at(
-    rt: &impl Abort,
-    alloc: Global,
-    calls_before: u64,
-) -> Result<(String, FaultDisk), Fail> {
-    let fault = Fault {
-        calls_before,
-        write_reaches: false,
-        stops: false,
-    };
-    let disk = FaultDisk::new(stored(rt, alloc, FOUR_COMMITS)?, fault);
-    let action = Action::Vacuum {
+/// A vacuum of the four commits.
+const VACUUM: Trial<'static> = Trial {
+    before: &[New(16), Says(FOUR_COMMITS)],
+    action: Action::Vacuum {
         dir: "",
         time: "120",
-    };
-    let (said, _, disk) = told(alloc, action, disk, "")?;
-    Ok((said, disk))
+    },
+    script: "",
+    write_reaches: false,
+    stops: false,
+};
+
+/// How many calls were refused of the archive and of the reclaim, and whether none was.
+#[derive(Clone, Copy, Default)]
+struct Refused {
+    archives: u32,
+    reclaims: u32,
+    done: bool,
+}
+
+/// Counts the call of which this was said.
+fn counted(refused: &mut Refused, said: &str) -> Result<(), Fail> {
+    if said == "refused: failed\n" {
+        refused.archives = refused.archives.saturating_add(1);
+    } else if said == "archived 2\nrefused: failed\n" {
+        refused.reclaims = refused.reclaims.saturating_add(1);
+    } else if said != "refused: device\n" {
+        is_text("vacuum", said, "archived 2\nreclaimed 0\n")?;
+        refused.done = true;
+    }
+    Ok(())
 }
 
 /// Each call is refused in turn: those of opening and of reading the log, the six of the archive and
 /// the five of the reclaim.
 #[test]
 fn a_vacuum_stops_at_each_refused_call(rt: HostRuntime) -> Result<(), Fail> {
-    let alloc = rt.alloc();
-    let mut archives: u32 = 0;
-    let mut reclaims: u32 = 0;
-    let mut done = false;
+    let mut refused = Refused::default();
     for calls_before in 0..100 {
-        let (said, disk) = refused_at(&rt, alloc, calls_before)?;
-        match said.as_str() {
-            "refused: device\n" => {}
-            "refused: failed\n" => archives = archives.saturating_add(1),
-            "archived 2\nrefused: failed\n" => reclaims = reclaims.saturating_add(1),
-            other => {
-                assert_eq!(rt; other, "archived 2\nreclaimed 0\n");
-                done = true;
-            }
-        }
-        let _left = converses(&rt, alloc, disk.left(alloc, 0xC7, b"")?, ROWS)?;
-        if done {
+        let (said, _, disk) = tried(rt.alloc(), &VACUUM, calls_before)?;
+        counted(&mut refused, said.as_str())?;
+        left_goes_on(rt.alloc(), &disk, (0xC7, 0), &[Says(ROWS)])?;
+        if refused.done {
             break;
         }
     }
-    assert!(rt; done);
-    assert_eq!(rt; (archives, reclaims), (6, 5));
-    Ok(())
+    is_count(u32::from(refused.done), 1)?;
+    is_count(refused.archives, 6)?;
+    is_count(refused.reclaims, 5)
 }

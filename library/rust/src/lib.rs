@@ -28,7 +28,7 @@
 mod error;
 mod raw;
 
-pub use error::Error;
+pub use error::{Area, Error};
 
 use raw::{Info, Row as RawRow};
 use std::cell::Cell;
@@ -43,16 +43,8 @@ pub type Result<T> = std::result::Result<T, Error>;
 /// The fields of a value.
 pub type Fields = Vec<Vec<u8>>;
 
-const VALUE_MOST: usize = 4097;
-const OK: i32 = 0;
-const NONE: i32 = 1;
-const WAITING: i32 = 2;
-const READ_ONLY: i32 = 3;
-const IN_DOUBT: i32 = 4;
-const SMALL: i32 = -4;
-
 fn asked(code: i32, info: Info) -> Result<i32> {
-    if code < 0 || code == IN_DOUBT {
+    if code < 0 || code == Error::InDoubt.code() {
         Err(Error::of(code, info))
     } else {
         Ok(code)
@@ -312,7 +304,7 @@ impl Store {
                 )
             };
             times.resize(info.a as usize, 0);
-            if code != SMALL {
+            if code != raw::SMALL {
                 asked(code, info)?;
                 return Ok(times);
             }
@@ -329,9 +321,10 @@ impl Store {
         &self,
         call: impl FnOnce(*mut raw::Handle, *mut u8, usize, &mut Info) -> i32,
     ) -> Result<Option<Fields>> {
-        let mut value = [0; VALUE_MOST];
-        let (code, info) = self.ask(|h, info| call(h, value.as_mut_ptr(), VALUE_MOST, info))?;
-        Ok(if code == NONE {
+        let mut value = [0; raw::VALUE_MOST];
+        let (code, info) =
+            self.ask(|h, info| call(h, value.as_mut_ptr(), raw::VALUE_MOST, info))?;
+        Ok(if code == raw::NONE {
             None
         } else {
             Some(fields_of(&value[..info.a as usize]))
@@ -346,7 +339,7 @@ impl Store {
         loop {
             let mut info = Info::default();
             let code = call(self.handle, &mut rows, &mut out, &mut info);
-            if code != SMALL {
+            if code != raw::SMALL {
                 asked(code, info)?;
                 return Ok(rows[..info.a as usize]
                     .iter()
@@ -357,6 +350,27 @@ impl Store {
             out.resize(info.b as usize, 0);
         }
     }
+}
+
+/// The rows that a call finds, which is asked with these words and room for what it finds.
+macro_rules! rows_of {
+    ($store:expr, $call:ident($($word:expr),*)) => {
+        $store.rows(|h, rows, out, info| {
+            // SAFETY: no more rows and bytes are written than there is room for, and the archive that is lent
+            // stays mapped.
+            unsafe {
+                raw::$call(
+                    h, $($word,)* rows.as_mut_ptr(), rows.len(), out.as_mut_ptr(), out.len(), info,
+                )
+            }
+        })
+    };
+}
+
+fn records_of(rows: Vec<Row>) -> Vec<(u64, Fields)> {
+    rows.into_iter()
+        .map(|row| (row.record, row.fields))
+        .collect()
 }
 
 fn full_row(row: &RawRow, out: &[u8]) -> Row {
@@ -419,22 +433,7 @@ impl<'a> Txn<'a> {
 
     /// The records of a relation that it sees, in rising order.
     pub fn scan(&self, relation: u16) -> Result<Vec<(u64, Fields)>> {
-        let rows = self.store.rows(|h, rows, out, info| unsafe {
-            raw::ts_scan(
-                h,
-                self.number,
-                relation,
-                rows.as_mut_ptr(),
-                rows.len(),
-                out.as_mut_ptr(),
-                out.len(),
-                info,
-            )
-        })?;
-        Ok(rows
-            .into_iter()
-            .map(|row| (row.record, row.fields))
-            .collect())
+        rows_of!(self.store, ts_scan(self.number, relation)).map(records_of)
     }
 
     /// Queues the writes as a commit with a label, at this time or just after the last commit; none where
@@ -444,7 +443,7 @@ impl<'a> Txn<'a> {
         let (code, info) =
             store.ask(|h, info| unsafe { raw::ts_submit(h, number, label, now, info) })?;
         // What was submitted is over; `drop` then meets a number that names nothing.
-        Ok(if code == READ_ONLY {
+        Ok(if code == raw::READ_ONLY {
             None
         } else {
             Some(Ticket {
@@ -492,11 +491,10 @@ impl Ticket<'_> {
         let (code, info) = self
             .store
             .ask(|h, info| unsafe { raw::ts_redeem(h, number, info) })?;
-        if code == WAITING {
+        if code == Error::Waiting.code() {
             self.number.set(Some(info.a));
             return Ok(None);
         }
-        debug_assert_eq!(code, OK);
         Ok(Some(info.a))
     }
 }
@@ -527,7 +525,7 @@ impl View<'_> {
 
     /// The value of a record at a time.
     pub fn at(&self, relation: u16, record: u64, time: u64) -> Result<Option<Fields>> {
-        let archive = self.store.archive_area()?;
+        let (at, size) = self.store.archive_area()?;
         self.store.read(|h, out, len, info| unsafe {
             raw::ts_at(
                 h,
@@ -535,8 +533,8 @@ impl View<'_> {
                 relation,
                 record,
                 time,
-                archive.0,
-                archive.1,
+                at,
+                size,
                 out,
                 len,
                 info,
@@ -546,69 +544,30 @@ impl View<'_> {
 
     /// The records of a relation that have a value at a time, in rising order.
     pub fn scan_at(&self, relation: u16, time: u64) -> Result<Vec<(u64, Fields)>> {
-        let archive = self.store.archive_area()?;
-        let rows = self.store.rows(|h, rows, out, info| unsafe {
-            raw::ts_scan_at(
-                h,
-                self.number,
-                relation,
-                time,
-                archive.0,
-                archive.1,
-                rows.as_mut_ptr(),
-                rows.len(),
-                out.as_mut_ptr(),
-                out.len(),
-                info,
-            )
-        })?;
-        Ok(rows
-            .into_iter()
-            .map(|row| (row.record, row.fields))
-            .collect())
+        let (at, size) = self.store.archive_area()?;
+        rows_of!(
+            self.store,
+            ts_scan_at(self.number, relation, time, at, size)
+        )
+        .map(records_of)
     }
 
     /// What stood in a record from one time up to another, by rising time.
     pub fn between(&self, relation: u16, record: u64, from: u64, upto: u64) -> Result<Vec<Row>> {
-        let archive = self.store.archive_area()?;
-        self.store.rows(|h, rows, out, info| unsafe {
-            raw::ts_between(
-                h,
-                self.number,
-                relation,
-                record,
-                from,
-                upto,
-                archive.0,
-                archive.1,
-                rows.as_mut_ptr(),
-                rows.len(),
-                out.as_mut_ptr(),
-                out.len(),
-                info,
-            )
-        })
+        let (at, size) = self.store.archive_area()?;
+        rows_of!(
+            self.store,
+            ts_between(self.number, relation, record, from, upto, at, size)
+        )
     }
 
     /// The same of a relation's records, by record and then by time.
     pub fn scan_between(&self, relation: u16, from: u64, upto: u64) -> Result<Vec<Row>> {
-        let archive = self.store.archive_area()?;
-        self.store.rows(|h, rows, out, info| unsafe {
-            raw::ts_scan_between(
-                h,
-                self.number,
-                relation,
-                from,
-                upto,
-                archive.0,
-                archive.1,
-                rows.as_mut_ptr(),
-                rows.len(),
-                out.as_mut_ptr(),
-                out.len(),
-                info,
-            )
-        })
+        let (at, size) = self.store.archive_area()?;
+        rows_of!(
+            self.store,
+            ts_scan_between(self.number, relation, from, upto, at, size)
+        )
     }
 }
 

@@ -1,6 +1,13 @@
 //! `timestore.h` and `timestore_file.h`.
-#![allow(missing_docs)]
 use std::ffi::{c_char, c_void};
+
+/// Codes that are no refusals of a caller; `error.rs` has those.
+pub const NONE: i32 = 1;
+pub const READ_ONLY: i32 = 3;
+pub const SMALL: i32 = -4;
+
+/// The bytes of the longest value.
+pub const VALUE_MOST: usize = 4097;
 
 #[repr(C)]
 pub struct Handle {
@@ -30,6 +37,37 @@ pub struct Row {
     pub len: u64,
 }
 
+/// Calls that copy out a value.
+macro_rules! give_a_value {
+    ($($name:ident($($word:ident: $kind:ty),*);)*) => {
+        unsafe extern "C" {
+            $(pub fn $name(
+                h: *mut Handle, $($word: $kind,)* out: *mut u8, len: usize, info: &mut Info,
+            ) -> i32;)*
+        }
+    };
+}
+
+/// Calls that copy out rows, and their values.
+macro_rules! give_rows {
+    ($($name:ident($($word:ident: $kind:ty),*);)*) => {
+        give_a_value! { $($name($($word: $kind,)* rows: *mut Row, count: usize);)* }
+    };
+}
+
+give_a_value! {
+    ts_get(txn: u64, relation: u16, record: u64);
+    ts_recent(view: u64, relation: u16, record: u64, time: u64);
+    ts_at(view: u64, relation: u16, record: u64, time: u64, archive: *const u8, size: usize);
+}
+
+give_rows! {
+    ts_scan(txn: u64, relation: u16);
+    ts_scan_at(view: u64, relation: u16, time: u64, archive: *const u8, size: usize);
+    ts_between(view: u64, relation: u16, record: u64, from: u64, upto: u64, archive: *const u8, size: usize);
+    ts_scan_between(view: u64, relation: u16, from: u64, upto: u64, archive: *const u8, size: usize);
+}
+
 unsafe extern "C" {
     pub fn ts_last(h: *mut Handle, info: &mut Info) -> i32;
     pub fn ts_begin(h: *mut Handle, info: &mut Info) -> i32;
@@ -42,95 +80,12 @@ unsafe extern "C" {
         len: usize,
     ) -> i32;
     pub fn ts_delete(h: *mut Handle, txn: u64, relation: u16, record: u64) -> i32;
-    pub fn ts_get(
-        h: *mut Handle,
-        txn: u64,
-        relation: u16,
-        record: u64,
-        out: *mut u8,
-        len: usize,
-        info: &mut Info,
-    ) -> i32;
-    pub fn ts_scan(
-        h: *mut Handle,
-        txn: u64,
-        relation: u16,
-        rows: *mut Row,
-        count: usize,
-        out: *mut u8,
-        len: usize,
-        info: &mut Info,
-    ) -> i32;
     pub fn ts_submit(h: *mut Handle, txn: u64, label: u64, now: u64, info: &mut Info) -> i32;
     pub fn ts_abort(h: *mut Handle, txn: u64) -> i32;
     pub fn ts_redeem(h: *mut Handle, ticket: u64, info: &mut Info) -> i32;
     pub fn ts_give_up(h: *mut Handle, ticket: u64) -> i32;
     pub fn ts_view(h: *mut Handle, info: &mut Info) -> i32;
     pub fn ts_end(h: *mut Handle, view: u64) -> i32;
-    pub fn ts_recent(
-        h: *mut Handle,
-        view: u64,
-        relation: u16,
-        record: u64,
-        time: u64,
-        out: *mut u8,
-        len: usize,
-        info: &mut Info,
-    ) -> i32;
-    pub fn ts_at(
-        h: *mut Handle,
-        view: u64,
-        relation: u16,
-        record: u64,
-        time: u64,
-        archive: *const u8,
-        archive_len: usize,
-        out: *mut u8,
-        len: usize,
-        info: &mut Info,
-    ) -> i32;
-    pub fn ts_scan_at(
-        h: *mut Handle,
-        view: u64,
-        relation: u16,
-        time: u64,
-        archive: *const u8,
-        archive_len: usize,
-        rows: *mut Row,
-        count: usize,
-        out: *mut u8,
-        len: usize,
-        info: &mut Info,
-    ) -> i32;
-    pub fn ts_between(
-        h: *mut Handle,
-        view: u64,
-        relation: u16,
-        record: u64,
-        from: u64,
-        upto: u64,
-        archive: *const u8,
-        archive_len: usize,
-        rows: *mut Row,
-        count: usize,
-        out: *mut u8,
-        len: usize,
-        info: &mut Info,
-    ) -> i32;
-    pub fn ts_scan_between(
-        h: *mut Handle,
-        view: u64,
-        relation: u16,
-        from: u64,
-        upto: u64,
-        archive: *const u8,
-        archive_len: usize,
-        rows: *mut Row,
-        count: usize,
-        out: *mut u8,
-        len: usize,
-        info: &mut Info,
-    ) -> i32;
     pub fn ts_times_of(
         h: *mut Handle,
         label: u64,

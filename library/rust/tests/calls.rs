@@ -1,6 +1,6 @@
 //! The crate's calls.
 use std::path::PathBuf;
-use timestore::{Error, Store};
+use timestore::{Area, Error, Store};
 
 fn folder(name: &str) -> PathBuf {
     let path = std::env::temp_dir().join(format!("timestore-{}-{name}", std::process::id()));
@@ -81,4 +81,15 @@ fn a_refused_call_leaves_what_was_published() {
         Some(vec![b"kept".to_vec()])
     );
     assert!(matches!(store.begin().map(|_| ()), Err(Error::Failed)));
+    drop(store);
+    std::fs::write(path.join("heap"), b"").unwrap();
+    let why = Store::open(&path).unwrap_err();
+    assert!(matches!(
+        why,
+        Error::Damaged {
+            area: Area::Heap,
+            ..
+        }
+    ));
+    assert!(why.to_string().starts_with("damaged heap "), "{why}");
 }

@@ -1,5 +1,4 @@
-use Rattle.std.proofs.Common.{◌≡◌, ◌≢◌, ◌<◌, ◌-◌, List, ℕ, length, take, drop, rules, arith, refl}
-use Rattle.wire.specs.Values.{IsValue}
+use Rattle.std.proofs.Common.{◌<◌, ◌-◌, length, take, drop, rules, arith, refl}
 use Rattle.wire.proofs.FieldsRead.{whole_rest}
 use Rattle.wire.proofs.ValuesRead.{no_value, value_found}
 use Rattle.wire.proofs.value.take_fields.Goals as goal

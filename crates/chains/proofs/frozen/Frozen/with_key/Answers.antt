@@ -1,13 +1,12 @@
 use Rattle.std.proofs.Common.{[], ◌∷◌, ◌++◌, ap, ◌∙◌}
 use Rattle.chains.specs.KeyWrites.{KeyWrites}
-use Rattle.chains.specs.Shapes.{Shape}
 use Rattle.chains.proofs.Rising.{rising-append}
 use Rattle.chains.proofs.frozen.Frozen.with_key.Goals as goal
 
 pub invariant_of-result : goal.invariant_of-result
 invariant_of-result c =
     let chain : KeyWrites = record { key = c.args.key; writes = c.args.write ∷ [] } in
-    let is = c.in_ok-join.ensures.pieces ∙ ap (λ (t : Shape KeyWrites). c.self.inside.tree.pieces ++ c.in_ok-chain.chain ∷ t.pieces) c.new-2.ensures ∙ ap (λ (k : KeyWrites). c.self.inside.tree.pieces ++ k ∷ []) c.in_ok-chain.ensures in
+    let is = c.in_ok-with_last.ensures ∙ ap (λ (k : KeyWrites). c.self.inside.tree.pieces ++ k ∷ []) c.in_ok-chain.ensures in
     rw is (
       rw c.self.view_is c.requires.ordered,
       rising-append c.self.inside.tree.pieces (chain ∷ []) c.self.invariant.1 ((c.requires.positive, c.requires.in_range, tt), tt),

@@ -1,0 +1,45 @@
+-- A store stands for a state over any disk, where nothing is said of the disk.
+use Rattle.std.proofs.Common.{◌≡◌, ℕ, false, IsTrue, Bool, Option, None, Some, MatchOption, sym, subst}
+use Rattle.disk.specs.Calls.{DiskState}
+use Rattle.disk_file.specs.Counts.{untold}
+use Rattle.history.specs.Machine.{Machine}
+use Rattle.image.specs.Values.{Value}
+use Rattle.store.specs.Values.{StoreValue, IsInStep, TurnsOne}
+use Rattle.store.specs.declared.job.Job.{Job}
+use Rattle.store.specs.declared.job.JobWork.{JobWork}
+use Rattle.store.specs.declared.job.JobWork.TheVariants.{Archive, Reclaim, Floor}
+use Rattle.standing.specs.Homes.{HasPlace}
+use Rattle.standing.specs.Stands.{Stands}
+
+turns-over : (v : StoreValue) (disk : DiskState) → TurnsOne v → TurnsOne (record v { disk = disk })
+turns-over v disk t = record { turning = t.turning; writing = t.writing; turn = t.turn; job = t.job }
+
+step-over : (v : StoreValue) (disk : DiskState) → IsInStep v → IsInStep (record v { disk = disk })
+step-over v disk s = record { slots = s.slots; used = s.used; turns = λ works. turns-over v disk (s.turns works) }
+
+place-over : (o : Option Job) (v : StoreValue) (m : Machine Value) (disk : DiskState) → MatchOption o (Unit {0}) (λ job. HasPlace job.work v m) → MatchOption o (Unit {0}) (λ job. HasPlace job.work (record v { disk = disk }) m)
+place-over None v m disk p = p
+place-over (Some job) v m disk p = by-work job.work p
+  where
+    by-work : (w : JobWork) → HasPlace w v m → HasPlace w (record v { disk = disk }) m
+    by-work (Archive run writer) p = p
+    by-work (Reclaim anchors source written) p = p
+    by-work (Floor floor) p = p
+
+over : (tells : Bool) (v : StoreValue) (m : Machine Value) (disk : DiskState) → Stands tells v m → Stands false (record v { disk = disk }) m
+over tells v m disk s = record {
+  memory = s.memory;
+  machine = s.machine;
+  order = s.order;
+  in_step = step-over v disk s.in_step;
+  gate = s.gate;
+  raises = s.raises;
+  marks = s.marks;
+  job = s.job;
+  disk = λ told. untold told;
+  place = place-over v.job v m disk s.place;
+  runs = λ told. untold told;
+}
+
+pub over-stands : (tells : Bool) (v w : StoreValue) (m : Machine Value) (disk : DiskState) → w ≡ record v { disk = disk } → Stands tells v m → Stands false w m
+over-stands tells v w m disk is s = subst (λ (x : StoreValue). Stands false x m) (sym is) (over tells v m disk s)

@@ -1,0 +1,33 @@
+//! Why nothing was measured.
+
+use disk_file::FolderFault;
+use recovery::FormatFault;
+use std::alloc::AllocError;
+use std::io;
+use store::{BeginFault, PumpFault, StartFault, SubmitFault, TxnFault};
+use thiserror::Error;
+
+#[derive(Debug, Drop, Error)]
+pub(crate) enum Fault {
+    #[error("a file is refused: {0}")]
+    Io(#[from] io::Error),
+    #[error("{0}")]
+    Folder(#[from] FolderFault),
+    #[error("the store is not made: {0:?}")]
+    Format(#[from] FormatFault),
+    #[error("no transaction begins: {0:?}")]
+    Begin(#[from] BeginFault),
+    #[error("the transaction refuses: {0:?}")]
+    Txn(#[from] TxnFault),
+    #[error("the submit is refused: {0:?}")]
+    Submit(#[from] SubmitFault),
+    #[error("the step is refused: {0:?}")]
+    Pump(#[from] PumpFault),
+    #[error("the job does not begin: {0:?}")]
+    Start(#[from] StartFault),
+    #[error("memory was refused")]
+    Memory(#[from(alloc)] AllocError),
+    /// The store answered what it should not have.
+    #[error("a wrong answer: {0}")]
+    Wrong(&'static str),
+}
