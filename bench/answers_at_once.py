@@ -26,7 +26,7 @@ DIALOGUE = [
     ("between 1 7 0 101", "100 101 61 - 6263", "rows 1"),
     ("scan 1 100", "7 61 - 6263", "rows 1"),
     ("at 1 7 101", "refused: not yet 100"),
-    ("reopen", "last 100 floor 0"),
+    ("reopen", "last 100 floors 0"),
 ]
 
 

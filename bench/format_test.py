@@ -12,7 +12,7 @@ import tempfile
 
 SLOTS = 16
 COMMITS = [("put k 1 7 61", 1, 100), ("put k 1 7 62", 2, 110), ("del k 1 7", 3, 120), ("put k 1 7 63", 4, 130)]
-JOBS = ["archive 120", "reclaim", "floor 120"]
+JOBS = ["archive 120", "reclaim", "floorof 1 120"]
 HEADING = "## A small store, whole"
 
 

@@ -72,7 +72,7 @@ def opening_makes_nothing(program, base, log):
 
 def reading_writes_nothing(program, folder, log):
     status, said, calls = traced(program, ["dump", folder], "", log)
-    assert status == 0 and said.startswith("header 16\nslot 0 commit\nmember 9 100 1 1 1 1970-01-01T00:00:00Z\n"), said
+    assert status == 0 and said.startswith("header 16 pieces 0\nslot 0 commit\nmember 9 100 1 1 1 1970-01-01T00:00:00Z\n"), said
     assert on_files(calls, folder) == [], calls
     assert not [call for call in calls if "O_RDWR" in call[2] or "O_WRONLY" in call[2]], calls
 

@@ -39,7 +39,7 @@ def second_is_refused(program, folder):
         status, said, told = run(program, words, "begin t\nput t 1 7 62\nsubmit t 9 50\nflush\n")
         assert (status, said, told) == (1, "refused: device\n", reason), (words, status, said, told)
     assert content(folder) == before
-    first.asks("reopen", "last 1 floor 0")
+    first.asks("reopen", "last 1 floors 0")
     assert run(program, ["run", folder])[:2] == (1, "refused: device\n")
     commits(first, 2, 2, "62")
     assert first.end() == 0

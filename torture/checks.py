@@ -118,9 +118,10 @@ def header_checks() -> list[Check]:
     changes: list[tuple[str, int, bytes | None]] = [
         ("an empty file", 0, None), ("a file of 511 bytes", 511, None),
         ("the first word", 0, b"n"), ("the first word's last byte", 7, b"2"),
-        ("the profile", 8, b"\2"), ("15 slots", 12, word(15, 4)),
+        ("the profile", 8, b"\4"), ("15 slots", 12, word(15, 4)),
         ("65,537 slots", 12, word(65537, 4)), ("more slots than the file has", 12, word(17, 4)),
-        ("a byte of the header's rest", 16, b"\1"), ("the header's last byte", 511, b"\1"),
+        ("a piece that the file has no room for", 16, b"\xc7"),
+        ("a byte of the header's rest", 271, b"\1"), ("the header's last byte", 511, b"\1"),
         ("a slot cut off", 512 + 16 * 512 - 1, None),
     ]
     return [

@@ -38,15 +38,22 @@ def damaged(area: str, place: int) -> Refused:
     return Refused(f"damaged {area} {place}")
 
 
+def pieces(status: bytes) -> int:
+    """The pieces of 256 slots that are open: those before the first closed gate. The first profile
+    has none."""
+    gates = status[16:271] if u(status, 8, 4) > 1 else b""
+    return next((number for number, gate in enumerate(gates) if gate != OPEN), len(gates))
+
+
 def header(status: bytes) -> int:
-    """The number of slots."""
-    first_words = status[:8], u(status, 8, 4)
-    if len(status) < 512 or first_words != (b"NOOVER01", 1) or any(status[16:512]):
+    """The number of slots. Stores of the third profile are none here."""
+    name, profile, slots = status[:8], u(status, 8, 4), u(status, 12, 4)
+    if len(status) < 512 or name != b"NOOVER01" or profile not in (1, 2) or slots < 16:
         raise Refused("not a store")
-    slots = u(status, 12, 4)
-    if not 16 <= slots <= 65536 or len(status) < slot_at(slots):
+    every = slots + 256 * pieces(status)
+    if any(status[16 if profile == 1 else 271:512]) or every > 65536 or len(status) < slot_at(every):
         raise Refused("not a store")
-    return slots
+    return every
 
 
 # ---- the log
@@ -168,8 +175,9 @@ def read_log(status: bytes) -> Log:
 
 def dump(status: bytes) -> list[str]:
     """The text of a log."""
-    lines = [f"header {header(status)}"]
-    log = read_log(status)
+    log, slots = read_log(status), u(status, 12, 4)
+    has_pieces = u(status, 8, 4) > 1
+    lines = [f"header {slots} pieces {pieces(status)}" if has_pieces else f"header {slots}"]
     for number, (kind, body) in enumerate(log.slots):
         lines.append(
             f"slot {number} {kind}"
@@ -429,6 +437,8 @@ def why_not(areas: Mapping[str, bytes], image: Image, history: History) -> str |
         return "other times or labels"
     if any(status[slot_at(number)] == OPEN for number in range(len(log.slots), image.slots)):
         return "an open gate behind the log"
+    if OPEN in status[16 + pieces(status):271]:
+        return "an open gate behind the pieces"
     for mine, its in zip(image.history, history):
         if its.time > log.reclaimed and mine.writes != its.writes:
             return f"other writes at {its.time}"

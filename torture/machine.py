@@ -142,11 +142,13 @@ NEXT: dict[str, Order] = {
 
 @dataclass
 class Job:
-    """An archive, a reclaim or a floor, up to a time; and its last step."""
+    """An archive, a reclaim or a floor, up to a time; its last step; and the relation of a floor that
+    is not that of all."""
 
     kind: str
     upto: int
     step: str | None = None
+    relation: int | None = None
 
     def is_in_slot(self) -> bool:
         return self.step in SLOT_STEPS
@@ -170,10 +172,14 @@ class Machine:
     a group and a job are."""
 
     def __init__(
-        self, published: History = (), floor: int = 0, slots: int = 1 << 16, used: int = 0
+        self, published: History = (), floor: int = 0, slots: int = 1 << 16, used: int = 0,
+        has_own_floors: bool = False,
     ) -> None:
         self.published = list(published)
+        # the floor of all relations, or in the newest profile those that relations have of their own
         self.archived, self.reclaimed, self.floor = 0, 0, floor
+        self.has_own_floors = has_own_floors
+        self.own_floors: dict[int, int] = {}
         # the slots of the store, and those of its log
         self.slots, self.used = slots, used
         self.forget_what_waits()
@@ -333,8 +339,14 @@ class Machine:
 
     def end_job(self) -> None:
         mark = {"archive": "archived", "reclaim": "reclaimed", "floor": "floor"}[self.job.kind]
-        setattr(self, mark, self.job.upto)
+        if self.job.relation is None:
+            setattr(self, mark, self.job.upto)
+        else:
+            self.own_floors[self.job.relation] = self.job.upto
         self.job, self.used = None, self.used + 1
+
+    def floor_of(self, relation: int) -> int:
+        return self.own_floors.get(relation, self.floor)
 
     # ---- starts of jobs
 
@@ -362,7 +374,17 @@ class Machine:
         return self.start("reclaim", self.archived, self.reclaimed, self.archived)
 
     def raise_floor(self, floor: int) -> list[str]:
+        if self.has_own_floors:
+            return ["refused: wrong profile"]
         return self.start("floor", floor, self.floor, floor)
+
+    def raise_floor_of(self, relation: int, floor: int) -> list[str]:
+        if not self.has_own_floors:
+            return ["refused: wrong profile"]
+        said = self.start("floor", floor, self.floor_of(relation), floor)
+        if said == ["started"]:
+            self.job.relation = relation
+        return said
 
     # ---- whole lines
 
@@ -395,17 +417,21 @@ class Machine:
         if self.job is not None and self.job.step == "gate written":
             self.end_job()
         self.forget_what_waits()
-        return [f"last {last(self.published)} floor {self.floor}"]
+        floors = f"floors {len(self.own_floors)}" if self.has_own_floors else f"floor {self.floor}"
+        return [f"last {last(self.published)} {floors}"]
 
     def vacuum(self, upto: int) -> list[str]:
         """The command, on a store that no one has open: what it says."""
-        above = max(self.archived, self.floor)
+        archived = self.archived
         said = self.archive(upto)
         if said != ["started"]:
             return said
         self.finish()
         whole = all_versions(self.published)
-        gone = sum(stop is not None and above < stop <= upto for _, _, stop, _ in whole)
+        gone = sum(
+            stop is not None and max(archived, self.floor_of(key[0])) < stop <= upto
+            for key, _, stop, _ in whole
+        )
         stand = sum(start <= upto and (stop is None or stop > upto) for _, start, stop, _ in whole)
         said = self.reclaim()
         self.finish()
@@ -426,6 +452,8 @@ class Machine:
             return self.submit(rest[0], int(rest[1]), int(rest[2]))
         if word in ("archive", "floor"):
             return (self.archive if word == "archive" else self.raise_floor)(int(rest[0]))
+        if word == "floorof":
+            return self.raise_floor_of(int(rest[0]), int(rest[1]))
         if word in ("reclaim", "flush", "finish"):
             return getattr(self, word)()
         if word == "reopen":
@@ -435,12 +463,13 @@ class Machine:
     def asked(self, word: str, numbers: list[int]) -> list[str] | None:
         """What a question answers."""
         if word == "at":
-            return at(self.published, (numbers[0], numbers[1]), numbers[2], self.floor)
+            relation, record, time = numbers
+            return at(self.published, (relation, record), time, self.floor_of(relation))
         if word == "between":
             relation, record, start, end = numbers
-            return between(self.published, (relation, record), start, end, self.floor)
+            return between(self.published, (relation, record), start, end, self.floor_of(relation))
         if word == "scan":
-            return scan(self.published, *numbers, self.floor)
+            return scan(self.published, *numbers, self.floor_of(numbers[0]))
         if word == "times":
             return times(self.published, *numbers)
         return None

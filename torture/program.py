@@ -213,9 +213,17 @@ def differing(found: Answer, wanted: Answer) -> str:
 
 
 def format_store(program: str, folder: str, slots: int) -> None:
+    """A new store of the second profile, which has one floor for all relations, as the small machine
+    and the plain reader have: a new store of the newest profile differs in one byte of its header."""
     said = command(program, "format", folder, "--slots", str(slots))
     if said != (0, [f"formatted {slots}"]):
         raise Failure(f"format answers {said}")
+    with open(os.path.join(folder, "status"), "r+b") as status:
+        status.seek(8)
+        if status.read(1) != b"\x03":
+            raise Failure("format does not make the newest profile")
+        status.seek(8)
+        status.write(b"\x02")
 
 
 @functools.cache

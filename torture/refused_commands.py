@@ -137,7 +137,10 @@ class Command:
         """The machine of what was left, if that is a store."""
         if self.name == "format":
             try:
-                return machine_of(image.read(read_areas(self.folder)), [])
+                areas = read_areas(self.folder)
+                # the plain reader has the second profile, whose log without floors is the same
+                areas["status"] = areas["status"].replace(b"NOOVER01\x03", b"NOOVER01\x02", 1)
+                return machine_of(image.read(areas), [])
             except (image.Refused, FileNotFoundError):
                 return None
         return check_left(

@@ -201,7 +201,9 @@ class Case:
 
     def __init__(self, program: str, folder: str, start: Areas, wrong: Wrong) -> None:
         self.program, self.wrong, self.folder = program, wrong, folder
-        self.small = Machine(slots=image.header(start["status"]) if folder else SLOTS)
+        # a store in memory is of the newest profile
+        slots = image.header(start["status"]) if folder else SLOTS
+        self.small = Machine(slots=slots, has_own_floors=not folder)
         self.front = self.small.front()
         self.done: list[int] = []
         if folder:

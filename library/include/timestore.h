@@ -91,20 +91,22 @@ enum {
     TS_MISSING = -12,       /* a delete of what is not there */
     TS_TOO_MANY_KEYS = -13, /* a transaction writes at most 1,024 records */
     TS_BAD_VALUE = -14,     /* not the bytes of a value */
-    TS_BEFORE_KEPT = -15,   /* a: the floor; history before it may be gone */
+    TS_BEFORE_KEPT = -15,   /* a: the floor of the relation; history before it may be gone */
     TS_NOT_YET = -16,       /* a: the time of the last commit; a later one may still change the answer */
     TS_EMPTY_INTERVAL = -17,
     TS_DAMAGED = -18,       /* what a stop cannot leave. b: the area; a: of the status area the slot, of the heap
                                the chain's first extent, of the archive the run's first byte */
     TS_NOT_A_STORE = -19,
     TS_BUSY = -20,          /* one slot is in the writing at a time: pump the other one; ts_open: the handle is full */
-    TS_JOB_BUSY = -21,      /* an archive, a reclaim or a floor is being made */
+    TS_JOB_BUSY = -21,      /* an archive, a reclaim, a floor or a growth is being made */
     TS_NOTHING_TO_DO = -22, /* all versions that ended by then are archived; all that is archived is reclaimed;
                                the floor is as late */
     TS_ARCHIVE_FULL = -23,
     TS_BAD_SLOTS = -24,     /* a store has 16 to 65,536 slots */
     TS_IN_USE = -25,        /* a: the least open snapshot */
-    TS_NEEDS_ARCHIVE = -26  /* the answer needs the archive, and none was lent */
+    TS_NEEDS_ARCHIVE = -26, /* the answer needs the archive, and none was lent */
+    TS_WRONG_PROFILE = -27, /* ts_floor: this store has a floor for each relation; ts_floor_of: one for all */
+    TS_NOT_GROWABLE = -28   /* it would have more than 65,536 slots, or an earlier timestore made it */
 };
 
 /* What a step did: ts_pump and ts_job_pump tell it in a; of TS_PUBLISHED, b has the commits of the group. */
@@ -117,23 +119,25 @@ enum {
     TS_GATE_WRITTEN = 5,
     TS_PUBLISHED = 6, /* of a job: it is done */
     TS_KEPT_WRITTEN = 7, /* of a reclaim: an extent of what stands at its mark is written */
-    TS_KEPT_SYNCED = 8
+    TS_KEPT_SYNCED = 8,
+    TS_ZEROS_WRITTEN = 9, /* of a growth: zeros are written behind the slots */
+    TS_ZEROS_SYNCED = 10
 };
 
 /* The status area of a new store; a: its length, 512 + 512 slots. The host writes it from byte 512 on,
    syncs it, writes the first 512 bytes, and syncs it. The other two areas begin empty. */
 int32_t ts_format(uint32_t slots, uint8_t *out, size_t len, ts_info *info);
 
-/* Opens the store of these bytes; a: the time of the last commit, b: the floor. TS_NOT_A_STORE and TS_DAMAGED by
-   the first rule of the format that they break. The mark is a number of the host's own, which numbers of this
-   store carry in the library. */
+/* Opens the store of these bytes; a: the time of the last commit, b: the floor of all relations. TS_NOT_A_STORE and
+   TS_DAMAGED by the first rule of the format that they break. The mark is a number of the host's own, which
+   numbers of this store carry in the library. */
 int32_t ts_open(ts *h, const uint8_t *status, size_t status_len, const uint8_t *heap, size_t heap_len,
                 const uint8_t *archive, size_t archive_len, uint64_t mark, ts_info *info);
 
 /* Ends the store: what waits is not published, all numbers name nothing. */
 int32_t ts_close(ts *h);
 
-/* a: the time of the last commit, b: the floor. */
+/* a: the time of the last commit, b: the floor of all relations, 0 where each has one of its own. */
 int32_t ts_last(ts *h, ts_info *info);
 
 /* The device call that stands out, with the bytes of a write, as often as it is asked; TS_NONE where none does. */
@@ -210,12 +214,19 @@ int32_t ts_archive(ts *h, uint64_t upto, ts_info *info);
    views keep what they have. TS_IN_USE while an open transaction reads below that. */
 int32_t ts_reclaim(ts *h, ts_info *info);
 
-/* Begins to raise the floor to a time: once it is done views that are taken answer TS_BEFORE_KEPT before it,
-   and an archive leaves out what ended by then. Open views keep what they have. TS_IN_USE while an open
-   transaction reads before it. */
+/* Begins to raise the floor of a relation to a time: once it is done views that are taken answer TS_BEFORE_KEPT
+   before it where they are asked of that relation, and an archive leaves out what ended of it by then. Open views
+   keep what they have. TS_IN_USE while an open transaction reads before it. */
+int32_t ts_floor_of(ts *h, uint16_t relation, uint64_t time, ts_info *info);
+
+/* The same of all relations together, in a store that an earlier timestore made; there ts_floor_of is refused. */
 int32_t ts_floor(ts *h, uint64_t time, ts_info *info);
 
-/* The next step of the archive, the reclaim or the floor that is being made; a: what it did. */
+/* Begins to make 256 slots more: once that is done the status area has 131,072 bytes more, and the store so many
+   slots more. It takes no slot and holds up no commit. */
+int32_t ts_grow(ts *h, ts_info *info);
+
+/* The next step of the archive, the reclaim, the floor or the growth that is being made; a: what it did. */
 int32_t ts_job_pump(ts *h, ts_info *info);
 
 #ifdef __cplusplus

@@ -21,8 +21,8 @@ enum {
 /* Makes a store of so many slots, 16 to 65,536, in a folder that is there. */
 int32_t ts_file_format(const char *folder, uint32_t slots);
 
-/* Opens the store of a folder; a: the time of the last commit, b: the floor. Where it is refused there is
-   nothing to close. */
+/* Opens the store of a folder; a: the time of the last commit, b: the floor of all relations. Where it is refused
+   there is nothing to close. */
 int32_t ts_file_open(const char *folder, ts_file **file, ts_info *info);
 
 /* The store, for all calls but ts_open, ts_close, ts_call, ts_called, ts_pump and ts_job_pump. */
@@ -36,7 +36,7 @@ int32_t ts_file_job_pump(ts_file *file, ts_info *info);
    until the next call of this function or of ts_file_close. */
 int32_t ts_file_archive(ts_file *file, const uint8_t **at, size_t *len);
 
-/* All steps of all commits that wait, and of the archive, the reclaim or the floor that is being made. */
+/* All steps of all commits that wait, and of the archive, the reclaim, the floor or the growth that is being made. */
 int32_t ts_file_flush(ts_file *file);
 int32_t ts_file_job(ts_file *file);
 

@@ -51,6 +51,8 @@ class Step(IntEnum):
     PUBLISHED = 6  # of a job: it is done
     KEPT_WRITTEN = 7
     KEPT_SYNCED = 8
+    ZEROS_WRITTEN = 9
+    ZEROS_SYNCED = 10
 
 
 class Refused(Exception):
@@ -149,7 +151,7 @@ class BeforeKept(Refused, code=-15):
 
     @property
     def floor(self) -> int:
-        """The time of the floor."""
+        """The time of the relation's floor."""
         return self.first
 
 
@@ -189,7 +191,7 @@ class Busy(Refused, code=-20):
 
 
 class JobBusy(Refused, code=-21):
-    """An archive, a reclaim or a floor is being made."""
+    """An archive, a reclaim, a floor or a growth is being made."""
 
 
 class NothingToDo(Refused, code=-22):
@@ -215,6 +217,14 @@ class InUse(Refused, code=-25):
 
 class NeedsArchive(Refused, code=-26):
     """The answer needs the archive."""
+
+
+class WrongProfile(Refused, code=-27):
+    """This store has a floor for each relation, or one for all."""
+
+
+class NotGrowable(Refused, code=-28):
+    """The store would have more than 65,536 slots, or an earlier timestore made it."""
 
 
 class System(Refused, code=-100):
@@ -285,6 +295,8 @@ def _prototypes() -> dict[str, list[Any]]:
         "ts_archive": [handle, u64, info],
         "ts_reclaim": [handle, info],
         "ts_floor": [handle, u64, info],
+        "ts_floor_of": [handle, u16, u64, info],
+        "ts_grow": [handle, info],
         "ts_file_archive": [buf, ctypes.POINTER(buf), ctypes.POINTER(size)],
         "ts_file_format": [text, ctypes.c_uint32],
         "ts_file_open": [text, ctypes.POINTER(buf), info],
@@ -448,7 +460,7 @@ class Store:
 
     @property
     def floor(self) -> int:
-        """The time before which nothing is promised."""
+        """The time before which nothing is promised, 0 where each relation has one of its own."""
         self._ask(_library.ts_last)
         return self._info.b
 
@@ -520,14 +532,33 @@ class Store:
         """Begins that, of which `job_pump` takes each step."""
         self._ask(_library.ts_reclaim)
 
+    def floor_of(self, relation: int, time: Time) -> None:
+        """Raises the floor of a relation to a time: of it views from then on answer `BeforeKept` at
+        an earlier one."""
+        self.floor_of_start(relation, time)
+        self.job()
+
+    def floor_of_start(self, relation: int, time: Time) -> None:
+        """Begins that, of which `job_pump` takes each step."""
+        self._ask(_library.ts_floor_of, _number(relation, 16), micros(time))
+
     def raise_floor(self, time: Time) -> None:
-        """Raises the floor to a time: views from then on answer `BeforeKept` at an earlier one."""
+        """The same of all relations, in a store that an earlier timestore made."""
         self.floor_start(time)
         self.job()
 
     def floor_start(self, time: Time) -> None:
         """Begins that, of which `job_pump` takes each step."""
         self._ask(_library.ts_floor, micros(time))
+
+    def grow(self) -> None:
+        """Makes 256 slots more."""
+        self.grow_start()
+        self.job()
+
+    def grow_start(self) -> None:
+        """Begins that, of which `job_pump` takes each step."""
+        self._ask(_library.ts_grow)
 
     def _archive(self) -> tuple[ctypes.c_void_p, ctypes.c_size_t]:
         """The archive, which stays mapped until the next such call."""

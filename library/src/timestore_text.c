@@ -34,6 +34,8 @@ const char *ts_text(int32_t code) {
     case TS_BAD_SLOTS: return "bad slots";
     case TS_IN_USE: return "in use";
     case TS_NEEDS_ARCHIVE: return "needs disk";
+    case TS_WRONG_PROFILE: return "wrong profile";
+    case TS_NOT_GROWABLE: return "not growable";
     case TS_SYSTEM: return "device";
     case TS_LOCKED: return "another process has this store open";
     case TS_OCCUPIED: return "occupied";

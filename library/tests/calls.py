@@ -84,13 +84,17 @@ def test_refused_call(folder: Path) -> None:
             assert view.at(2, 5, store.times_of(1)[0]) == first
             assert len(list(view.scan_at(2, store.times_of(1)[0]))) == 200
             assert len(list(view.between(2, 5, 0, before + 1))) == 2
-            assert refuses(timestore.NotYet, store.raise_floor, before + 1).last == before
-            store.raise_floor(before)
-            assert store.floor == before
-            refuses(timestore.NothingToDo, store.raise_floor, before)
+            refuses(timestore.WrongProfile, store.raise_floor, before)
+            assert refuses(timestore.NotYet, store.floor_of, 2, before + 1).last == before
+            refuses(ValueError, store.floor_of, 65_536, before)
+            store.floor_of(2, before)
+            assert store.floor == 0
+            refuses(timestore.NothingToDo, store.floor_of, 2, before)
             assert refuses(timestore.BeforeKept, store.at, 2, 5, before - 1).floor == before
+            assert store.at(3, 19, before - 1) is None
             assert store.at(2, 5, before) == (b"first",)
             assert view.at(2, 5, store.times_of(1)[0]) == first
+        store.grow()
         store.refuse(3)
         txn = store.begin()
         txn.put(2, 5, b"lost")
@@ -101,7 +105,7 @@ def test_refused_call(folder: Path) -> None:
     refuses(timestore.Closed, store.flush)
     refuses(timestore.Closed, store.begin)
     with timestore.Store(folder) as store:
-        assert store.floor == before
+        assert refuses(timestore.BeforeKept, store.at, 2, 5, 0).floor == before
         assert store.at(2, 5, before) == (b"first",)
 
 

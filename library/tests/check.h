@@ -70,4 +70,14 @@ static inline int now_has(ts *h, uint64_t record, uint64_t time, const char *tex
     CHECK(TS_OK, ts_end(h, info.a));
     return has;
 }
+
+/* The floor of relation 1, which a query before it tells. */
+static inline uint64_t floor_now(ts *h) {
+    uint8_t value[TS_VALUE_MOST];
+    ts_info view, info;
+    CHECK(TS_OK, ts_view(h, &view));
+    int32_t code = ts_at(h, view.a, 1, 7, 0, NONE, value, sizeof value, &info);
+    CHECK(TS_OK, ts_end(h, view.a));
+    return code == TS_BEFORE_KEPT ? info.a : 0;
+}
 #endif

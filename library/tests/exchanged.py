@@ -14,7 +14,7 @@ def ask(program: str, *words: object, script: str = "") -> str:
 
 
 def same_bytes(program: str, folder: Path) -> None:
-    """The same commits, archive, reclaim and floor by each, from the same empty files, leave the same files."""
+    """The same commits, archive, reclaim, floor and growth by each, from the same empty files, leave the same files."""
     ours, theirs = folder / "ours", folder / "theirs"
     for place in (ours, theirs):
         place.mkdir()
@@ -28,12 +28,13 @@ def same_bytes(program: str, folder: Path) -> None:
             txn.commit(9, 100 * number)
         store.archive(200)
         store.reclaim()
-        store.raise_floor(150)
+        store.floor_of(1, 150)
+        store.grow()
     script = "".join(
         f"begin t\nput t 1 7 {number:02x}\nput t 1 {number + 10} - {b'two'.hex()}\nsubmit t 9 {100 * number}\nflush\nredeem t\n"
         for number in (1, 2, 3)
     )
-    said = ask(program, "run", theirs, script=script + "archive 200\nfinish\nreclaim\nfinish\nfloor 150\nfinish\n")
+    said = ask(program, "run", theirs, script=script + "archive 200\nfinish\nreclaim\nfinish\nfloorof 1 150\nfinish\ngrow\nfinish\n")
     assert "refused" not in said, said
     for name in ("status", "heap", "archive"):
         assert (ours / name).read_bytes() == (theirs / name).read_bytes(), name
@@ -49,7 +50,10 @@ def to_and_fro(program: str, folder: Path) -> None:
         assert store.at(1, 7, 250) == (b"\2",)
         # The program's archive has this one, and the heap has it no more.
         assert store.at(1, 7, 160) == (b"\1",)
-        assert store.floor == 150
+        try:
+            raise AssertionError(store.at(1, 7, 149))
+        except timestore.BeforeKept as why:
+            assert why.floor == 150
         assert store.times_of(9) == [100, 200, 300, 400]
         # While the library has the store, the program is refused.
         busy = subprocess.run([program, "at", place, "1", "7", "400"], capture_output=True, text=True)

@@ -1,5 +1,5 @@
-"""A host that is killed amid commits, archives, reclaims and floors: killed.py FOLDER. What it was answered as
-done is there, of a floor too."""
+"""A host that is killed amid commits, archives, reclaims, floors and growths: killed.py FOLDER. What it was answered
+as done is there, of a floor too."""
 
 import os
 import random
@@ -24,13 +24,23 @@ def commit(store: timestore.Store, number: int) -> None:
     print("done", txn.commit(9, number), flush=True)
 
 
+def floor_of(store: timestore.Store) -> int:
+    """The floor of relation 1, which a query before it tells."""
+    try:
+        store.at(1, 7, 0)
+    except timestore.BeforeKept as why:
+        return why.floor
+    return 0
+
+
 def vacuum(store: timestore.Store, number: int) -> None:
-    """An archive and a reclaim of all, and a floor, which is told once it is raised."""
+    """An archive and a reclaim of all, a floor, which is told once it is raised, and a growth."""
     store.archive(number)
     store.reclaim()
     if number > KEPT:
-        store.raise_floor(number - KEPT)
-        print("floor", store.floor, flush=True)
+        store.floor_of(1, number - KEPT)
+        print("floor", floor_of(store), flush=True)
+    store.grow()
 
 
 def write(folder: str) -> None:
@@ -43,7 +53,7 @@ def write(folder: str) -> None:
             if number % 10 == 0:
                 try:
                     vacuum(store, number)
-                except timestore.NothingToDo:
+                except (timestore.NothingToDo, timestore.NotGrowable):
                     continue
 
 
@@ -61,9 +71,10 @@ def round_trip(folder: Path, wait: float) -> int:
     with timestore.Store(folder) as store:
         last = store.last
         assert last in (done, done + 1), (last, done)
-        assert floor <= store.floor <= max(floor, last - KEPT), (floor, store.floor, last)
+        kept = floor_of(store)
+        assert floor <= kept <= max(floor, last - KEPT), (floor, kept, last)
         with store.view() as view:
-            for number in range(max(1, store.floor), last + 1):
+            for number in range(max(1, kept), last + 1):
                 value = (str(number).encode(),)
                 assert view.at(1, 7, number) == value
                 assert view.at(1, number % RECORDS + 10, number) == value
@@ -73,7 +84,7 @@ def round_trip(folder: Path, wait: float) -> int:
 def main() -> None:
     folder = Path(sys.argv[1])
     folder.mkdir()
-    timestore.make(folder, 65536)
+    timestore.make(folder, 1024)
     chance, last = random.Random(7), 0
     for _ in range(ROUNDS):
         now = round_trip(folder, chance.uniform(0.005, 0.2))

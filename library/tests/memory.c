@@ -113,7 +113,8 @@ static void commit(life *l, uint64_t time) {
 typedef int32_t start(ts *h, ts_info *info);
 static int32_t start_archive(ts *h, ts_info *info) { return ts_archive(h, 200, info); }
 static int32_t start_reclaim(ts *h, ts_info *info) { return ts_reclaim(h, info); }
-static int32_t start_floor(ts *h, ts_info *info) { return ts_floor(h, 150, info); }
+static int32_t start_floor(ts *h, ts_info *info) { return ts_floor_of(h, 1, 150, info); }
+static int32_t start_grow(ts *h, ts_info *info) { return ts_grow(h, info); }
 
 /* A job, begun again where the device call could not be noted and the store does not have it. */
 static void job(life *l, start *starts) {
@@ -160,6 +161,7 @@ static bool live(const char *folder, uint64_t refuse) {
     job(&l, start_archive);
     job(&l, start_reclaim);
     job(&l, start_floor);
+    job(&l, start_grow);
     rows(&l);
     times(&l, 300);
     ts_file_close(l.file);

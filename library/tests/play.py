@@ -18,7 +18,7 @@ AREAS = ("status", "heap", "archive")
 SLOTS = 2048
 VIEWS_MOST = 4
 PUMPED = ("idle", "wrote extent", "heap synced", "body written", "body synced", "gate written")
-JOBBED = ("idle", "wrote run", "run synced", "body written", "body synced", "gate written", "job done", "wrote extent", "heap synced")
+JOBBED = ("idle", "wrote run", "run synced", "body written", "body synced", "gate written", "job done", "wrote extent", "heap synced", "wrote zeros", "zeros synced")
 TEXTS = {"conflict": "refused: conflict {} {}", "not yet": "refused: not yet {}", "in use": "refused: in use {}", "before kept": "refused: before kept {}"}
 
 
@@ -249,6 +249,9 @@ def main() -> None:
     calls = int(sys.argv[3]) if len(sys.argv) > 3 else 1500
     folder.mkdir()
     timestore.make(folder, SLOTS)
+    with (folder / "status").open("r+b") as status:  # one floor for all, as the machine and the reader have it
+        status.seek(8)
+        status.write(b"\2")
     play = Play(folder, random.Random(seed))
     play.play(calls)
     done = ", ".join(f"{count} {kind}s" for kind, count in play.jobs.items())

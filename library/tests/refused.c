@@ -1,5 +1,5 @@
-/* Refuses each device call in turn of two groups, an archive with a group beside it, a reclaim and a floor, and
- * opens what is left: refused FOLDER, one that is there; each trial has a folder of its own in it. */
+/* Refuses each device call in turn of two groups, an archive with a group beside it, a reclaim, a floor and a growth,
+ * and opens what is left: refused FOLDER, one that is there; each trial has a folder of its own in it. */
 #include "check.h"
 #include <sys/stat.h>
 
@@ -60,7 +60,7 @@ static int32_t step_both(ts_file *file) {
     return code;
 }
 
-/* An archive with the third group beside it, a reclaim and a floor. */
+/* An archive with the third group beside it, a reclaim, a floor and a growth. */
 static void make_jobs(ts_file *file, outcome *so_far) {
     ts *h = ts_file_store(file);
     ts_info info;
@@ -74,9 +74,13 @@ static void make_jobs(ts_file *file, outcome *so_far) {
         code = ts_file_job(file);
     }
     if (code == TS_OK) {
-        CHECK(TS_OK, ts_floor(h, 101, &info));
+        CHECK(TS_OK, ts_floor_of(h, 1, 101, &info));
         code = ts_file_job(file);
         so_far->raised = code == TS_OK;
+    }
+    if (code == TS_OK) {
+        CHECK(TS_OK, ts_grow(h, &info));
+        code = ts_file_job(file);
     }
     if (code != TS_OK) CHECK(TS_FAILED, code);
     so_far->refused = code != TS_OK;
@@ -115,7 +119,8 @@ static void after_refusal(ts_file *file, int done, uint64_t old_view) {
     CHECK(TS_FAILED, ts_archive(h, 1, &info));
     CHECK(TS_OK, ts_last(h, &last));
     HOLDS(last.a == LASTS[done / 2] && last.b == 0);
-    CHECK(TS_FAILED, ts_floor(h, 1, &info));
+    CHECK(TS_FAILED, ts_floor_of(h, 1, 1, &info));
+    CHECK(TS_FAILED, ts_grow(h, &info));
     CHECK(TS_OK, ts_view(h, &view));
     HOLDS(has_text(h, view.a, 7, last.a, TEXTS[done / 2][0]));
     CHECK(TS_OK, ts_end(h, view.a));
@@ -145,7 +150,9 @@ static void reopened(const char *folder, outcome was) {
     ts_info info;
     CHECK(TS_OK, ts_file_open(folder, &file, &info));
     ts *h = ts_file_store(file);
-    HOLDS(info.b == 101 || (info.b == 0 && !was.raised));
+    HOLDS(info.b == 0);
+    uint64_t floor = floor_now(h);
+    HOLDS(floor == 101 || (floor == 0 && !was.raised));
     int groups = (int)(info.a / 100);
     HOLDS(groups <= 3 && info.a == LASTS[groups] && was.done <= 2 * groups);
     has_times(h, groups);
@@ -169,8 +176,9 @@ int main(int argc, char **argv) {
         was = trial(folder, call);
         reopened(folder, was);
     } while (was.refused);
-    /* Each group makes seven calls, its extents among them, the archive and the reclaim six, and the floor four. */
+    /* Each group makes seven calls, its extents among them, the archive and the reclaim six, the floor four, and the
+       growth nineteen. */
     printf("refused %" PRIu64 " calls\n", call - 1);
-    HOLDS(call - 1 >= 37);
+    HOLDS(call - 1 >= 56);
     return 0;
 }

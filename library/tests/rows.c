@@ -1,6 +1,8 @@
 /* What the calls answer, on a store in files: rows FOLDER, an empty one. */
 #define _GNU_SOURCE
 #include "check.h"
+#include <fcntl.h>
+#include <sys/stat.h>
 #include <unistd.h>
 
 static uint64_t begun(ts *h) {
@@ -31,6 +33,8 @@ static void test_closed(void) {
     CHECK(TS_NOT_A_STORE, ts_open(&h, none, 0, none, 0, none, 0, 1, &info));
     CHECK(TS_CLOSED, ts_last(&h, &info));
     CHECK(TS_CLOSED, ts_floor(&h, 1, &info));
+    CHECK(TS_CLOSED, ts_floor_of(&h, 1, 1, &info));
+    CHECK(TS_CLOSED, ts_grow(&h, &info));
     CHECK(TS_BAD_SLOTS, ts_format(15, none, 0, &info));
     CHECK(TS_BAD_SLOTS, ts_format(65537, none, 0, &info));
     CHECK(TS_SMALL, ts_format(16, none, 0, &info));
@@ -84,6 +88,8 @@ static void test_pending(ts_file *file) {
     CHECK(TS_PENDING, ts_submit(h, open, 9, 0, &info));
     CHECK(TS_PENDING, ts_archive(h, 50, &info));
     CHECK(TS_PENDING, ts_floor(h, 50, &info));
+    CHECK(TS_PENDING, ts_floor_of(h, 1, 50, &info));
+    CHECK(TS_PENDING, ts_grow(h, &info));
     HOLDS(has_text(h, view.a, 7, 100, "a"));
     uint8_t value[16];
     CHECK(TS_OK, ts_get(h, open, 1, 7, value, sizeof value, &info));
@@ -228,7 +234,8 @@ static void test_reclaim(ts_file *file) {
     CHECK(TS_OK, ts_end(h, old.a));
 }
 
-/* A floor, refused and raised: a view from before it answers as it did, and one from after it not below it. */
+/* The floor of a relation, refused and raised: a view from before it answers as it did, and one from after it not
+   below it, but of another relation. */
 static void test_floor(ts_file *file) {
     ts *h = ts_file_store(file);
     ts_info info, old, view;
@@ -236,24 +243,25 @@ static void test_floor(ts_file *file) {
     uint8_t out[64];
     const uint8_t *archive;
     size_t len;
-    CHECK(TS_NOTHING_TO_DO, ts_floor(h, 0, &info));
-    CHECK(TS_NOT_YET, ts_floor(h, 402, &info));
+    CHECK(TS_WRONG_PROFILE, ts_floor(h, 300, &info));
+    CHECK(TS_NOTHING_TO_DO, ts_floor_of(h, 1, 0, &info));
+    CHECK(TS_NOT_YET, ts_floor_of(h, 1, 402, &info));
     HOLDS(info.a == 401);
     uint64_t open = begun(h);
     HOLDS(commit_text(file, 10, "e", 9, 500) == 500);
-    CHECK(TS_IN_USE, ts_floor(h, 402, &info));
+    CHECK(TS_IN_USE, ts_floor_of(h, 1, 402, &info));
     HOLDS(info.a == 401);
     CHECK(TS_OK, ts_abort(h, open));
     CHECK(TS_OK, ts_view(h, &old));
-    CHECK(TS_OK, ts_floor(h, 300, &info));
-    CHECK(TS_JOB_BUSY, ts_floor(h, 301, &info));
+    CHECK(TS_OK, ts_floor_of(h, 1, 300, &info));
+    CHECK(TS_JOB_BUSY, ts_floor_of(h, 2, 301, &info));
     CHECK(TS_JOB_BUSY, ts_archive(h, 500, &info));
+    HOLDS(floor_now(h) == 0);
+    CHECK(TS_OK, ts_file_job(file));
+    HOLDS(floor_now(h) == 300);
     CHECK(TS_OK, ts_last(h, &info));
     HOLDS(info.a == 500 && info.b == 0);
-    CHECK(TS_OK, ts_file_job(file));
-    CHECK(TS_OK, ts_last(h, &info));
-    HOLDS(info.a == 500 && info.b == 300);
-    CHECK(TS_NOTHING_TO_DO, ts_floor(h, 300, &info));
+    CHECK(TS_NOTHING_TO_DO, ts_floor_of(h, 1, 300, &info));
     CHECK(TS_OK, ts_view(h, &view));
     CHECK(TS_OK, ts_file_archive(file, &archive, &len));
     CHECK(TS_BEFORE_KEPT, ts_recent(h, view.a, 1, 7, 299, out, sizeof out, &info));
@@ -261,6 +269,7 @@ static void test_floor(ts_file *file) {
     CHECK(TS_BEFORE_KEPT, ts_at(h, view.a, 1, 7, 299, archive, len, out, sizeof out, &info));
     HOLDS(info.a == 300);
     CHECK(TS_BEFORE_KEPT, ts_between(h, view.a, 1, 7, 299, 401, archive, len, rows, 8, out, sizeof out, &info));
+    CHECK(TS_NONE, ts_at(h, view.a, 2, 7, 299, archive, len, out, sizeof out, &info));
     CHECK(TS_OK, ts_at(h, view.a, 1, 7, 300, archive, len, out, sizeof out, &info));
     HOLDS(info.a == 3 && out[2] == 'a');
     CHECK(TS_OK, ts_at(h, old.a, 1, 7, 299, archive, len, out, sizeof out, &info));
@@ -269,7 +278,27 @@ static void test_floor(ts_file *file) {
     CHECK(TS_OK, ts_end(h, old.a));
 }
 
-/* After a reclaim and a floor the store opens, and answers over the archive. */
+/* A growth, step by step, up to the most slots that there are. */
+static void test_growth(ts_file *file) {
+    ts *h = ts_file_store(file);
+    ts_info info;
+    CHECK(TS_OK, ts_grow(h, &info));
+    CHECK(TS_JOB_BUSY, ts_grow(h, &info));
+    for (int part = 0; part < 16; part++) {
+        CHECK(TS_OK, ts_file_job_pump(file, &info));
+        HOLDS(info.a == TS_ZEROS_WRITTEN);
+    }
+    CHECK(TS_OK, ts_file_job_pump(file, &info));
+    HOLDS(info.a == TS_ZEROS_SYNCED);
+    CHECK(TS_OK, ts_file_job(file));
+    for (int slots = 1280; slots <= 65280; slots += 256) {
+        CHECK(TS_OK, ts_grow(h, &info));
+        CHECK(TS_OK, ts_file_job(file));
+    }
+    CHECK(TS_NOT_GROWABLE, ts_grow(h, &info));
+}
+
+/* After a reclaim, a floor and growths the store opens, and answers over the archive. */
 static void test_reopened(ts_file *file) {
     ts *h = ts_file_store(file);
     ts_info info, view;
@@ -282,6 +311,43 @@ static void test_reopened(ts_file *file) {
     HOLDS(out[2] == 'a');
     CHECK(TS_BEFORE_KEPT, ts_at(h, view.a, 1, 7, 299, archive, len, out, sizeof out, &info));
     CHECK(TS_OK, ts_end(h, view.a));
+}
+
+/* A new store of an earlier profile, the number in byte 8 of its header, with a commit; it has one floor for all. */
+static ts_file *earlier(const char *folder, uint8_t profile) {
+    ts_file *file;
+    ts_info info;
+    char path[4096];
+    snprintf(path, sizeof path, "%s/profile-%d", folder, profile);
+    HOLDS(mkdir(path, 0777) == 0);
+    CHECK(TS_OK, ts_file_format(path, 16));
+    strcat(path, "/status");
+    int fd = open(path, O_WRONLY);
+    HOLDS(fd >= 0 && pwrite(fd, &profile, 1, 8) == 1);
+    close(fd);
+    *strrchr(path, '/') = 0;
+    CHECK(TS_OK, ts_file_open(path, &file, &info));
+    HOLDS(commit_text(file, 7, "a", 9, 100) == 100);
+    ts *h = ts_file_store(file);
+    CHECK(TS_WRONG_PROFILE, ts_floor_of(h, 1, 100, &info));
+    CHECK(TS_NOT_YET, ts_floor(h, 101, &info));
+    CHECK(TS_OK, ts_floor(h, 100, &info));
+    CHECK(TS_OK, ts_file_job(file));
+    CHECK(TS_OK, ts_last(h, &info));
+    HOLDS(info.a == 100 && info.b == 100 && floor_now(h) == 100);
+    return file;
+}
+
+/* Stores that an earlier timestore made; the first of them did not grow. */
+static void test_earlier(const char *folder) {
+    ts_info info;
+    ts_file *file = earlier(folder, 1);
+    CHECK(TS_NOT_GROWABLE, ts_grow(ts_file_store(file), &info));
+    ts_file_close(file);
+    file = earlier(folder, 2);
+    CHECK(TS_OK, ts_grow(ts_file_store(file), &info));
+    CHECK(TS_OK, ts_file_job(file));
+    ts_file_close(file);
 }
 
 /* Cuts a file of the folder; what the store then opens as. */
@@ -321,12 +387,14 @@ int main(int argc, char **argv) {
     test_archive(file);
     test_reclaim(file);
     test_floor(file);
+    test_growth(file);
     ts_file_close(file);
     CHECK(TS_OK, ts_file_open(argv[1], &file, &info));
-    HOLDS(info.a == 500 && info.b == 300);
-    HOLDS(now_has(ts_file_store(file), 7, 401, "d"));
+    HOLDS(info.a == 500 && info.b == 0);
+    HOLDS(floor_now(ts_file_store(file)) == 300 && now_has(ts_file_store(file), 7, 401, "d"));
     test_reopened(file);
     ts_file_close(file);
+    test_earlier(argv[1]);
     test_damaged(argv[1]);
     return 0;
 }

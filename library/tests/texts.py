@@ -48,7 +48,7 @@ def refusals_of_program() -> set[str]:
 
 
 def main() -> None:
-    store, host = listed("TS_OK", "TS_NEEDS_ARCHIVE"), listed("TS_SYSTEM", "TS_OCCUPIED")
+    store, host = listed("TS_OK", "TS_NOT_GROWABLE"), listed("TS_SYSTEM", "TS_OCCUPIED")
     proved = numbers("crates/embedded/src/code.rt", r"Code::(\w+) => (-?\d+)")
     assert {cased(name): code for name, code in store.items()} == proved, (store, proved)
 
@@ -71,9 +71,9 @@ def main() -> None:
     handled = {"Pending", "Closed"}  # which a store that is open in Rust never answers
     assert rust == {name: code for name, code in named.items() if name not in handled}, rust
 
-    steps = listed("TS_IDLE", "TS_KEPT_SYNCED")
+    steps = listed("TS_IDLE", "TS_ZEROS_SYNCED")
     assert {f"TS_{step.name}": step.value for step in timestore.Step} == steps
-    rust_steps = re.findall(r"(\d) => Step::(\w+)", (TOP / "library/rust/src/lib.rs").read_text())
+    rust_steps = re.findall(r"(\d+) => Step::(\w+)", (TOP / "library/rust/src/lib.rs").read_text())
     assert {name: int(code) for code, name in rust_steps} == {cased(name): code for name, code in steps.items() if code > 0}
 
 

@@ -488,7 +488,7 @@ static void reclaimed(void) {
 }
 
 static void floor_raised(uint64_t time) {
-    CHECK(TS_OK, ts_floor(h, time, &info));
+    CHECK(TS_OK, ts_floor_of(h, 1, time, &info));
     JOBS(REST_OF_JOB);
 }
 
@@ -527,7 +527,7 @@ static void a_reclaim_under_a_transaction(void) {
     HOLDS(info.b == 110);
     commits(7, NULL, 3, 120);
     commits(7, "c", 4, 130);
-    CHECK(TS_IN_USE, ts_floor(h, 120, &info));
+    CHECK(TS_IN_USE, ts_floor_of(h, 1, 120, &info));
     HOLDS(info.a == 110);
     archived(120);
     CHECK(TS_IN_USE, ts_reclaim(h, &info));
@@ -586,8 +586,8 @@ static void a_floor(void) {
     CHECK(TS_BEFORE_KEPT, at(119));
     HOLDS(info.a == 120);
     HOLDS(has(120, NULL) && has(130, "c"));
-    CHECK(TS_NOTHING_TO_DO, ts_floor(h, 120, &info));
-    CHECK(TS_NOT_YET, ts_floor(h, 131, &info));
+    CHECK(TS_NOTHING_TO_DO, ts_floor_of(h, 1, 120, &info));
+    CHECK(TS_NOT_YET, ts_floor_of(h, 1, 131, &info));
     HOLDS(info.a == 130);
     HOLDS(view_has(before, 7, 105, "a"));
 }
@@ -600,6 +600,46 @@ static void an_archive_behind_a_floor(void) {
     CHECK(TS_OK, between(115, 131));
     HOLDS(found("7 115 120 b; 7 130 131 c"));
     CHECK(TS_BEFORE_KEPT, between(114, 131));
+    HOLDS(info.a == 115);
+}
+
+/* A commit of one write in relation 2. */
+static void commits_beside(uint64_t record, const char *text, uint64_t now) {
+    uint8_t value[258];
+    size_t len = value_of(text, value);
+    uint64_t txn = begun();
+    CHECK(TS_OK, ts_put(h, txn, 2, record, value, len));
+    CHECK(TS_OK, ts_file_commit(file, txn, 0, now, &info));
+}
+
+/* The floor of relation 1 bars it alone, and an archive behind it leaves out what ended of it alone. */
+static void a_floor_of_one_relation(void) {
+    fresh(16);
+    commits(7, "a", 1, 100);
+    commits_beside(5, "z", 105);
+    commits(7, "b", 3, 110);
+    commits_beside(5, "y", 115);
+    CHECK(TS_WRONG_PROFILE, ts_floor(h, 115, &info));
+    floor_raised(115);
+    CHECK(TS_OK, ts_archive(h, 115, &info));
+    CHECK(TS_OK, ts_file_job(file));
+    HOLDS(size_of("archive") == 37);
+    CHECK(TS_OK, ts_reclaim(h, &info));
+    CHECK(TS_OK, ts_file_job(file));
+    for (int n = 0; n < 2; n++) {
+        CHECK(TS_BEFORE_KEPT, at(114));
+        HOLDS(info.a == 115 && has(115, "b"));
+        CHECK(TS_OK, scan_at(2, 109));
+        HOLDS(found("5 z"));
+        CHECK(TS_OK, scan_at(2, 115));
+        HOLDS(found("5 y"));
+        reopen();
+    }
+    CHECK(TS_OK, ts_floor_of(h, 2, 110, &info));
+    JOBS(REST_OF_JOB);
+    CHECK(TS_BEFORE_KEPT, scan_at(2, 109));
+    HOLDS(info.a == 110);
+    CHECK(TS_BEFORE_KEPT, scan_at(1, 114));
     HOLDS(info.a == 115);
 }
 
@@ -672,8 +712,8 @@ int main(int argc, char **argv) {
         what_waits_is_not_seen, a_scan_has_own_writes, writes_that_leave_nothing, large_values, many_records, deltas,
         a_group_of_sixteen, a_group_has_begun, a_stop_within_the_gate, intervals, scans, an_archive, a_reclaim,
         a_reclaim_under_a_transaction, a_floor_up_to_a_transaction, what_stands_at_the_mark,
-        a_job_with_its_slot_in_the_writing, a_floor, an_archive_behind_a_floor, few_slots_are_left,
-        a_refused_sync_behind_the_gate, damages, a_damaged_archive,
+        a_job_with_its_slot_in_the_writing, a_floor, an_archive_behind_a_floor, a_floor_of_one_relation,
+        few_slots_are_left, a_refused_sync_behind_the_gate, damages, a_damaged_archive,
     };
     size_t count = sizeof EXAMPLES / sizeof EXAMPLES[0];
     if (argc != 2) return 2;

@@ -6,6 +6,7 @@ use Rattle.std.proofs.lemmas.Bool.Decides.{nat_tests}
 use Rattle.history.specs.declared.key.Key.{Key}
 use Rattle.history.specs.Key.{key_cmp, key_lt}
 use Rattle.history.proofs.Keys.{key_lt-from_less}
+use Rattle.floors.specs.Floors.{floor_at}
 use Rattle.image.specs.Reading.{ArchiveRecord}
 use Rattle.image.specs.StandsFor as stands
 use Rattle.archive.specs.declared.run.RunEntry.{RunEntry}
@@ -47,7 +48,7 @@ laid_run area run records holds =
       upto = range.upto_high;
       each = λ n r at.
           let fits = all_at IsArchiveRecord records n r holds.each at in
-          let rules = all_at (stands.IsArchived run.mark (λ relation. run.floor) run.slot.upto) records n r holds.rules.each at in
+          let rules = all_at (stands.IsArchived run.mark (floor_at run.floors) run.slot.upto) records n r holds.rules.each at in
           record {
             relation = fits.key.relation;
             number = fits.key.number;

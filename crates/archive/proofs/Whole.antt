@@ -15,6 +15,7 @@ use Rattle.wire.specs.Values.{value_bytes}
 use Rattle.wire.specs.Spelling.{IsRun}
 use Rattle.history.specs.Key.{IsKey, key_lt}
 use Rattle.history.proofs.Keys.{key_cmp-from_lt}
+use Rattle.floors.specs.Floors.{floor_at}
 use Rattle.image.specs.Values.{Value}
 use Rattle.image.specs.Reading.{ArchiveRecord}
 use Rattle.image.specs.StandsFor as stands
@@ -310,10 +311,10 @@ module _ (area : List ℕ) (run : RunEntry) (are : AreSmall area) (is : IsRun ru
   each_fits zero n fits = tt
   each_fits (suc k) n fits = (record { key = key_in_range n; value = (value_there n (omega arith)).is }, each_fits k (suc n) (omega arith))
 
-  in_range : (h : Head) → is_in_range h run ≡ true → (h.from < h.to) × (run.mark < h.to) × (run.floor < h.to) × (h.to ≤ run.slot.upto)
+  in_range : (h : Head) → is_in_range h run ≡ true → (h.from < h.to) × (run.mark < h.to) × (floor_at run.floors h.key.relation < h.to) × (h.to ≤ run.slot.upto)
   in_range h test = (grind (arith, nat_tests), grind (arith, nat_tests), grind (arith, nat_tests), grind (arith, nat_tests))
 
-  each_archived : (k n : ℕ) (fits : n + k ≤ run.slot.records) → AllByRecursion (stands.IsArchived run.mark (λ relation. run.floor) run.slot.upto) (recs k n)
+  each_archived : (k n : ℕ) (fits : n + k ≤ run.slot.records) → AllByRecursion (stands.IsArchived run.mark (floor_at run.floors) run.slot.upto) (recs k n)
   each_archived zero n fits = tt
   each_archived (suc k) n fits =
       let here = in_range (nth_head area run n) (whole.heads n (omega arith)).in_range in

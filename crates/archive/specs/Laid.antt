@@ -1,5 +1,6 @@
 -- A run by the places of its records, as a search sees it.
 use Rattle.std.specs.Prelude.{◌≡◌, ◌⊎◌, ℕ, ◌^◌, ◌<◌, ◌≤◌, List, [], ◌∷◌, length, slice_get, Some, slice_range}
+use Rattle.floors.specs.Floors.{floor_at}
 use Rattle.image.specs.Reading.{ArchiveRecord}
 use Rattle.archive.specs.declared.run.RunEntry.{RunEntry}
 use Rattle.wire.specs.Values.{IsValue}
@@ -11,7 +12,7 @@ pub record IsLaid (run : RunEntry) (r : ArchiveRecord) : Type 0 where
   pub number : r.key.record < 2 ^ 64
   pub lasts : r.version.from < r.version.to
   pub after_mark : run.mark < r.version.to
-  pub after_floor : run.floor < r.version.to
+  pub after_floor : floor_at run.floors r.key.relation < r.version.to
   pub by_upto : r.version.to ≤ run.slot.upto
   pub value : IsValue r.version.value
 

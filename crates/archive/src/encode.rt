@@ -1,4 +1,4 @@
-//! The bytes of a record, made in a fixed buffer.
+//! The bytes of a record, made in place.
 ghost use Rattle.std.specs.Prelude.{◌≡◌, ◌+◌, ◌≤◌, [], ◌∷◌, ◌++◌, length, take};
 ghost use Rattle.wire.specs.Numbers.{u16_bytes, u64_bytes};
 ghost use Rattle.wire.specs.Fields.{fields_bytes};
@@ -11,8 +11,8 @@ use byteorder::{ByteOrder, LittleEndian};
 use wire::Value;
 
 /// Writes bytes from a place on, and tells where they end.
-fn put(out: &mut [u8; 4123], at: usize, bytes: &[u8]) -> usize
-    requires { at + length bytes.now ≤ 4123 }
+fn put(out: &mut [u8], at: usize, bytes: &[u8]) -> usize
+    requires { at + length bytes.now ≤ length out.old }
     ensures end { result ≡ at + length bytes.now }
     ensures front { take result out.new ≡ take at out.old ++ bytes.now }
 {
@@ -22,8 +22,8 @@ fn put(out: &mut [u8; 4123], at: usize, bytes: &[u8]) -> usize
 }
 
 #[tactic(auto, unfolding(wire::specs::Numbers::u16_bytes))]
-fn put_u16(out: &mut [u8; 4123], at: usize, number: u16) -> usize
-    requires { at + 2 ≤ 4123 }
+fn put_u16(out: &mut [u8], at: usize, number: u16) -> usize
+    requires { at + 2 ≤ length out.old }
     ensures end { result ≡ at + 2 }
     ensures front { take result out.new ≡ take at out.old ++ u16_bytes number }
 {
@@ -33,8 +33,8 @@ fn put_u16(out: &mut [u8; 4123], at: usize, number: u16) -> usize
 }
 
 #[tactic(auto, unfolding(wire::specs::Numbers::u64_bytes))]
-fn put_u64(out: &mut [u8; 4123], at: usize, number: u64) -> usize
-    requires { at + 8 ≤ 4123 }
+fn put_u64(out: &mut [u8], at: usize, number: u64) -> usize
+    requires { at + 8 ≤ length out.old }
     ensures end { result ≡ at + 8 }
     ensures front { take result out.new ≡ take at out.old ++ u64_bytes number }
 {
@@ -44,7 +44,8 @@ fn put_u64(out: &mut [u8; 4123], at: usize, number: u64) -> usize
 }
 
 /// Writes a place of the index to the buffer's front, 8 bytes.
-pub(crate) fn encode_place(place: u64, out: &mut [u8; 4123]) -> usize
+pub(crate) fn encode_place(place: u64, out: &mut [u8]) -> usize
+    requires { 8 ≤ length out.old }
     ensures len { result ≡ 8 }
     ensures bytes { take result out.new ≡ u64_bytes place }
 {
@@ -52,7 +53,8 @@ pub(crate) fn encode_place(place: u64, out: &mut [u8; 4123]) -> usize
 }
 
 /// Writes a head to the buffer's front, 26 bytes.
-fn encode_head(head: &Head, out: &mut [u8; 4123]) -> usize
+fn encode_head(head: &Head, out: &mut [u8]) -> usize
+    requires { 26 ≤ length out.old }
     ensures len { result ≡ 26 }
     ensures bytes { take result out.new ≡ head_bytes (record_of head.now []) }
 {
@@ -73,7 +75,8 @@ pub(crate) fn record_len(value: &Value) -> usize
 }
 
 /// Writes a record to the buffer's front, and tells its length.
-pub(crate) fn encode_record(head: &Head, value: &Value, out: &mut [u8; 4123]) -> usize
+pub(crate) fn encode_record(head: &Head, value: &Value, out: &mut [u8]) -> usize
+    requires { 4123 ≤ length out.old }
     ensures most { result ≤ 4123 }
     ensures bytes { take result out.new ≡ record_bytes (record_of head.now value.now) }
 {

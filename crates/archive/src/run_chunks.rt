@@ -1,5 +1,5 @@
 //! A run as chunks: each record of a walk, and then, by a second walk, each entry of the index.
-ghost use Rattle.std.specs.Prelude.{◌≡◌, ◌+◌, ◌*◌, ◌≤◌, ◌<◌, ◌^◌, ◌∷◌, [], None, Some, length, map, take, MatchOption, IfSome, IfNone};
+ghost use Rattle.std.specs.Prelude.{◌≡◌, ◌+◌, ◌*◌, ◌≤◌, ◌<◌, ◌^◌, ◌∷◌, [], None, Some, drop, length, map, take, MatchOption, IfSome, IfNone};
 ghost use Rattle.std.specs.Option.{ForSome};
 ghost use Rattle.archive.specs.Pieces.{size_of, chunks_left, run_chunks, index_chunks};
 ghost use Rattle.archive.specs.Records.{record_bytes};
@@ -58,9 +58,12 @@ impl<W: RecordWalk> RunChunks<W> {
     }
 
     /// The next record's entry of the index.
-    fn next_place(&mut self, at: u64, out: &mut [u8; 4123]) -> Option<usize>
-        requires { self.old.place ≡ Some at }
-        ensures some { IfSome result (λ n. index_chunks at (W.left self.old.walk) ≡ take n out.new ∷ chunks_left self.new.place (W.all self.new.walk) (W.left self.new.walk)) }
+    fn next_place(&mut self, at: u64, out: &mut [u8], room: usize) -> Option<usize>
+        requires place { self.old.place ≡ Some at }
+        requires size { 4123 ≤ length out.old }
+        ensures some { IfSome result (λ n. index_chunks at (W.left self.old.walk) ≡ take n out.new ∷ drop 1 (index_chunks at (W.left self.old.walk))) }
+        ensures passed { IfSome result (λ n. n ≤ room → chunks_left self.new.place (W.all self.new.walk) (W.left self.new.walk) ≡ drop 1 (index_chunks at (W.left self.old.walk))) }
+        ensures kept { IfSome result (λ n. room < n → self.new ≡ self.old) }
         ensures short { IfSome result (λ n. n ≤ 4123) }
         ensures none { IfNone result (W.left self.old.walk ≡ []) }
         ensures last { IfNone result (self.new ≡ self.old) }
@@ -68,16 +71,22 @@ impl<W: RecordWalk> RunChunks<W> {
         let Some((head, value)) = self.walk.peek() else {
             return None;
         };
-        let len = record_len(value) as u64;
-        self.walk.advance(&head);
-        self.place = Some(at + len);
-        Some(encode_place(at, out))
+        let behind = at + record_len(value) as u64;
+        let len = encode_place(at, out);
+        if len <= room {
+            self.walk.advance(&head);
+            self.place = Some(behind);
+        }
+        Some(len)
     }
 
     /// The next record itself.
-    fn next_record(&mut self, out: &mut [u8; 4123]) -> Option<usize>
-        requires { self.old.place ≡ None }
-        ensures some { IfSome result (λ n. map record_bytes (W.left self.old.walk) ≡ take n out.new ∷ map record_bytes (W.left self.new.walk)) }
+    fn next_record(&mut self, out: &mut [u8], room: usize) -> Option<usize>
+        requires place { self.old.place ≡ None }
+        requires size { 4123 ≤ length out.old }
+        ensures some { IfSome result (λ n. map record_bytes (W.left self.old.walk) ≡ take n out.new ∷ drop 1 (map record_bytes (W.left self.old.walk))) }
+        ensures passed { IfSome result (λ n. n ≤ room → map record_bytes (W.left self.new.walk) ≡ drop 1 (map record_bytes (W.left self.old.walk))) }
+        ensures kept { IfSome result (λ n. room < n → self.new ≡ self.old) }
         ensures short { IfSome result (λ n. n ≤ 4123) }
         ensures none { IfNone result (W.left self.old.walk ≡ []) }
         ensures all { W.all self.new.walk ≡ W.all self.old.walk }
@@ -87,7 +96,9 @@ impl<W: RecordWalk> RunChunks<W> {
             return None;
         };
         let len = encode_record(&head, value, out);
-        self.walk.advance(&head);
+        if len <= room {
+            self.walk.advance(&head);
+        }
         Some(len)
     }
 }
@@ -95,15 +106,15 @@ impl<W: RecordWalk> RunChunks<W> {
 impl<W: RecordWalk> Chunks for RunChunks<W> {
     ghost left = { λ c. chunks_left c.place (W.all c.walk) (W.left c.walk) };
 
-    fn next(&mut self, out: &mut [u8; 4123]) -> Option<usize> {
+    fn next(&mut self, out: &mut [u8], room: usize) -> Option<usize> {
         if let Some(at) = self.place {
-            return self.next_place(at, out);
+            return self.next_place(at, out, room);
         }
-        if let Some(len) = self.next_record(out) {
+        if let Some(len) = self.next_record(out, room) {
             return Some(len);
         }
         self.walk.restart();
         self.place = Some(0);
-        self.next_place(0, out)
+        self.next_place(0, out, room)
     }
 }

@@ -1,13 +1,15 @@
 ghost use Rattle.std.specs.Prelude.{◌≡◌, ◌+◌, ◌*◌, ◌<◌, ◌≤◌, ◌^◌, ◌↔◌, [], IsTrue, length, take, drop, IfSome, MatchOption};
 ghost use Rattle.archive.specs.Runs.{run_bytes};
 
+use crate::packer::BUFFER_LEN;
 use crate::run_chunks::{RunChunks, measure};
 use crate::{Packer, RecordWalk};
 use disk::{Area, DeviceFault, Disk};
 use std::marker::Model;
 
 /// Writes the bytes of a run in pieces of 8,192, the last of which may be shorter, as it walks its
-/// records. No call holds more of them than one piece and one record.
+/// records, each straight into the piece that it is of. No call holds more of them than one piece and
+/// two records.
 #[derive(Drop)]
 pub struct RunWriter<W: RecordWalk> {
     packer: Packer<RunChunks<W>>,
@@ -24,11 +26,11 @@ impl<W: RecordWalk> Model for RunWriter<W> {
 
     ghost view = { λ w. record {
       at = w.at;
-      left = rest_of w.packer.chunk w.packer.from w.packer.to (chunks_left w.packer.chunks.place (W.all w.packer.chunks.walk) (W.left w.packer.chunks.walk));
+      left = rest_of w.packer.skip (chunks_left w.packer.chunks.place (W.all w.packer.chunks.walk) (W.left w.packer.chunks.walk));
       records = w.records;
     } };
 
-    ghost invariant = { λ w. (w.left ≡ length (rest_of w.packer.chunk w.packer.from w.packer.to (chunks_left w.packer.chunks.place (W.all w.packer.chunks.walk) (W.left w.packer.chunks.walk))))
+    ghost invariant = { λ w. (w.left ≡ length (rest_of w.packer.skip (chunks_left w.packer.chunks.place (W.all w.packer.chunks.walk) (W.left w.packer.chunks.walk))))
         × (w.at + w.left < 2 ^ 63) };
 }
 
@@ -90,11 +92,12 @@ impl<W: RecordWalk> RunWriter<W> {
         if self.left == 0 {
             return Ok(());
         }
-        let mut piece = [0; 8192];
-        let len = self.packer.fill(&mut piece);
+        let mut buffer = [0; BUFFER_LEN];
+        let (from, to) = self.packer.fill(&mut buffer);
+        let len = (to - from) as u64;
         let at = self.at;
-        self.at += len as u64;
-        self.left -= len as u64;
-        disk.write_at(Area::Archive, at, &piece[..len])
+        self.at += len;
+        self.left -= len;
+        disk.write_at(Area::Archive, at, &buffer[from..to])
     }
 }

@@ -425,17 +425,33 @@ const BEHIND_A_READER: [Call<'static>; 11] = [
     Call::Pump,
 ];
 
-/// Floors that are begun, steps of the one that is, and views that are asked before it.
+/// Floors of the record's relation that are begun, steps of the one that is, and views that are asked
+/// before it.
 const FLOORS: [Call<'static>; 13] = [
-    Call::Floor { floor: 102 },
-    Call::Floor { floor: 101 },
-    Call::Floor { floor: 100 },
-    Call::Floor { floor: 100 },
+    Call::Floor {
+        scope: Some(1),
+        floor: 102,
+    },
+    Call::Floor {
+        scope: Some(1),
+        floor: 101,
+    },
+    Call::Floor {
+        scope: Some(1),
+        floor: 100,
+    },
+    Call::Floor {
+        scope: Some(1),
+        floor: 100,
+    },
     Call::JobPump,
     Call::JobPump,
     Call::JobPump,
     Call::JobPump,
-    Call::Floor { floor: 100 },
+    Call::Floor {
+        scope: Some(1),
+        floor: 100,
+    },
     Call::At {
         view: 10,
         key: SEVEN,

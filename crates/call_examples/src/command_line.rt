@@ -141,12 +141,13 @@ fn help<'a>(rt: &impl Abort, alloc: Global, words: &'a [&'a str]) -> Result<Stri
 }
 
 /// What help names: each command, and the limits of a store.
-const NAMED: [&str; 17] = [
+const NAMED: [&str; 18] = [
     "\n  format ",
     "\n  run ",
     "\n  at ",
     "\n  between ",
     "\n  vacuum ",
+    "\n  grow ",
     "\n  dump ",
     "16 to 65536",
     "1 to 16\n             commits",
@@ -178,7 +179,7 @@ fn help_names_the_commands_and_the_limits(rt: HostRuntime) -> Result<(), Fail> {
 }
 
 /// What the help of each command says of it: its arguments, and each line of a script.
-const HELP: [(&str, &[&str]); 6] = [
+const HELP: [(&str, &[&str]); 7] = [
     (
         "format",
         &["<DIR>", "--slots <N>", "[default: 1024]", "16 to 65536"],
@@ -203,6 +204,7 @@ const HELP: [(&str, &[&str]); 6] = [
             "archive TIME",
             "reclaim",
             "floor TIME",
+            "floorof REL TIME",
             "job",
             "finish",
             "reopen",
@@ -241,13 +243,15 @@ const HELP: [(&str, &[&str]); 6] = [
             "first refusal",
         ],
     ),
+    ("grow", &["<DIR>", "slots N", "not growable"]),
     (
         "dump",
         &[
             "<DIR>",
-            "header SLOTS",
+            "header SLOTS pieces N",
             "member LABEL TIME EXTENT EXTENTS RECORDS INSTANT",
             "slot N floor TIME",
+            "slot N floor TIME relation REL",
         ],
     ),
 ];
@@ -275,6 +279,18 @@ fn a_number_out_of_range_is_named(rt: HostRuntime) -> Result<(), Fail> {
 
 For more information, try '--help'.
 "
+    );
+    Ok(())
+}
+
+#[test]
+fn grow_has_a_folder(rt: HostRuntime) -> Result<(), Fail> {
+    let words = ["timestore", "grow", "some/folder"];
+    assert!(rt;
+        matches!(
+            asked(rt.alloc(), &words)?,
+            Action::Grow { dir: "some/folder" }
+        )
     );
     Ok(())
 }

@@ -16,7 +16,7 @@ const FLOOR_SLOT: [u8; 17] = [0xc7, 4, 0, 0, 6, 0, 0, 0, 0x78, 0, 0, 0, 0, 0, 0,
 fn raise_floor(rt: &impl Abort, store: &mut Store<MemDisk>, floor: u64) {
     assert_eq!(rt; store.floor_start(floor), Ok(()));
     take_steps(rt, store, &SLOT_STEPS);
-    assert_eq!(rt; store.floor(), floor);
+    assert_eq!(rt; store.floors().every(), floor);
 }
 
 /// Each of these floors is refused so.
@@ -74,10 +74,10 @@ fn the_floor_stays_until_its_slot_is_open(rt: HostRuntime) -> Result<(), Fail> {
             &[(0, StartFault::JobBusy), (131, StartFault::JobBusy)],
         );
         take_steps(&rt, &mut store, &[did]);
-        assert_eq!(rt; store.floor(), 0);
+        assert_eq!(rt; store.floors().every(), 0);
     }
     take_steps(&rt, &mut store, &[JobDid::JobDone, JobDid::Idle]);
-    assert_eq!(rt; store.floor(), 120);
+    assert_eq!(rt; store.floors().every(), 120);
     refuses(
         &rt,
         &mut store,
@@ -131,7 +131,7 @@ fn a_floor_and_a_group_take_turns(rt: HostRuntime) -> Result<(), Fail> {
     assert_eq!(rt; store.pump(), Err(PumpFault::Busy));
     take_steps(&rt, &mut store, &SLOT_STEPS[1..]);
     pump_to(&rt, &mut store, Did::Published(1));
-    assert_eq!(rt; (store.floor(), store.last()), (110, 140));
+    assert_eq!(rt; (store.floors().every(), store.last()), (110, 140));
     let _disk = store.close();
     Ok(())
 }
@@ -174,14 +174,14 @@ fn a_failed_store_raises_no_floor(rt: HostRuntime) -> Result<(), Fail> {
     assert_eq!(&rt; store.job_pump(), Err(PumpFault::Failed));
     assert_eq!(&rt; store.floor_start(110), Err(StartFault::Failed));
     assert_eq!(&rt; store.job_pump(), Err(PumpFault::Failed));
-    assert_eq!(&rt; store.floor(), 0);
+    assert_eq!(&rt; store.floors().every(), 0);
     let _disk = store.close();
     Ok(())
 }
 
 /// What stood from 115 on is told, and nothing of before.
 fn keeps_from_115(rt: &impl Abort, store: &mut Store<MemDisk>) {
-    assert_eq!(rt; store.floor(), 115);
+    assert_eq!(rt; store.floors().every(), 115);
     let view = view_of(rt, store);
     match store.between(&view, SEVEN, 115, 131) {
         Ok(rows) => {

@@ -4,6 +4,7 @@ use chains::SharedValue;
 use disk::{Area, Disk, MemDisk};
 use history::Version;
 use recovery::format;
+use status::encode_header;
 use std::alloc::Global;
 use std::process::Abort;
 use std::test::Fail;
@@ -55,20 +56,33 @@ pub fn pump_to(rt: &impl Abort, store: &mut Store<MemDisk>, last: Did) {
     panic!(rt; "no such step");
 }
 
-/// A new store of 16 slots.
+/// A new store of 16 slots, of the newest profile whose relations have one floor.
 pub fn no_commits(rt: &impl Abort, alloc: Global) -> Result<Store<MemDisk>, Fail> {
+    let mut disk = MemDisk::new(alloc);
+    format(alloc, &mut disk, 16)?;
+    disk.write_at(Area::Status, 0, &encode_header(2, 16))?;
+    Ok(opened(rt, alloc, disk))
+}
+
+/// A new store of 16 slots whose relations have floors of their own.
+pub fn no_commits_by_relation(rt: &impl Abort, alloc: Global) -> Result<Store<MemDisk>, Fail> {
     let mut disk = MemDisk::new(alloc);
     format(alloc, &mut disk, 16)?;
     Ok(opened(rt, alloc, disk))
 }
 
+/// The record is a from 100 on and b from 110 on.
+fn put_twice(rt: &impl Abort, alloc: Global, store: &mut Store<MemDisk>) {
+    queue(rt, alloc, store, Some(b"a"), 100);
+    pump_to(rt, store, Did::Idle);
+    queue(rt, alloc, store, Some(b"b"), 110);
+    pump_to(rt, store, Did::Idle);
+}
+
 /// A new store whose record is a from 100 on and b from 110 on.
 pub fn two_commits(rt: &impl Abort, alloc: Global) -> Result<Store<MemDisk>, Fail> {
     let mut store = no_commits(rt, alloc)?;
-    queue(rt, alloc, &mut store, Some(b"a"), 100);
-    pump_to(rt, &mut store, Did::Idle);
-    queue(rt, alloc, &mut store, Some(b"b"), 110);
-    pump_to(rt, &mut store, Did::Idle);
+    put_twice(rt, alloc, &mut store);
     Ok(store)
 }
 
@@ -90,6 +104,14 @@ pub const SLOT_STEPS: [JobDid; 5] = [
 /// A new store whose record is a from 100 on, b from 110 on, gone at 120 and c from 130 on.
 pub fn four_commits(rt: &impl Abort, alloc: Global) -> Result<Store<MemDisk>, Fail> {
     let mut store = two_commits(rt, alloc)?;
+    delete_and_put(rt, alloc, &mut store);
+    Ok(store)
+}
+
+/// The same where relations have floors of their own.
+pub fn four_commits_by_relation(rt: &impl Abort, alloc: Global) -> Result<Store<MemDisk>, Fail> {
+    let mut store = no_commits_by_relation(rt, alloc)?;
+    put_twice(rt, alloc, &mut store);
     delete_and_put(rt, alloc, &mut store);
     Ok(store)
 }

@@ -14,6 +14,10 @@ mod commit_times;
 #[cfg(test)]
 mod floor_steps;
 #[cfg(test)]
+mod floors_of_relations;
+#[cfg(test)]
+mod growth_steps;
+#[cfg(test)]
 mod histories;
 #[cfg(test)]
 mod job_steps;

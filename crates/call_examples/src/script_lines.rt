@@ -102,6 +102,7 @@ fn an_archive_names_its_time(rt: HostRuntime) {
         );
     }
     assert!(rt; matches!(line("reclaim"), Some(Line::Reclaim)));
+    assert!(rt; matches!(line("grow"), Some(Line::Grow)));
     assert!(rt; matches!(line("job"), Some(Line::Job)));
     assert!(rt; matches!(line("finish"), Some(Line::Finish)));
 }
@@ -114,9 +115,23 @@ fn a_floor_names_its_time(rt: HostRuntime) {
         ("floor 18446744073709551615", u64::MAX),
     ] {
         assert!(rt;
-            matches!(line(text), Some(Line::Floor(floor)) if floor == time),
+            matches!(line(text), Some(Line::Floor(None, floor)) if floor == time),
             "{text}"
         );
+    }
+}
+
+#[test]
+fn a_floor_of_one_relation_names_it_and_its_time(rt: HostRuntime) {
+    for (text, relation, time) in [
+        ("floorof 1 120", 1, 120),
+        ("floorof 0 1970-01-01T00:00:01Z", 0, 1_000_000),
+        ("floorof 65535 18446744073709551615", 65_535, u64::MAX),
+    ] {
+        let Some(Line::Floor(Some(of), floor)) = line(text) else {
+            panic!(rt; "{text}");
+        };
+        assert_eq!(rt; (of, floor), (relation, time), "{text}");
     }
 }
 
@@ -169,6 +184,7 @@ fn a_line_of_no_form_asks_for_nothing(rt: HostRuntime) {
         "archive 18446744073709551616",
         "archive 100 7",
         "reclaim 100",
+        "grow 256",
         "ARCHIVE 100",
         "job 1",
         "finish 100",
@@ -178,6 +194,15 @@ fn a_line_of_no_form_asks_for_nothing(rt: HostRuntime) {
         "floor 18446744073709551616",
         "floor 100 7",
         "FLOOR 100",
+        "floorof",
+        "floorof 1",
+        "floorof 1 ",
+        "floorof 1 soon",
+        "floorof x 100",
+        "floorof 65536 100",
+        "floorof 1 18446744073709551616",
+        "floorof 1 100 7",
+        "FLOOROF 1 100",
     ];
     for text in lines {
         assert!(rt; line(text).is_none(), "{text}");

@@ -40,7 +40,7 @@ none-piece t xs [] ys some h up = absurd (omega arith)
 none-piece t xs (p ∷ ps) ys some h up = none-before t 0 xs p (ps ++ ys) up h
 
 module _ {m : List (List Write)} (node : Node (List Write)) {first : ℕ} (is : m ≡ pieces_of node) (some : 0 < length node.piece) (place : first ≡ first_time node.piece) (before : List Write) where
-  split : (end : ℕ) → versions_upto end (before ++ all_writes m) ≡ versions_upto first (before ++ all_writes node.left.pieces) ++ versions_upto end (node.piece ++ all_writes node.right.pieces)
+  pub split : (end : ℕ) → versions_upto end (before ++ all_writes m) ≡ versions_upto first (before ++ all_writes node.left.pieces) ++ versions_upto end (node.piece ++ all_writes node.right.pieces)
   split end =
       ap (λ (ws : List Write). versions_upto end ws) (parted node is before)
       ∙ versions-append end (before ++ all_writes node.left.pieces) (node.piece ++ all_writes node.right.pieces)

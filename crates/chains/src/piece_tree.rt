@@ -3,10 +3,12 @@ ghost use Rattle.std.specs.Prelude.{◌≡◌, ◌++◌, IfOk, IsTrue, OnOk, fin
 ghost use Rattle.std.specs.Option.{option_copied};
 ghost use Rattle.history.specs.Time.{value_at, value_after, IsRisingAfter};
 ghost use Rattle.history.specs.Versions.{rows, ends_after};
+ghost use Rattle.chains.specs.Found.{IsFound};
 ghost use Rattle.chains.specs.Pieces.{all_writes, held};
 ghost use Rattle.chains.specs.Rows.{first_time_or, versions_upto, version_of_loan};
 ghost use Rattle.chains.specs.Writes.{kept_after, is_after};
 
+use crate::part::Part;
 use crate::piece::Piece;
 use crate::rows::Rows;
 use crate::shared_value::SharedValue;
@@ -79,6 +81,33 @@ impl Tree<Piece> {
         match node.left.ending_after(before, first, time) {
             Some(version) => Some(version),
             None => node.right.ending_after(Some(&node.piece), end, time),
+        }
+    }
+
+    /// Versions one after another, from the first one on that ends after the time, of these writes and
+    /// of those of the piece before them; the last one ends at `end`.
+    pub(crate) fn part_after(
+        &self,
+        before: Option<&Piece>,
+        end: u64,
+        time: u64,
+    ) -> Result<Option<Part>, AllocError>
+        requires { IsRisingAfter 0 (held (option_copied before) ++ all_writes self.now.pieces) }
+        ensures { IfOk result (IsFound time (versions_upto end (held (option_copied before.entry) ++ all_writes self.now.pieces))) }
+    {
+        let Some(node) = self.top() else {
+            return match before {
+                None => Ok(None),
+                Some(piece) => Part::of(piece, end, time),
+            };
+        };
+        let first = node.piece.first_time();
+        if first <= time {
+            return node.right.part_after(Some(&node.piece), end, time);
+        }
+        match node.left.part_after(before, first, time)? {
+            Some(part) => Ok(Some(part)),
+            None => node.right.part_after(Some(&node.piece), end, time),
         }
     }
 

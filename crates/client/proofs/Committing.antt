@@ -95,7 +95,7 @@ done-unchanged public tells t i k n time key done low floors =
       later = omega arith;
       published = omega (arith, by, found.1);
       unwritten = λ c has later upto. absurd (omega (arith, later, upto));
-      kept = times-stay public tells t i n key.relation time (omega (arith, found.2, low)) kept (λ j floor from upto is. floors j floor from (omega (arith, upto)) is);
+      kept = times-stay public tells t i n key.relation time (omega (arith, found.2, low)) kept (λ j scope floor from upto is. floors j scope floor from (omega (arith, upto)) is);
       kept_next = times-stay public tells t i (suc n) key.relation time (omega (arith, found.2, low)) kept floors;
     }
 

@@ -6,6 +6,7 @@ use Rattle.disk.specs.Calls.{DiskState}
 use Rattle.history.specs.declared.key.Key.{Key}
 use Rattle.history.specs.declared.key.KeyWrite.{KeyWrite}
 use Rattle.history.specs.Key.{write_in}
+use Rattle.history.specs.Floors.{covers}
 use Rattle.history.specs.Histories.{Commit, History, last, state}
 use Rattle.history.specs.Machine.{Machine}
 use Rattle.image.specs.Values.{Value}
@@ -43,9 +44,10 @@ pub record IsReadBack (tells : Bool) (image : Image) (key : Key) (time : ℕ) (v
 
 -- ---- times
 
--- No call of these numbers begins a floor later than the time.
-abbrev pub BeginsNoLaterFloor : {tells : Bool} → Trace tells → (from upto time : ℕ) → Type 0
-BeginsNoLaterFloor t from upto time = (i floor : ℕ) → from ≤ i → i < upto → IsCall t i (call.Floor floor) (answer.Floor (Ok tt)) → floor ≤ time
+-- No call of these numbers begins a floor of the relation that is later than the time.
+abbrev pub BeginsNoLaterFloor : {tells : Bool} → Trace tells → (from upto relation time : ℕ) → Type 0
+BeginsNoLaterFloor t from upto relation time =
+    (i : ℕ) (scope : Option ℕ) (floor : ℕ) → from ≤ i → i < upto → IsCall t i (call.Floor scope floor) (answer.Floor (Ok tt)) → IsTrue (covers scope relation) → floor ≤ time
 
 -- A value that was written at the one time is still the key's at the other: after this many calls that time is published, no commit between the two writes the key, and it is kept then and after the next call.
 pub record IsUnchanged {tells : Bool} (t : Trace tells) (n : ℕ) (key : Key) (from upto : ℕ) : Type 0 where
@@ -74,7 +76,7 @@ DoneIsKept = (tells : Bool) (t : Trace tells) (i k time : ℕ) → IsTrue tells 
 
 -- At its own time nothing else has to be asked for than that no floor later than it is begun: a commit is later than each floor before it.
 abbrev pub DoneIsUnchanged : Type 0
-DoneIsUnchanged = (tells : Bool) (t : Trace tells) (i k n time : ℕ) (key : Key) → IsDone t k i time → k ≤ n → BeginsNoLaterFloor t i (suc n) time → IsUnchanged t n key time time
+DoneIsUnchanged = (tells : Bool) (t : Trace tells) (i k n time : ℕ) (key : Key) → IsDone t k i time → k ≤ n → BeginsNoLaterFloor t i (suc n) key.relation time → IsUnchanged t n key time time
 
 -- Done was answered, with this time, for a transaction that put this value last under the key.
 pub record IsPutDone {tells : Bool} (t : Trace tells) (k time : ℕ) (key : Key) (value : Value) : Type 0 where

@@ -37,4 +37,4 @@ SettledReopens = (tells : Bool) (t : Trace tells) (n : ℕ) (key : Key) (time : 
 
 -- A time that is kept stays so, unless a call between begins a later floor.
 abbrev pub TimesStayKept : Type 0
-TimesStayKept = (tells : Bool) (t : Trace tells) (p q relation time : ℕ) → p ≤ q → IsKeptTime (machine_at t p) relation time → BeginsNoLaterFloor t p q time → IsKeptTime (machine_at t q) relation time
+TimesStayKept = (tells : Bool) (t : Trace tells) (p q relation time : ℕ) → p ≤ q → IsKeptTime (machine_at t p) relation time → BeginsNoLaterFloor t p q relation time → IsKeptTime (machine_at t q) relation time

@@ -56,6 +56,8 @@ code_number code.ArchiveFull = negsuc 22
 code_number code.BadSlots = negsuc 23
 code_number code.InUse = negsuc 24
 code_number code.NeedsArchive = negsuc 25
+code_number code.WrongProfile = negsuc 26
+code_number code.NotGrowable = negsuc 27
 
 -- ---- the codes of a store's answers
 
@@ -98,6 +100,7 @@ pump_code pump.Failed = code.Failed
 -- the time of the last commit, or the least open snapshot, is told
 abbrev pub IsStartCode : StartFault → Code → Info → Type 0
 IsStartCode start.Failed said info = said ≡ code.Failed
+IsStartCode start.WrongProfile said info = said ≡ code.WrongProfile
 IsStartCode start.JobBusy said info = said ≡ code.JobBusy
 IsStartCode start.NothingToDo said info = said ≡ code.NothingToDo
 IsStartCode (start.NotYet last) said info = (said ≡ code.NotYet) × (info.a ≡ last)
@@ -106,6 +109,7 @@ IsStartCode start.StatusFull said info = said ≡ code.StatusFull
 IsStartCode start.ArchiveFull said info = said ≡ code.ArchiveFull
 IsStartCode start.HeapFull said info = said ≡ code.HeapFull
 IsStartCode start.NoMemory said info = said ≡ code.NoMemory
+IsStartCode start.NotGrowable said info = said ≡ code.NotGrowable
 
 -- what a step of a group did, and how many commits are published
 abbrev pub told_did : Did → Info
@@ -128,6 +132,8 @@ job_number job.GateWritten = 5
 job_number job.JobDone = 6
 job_number job.WroteExtent = 7
 job_number job.HeapSynced = 8
+job_number job.WroteZeros = 9
+job_number job.ZerosSynced = 10
 
 -- what a call on a handle answers: by the number of a code that the engine says, or that there is none
 abbrev pub AnswersOn : (Engine → Code → Type 0) → Option Engine → ℤ → Type 0

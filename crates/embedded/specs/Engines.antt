@@ -19,8 +19,9 @@ use Rattle.relay.specs.declared.device_call.DeviceCall.TheVariants.{Write, Sync}
 use Rattle.snapshot.specs.Txn.{TxnValue}
 use Rattle.snapshot.specs.declared.txn.TxnFault.{TxnFault}
 use Rattle.store.specs.Archives.{StartsArchive}
-use Rattle.store.specs.Calls.{Begins, Aborts, Submits, Redeems, IsTimesOf, IsViewOf, last, floor}
+use Rattle.store.specs.Calls.{Begins, Aborts, Submits, Redeems, IsTimesOf, IsViewOf, last, floors}
 use Rattle.store.specs.Floors.{StartsFloor}
+use Rattle.store.specs.Growths.{StartsGrowth}
 use Rattle.store.specs.Jobs.{PumpsJob}
 use Rattle.store.specs.Opens.{Opens}
 use Rattle.store.specs.Pumps.{Pumps}
@@ -88,7 +89,7 @@ OfNumber found old said new Does = MatchOption found ((said ≡ code.Unknown) ×
 -- a store that is opened from these bytes, with nothing made yet; the times of its last commit and of its floor are told
 abbrev pub OpensEngine : List ℕ → List ℕ → List ℕ → ℕ → Info → Engine → Type 0
 OpensEngine status heap archive mark info e = (opened : StoreValue) × Opens true (fresh_on (record { status = status; heap = heap; archive = archive })) mark opened
-    × (e.store ≡ record opened { disk = record { areas = opened.disk.areas; made = 0; refused = 0 } }) × (e.standing ≡ Settled) × (info.a ≡ last e.store) × (info.b ≡ floor e.store)
+    × (e.store ≡ record opened { disk = record { areas = opened.disk.areas; made = 0; refused = 0 } }) × (e.standing ≡ Settled) × (info.a ≡ last e.store) × (info.b ≡ (floors e.store).every)
 
 -- no store is opened from these bytes, and why is told
 abbrev pub RefusesEngine : List ℕ → List ℕ → List ℕ → Code → Info → Type 0
@@ -96,7 +97,7 @@ RefusesEngine status heap archive said info = (why : OpenFault) × IsImageFault 
 
 -- the times of the last commit and of the floor; after a refused call those of before it
 abbrev pub TellsTimes : Standing → Engine → Code → Info → Type 0
-TellsTimes Settled e result info = (result ≡ code.Ok) × (info.a ≡ last e.store) × (info.b ≡ floor e.store)
+TellsTimes Settled e result info = (result ≡ code.Ok) × (info.a ≡ last e.store) × (info.b ≡ (floors e.store).every)
 TellsTimes Asks e result info = result ≡ code.Pending
 TellsTimes Failed e result info = MatchOption e.before (result ≡ code.Failed) (λ p. (result ≡ code.Ok) × (info.a ≡ p.last) × (info.b ≡ p.floor))
 
@@ -104,7 +105,7 @@ TellsTimes Failed e result info = MatchOption e.before (result ≡ code.Failed) 
 
 -- this was published when the store was so
 abbrev pub WasPublished : StoreValue → Published → Type 0
-WasPublished v p = IsViewOf v p.view × (p.last ≡ last v) × (p.floor ≡ floor v)
+WasPublished v p = IsViewOf v p.view × (p.last ≡ last v) × (p.floor ≡ (floors v).every)
 
 -- how an engine stands once its store has made a device call, by whether the disk has noted it for the host
 abbrev pub after_call : Bool → Standing
@@ -286,8 +287,14 @@ ArchivesEngine upto = StartsEngine (λ old answer new. StartsArchive old upto an
 abbrev pub ReclaimsEngine : Engine → Code → Info → Engine → Type 0
 ReclaimsEngine = StartsEngine StartsReclaim
 
+abbrev pub GrowsEngine : Engine → Code → Info → Engine → Type 0
+GrowsEngine = StartsEngine StartsGrowth
+
 abbrev pub RaisesEngine : ℕ → Engine → Code → Info → Engine → Type 0
-RaisesEngine time = StartsEngine (λ old answer new. StartsFloor old time answer new)
+RaisesEngine time = StartsEngine (λ old answer new. StartsFloor old None time answer new)
+
+abbrev pub RaisesFloorOf : ℕ → ℕ → Engine → Code → Info → Engine → Type 0
+RaisesFloorOf relation time = StartsEngine (λ old answer new. StartsFloor old (Some relation) time answer new)
 
 -- what a step of a job did is told
 abbrev pub TellsJobStep : Result JobDid PumpFault → Code → Info → Type 0

@@ -50,22 +50,22 @@ Over archive v Finds = (before after : Lent) × IsOver archive before × Finds (
 
 -- from memory alone
 abbrev pub IsRecentAt : ViewValue → Key → ℕ → Option Value → Type 0
-IsRecentAt view key time found = (view.reclaimed ≤ time) × AnswersAt view time found (value_at (writes_of view.state key) time)
+IsRecentAt view key time found = (view.reclaimed ≤ time) × AnswersAt view key.relation time found (value_at (writes_of view.state key) time)
 
 abbrev pub RecentAt : ViewValue → Key → ℕ → Result (Option Value) QueryFault → Type 0
-RecentAt view key time answer = MatchResult answer (IsRecentAt view key time) (RefusesRecent view time)
+RecentAt view key time answer = MatchResult answer (IsRecentAt view key time) (RefusesRecent view key.relation time)
 
 abbrev pub RecentScanAt : ViewValue → ℕ → ℕ → Result (Vec (ℕ × Value) Global) QueryFault → Type 0
 RecentScanAt view relation time answer =
-    MatchResult answer (λ found. (view.reclaimed ≤ time) × AnswersAt view time found.items (scanned relation time view.state)) (RefusesRecentScan view time)
+    MatchResult answer (λ found. (view.reclaimed ≤ time) × AnswersAt view relation time found.items (scanned relation time view.state)) (RefusesRecentScan view relation time)
 
 abbrev pub RecentRows : ViewValue → Key → ℕ → ℕ → Result (Vec (Version Value) Global) QueryFault → Type 0
 RecentRows view key a b answer =
-    MatchResult answer (λ found. (view.reclaimed ≤ a) × AnswersBetween view a b found.items (rows_in view.state a b key)) (RefusesRecentRows view a b)
+    MatchResult answer (λ found. (view.reclaimed ≤ a) × AnswersBetween view key.relation a b found.items (rows_in view.state a b key)) (RefusesRecentRows view key.relation a b)
 
 abbrev pub RecentScanRows : ViewValue → ℕ → ℕ → ℕ → Result (Vec (ℕ × Version Value) Global) QueryFault → Type 0
 RecentScanRows view relation a b answer =
-    MatchResult answer (λ found. (view.reclaimed ≤ a) × AnswersBetween view a b found.items (scanned_rows relation a b view.state)) (RefusesRecentRows view a b)
+    MatchResult answer (λ found. (view.reclaimed ≤ a) × AnswersBetween view relation a b found.items (scanned_rows relation a b view.state)) (RefusesRecentRows view relation a b)
 
 -- a run begins or ends behind the first byte: runs up to it take bytes
 abbrev pub takes_bytes : Option RunEntry → Bool

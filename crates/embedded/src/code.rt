@@ -46,6 +46,10 @@ pub enum Code {
     InUse,
     /// The answer needs the archive, and none was lent.
     NeedsArchive,
+    /// The store has a floor for each relation, or one for all, and not such a one.
+    WrongProfile,
+    /// The store has no room for 256 slots more, or its profile has no pieces.
+    NotGrowable,
 }
 
 impl Code {
@@ -85,6 +89,8 @@ impl Code {
             Code::BadSlots => -24,
             Code::InUse => -25,
             Code::NeedsArchive => -26,
+            Code::WrongProfile => -27,
+            Code::NotGrowable => -28,
         }
     }
 }

@@ -97,6 +97,7 @@ pub(crate) fn start_code(fault: StartFault, info: &mut Info) -> Code
 {
     match fault {
         StartFault::Failed => Code::Failed,
+        StartFault::WrongProfile => Code::WrongProfile,
         StartFault::JobBusy => Code::JobBusy,
         StartFault::NothingToDo => Code::NothingToDo,
         StartFault::NotYet(last) => {
@@ -111,6 +112,7 @@ pub(crate) fn start_code(fault: StartFault, info: &mut Info) -> Code
         StartFault::ArchiveFull => Code::ArchiveFull,
         StartFault::HeapFull => Code::HeapFull,
         StartFault::NoMemory => Code::NoMemory,
+        StartFault::NotGrowable => Code::NotGrowable,
     }
 }
 
@@ -169,5 +171,7 @@ pub(crate) fn job_number(did: JobDid) -> u64
         JobDid::JobDone => 6,
         JobDid::WroteExtent => 7,
         JobDid::HeapSynced => 8,
+        JobDid::WroteZeros => 9,
+        JobDid::ZerosSynced => 10,
     }
 }

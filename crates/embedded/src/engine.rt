@@ -103,14 +103,14 @@ impl Engine {
         }
     }
 
-    /// The time of the last commit, and the floor.
+    /// The time of the last commit, and the floor of the relations that have none of their own.
     pub fn last(&self, info: &mut Info) -> Code
         ensures { TellsTimes self.now.standing self.now result info.new }
     {
         match self.standing {
             Standing::Settled => {
                 info.a = self.store.last();
-                info.b = self.store.floor();
+                info.b = self.store.floors().every();
                 Code::Ok
             }
             Standing::Asks => Code::Pending,
@@ -195,7 +195,7 @@ impl Engine {
         Some(Published {
             view,
             last: self.store.last(),
-            floor: self.store.floor(),
+            floor: self.store.floors().every(),
         })
     }
 

@@ -53,7 +53,7 @@ pub fn open(
         Err((fault, _)) => Err(open_code(fault, info)),
         Ok(store) => {
             info.a = store.last();
-            info.b = store.floor();
+            info.b = store.floors().every();
             let relay = RelayDisk::new(alloc, store.disk());
             let (store, _) = store.over(relay);
             match Box::new(alloc, Engine::new(alloc, store)) {

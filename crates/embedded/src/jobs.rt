@@ -1,10 +1,10 @@
-//! Archives, reclaims and floors.
+//! Archives, reclaims, floors and growths.
 use crate::code::{Code, Info};
 use crate::codes::{job_number, pump_code, start_code};
 use crate::engine::Engine;
 
 impl Engine {
-    ghost use Rattle.embedded.specs.Engines.{ArchivesEngine, ReclaimsEngine, RaisesEngine, PumpsJobOf};
+    ghost use Rattle.embedded.specs.Engines.{ArchivesEngine, ReclaimsEngine, RaisesEngine, RaisesFloorOf, GrowsEngine, PumpsJobOf};
 
     /// Begins an archive of what ended by a time.
     pub fn archive(&mut self, upto: u64, info: &mut Info) -> Code
@@ -32,7 +32,7 @@ impl Engine {
         }
     }
 
-    /// Begins to raise the floor to a time.
+    /// Begins to raise the floor of all relations to a time.
     pub fn floor(&mut self, time: u64, info: &mut Info) -> Code
         ensures { RaisesEngine time self.old result info.new self.new }
     {
@@ -40,6 +40,32 @@ impl Engine {
             return code;
         }
         match self.store.floor_start(time) {
+            Ok(()) => Code::Ok,
+            Err(fault) => start_code(fault, info),
+        }
+    }
+
+    /// Begins to raise the floor of one relation to a time.
+    pub fn floor_of_start(&mut self, relation: u16, time: u64, info: &mut Info) -> Code
+        ensures { RaisesFloorOf relation time self.old result info.new self.new }
+    {
+        if let Some(code) = self.stopped() {
+            return code;
+        }
+        match self.store.floor_of_start(relation, time) {
+            Ok(()) => Code::Ok,
+            Err(fault) => start_code(fault, info),
+        }
+    }
+
+    /// Begins to make 256 slots more.
+    pub fn grow(&mut self, info: &mut Info) -> Code
+        ensures { GrowsEngine self.old result info.new self.new }
+    {
+        if let Some(code) = self.stopped() {
+            return code;
+        }
+        match self.store.grow_start() {
             Ok(()) => Code::Ok,
             Err(fault) => start_code(fault, info),
         }

@@ -4,7 +4,7 @@
 ghost use Rattle.std.specs.Prelude.{◌≡◌, Some};
 ghost use Rattle.history.specs.Key.{key_of};
 ghost use Rattle.embedded.specs.Codes.{code_number, AnswersOn};
-ghost use Rattle.embedded.specs.Engines.{OnHandle, StaysSame, HasCalled, OpensHandle, ClosesHandle, BeginsEngine, Writes, SubmitsEngine, AbortsEngine, RedeemsEngine, GivesUp, GivesView, EndsView, PumpsEngine, PumpsJobOf, ArchivesEngine, ReclaimsEngine, RaisesEngine, TellsTimes, TellsCall, TellsLabels};
+ghost use Rattle.embedded.specs.Engines.{OnHandle, StaysSame, HasCalled, OpensHandle, ClosesHandle, BeginsEngine, Writes, SubmitsEngine, AbortsEngine, RedeemsEngine, GivesUp, GivesView, EndsView, PumpsEngine, PumpsJobOf, ArchivesEngine, ReclaimsEngine, RaisesEngine, RaisesFloorOf, GrowsEngine, TellsTimes, TellsCall, TellsLabels};
 ghost use Rattle.embedded.specs.Formats.{AnswersFormat};
 ghost use Rattle.embedded.specs.Queries.{Sees, SeesScan, AsksRecent, AsksAt, AsksScanAt, AsksRows, AsksScanRows};
 ghost use Rattle.embedded.specs.Writes.{Puts, Deletes};
@@ -64,7 +64,7 @@ pub extern "C" fn ts_close(alloc: Global, handle: &mut Handle) -> i32
     }
 }
 
-/// The time of the last commit, and the floor.
+/// The time of the last commit, and the floor of all relations.
 #[unsafe(no_mangle)]
 pub extern "C" fn ts_last(alloc: Global, handle: &mut Handle, info: &mut Info) -> i32
     ensures same { StaysSame handle.old.engine handle.new.engine }
@@ -463,7 +463,7 @@ pub extern "C" fn ts_reclaim(alloc: Global, handle: &mut Handle, info: &mut Info
     put_back(handle, engine, code)
 }
 
-/// Begins to raise the floor to a time.
+/// Begins to raise the floor of all relations to a time.
 #[unsafe(no_mangle)]
 pub extern "C" fn ts_floor(alloc: Global, handle: &mut Handle, time: u64, info: &mut Info) -> i32
     ensures { OnHandle (λ old said new. RaisesEngine time old said info.new new) handle.old.engine result handle.new.engine }
@@ -472,6 +472,36 @@ pub extern "C" fn ts_floor(alloc: Global, handle: &mut Handle, time: u64, info: 
         return Code::Closed.number();
     };
     let code = engine.floor(time, info);
+    put_back(handle, engine, code)
+}
+
+/// Begins to raise the floor of one relation to a time.
+#[unsafe(no_mangle)]
+pub extern "C" fn ts_floor_of(
+    alloc: Global,
+    handle: &mut Handle,
+    relation: u16,
+    time: u64,
+    info: &mut Info,
+) -> i32
+    ensures { OnHandle (λ old said new. RaisesFloorOf relation time old said info.new new) handle.old.engine result handle.new.engine }
+{
+    let Some(mut engine) = handle.take(alloc) else {
+        return Code::Closed.number();
+    };
+    let code = engine.floor_of_start(relation, time, info);
+    put_back(handle, engine, code)
+}
+
+/// Begins to make 256 slots more.
+#[unsafe(no_mangle)]
+pub extern "C" fn ts_grow(alloc: Global, handle: &mut Handle, info: &mut Info) -> i32
+    ensures { OnHandle (λ old said new. GrowsEngine old said info.new new) handle.old.engine result handle.new.engine }
+{
+    let Some(mut engine) = handle.take(alloc) else {
+        return Code::Closed.number();
+    };
+    let code = engine.grow(info);
     put_back(handle, engine, code)
 }
 

@@ -3,6 +3,7 @@
 use crate::table::{Scale, nanoseconds, print_share, print_time};
 use archive::{ArchiveFault, ArchiveReader, RunEntry};
 use disk::MemDisk;
+use floors::Floors;
 use history::Key;
 use std::alloc::{AllocError, Global};
 use std::io;
@@ -10,28 +11,32 @@ use std::time::{Clock, Instant};
 use wire::Run;
 
 /// A run of a thousand records of 29 bytes.
-const THOUSAND: RunEntry = RunEntry {
-    slot: Run {
-        upto: 120,
-        start: 0,
-        len: 37_000,
-        records: 1_000,
-    },
-    mark: 0,
-    floor: 0,
-};
+fn thousand() -> RunEntry {
+    RunEntry {
+        slot: Run {
+            upto: 120,
+            start: 0,
+            len: 37_000,
+            records: 1_000,
+        },
+        mark: 0,
+        floors: Floors::none(),
+    }
+}
 
 /// A run of a hundred thousand records of 29 bytes.
-const HUNDRED_THOUSAND: RunEntry = RunEntry {
-    slot: Run {
-        upto: 120,
-        start: 0,
-        len: 3_700_000,
-        records: 100_000,
-    },
-    mark: 0,
-    floor: 0,
-};
+fn hundred_thousand() -> RunEntry {
+    RunEntry {
+        slot: Run {
+            upto: 120,
+            start: 0,
+            len: 3_700_000,
+            records: 100_000,
+        },
+        mark: 0,
+        floors: Floors::none(),
+    }
+}
 
 /// The bytes of a run of this many records of 29 bytes, of the keys (1, 0), (1, 1) and so on, each
 /// of a version from 100 to 110.
@@ -55,16 +60,16 @@ fn run_bytes(alloc: Global, count: u64) -> Result<Vec<u8>, AllocError> {
 fn find_many(
     reader: &mut ArchiveReader,
     disk: &mut MemDisk,
-    run: &RunEntry,
+    run: &[RunEntry; 1],
     rounds: u64,
 ) -> Result<u64, ArchiveFault> {
     let mut found = 0u64;
     for round in 0..rounds {
         let key = Key {
             relation: 1,
-            record: round.wrapping_mul(7_919) % run.slot.records.max(1),
+            record: round.wrapping_mul(7_919) % run[0].slot.records.max(1),
         };
-        if reader.find(disk, &[*run], &key, 105)?.is_some() {
+        if reader.find(disk, run, &key, 105)?.is_some() {
             found = found.saturating_add(1);
         }
     }
@@ -76,7 +81,7 @@ fn measure_reader<R: Print + Clock>(
     scale: Scale,
     mut reader: ArchiveReader,
     disk: &mut MemDisk,
-    run: &RunEntry,
+    run: &[RunEntry; 1],
     names: (&str, &str),
 ) -> io::Result<()> {
     let rounds = scale.rounds(100_000);
@@ -86,7 +91,7 @@ fn measure_reader<R: Print + Clock>(
     if found != Ok(rounds) {
         return println!(rt; "archive: a version was not found");
     }
-    let records = run.slot.records;
+    let records = run[0].slot.records;
     print_time(rt, scale, names.0, records, time, rounds)?;
     print_share(rt, scale, names.1, records, reader.heads(), rounds)
 }
@@ -95,9 +100,9 @@ fn measure_run<R: Print + Clock>(
     rt: &R,
     alloc: Global,
     scale: Scale,
-    run: &RunEntry,
+    run: &[RunEntry; 1],
 ) -> io::Result<()> {
-    let bytes = run_bytes(alloc, run.slot.records)?;
+    let bytes = run_bytes(alloc, run[0].slot.records)?;
     let mut disk = MemDisk::with_bytes(Vec::new(alloc), Vec::new(alloc), bytes);
     let names = (
         "archive: find with the cache, records",
@@ -113,8 +118,8 @@ fn measure_run<R: Print + Clock>(
 }
 
 pub(crate) fn measure<R: Print + Clock>(rt: &R, alloc: Global, scale: Scale) -> io::Result<()> {
-    for run in [THOUSAND, HUNDRED_THOUSAND] {
-        if scale.has(run.slot.records) {
+    for run in [[thousand()], [hundred_thousand()]] {
+        if scale.has(run[0].slot.records) {
             measure_run(rt, alloc, scale, &run)?;
         }
     }

@@ -35,7 +35,11 @@ use Rattle.store.specs.Calls as asking
 use Rattle.store.specs.Calls.{Begins, Aborts, Submits, Redeems, Finds, OrStranger}
 use Rattle.store.specs.Archives.{StartsArchive, BeginsRun, refusal_now, with_archive}
 use Rattle.store.specs.Reclaims.{StartsReclaim, BeginsReclaim, reclaim_refusal, with_reclaim}
-use Rattle.store.specs.Floors.{StartsFloor, floor_refusal, with_floor}
+use Rattle.store.specs.Floors.{BeginsFloor, StartsFloor, floor_refusal, with_floor}
+use Rattle.store.specs.Growths.{StartsGrowth, BeginsPiece, refusal_to_grow}
+use Rattle.store.specs.Jobs.{growing}
+use Rattle.status.specs.Growth.{next_piece}
+use Rattle.status.specs.GrowthState.{GrowthState}
 use Rattle.store.specs.declared.job.StartFault.{StartFault}
 use Rattle.named.specs.Named.{WritesBehind, IsTyped}
 use Rattle.named.proofs.Places.{same_left}
@@ -51,7 +55,7 @@ of_same old new same n kept = kept_same old.usages new.usages same n kept
 -- a call that keeps the rest
 rests : (tells : Bool) (old new : StoreValue) → KeepsKept old.transactions new.transactions → HasRest old new → WritesBehind old → LeavesAll tells old new × WritesBehind new
 rests tells old new kept rest behind = (
-  disk_stays tells old new (named_by old new kept (omega (arith, ap (λ (l : LogState). l.used) rest.log)) (omega (arith, (rest.job).runs_end))) rest.disk,
+  disk_stays tells old new (named_by old new kept (omega (arith, ap (λ (l : LogState). l.used) rest.log)) (omega (arith, ap (λ (l : LogState). l.pieces) rest.log)) (omega (arith, (rest.job).runs_end))) rest.disk,
   behind_kept old new rest.job behind,
 )
 
@@ -112,7 +116,7 @@ begins_run : (tells : Bool) (old new : StoreValue) (upto : ℕ) (answer : Result
 begins_run tells old new upto (Ok done) is behind = (
   disk_stays tells old new
       (named_by old new (kept_same old.transactions.usages new.transactions.usages (ap (λ (v : StoreValue). v.transactions.usages) is.2.new_is))
-      (omega (arith, ap (λ (v : StoreValue). v.log.used) is.2.new_is)) (omega (arith, ap (λ (v : StoreValue). v.runs_end) is.2.new_is)))
+      (omega (arith, ap (λ (v : StoreValue). v.log.used) is.2.new_is)) (omega (arith, ap (λ (v : StoreValue). v.log.pieces) is.2.new_is)) (omega (arith, ap (λ (v : StoreValue). v.runs_end) is.2.new_is)))
       (ap (λ (v : StoreValue). v.disk) is.2.new_is),
   behind_by new (with_archive old upto is.2.entry).job old.runs_end (ap (λ (v : StoreValue). v.job) is.2.new_is) (ap (λ (v : StoreValue). v.runs_end) is.2.new_is) (omega arith, omega arith),
 )
@@ -136,7 +140,7 @@ begins_reclaim tells old new (Ok done) is out behind =
     let new_is = (is.1).new_is in (
       disk_stays tells old new
           (named_by old new (λ n kept. kept_same _ new.transactions.usages (ap (λ (v : StoreValue). v.transactions.usages) new_is) n (kept_reserved old.transactions (is.1).numbers n out (is.1).least kept))
-          (omega (arith, ap (λ (v : StoreValue). v.log.used) new_is)) (omega (arith, ap (λ (v : StoreValue). v.runs_end) new_is)))
+          (omega (arith, ap (λ (v : StoreValue). v.log.used) new_is)) (omega (arith, ap (λ (v : StoreValue). v.log.pieces) new_is)) (omega (arith, ap (λ (v : StoreValue). v.runs_end) new_is)))
           (ap (λ (v : StoreValue). v.disk) new_is),
       behind_by new (with_reclaim old (is.1).numbers).job old.runs_end (ap (λ (v : StoreValue). v.job) new_is) (ap (λ (v : StoreValue). v.runs_end) new_is) tt,
     )
@@ -151,18 +155,47 @@ reclaiming tells old new answer starts typed behind = by_refusal (reclaim_refusa
 
 -- ---- a floor begins
 
-pub raising_floor : (tells : Bool) (old new : StoreValue) (time : ℕ) (answer : Result (Unit {0}) StartFault) → StartsFloor old time answer new → WritesBehind old → LeavesAll tells old new × WritesBehind new
-raising_floor tells old new time answer starts behind = by_refusal (floor_refusal old time) starts
+pub raising_floor : (tells : Bool) (old new : StoreValue) (scope : Option ℕ) (time : ℕ) (answer : Result (Unit {0}) StartFault) → StartsFloor old scope time answer new → WritesBehind old → LeavesAll tells old new × WritesBehind new
+raising_floor tells old new scope time answer starts behind = by_refusal (floor_refusal old scope time) starts
   where
-    by_refusal : (o : Option StartFault) → MatchOption o ((answer ≡ Ok tt) × (new ≡ with_floor old time)) (λ why. (answer ≡ Err why) × (new ≡ old)) → LeavesAll tells old new × WritesBehind new
-    by_refusal None is = (
+    nothing : new ≡ old → LeavesAll tells old new × WritesBehind new
+    nothing is = (leaves_itself tells old new is, behind_by new old.job old.runs_end (ap (λ (v : StoreValue). v.job) is) (ap (λ (v : StoreValue). v.runs_end) is) behind)
+
+    begun : (said : Result (Unit {0}) StartFault) → BeginsFloor old scope time said new → LeavesAll tells old new × WritesBehind new
+    begun (Ok done) is = (
       disk_stays tells old new
           (named_by old new (kept_same old.transactions.usages new.transactions.usages (ap (λ (v : StoreValue). v.transactions.usages) is.1))
-          (omega (arith, ap (λ (v : StoreValue). v.log.used) is.1)) (omega (arith, ap (λ (v : StoreValue). v.runs_end) is.1)))
+          (omega (arith, ap (λ (v : StoreValue). v.log.used) is.1)) (omega (arith, ap (λ (v : StoreValue). v.log.pieces) is.1)) (omega (arith, ap (λ (v : StoreValue). v.runs_end) is.1)))
           (ap (λ (v : StoreValue). v.disk) is.1),
-      behind_by new (with_floor old time).job old.runs_end (ap (λ (v : StoreValue). v.job) is.1) (ap (λ (v : StoreValue). v.runs_end) is.1) tt,
+      behind_by new (with_floor old scope time).job old.runs_end (ap (λ (v : StoreValue). v.job) is.1) (ap (λ (v : StoreValue). v.runs_end) is.1) tt,
     )
-    by_refusal (Some why) is = (leaves_itself tells old new is.1, behind_by new old.job old.runs_end (ap (λ (v : StoreValue). v.job) is.1) (ap (λ (v : StoreValue). v.runs_end) is.1) behind)
+    begun (Err why) is = nothing is.2
+
+    by_refusal : (o : Option StartFault) → MatchOption o (BeginsFloor old scope time answer new) (λ why. (answer ≡ Err why) × (new ≡ old)) → LeavesAll tells old new × WritesBehind new
+    by_refusal None is = begun answer is
+    by_refusal (Some why) is = nothing is.1
+
+-- ---- a growth begins
+
+pub starting_growth : (tells : Bool) (old new : StoreValue) (answer : Result (Unit {0}) StartFault) → StartsGrowth old answer new → WritesBehind old → LeavesAll tells old new × WritesBehind new
+starting_growth tells old new answer starts behind = by_refusal (refusal_to_grow old) starts
+  where
+    same : new ≡ old → LeavesAll tells old new × WritesBehind new
+    same is = (leaves_itself tells old new is, subst WritesBehind (sym is) behind)
+
+    by_piece : (o : Option GrowthState) → BeginsPiece old o answer new → LeavesAll tells old new × WritesBehind new
+    by_piece None is = same is.1
+    by_piece (Some growth) is = (
+      disk_stays tells old new
+          (named_by old new (kept_same old.transactions.usages new.transactions.usages (ap (λ (v : StoreValue). v.transactions.usages) is.1))
+          (omega (arith, ap (λ (v : StoreValue). v.log.used) is.1)) (omega (arith, ap (λ (v : StoreValue). v.log.pieces) is.1)) (omega (arith, ap (λ (v : StoreValue). v.runs_end) is.1)))
+          (ap (λ (v : StoreValue). v.disk) is.1),
+      behind_by new (Some (growing growth)) old.runs_end (ap (λ (v : StoreValue). v.job) is.1) (ap (λ (v : StoreValue). v.runs_end) is.1) tt,
+    )
+
+    by_refusal : (o : Option StartFault) → MatchOption o (BeginsPiece old (next_piece old.log) answer new) (λ why. (answer ≡ Err why) × (new ≡ old)) → LeavesAll tells old new × WritesBehind new
+    by_refusal None is = by_piece (next_piece old.log) is
+    by_refusal (Some why) is = same is.1
 
 -- ---- queries
 
@@ -187,7 +220,7 @@ asked tells old new view from Refuses Recent OfHistory Exact answer says behind 
         let new_is = (finds.asks).new_is in (
           record {
             left = λ told area k is. same_left k (area_of old.disk.areas area) (area_of new.disk.areas area) (ap (λ (v : StoreValue). area_of v.disk.areas area) new_is ∙ ap (λ (areas : Areas). area_of areas area) (after_areas answer old.disk));
-            named = named_by old new (kept_same old.transactions.usages new.transactions.usages (ap (λ (v : StoreValue). v.transactions.usages) new_is)) (omega (arith, ap (λ (v : StoreValue). v.log.used) new_is)) (omega (arith, ap (λ (v : StoreValue). v.runs_end) new_is));
+            named = named_by old new (kept_same old.transactions.usages new.transactions.usages (ap (λ (v : StoreValue). v.transactions.usages) new_is)) (omega (arith, ap (λ (v : StoreValue). v.log.used) new_is)) (omega (arith, ap (λ (v : StoreValue). v.log.pieces) new_is)) (omega (arith, ap (λ (v : StoreValue). v.runs_end) new_is));
           },
           behind_by new old.job old.runs_end (ap (λ (v : StoreValue). v.job) new_is) (ap (λ (v : StoreValue). v.runs_end) new_is) behind,
         )

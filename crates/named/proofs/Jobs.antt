@@ -1,5 +1,5 @@
 -- The steps of a job.
-use Rattle.std.proofs.Common.{◌≡◌, ℕ, zero, suc, ◌+◌, ◌≤◌, nat_le, Bool, true, false, is_some, IsTrue, List, [], ◌∷◌, Option, Some, None, Result, Ok, Err, MatchBool, MatchOption, MatchResult, slice_get, refl, sym, ap, subst, ◌∙◌, inl, inr, arith}
+use Rattle.std.proofs.Common.{◌≡◌, ◌*◌, ℕ, zero, suc, ◌+◌, ◌≤◌, nat_le, Bool, true, false, is_some, IsTrue, List, [], ◌∷◌, Option, Some, None, Result, Ok, Err, MatchBool, MatchOption, MatchResult, slice_get, refl, sym, ap, subst, ◌∙◌, inl, inr, arith}
 use Rattle.std.specs.Prelude.{◌⊎◌}
 use Rattle.std.specs.List.{AllByRecursion, flat_map}
 use Rattle.std.proofs.lemmas.Bool.Decides.{nat_tests}
@@ -16,32 +16,40 @@ use Rattle.archive.specs.Pieces.{InWriting}
 use Rattle.vacuum.specs.Anchors.{Sourced}
 use Rattle.wire.specs.declared.slot.Anchors.{Anchors}
 use Rattle.wire.specs.declared.slot.Run.{Run}
+use Rattle.status.specs.Growth.{growth_after, grew_at}
+use Rattle.status.specs.GrowthState.{GrowthState}
+use Rattle.status.specs.declared.growth.Grew.{Grew}
+use Rattle.status.specs.declared.growth.Grew.TheVariants as grew
 use Rattle.status.specs.SlotCalls.{SlotStage}
 use Rattle.status.specs.SlotCalls as slots
-use Rattle.status.specs.TurnState.{TurnState}
+use Rattle.status.specs.TurnState.{TurnState, LogState}
 use Rattle.group.specs.declared.answers.PumpFault.{PumpFault}
 use Rattle.group.specs.declared.answers.PumpFault.TheVariants as fault
 use Rattle.transactions.specs.Order.{IsInOrder}
 use Rattle.transactions.specs.Values.{TransactionsValue}
 use Rattle.transactions.proofs.Publishing.{out-front, out-swapped}
+use Rattle.floors.specs.Floors.{FloorsValue}
 use Rattle.store.specs.Values.{StoreValue, IsOnItsWay, turn_of}
+use Rattle.store.specs.Parts.{GrowsBehind}
 use Rattle.store.specs.Pumps.{disk_answer}
-use Rattle.store.specs.Jobs.{PumpsJob, TakesJobStep, Stores, WritesOrSyncs, WritesRun, AnchorsOrSync, WritesAnchors, SyncsStored, BeginsJobSlot, TurnsJob, IsJobTurned, JobTurnFails, JobMoves, with_job, job_fails, first_turn, slot_taken, made_ready, piece_of, behind_piece}
+use Rattle.store.specs.Jobs.{PumpsJob, TakesJobStep, Stores, Grows, HasGrown, growing, WritesOrSyncs, WritesRun, AnchorsOrSync, WritesAnchors, SyncsStored, BeginsJobSlot, TurnsJob, IsJobTurned, JobTurnFails, JobMoves, with_job, job_fails, first_turn, slot_taken, made_ready, piece_of, behind_piece}
 use Rattle.store.specs.declared.job.Job.{Job}
 use Rattle.store.specs.declared.job.JobWork.{JobWork}
-use Rattle.store.specs.declared.job.JobWork.TheVariants.{Archive as ArchiveWork, Reclaim, Floor}
+use Rattle.store.specs.declared.job.JobWork.TheVariants.{Archive as ArchiveWork, Reclaim, Floor, Grow}
 use Rattle.store.specs.declared.job.JobStage.{JobStage}
 use Rattle.store.specs.declared.job.JobStage.TheVariants as stages
 use Rattle.store.specs.declared.job.JobDid.{JobDid}
 use Rattle.store.specs.declared.job.JobDid.TheVariants as did
 use Rattle.standing.proofs.Retired.{still-kept}
 use Rattle.named.specs.Named.{IsInKept, IsNamed, IsLeft, IsGivenUpIn, LeavesNamed, IsBehindRuns, WritesBehind, IsTyped}
-use Rattle.named.proofs.Places.{left_by_write, left_by_sync, left_by_slot}
-use Rattle.named.proofs.Naming.{kept_same, named_by, heap_apart, leaves_named, leaves_itself, behind_by}
+use Rattle.named.proofs.Places.{left_by_write, left_by_sync, left_by_slot, left_by_growth}
+use Rattle.named.proofs.Naming.{kept_same, named_by, slots_named, heap_apart, leaves_named, leaves_itself, behind_by}
 
--- what a job's step goes by: its extents are out, and its slot is the next one
+-- what a job's step goes by: its extents are out, its slot is the next one, and its piece lies behind the log
 record Goes (tells : Bool) (v : StoreValue) : Type 0 where
   out : AreOut v.transactions.usages v.transactions.reserved
+  used : v.log.used ≤ v.log.slots
+  pieces : 256 * v.log.pieces ≤ v.log.slots
   sound : IsTrue tells → AreSound v.disk.areas
 
 -- what a step leaves
@@ -58,19 +66,19 @@ record Named (v new : StoreValue) : Type 0 where
   behind : WritesBehind new
 
 -- a store with the same log and the same extents names the same
-same_named : (v new : StoreValue) (job : Option Job) → MatchOption job (Unit {0}) (λ j. IsBehindRuns v.runs_end j.work) → new.transactions.usages ≡ v.transactions.usages → new.log.used ≡ v.log.used → new.runs_end ≡ v.runs_end → new.job ≡ job → Named v new
-same_named v new job behind usages used runs is = record {
-  named = λ area k named. inl (named_by v new (kept_same v.transactions.usages new.transactions.usages usages) (omega (arith, used)) (omega (arith, runs)) area k named);
+same_named : (v new : StoreValue) (job : Option Job) → MatchOption job (Unit {0}) (λ j. IsBehindRuns v.runs_end j.work) → new.transactions.usages ≡ v.transactions.usages → new.log ≡ v.log → new.runs_end ≡ v.runs_end → new.job ≡ job → Named v new
+same_named v new job behind usages log runs is = record {
+  named = λ area k named. inl (named_by v new (kept_same v.transactions.usages new.transactions.usages usages) (omega (arith, ap (λ (l : LogState). l.used) log)) (omega (arith, ap (λ (l : LogState). l.pieces) log)) (omega (arith, runs)) area k named);
   behind = behind_by new job v.runs_end is runs behind;
 }
 
 goes_on : (v new : StoreValue) (made : Job) → IsBehindRuns v.runs_end made.work → new ≡ with_job v made new → Named v new
 goes_on v new made behind is =
-    same_named v new (Some made) behind (ap (λ (s : StoreValue). s.transactions.usages) is) (ap (λ (s : StoreValue). s.log.used) is) (ap (λ (s : StoreValue). s.runs_end) is) (ap (λ (s : StoreValue). s.job) is)
+    same_named v new (Some made) behind (ap (λ (s : StoreValue). s.transactions.usages) is) (ap (λ (s : StoreValue). s.log) is) (ap (λ (s : StoreValue). s.runs_end) is) (ap (λ (s : StoreValue). s.job) is)
 
 fails : (v new : StoreValue) (made : Job) → IsBehindRuns v.runs_end made.work → new ≡ job_fails v made new → Named v new
 fails v new made behind is =
-    same_named v new (Some made) behind (ap (λ (s : StoreValue). s.transactions.usages) is) (ap (λ (s : StoreValue). s.log.used) is) (ap (λ (s : StoreValue). s.runs_end) is) (ap (λ (s : StoreValue). s.job) is)
+    same_named v new (Some made) behind (ap (λ (s : StoreValue). s.transactions.usages) is) (ap (λ (s : StoreValue). s.log) is) (ap (λ (s : StoreValue). s.runs_end) is) (ap (λ (s : StoreValue). s.job) is)
 
 moves : (what : JobDid) (made refused : Job) (v : StoreValue) (result : Result JobDid PumpFault) (new : StoreValue) → IsBehindRuns v.runs_end made.work → IsBehindRuns v.runs_end refused.work → JobMoves what made refused v result new → Named v new
 moves what made refused v (Ok said) new one other is = goes_on v new made one is.1
@@ -133,10 +141,41 @@ anchors_or_sync tells None v new anchors source written stage result found goes 
 anchors_or_sync tells (Some number) v new anchors source written stage result found goes is =
     writes_anchors tells v new anchors source written number stage result (out_at v.transactions.usages v.transactions.reserved written number (goes.out).each found) is
 
-stores : (tells : Bool) (work : JobWork) (stage : JobStage) (v new : StoreValue) (result : Result JobDid PumpFault) → Goes tells v → IsBehindRuns v.runs_end work → Stores tells work (record { work = work; stage = stage }) v result new → Ends tells v new
-stores tells (ArchiveWork run writer) stage v new result goes behind is = run_or_sync tells writer.left v new run writer stage result goes behind is
-stores tells (Reclaim anchors source written) stage v new result goes behind is = anchors_or_sync tells (slice_get v.transactions.reserved written) v new anchors source written stage result refl goes is
-stores tells (Floor time) stage v new result goes behind is = absurd is
+-- ---- a growth
+
+-- after a device call of it all that was named is, and the slots of the piece once its gate is open
+has_grown : (grew : Grew) (growth : GrowthState) (v new : StoreValue) (what : JobDid) → growth.piece ≡ v.log.pieces → HasGrown grew growth v what new → Named v new
+has_grown grew.WroteZeros growth v new what piece is = goes_on v new (growing (growth_after growth)) tt is.1
+has_grown grew.ZerosSynced growth v new what piece is = goes_on v new (growing (growth_after growth)) tt is.1
+has_grown grew.GateWritten growth v new what piece is = goes_on v new (growing (growth_after growth)) tt is.1
+has_grown grew.Grown growth v new what piece is = record {
+  named = λ area k named. inl (named_by v new (kept_same v.transactions.usages new.transactions.usages (ap (λ (s : StoreValue). s.transactions.usages) is.2)) (omega (arith, ap (λ (s : StoreValue). s.log.used) is.2))
+      (omega (arith, ap (λ (s : StoreValue). s.log.pieces) is.2, piece)) (omega (arith, ap (λ (s : StoreValue). s.runs_end) is.2)) area k named);
+  behind = behind_by new None v.runs_end (ap (λ (s : StoreValue). s.job) is.2) (ap (λ (s : StoreValue). s.runs_end) is.2) tt;
+}
+
+growth_named : (growth : GrowthState) (v new : StoreValue) (result : Result JobDid PumpFault) → growth.piece ≡ v.log.pieces
+    → MatchResult result (λ what. HasGrown (grew_at growth.stage) growth v what new) (λ why. (why ≡ fault.Failed) × (new ≡ job_fails v (growing (growth_after growth)) new)) → Named v new
+growth_named growth v new (Ok what) piece answer = has_grown (grew_at growth.stage) growth v new what piece answer
+growth_named growth v new (Err why) piece answer = fails v new (growing (growth_after growth)) tt answer.1
+
+grows : (tells : Bool) (growth : GrowthState) (v new : StoreValue) (result : Result JobDid PumpFault) → Goes tells v → GrowsBehind (Grow growth) v.log → Grows tells growth v result new → Ends tells v new
+grows tells growth v new result goes behind g =
+    let named = growth_named growth v new result behind.1 g.answer in record {
+      leaves = record {
+        left = λ told area k is.
+            left_by_growth growth.stage growth.slots growth.piece (disk_answer result) v.disk.areas new.disk.areas ((g.call).areas told) (goes.sound told) (let few = goes.pieces in let slots = behind.0 in let piece = behind.1 in let room = behind.2 in omega (arith, few, slots, piece, room)) area k
+            (λ same. let place : IsNamed v Status k = subst (λ (a : Area). IsNamed v a k) same is in (let low = place.0 in let slots = behind.0 in let used = goes.used in omega (arith, low, slots, used), elim place.1 [ inl gate ↦ inl (let piece = behind.1 in omega (arith, gate, piece)) | inr slot ↦ inr slot ]));
+        named = named.named;
+      };
+      behind = named.behind;
+    }
+
+stores : (tells : Bool) (work : JobWork) (stage : JobStage) (v new : StoreValue) (result : Result JobDid PumpFault) → Goes tells v → GrowsBehind work v.log → IsBehindRuns v.runs_end work → Stores tells work (record { work = work; stage = stage }) v result new → Ends tells v new
+stores tells (ArchiveWork run writer) stage v new result goes place behind is = run_or_sync tells writer.left v new run writer stage result goes behind is
+stores tells (Reclaim anchors source written) stage v new result goes place behind is = anchors_or_sync tells (slice_get v.transactions.reserved written) v new anchors source written stage result refl goes is
+stores tells (Floor scope time floors) stage v new result goes place behind is = absurd is
+stores tells (Grow growth) stage v new result goes place behind is = grows tells growth v new result goes place is
 
 -- ---- the slot
 
@@ -172,21 +211,21 @@ reclaimed t anchors source written stage v new what out number there is = record
     })
 
     each : (area : Area) (k : ℕ) → IsNamed v area k → IsNamed new area k ⊎ IsGivenUpIn v new area k
-    each Status k named = inl (omega (arith, named, used))
+    each Status k named = inl (slots_named v new k (omega (arith, used)) (omega (arith, ap (λ (s : StoreValue). s.log.pieces) is.2)) named)
     each Heap k named = of_heap k named (nat_le (time_of v.transactions.times named.number) anchors.upto) refl
     each Archive k named = inl (omega (arith, named, ap (λ (s : StoreValue). s.runs_end) is.2))
 
 archived : (t : TurnState) (run : Run) (writer : InWriting) (stage : JobStage) (v new : StoreValue) (what : JobDid) → t.number ≡ v.log.used → IsBehindRuns v.runs_end (ArchiveWork run writer)
     → IsJobTurned slots.GateWritten t (record { work = ArchiveWork run writer; stage = stage }) v what new → Named v new
 archived t run writer stage v new what number behind is = record {
-  named = λ area k named. inl (named_by v new (kept_same v.transactions.usages new.transactions.usages (ap (λ (s : StoreValue). s.transactions.usages) is.2)) (omega (arith, ap (λ (s : StoreValue). s.log.used) is.2, number))
+  named = λ area k named. inl (named_by v new (kept_same v.transactions.usages new.transactions.usages (ap (λ (s : StoreValue). s.transactions.usages) is.2)) (omega (arith, ap (λ (s : StoreValue). s.log.used) is.2, number)) (omega (arith, ap (λ (s : StoreValue). s.log.pieces) is.2))
       (let start = behind.0 in omega (arith, ap (λ (s : StoreValue). s.runs_end) is.2)) area k named);
   behind = behind_by new None (run.start + run.len) (ap (λ (s : StoreValue). s.job) is.2) (ap (λ (s : StoreValue). s.runs_end) is.2) tt;
 }
 
-floored : (t : TurnState) (time : ℕ) (stage : JobStage) (v new : StoreValue) (what : JobDid) → t.number ≡ v.log.used → IsJobTurned slots.GateWritten t (record { work = Floor time; stage = stage }) v what new → Named v new
-floored t time stage v new what number is = record {
-  named = λ area k named. inl (named_by v new (kept_same v.transactions.usages new.transactions.usages (ap (λ (s : StoreValue). s.transactions.usages) is.2)) (omega (arith, ap (λ (s : StoreValue). s.log.used) is.2, number))
+floored : (t : TurnState) (scope : Option ℕ) (time : ℕ) (floors : FloorsValue) (stage : JobStage) (v new : StoreValue) (what : JobDid) → t.number ≡ v.log.used → IsJobTurned slots.GateWritten t (record { work = Floor scope time floors; stage = stage }) v what new → Named v new
+floored t scope time floors stage v new what number is = record {
+  named = λ area k named. inl (named_by v new (kept_same v.transactions.usages new.transactions.usages (ap (λ (s : StoreValue). s.transactions.usages) is.2)) (omega (arith, ap (λ (s : StoreValue). s.log.used) is.2, number)) (omega (arith, ap (λ (s : StoreValue). s.log.pieces) is.2))
       (omega (arith, ap (λ (s : StoreValue). s.runs_end) is.2)) area k named);
   behind = behind_by new None v.runs_end (ap (λ (s : StoreValue). s.job) is.2) (ap (λ (s : StoreValue). s.runs_end) is.2) tt;
 }
@@ -202,7 +241,12 @@ turned slots.BodyWritten t work stage v new what out number there behind is = on
 turned slots.BodySynced t work stage v new what out number there behind is = on_its_way v new (record { work = work; stage = stage }) (record t { stage = slots.GateWritten }) behind is.1
 turned slots.GateWritten t (ArchiveWork run writer) stage v new what out number there behind is = archived t run writer stage v new what number behind is
 turned slots.GateWritten t (Reclaim anchors source written) stage v new what out number there behind is = reclaimed t anchors source written stage v new what out number there is
-turned slots.GateWritten t (Floor time) stage v new what out number there behind is = floored t time stage v new what number is
+turned slots.GateWritten t (Floor scope time floors) stage v new what out number there behind is = floored t scope time floors stage v new what number is
+turned slots.GateWritten t (Grow growth) stage v new what out number there behind is = record {
+  named = λ area k named. inl (named_by v new (kept_same v.transactions.usages new.transactions.usages (ap (λ (s : StoreValue). s.transactions.usages) is.2)) (omega (arith, ap (λ (s : StoreValue). s.log.used) is.2, number)) (omega (arith, ap (λ (s : StoreValue). s.log.pieces) is.2))
+      (omega (arith, ap (λ (s : StoreValue). s.runs_end) is.2)) area k named);
+  behind = behind_by new None v.runs_end (ap (λ (s : StoreValue). s.job) is.2) (ap (λ (s : StoreValue). s.runs_end) is.2) tt;
+}
 turned slots.Opened t work stage v new what out number there behind is = absurd is
 
 answered : (t : TurnState) (work : JobWork) (stage : JobStage) (v new : StoreValue) (result : Result JobDid PumpFault) → AreOut v.transactions.usages v.transactions.reserved → t.number ≡ v.log.used → v.job ≡ Some (record { work = work; stage = stage }) → IsBehindRuns v.runs_end work
@@ -217,7 +261,7 @@ turns tells v new work stage t result goes number there behind s =
       leaves = record {
         left = λ told area k is.
             left_by_slot t.number t.body t.stage (disk_answer result) v.disk.areas new.disk.areas ((s.call).areas told) (goes.sound told) area k
-            (λ same. let below : IsNamed v Status k = subst (λ (a : Area). IsNamed v a k) same is in omega (arith, below, number));
+            (λ same. let below : IsNamed v Status k = subst (λ (a : Area). IsNamed v a k) same is in let low = below.0 in omega (arith, low, number));
         named = named.named;
       };
       behind = named.behind;
@@ -229,23 +273,28 @@ record IsReady (v ready : StoreValue) : Type 0 where
   reserved : ready.transactions.reserved ≡ v.transactions.reserved
   times : ready.transactions.times ≡ v.transactions.times
   used : ready.log.used ≡ v.log.used
+  slots : ready.log.slots ≡ v.log.slots
+  pieces : ready.log.pieces ≡ v.log.pieces
   runs_end : ready.runs_end ≡ v.runs_end
   job : ready.job ≡ v.job
   disk : ready.disk ≡ v.disk
 
 is_ready : (work : JobWork) (v : StoreValue) → IsReady v (slot_taken (made_ready work v))
-is_ready (ArchiveWork run writer) v = record { usages = refl; reserved = refl; times = refl; used = refl; runs_end = refl; job = refl; disk = refl }
-is_ready (Reclaim anchors source written) v = record { usages = refl; reserved = refl; times = refl; used = refl; runs_end = refl; job = refl; disk = refl }
-is_ready (Floor time) v = record { usages = refl; reserved = refl; times = refl; used = refl; runs_end = refl; job = refl; disk = refl }
+is_ready (ArchiveWork run writer) v = record { usages = refl; reserved = refl; times = refl; used = refl; slots = refl; pieces = refl; runs_end = refl; job = refl; disk = refl }
+is_ready (Reclaim anchors source written) v = record { usages = refl; reserved = refl; times = refl; used = refl; slots = refl; pieces = refl; runs_end = refl; job = refl; disk = refl }
+is_ready (Floor scope time floors) v = record { usages = refl; reserved = refl; times = refl; used = refl; slots = refl; pieces = refl; runs_end = refl; job = refl; disk = refl }
+is_ready (Grow growth) v = record { usages = refl; reserved = refl; times = refl; used = refl; slots = refl; pieces = refl; runs_end = refl; job = refl; disk = refl }
 
 ready_goes : (tells : Bool) (v ready : StoreValue) → IsReady v ready → Goes tells v → Goes tells ready
 ready_goes tells v ready is goes = record {
   out = rw (is.usages, is.reserved) goes.out;
+  used = let few = goes.used in omega (arith, few, is.used, is.slots);
+  pieces = let few = goes.pieces in omega (arith, few, is.pieces, is.slots);
   sound = λ told. subst (λ (d : DiskState). AreSound d.areas) (sym is.disk) (goes.sound told);
 }
 
 ready_named : (v ready : StoreValue) → IsReady v ready → (area : Area) (k : ℕ) → IsNamed v area k → IsNamed ready area k
-ready_named v ready is area k named = named_by v ready (kept_same v.transactions.usages ready.transactions.usages is.usages) (omega (arith, is.used)) (omega (arith, is.runs_end)) area k named
+ready_named v ready is area k named = named_by v ready (kept_same v.transactions.usages ready.transactions.usages is.usages) (omega (arith, is.used)) (omega (arith, is.pieces)) (omega (arith, is.runs_end)) area k named
 
 ready_given : (v ready new : StoreValue) → IsReady v ready → (area : Area) (k : ℕ) → IsGivenUpIn ready new area k → IsGivenUpIn v new area k
 ready_given v ready new is Status k given = absurd given
@@ -287,11 +336,11 @@ begins tells false v new work stage result goes all there behind (inr is) =
 
 -- ---- every step
 
-takes : (tells : Bool) (stage : JobStage) (v new : StoreValue) (work : JobWork) (result : Result JobDid PumpFault) → v.job ≡ Some (record { work = work; stage = stage }) → v.transactions.failed ≡ false → IsTyped tells v → WritesBehind v → Goes tells v → IsBehindRuns v.runs_end work
+takes : (tells : Bool) (stage : JobStage) (v new : StoreValue) (work : JobWork) (result : Result JobDid PumpFault) → v.job ≡ Some (record { work = work; stage = stage }) → v.transactions.failed ≡ false → IsTyped tells v → WritesBehind v → Goes tells v → GrowsBehind work v.log → IsBehindRuns v.runs_end work
     → TakesJobStep tells stage (record { work = work; stage = stage }) v result new → Ends tells v new
-takes tells stages.Writing v new work result is works typed all goes behind takes_it = stores tells work stages.Writing v new result goes behind takes_it
-takes tells stages.Stored v new work result is works typed all goes behind takes_it = begins tells (is_some v.turn) v new work stages.Stored result goes all is behind takes_it
-takes tells (stages.Turning t) v new work result is works typed all goes behind takes_it =
+takes tells stages.Writing v new work result is works typed all goes place behind takes_it = stores tells work stages.Writing v new result goes place behind takes_it
+takes tells stages.Stored v new work result is works typed all goes place behind takes_it = begins tells (is_some v.turn) v new work stages.Stored result goes all is behind takes_it
+takes tells (stages.Turning t) v new work result is works typed all goes place behind takes_it =
     let turn_is : turn_of v.job ≡ Some t = ap turn_of is in
     let slot : (t.number ≡ v.log.used) × IsOnItsWay t.stage × (v.turn ≡ None) =
     subst (λ (o : Option TurnState). MatchOption o (Unit {0}) (λ x. (x.number ≡ v.log.used) × IsOnItsWay x.stage × (v.turn ≡ None))) turn_is ((typed.in_step).turns works).job in
@@ -301,12 +350,21 @@ takes tells (stages.Turning t) v new work result is works typed all goes behind 
 reserved_out : (v : TransactionsValue) → IsInOrder v → AreOut v.usages v.reserved
 reserved_out v order = out-front v.usages v.reserved (flat_map numbers_of v.queue) (out-swapped v.usages (flat_map numbers_of v.queue) v.reserved order.out)
 
+job_goes : (tells : Bool) (v : StoreValue) → IsTyped tells v → Goes tells v
+job_goes tells v typed = record {
+  out = reserved_out v.transactions typed.order;
+  used = let room = (typed.order).room in let slots = (typed.in_step).slots in let used = (typed.in_step).used in omega (arith, room, slots, used);
+  pieces = typed.pieces;
+  sound = typed.sound;
+}
+
 of_job : (tells : Bool) (o : Option Job) (v new : StoreValue) (result : Result JobDid PumpFault) → v.job ≡ o → v.transactions.failed ≡ false → IsTyped tells v → WritesBehind v
     → MatchOption o ((result ≡ Ok did.Idle) × (new ≡ v)) (λ job. TakesJobStep tells job.stage job v result new) → Ends tells v new
 of_job tells None v new result is works typed all takes_it = ends_same tells v new takes_it.1 all
 of_job tells (Some job) v new result is works typed all takes_it =
     let behind : IsBehindRuns v.runs_end job.work = subst (λ (o : Option Job). MatchOption o (Unit {0}) (λ (j : Job). IsBehindRuns v.runs_end j.work)) is all in
-    takes tells job.stage v new job.work result is works typed all (record { out = reserved_out v.transactions typed.order; sound = typed.sound }) behind takes_it
+    let place : GrowsBehind job.work v.log = subst (λ (o : Option Job). MatchOption o (Unit {0}) (λ (j : Job). GrowsBehind j.work v.log)) is typed.grows in
+    takes tells job.stage v new job.work result is works typed all (job_goes tells v typed) place behind takes_it
 
 by_failed : (tells b : Bool) (v new : StoreValue) (result : Result JobDid PumpFault) → v.transactions.failed ≡ b → IsTyped tells v → WritesBehind v
     → MatchBool b ((result ≡ Err fault.Failed) × (new ≡ v)) (MatchOption v.job ((result ≡ Ok did.Idle) × (new ≡ v)) (λ job. TakesJobStep tells job.stage job v result new)) → Ends tells v new

@@ -97,11 +97,14 @@ out_first us (suc n) (q ∷ qs) all = all_joined (IsOut us) (numbers_of q) (flat
 
 -- ---- names
 
-pub named_by : (old new : StoreValue) → ((n : ℕ) → IsKept old.transactions.usages n → IsKept new.transactions.usages n) → old.log.used ≤ new.log.used → old.runs_end ≤ new.runs_end
+pub slots_named : (old new : StoreValue) (k : ℕ) → old.log.used ≤ new.log.used → old.log.pieces ≤ new.log.pieces → IsNamed old Status k → IsNamed new Status k
+slots_named old new k used pieces is = (let low = is.0 in omega (arith, low, used), elim is.1 [ inl gate ↦ inl (omega (arith, gate, pieces)) | inr slot ↦ inr slot ])
+
+pub named_by : (old new : StoreValue) → ((n : ℕ) → IsKept old.transactions.usages n → IsKept new.transactions.usages n) → old.log.used ≤ new.log.used → old.log.pieces ≤ new.log.pieces → old.runs_end ≤ new.runs_end
     → (area : Area) (k : ℕ) → IsNamed old area k → IsNamed new area k
-named_by old new kept used runs Status k is = omega (arith, is, used)
-named_by old new kept used runs Heap k is = record { number = is.number; kept = kept is.number is.kept; low = is.low; high = is.high }
-named_by old new kept used runs Archive k is = omega (arith, is, runs)
+named_by old new kept used pieces runs Status k is = slots_named old new k used pieces is
+named_by old new kept used pieces runs Heap k is = record { number = is.number; kept = kept is.number is.kept; low = is.low; high = is.high }
+named_by old new kept used pieces runs Archive k is = omega (arith, is, runs)
 
 pub kept_same : (us vs : List Usage) → vs ≡ us → (n : ℕ) → IsKept us n → IsKept vs n
 kept_same us vs same n kept = subst (λ (l : List Usage). IsKept l n) (sym same) kept

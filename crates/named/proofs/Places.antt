@@ -1,11 +1,15 @@
 -- What a device call leaves of a place beside it.
-use Rattle.std.proofs.Common.{◌≡◌, ℕ, ◌+◌, ◌<◌, List, [], ◌∷◌, length, Result, Ok, Err, refl, sym, ap, subst, ◌∙◌, inl, inr, arith}
+use Rattle.std.proofs.Common.{◌≡◌, ℕ, ◌+◌, ◌*◌, ◌<◌, ◌≤◌, Bool, true, false, nat_lt, List, [], ◌∷◌, length, replicate, Result, Ok, Err, MatchBool, refl, sym, ap, subst, ◌∙◌, inl, inr, arith}
+use Rattle.std.specs.Prelude.{◌⊎◌}
 use Rattle.disk.specs.Areas.{AreaState, Areas, AreSound, IsSound, IsApart, IsUntouched, area_of, synced, loosened}
 use Rattle.disk.specs.Calls.{IsTorn, MadeInPart, Writes, Syncs}
 use Rattle.disk.specs.declared.area.Area.{Area}
 use Rattle.disk.specs.declared.area.Area.TheVariants.{Status, Heap, Archive}
 use Rattle.disk.specs.declared.area.DeviceFault.{DeviceFault}
+use Rattle.status.specs.Growth.{IsGrowthCall, WritesZeros}
 use Rattle.status.specs.Log.{slot_start}
+use Rattle.status.specs.declared.growth.GrowthStage.{GrowthStage}
+use Rattle.status.specs.declared.growth.GrowthStage.TheVariants as growth
 use Rattle.status.specs.SlotCalls.{SlotStage, Begun, BodyWritten, BodySynced, GateWritten, Opened, IsSlotCall}
 use Rattle.named.specs.Named.{IsLeft}
 
@@ -74,3 +78,15 @@ left_by_slot number body BodyWritten result old new call sound a k below = left_
 left_by_slot number body BodySynced result old new call sound a k below = left_by_write Status (slot_start number) (0xC7 ∷ []) result old new call a k (λ is. inl (let b = below is in omega arith))
 left_by_slot number body GateWritten result old new call sound a k below = left_by_sync Status result old new call sound a k
 left_by_slot number body Opened result old new call sound a k below = absurd call
+
+-- a call of a growth, whose zeros lie behind the slots and whose gate behind those of the pieces that are open
+pub left_by_growth : (stage : GrowthStage) (slots piece : ℕ) (result : Result (Unit {0}) DeviceFault) (old new : Areas) → IsGrowthCall stage slots piece result old new → AreSound old → piece ≤ 255
+    → (a : Area) (k : ℕ) → (a ≡ Status → (k < slot_start slots) × ((k < 16 + piece) ⊎ (512 ≤ k))) → IsLeft k (area_of old a) (area_of new a)
+left_by_growth (growth.Zeroing parts) slots piece result old new call sound few a k place = by_parts (nat_lt parts 16) call
+  where
+    by_parts : (b : Bool) → MatchBool b (WritesZeros slots parts result old new) (Syncs Status result old new) → IsLeft k (area_of old a) (area_of new a)
+    by_parts true writes = left_by_write Status (slot_start slots + 8192 * parts) (replicate 8192 0) result old new writes a k (λ is. inl (let low = (place is).0 in omega (arith, low)))
+    by_parts false syncs = left_by_sync Status result old new syncs sound a k
+left_by_growth growth.ZerosSynced slots piece result old new call sound few a k place =
+    left_by_write Status (16 + piece) (0xC7 ∷ []) result old new call a k (λ is. elim (place is).1 [ inl low ↦ inl (omega (arith, low)) | inr high ↦ inr (omega (arith, high, few)) ])
+left_by_growth growth.GateWritten slots piece result old new call sound few a k place = left_by_sync Status result old new call sound a k

@@ -1,10 +1,14 @@
 -- What a slot names that is open now.
-use Rattle.std.proofs.Common.{◌≡◌, ℕ, zero, suc, Bool, true, false, is_some, List, [], ◌∷◌, ◌++◌, take, drop, append_assoc, slice_get, Option, Some, None, Result, Ok, Err, MatchBool, MatchOption, refl, sym, ap, subst, ◌∙◌, arith, inl, inr}
+use Rattle.std.proofs.Common.{◌≡◌, ◌+◌, ℕ, zero, suc, Bool, true, false, is_some, List, [], ◌∷◌, ◌++◌, take, drop, append_assoc, slice_get, Option, Some, None, Result, Ok, Err, MatchBool, MatchOption, refl, sym, ap, subst, ◌∙◌, arith, inl, inr}
 use Rattle.std.specs.List.{AllByRecursion, flat_map}
 use Rattle.extents.specs.declared.usage.Usage.{Usage}
 use Rattle.extents.specs.declared.usage.Usage.TheVariants.{Out, Kept}
 use Rattle.extents.specs.Usages.{IsKept, AreOut, with_usage, with_usages}
 use Rattle.extents.proofs.Frames.{first_changed, now_has}
+use Rattle.status.specs.Growth.{grew_at}
+use Rattle.status.specs.GrowthState.{GrowthState}
+use Rattle.status.specs.declared.growth.Grew.{Grew}
+use Rattle.status.specs.declared.growth.Grew.TheVariants as grew
 use Rattle.status.specs.SlotCalls.{SlotStage}
 use Rattle.status.specs.SlotCalls as slots
 use Rattle.status.specs.TurnState.{TurnState, LogState}
@@ -22,18 +26,20 @@ use Rattle.transactions.specs.Values.{TransactionsValue}
 use Rattle.transactions.specs.Steps.{next_step, next_extent, grouped}
 use Rattle.transactions.specs.declared.stage.NextStep.{NextStep}
 use Rattle.transactions.specs.declared.stage.NextStep.TheVariants as step
+use Rattle.floors.specs.Floors.{FloorsValue}
 use Rattle.store.specs.Values.{StoreValue, IsOnItsWay, turn_of, turn_in}
 use Rattle.store.specs.Pumps.{Pumps, TakesStep, WritesExtent, MayBeginSlot, TurnsSlot, IsTurned, started}
-use Rattle.store.specs.Jobs.{PumpsJob, TakesJobStep, WritesOrSyncs, AnchorsOrSync, BeginsJobSlot, IsJobTurned}
+use Rattle.store.specs.Parts.{IsStageOf, GrowsBehind}
+use Rattle.store.specs.Jobs.{PumpsJob, TakesJobStep, HasGrown, WritesOrSyncs, AnchorsOrSync, BeginsJobSlot, IsJobTurned}
 use Rattle.store.specs.Archives.{ArchiveJob, job_of}
 use Rattle.store.specs.declared.job.Job.{Job}
-use Rattle.store.specs.declared.job.JobWork.TheVariants.{Reclaim, Floor}
+use Rattle.store.specs.declared.job.JobWork.TheVariants.{Reclaim, Floor, Grow}
 use Rattle.store.specs.declared.job.JobStage.{JobStage}
 use Rattle.store.specs.declared.job.JobStage.TheVariants as stages
 use Rattle.store.specs.declared.job.JobDid.{JobDid}
 use Rattle.store.specs.declared.job.JobDid.TheVariants as did
 use Rattle.named.specs.Named.{IsTyped}
-use Rattle.named.specs.Laws.{HasPublished, HasArchived, HasAnchored, NamesNoMore}
+use Rattle.named.specs.Laws.{HasPublished, HasArchived, HasAnchored, NamesNoMore, NamesPiece}
 use Rattle.standing.proofs.Retired.{reserved-kept}
 use Rattle.named.proofs.Naming.{kept_published, others_of, grouped_usages, grouped_queue}
 
@@ -192,39 +198,72 @@ anchors_named tells old new anchors source written stage typed there pumps = rec
 
 -- ---- a floor
 
-abbrev floor_of : ℕ → JobStage → Job
-floor_of time stage = record { work = Floor time; stage = stage }
+abbrev floor_of : Option ℕ → ℕ → FloorsValue → JobStage → Job
+floor_of scope time floors stage = record { work = Floor scope time floors; stage = stage }
 
-floor_turned : (at : SlotStage) (t : TurnState) (time : ℕ) (stage : JobStage) (v new : StoreValue) → t.number ≡ v.log.used → IsJobTurned at t (floor_of time stage) v did.JobDone new → NamesNoMore v new
-floor_turned slots.Begun t time stage v new number is = absurd (let wrong = is.0 in cc)
-floor_turned slots.BodyWritten t time stage v new number is = absurd (let wrong = is.0 in cc)
-floor_turned slots.BodySynced t time stage v new number is = absurd (let wrong = is.0 in cc)
-floor_turned slots.GateWritten t time stage v new number is = record {
+floor_turned : (at : SlotStage) (t : TurnState) (scope : Option ℕ) (time : ℕ) (floors : FloorsValue) (stage : JobStage) (v new : StoreValue) → t.number ≡ v.log.used → IsJobTurned at t (floor_of scope time floors stage) v did.JobDone new → NamesNoMore v new
+floor_turned slots.Begun t scope time floors stage v new number is = absurd (let wrong = is.0 in cc)
+floor_turned slots.BodyWritten t scope time floors stage v new number is = absurd (let wrong = is.0 in cc)
+floor_turned slots.BodySynced t scope time floors stage v new number is = absurd (let wrong = is.0 in cc)
+floor_turned slots.GateWritten t scope time floors stage v new number is = record {
   slots = omega (arith, ap (λ (s : StoreValue). s.log.used) is.2, number);
   usages = ap (λ (s : StoreValue). s.transactions.usages) is.2;
   runs = ap (λ (s : StoreValue). s.runs_end) is.2;
 }
-floor_turned slots.Opened t time stage v new number is = absurd is
+floor_turned slots.Opened t scope time floors stage v new number is = absurd is
 
-floor_begun_none : (tells : Bool) (v new : StoreValue) (time : ℕ) (stage : JobStage) (b : Bool)
-    → MatchBool b ((◌≡◌ {A = Result JobDid PumpFault} (Ok did.JobDone) (Err fault.Busy)) × (new ≡ v)) (BeginsJobSlot tells (floor_of time stage) v (Ok did.JobDone) new) → ⊥
-floor_begun_none tells v new time stage true is = let wrong = is.0 in cc
-floor_begun_none tells v new time stage false (inl is) = absurd is.0
-floor_begun_none tells v new time stage false (inr is) = let wrong : ◌≡◌ {A = JobDid} did.JobDone did.BodyWritten = is.answer.0 in cc
+floor_begun_none : (tells : Bool) (v new : StoreValue) (scope : Option ℕ) (time : ℕ) (floors : FloorsValue) (stage : JobStage) (b : Bool)
+    → MatchBool b ((◌≡◌ {A = Result JobDid PumpFault} (Ok did.JobDone) (Err fault.Busy)) × (new ≡ v)) (BeginsJobSlot tells (floor_of scope time floors stage) v (Ok did.JobDone) new) → ⊥
+floor_begun_none tells v new scope time floors stage true is = let wrong = is.0 in cc
+floor_begun_none tells v new scope time floors stage false (inl is) = absurd is.0
+floor_begun_none tells v new scope time floors stage false (inr is) = let wrong : ◌≡◌ {A = JobDid} did.JobDone did.BodyWritten = is.answer.0 in cc
 
-floor_takes : (tells : Bool) (stage : JobStage) (v new : StoreValue) (time : ℕ) → MatchOption (turn_in stage) (Unit {0}) (λ t. t.number ≡ v.log.used) → TakesJobStep tells stage (floor_of time stage) v (Ok did.JobDone) new → NamesNoMore v new
-floor_takes tells stages.Writing v new time number is = absurd is
-floor_takes tells stages.Stored v new time number is = absurd (floor_begun_none tells v new time stages.Stored (is_some v.turn) is)
-floor_takes tells (stages.Turning t) v new time number is = floor_turned t.stage t time (stages.Turning t) v new number is.answer
+floor_takes : (tells : Bool) (stage : JobStage) (v new : StoreValue) (scope : Option ℕ) (time : ℕ) (floors : FloorsValue) → MatchOption (turn_in stage) (Unit {0}) (λ t. t.number ≡ v.log.used) → TakesJobStep tells stage (floor_of scope time floors stage) v (Ok did.JobDone) new → NamesNoMore v new
+floor_takes tells stages.Writing v new scope time floors number is = absurd is
+floor_takes tells stages.Stored v new scope time floors number is = absurd (floor_begun_none tells v new scope time floors stages.Stored (is_some v.turn) is)
+floor_takes tells (stages.Turning t) v new scope time floors number is = floor_turned t.stage t scope time floors (stages.Turning t) v new number is.answer
 
-floor_by_failed : (tells b : Bool) (v new : StoreValue) (time : ℕ) (stage : JobStage) → v.job ≡ Some (floor_of time stage) → v.transactions.failed ≡ b → IsTyped tells v
+floor_by_failed : (tells b : Bool) (v new : StoreValue) (scope : Option ℕ) (time : ℕ) (floors : FloorsValue) (stage : JobStage) → v.job ≡ Some (floor_of scope time floors stage) → v.transactions.failed ≡ b → IsTyped tells v
     → MatchBool b ((◌≡◌ {A = Result JobDid PumpFault} (Ok did.JobDone) (Err fault.Failed)) × (new ≡ v)) (MatchOption v.job ((◌≡◌ {A = Result JobDid PumpFault} (Ok did.JobDone) (Ok did.Idle)) × (new ≡ v)) (λ j. TakesJobStep tells j.stage j v (Ok did.JobDone) new)) → NamesNoMore v new
-floor_by_failed tells true v new time stage there failed typed is = absurd (let wrong = is.0 in cc)
-floor_by_failed tells false v new time stage there works typed is =
+floor_by_failed tells true v new scope time floors stage there failed typed is = absurd (let wrong = is.0 in cc)
+floor_by_failed tells false v new scope time floors stage there works typed is =
     let number = job_number v (turn_of v.job) (((typed.in_step).turns works).job) in
-    floor_takes tells stage v new time
+    floor_takes tells stage v new scope time floors
     (subst (λ (o : Option Job). MatchOption (turn_of o) (Unit {0}) (λ (t : TurnState). t.number ≡ v.log.used)) there number)
     (subst (λ (o : Option Job). MatchOption o ((◌≡◌ {A = Result JobDid PumpFault} (Ok did.JobDone) (Ok did.Idle)) × (new ≡ v)) (λ (j : Job). TakesJobStep tells j.stage j v (Ok did.JobDone) new)) there is)
 
-pub floor_names_no_more : (tells : Bool) (old new : StoreValue) (time : ℕ) (stage : JobStage) → IsTyped tells old → old.job ≡ Some (floor_of time stage) → PumpsJob tells old (Ok did.JobDone) new → NamesNoMore old new
-floor_names_no_more tells old new time stage typed there pumps = floor_by_failed tells old.transactions.failed old new time stage there refl typed pumps
+pub floor_names_no_more : (tells : Bool) (old new : StoreValue) (scope : Option ℕ) (time : ℕ) (floors : FloorsValue) (stage : JobStage) → IsTyped tells old → old.job ≡ Some (floor_of scope time floors stage) → PumpsJob tells old (Ok did.JobDone) new → NamesNoMore old new
+floor_names_no_more tells old new scope time floors stage typed there pumps = floor_by_failed tells old.transactions.failed old new scope time floors stage there refl typed pumps
+
+-- ---- a growth
+
+abbrev growth_of : GrowthState → JobStage → Job
+growth_of growth stage = record { work = Grow growth; stage = stage }
+
+has_grown : (grew : Grew) (growth : GrowthState) (v new : StoreValue) → growth.piece ≡ v.log.pieces → HasGrown grew growth v did.JobDone new → NamesPiece v new
+has_grown grew.WroteZeros growth v new piece is = absurd (let wrong = is.0 in cc)
+has_grown grew.ZerosSynced growth v new piece is = absurd (let wrong = is.0 in cc)
+has_grown grew.GateWritten growth v new piece is = absurd (let wrong = is.0 in cc)
+has_grown grew.Grown growth v new piece is = record {
+  pieces = ap (λ (s : StoreValue). s.log.pieces) is.2 ∙ ap (λ (n : ℕ). n + 1) piece;
+  slots = ap (λ (s : StoreValue). s.log.used) is.2;
+  usages = ap (λ (s : StoreValue). s.transactions.usages) is.2;
+  runs = ap (λ (s : StoreValue). s.runs_end) is.2;
+}
+
+growth_takes : (tells : Bool) (stage : JobStage) (v new : StoreValue) (growth : GrowthState) → IsStageOf (Grow growth) stage → growth.piece ≡ v.log.pieces → TakesJobStep tells stage (growth_of growth stage) v (Ok did.JobDone) new → NamesPiece v new
+growth_takes tells stages.Writing v new growth fits piece is = has_grown (grew_at growth.stage) growth v new piece is.answer
+growth_takes tells stages.Stored v new growth fits piece is = absurd fits
+growth_takes tells (stages.Turning t) v new growth fits piece is = absurd fits
+
+growth_by_failed : (tells b : Bool) (v new : StoreValue) (growth : GrowthState) (stage : JobStage) → v.job ≡ Some (growth_of growth stage) → v.transactions.failed ≡ b → IsTyped tells v
+    → MatchBool b ((◌≡◌ {A = Result JobDid PumpFault} (Ok did.JobDone) (Err fault.Failed)) × (new ≡ v)) (MatchOption v.job ((◌≡◌ {A = Result JobDid PumpFault} (Ok did.JobDone) (Ok did.Idle)) × (new ≡ v)) (λ j. TakesJobStep tells j.stage j v (Ok did.JobDone) new)) → NamesPiece v new
+growth_by_failed tells true v new growth stage there failed typed is = absurd (let wrong = is.0 in cc)
+growth_by_failed tells false v new growth stage there works typed is =
+    let behind : GrowsBehind (Grow growth) v.log = subst (λ (o : Option Job). MatchOption o (Unit {0}) (λ (j : Job). GrowsBehind j.work v.log)) there typed.grows in
+    let fits : IsStageOf (Grow growth) stage = subst (λ (o : Option Job). MatchOption o (Unit {0}) (λ (j : Job). IsStageOf j.work j.stage)) there typed.stage in
+    growth_takes tells stage v new growth fits behind.1
+    (subst (λ (o : Option Job). MatchOption o ((◌≡◌ {A = Result JobDid PumpFault} (Ok did.JobDone) (Ok did.Idle)) × (new ≡ v)) (λ (j : Job). TakesJobStep tells j.stage j v (Ok did.JobDone) new)) there is)
+
+pub growth_names_piece : (tells : Bool) (old new : StoreValue) (growth : GrowthState) (stage : JobStage) → IsTyped tells old → old.job ≡ Some (growth_of growth stage) → PumpsJob tells old (Ok did.JobDone) new → NamesPiece old new
+growth_names_piece tells old new growth stage typed there pumps = growth_by_failed tells old.transactions.failed old new growth stage there refl typed pumps

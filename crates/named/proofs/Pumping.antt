@@ -53,7 +53,7 @@ usages_by what after v (Err why) new steps same = ap (λ (t : TransactionsValue)
 steps_named : (what : Did) (after : TransactionsValue) (v : StoreValue) (result : Result Did PumpFault) (new : StoreValue) → Steps what after v result new → after.usages ≡ v.transactions.usages
     → (area : Area) (k : ℕ) → IsNamed v area k → IsNamed new area k
 steps_named what after v result new steps same =
-    named_by v new (kept_same v.transactions.usages new.transactions.usages (usages_by what after v result new steps same)) (omega (arith, ap (λ (l : LogState). l.used) steps.log)) (omega (arith, (steps.job).runs_end))
+    named_by v new (kept_same v.transactions.usages new.transactions.usages (usages_by what after v result new steps same)) (omega (arith, ap (λ (l : LogState). l.used) steps.log)) (omega (arith, ap (λ (l : LogState). l.pieces) steps.log)) (omega (arith, (steps.job).runs_end))
 
 writes : (tells : Bool) (v new : StoreValue) (result : Result Did PumpFault) (stored : StoredExtent) → Goes tells v → next_extent v.transactions ≡ Some stored → WritesExtent tells stored v result new → Ends tells v new
 writes tells v new result stored goes found w = record {
@@ -79,22 +79,22 @@ syncs tells v new result goes s = record {
 
 turned_named : (stage : SlotStage) (t : TurnState) (v new : StoreValue) (what : Did) → AllByRecursion (IsOut v.transactions.usages) (flat_map numbers_of v.transactions.queue) → t.number ≡ v.log.used → KeepsJob v new
     → IsTurned stage t v what new → (area : Area) (k : ℕ) → IsNamed v area k → IsNamed new area k
-turned_named slots.Begun t v new what out number job is = named_by v new (kept_same v.transactions.usages new.transactions.usages (ap (λ (x : TransactionsValue). x.usages) is.1)) (omega (arith, ap (λ (l : LogState). l.used) is.2)) (omega (arith, job.runs_end))
-turned_named slots.BodyWritten t v new what out number job is = named_by v new (kept_same v.transactions.usages new.transactions.usages (ap (λ (x : TransactionsValue). x.usages) is.1)) (omega (arith, ap (λ (l : LogState). l.used) is.2)) (omega (arith, job.runs_end))
-turned_named slots.BodySynced t v new what out number job is = named_by v new (kept_same v.transactions.usages new.transactions.usages (ap (λ (x : TransactionsValue). x.usages) is.1)) (omega (arith, ap (λ (l : LogState). l.used) is.2)) (omega (arith, job.runs_end))
+turned_named slots.Begun t v new what out number job is = named_by v new (kept_same v.transactions.usages new.transactions.usages (ap (λ (x : TransactionsValue). x.usages) is.1)) (omega (arith, ap (λ (l : LogState). l.used) is.2)) (omega (arith, ap (λ (l : LogState). l.pieces) is.2)) (omega (arith, job.runs_end))
+turned_named slots.BodyWritten t v new what out number job is = named_by v new (kept_same v.transactions.usages new.transactions.usages (ap (λ (x : TransactionsValue). x.usages) is.1)) (omega (arith, ap (λ (l : LogState). l.used) is.2)) (omega (arith, ap (λ (l : LogState). l.pieces) is.2)) (omega (arith, job.runs_end))
+turned_named slots.BodySynced t v new what out number job is = named_by v new (kept_same v.transactions.usages new.transactions.usages (ap (λ (x : TransactionsValue). x.usages) is.1)) (omega (arith, ap (λ (l : LogState). l.used) is.2)) (omega (arith, ap (λ (l : LogState). l.pieces) is.2)) (omega (arith, job.runs_end))
 turned_named slots.GateWritten t v new what out number job is = named_by v new
     (λ n kept.
     let numbers : List ℕ = flat_map numbers_of (take v.transactions.group v.transactions.queue) in
     let others = others_of v.transactions.usages numbers n (out_first v.transactions.usages v.transactions.group v.transactions.queue out) kept in
     kept_same _ new.transactions.usages (ap (λ (x : TransactionsValue). x.usages) is.1) n (kept_published v.transactions.usages numbers n others kept))
-    (omega (arith, ap (λ (l : LogState). l.used) is.2, number)) (omega (arith, job.runs_end))
+    (omega (arith, ap (λ (l : LogState). l.used) is.2, number)) (omega (arith, ap (λ (l : LogState). l.pieces) is.2)) (omega (arith, job.runs_end))
 turned_named slots.Opened t v new what out number job is = absurd is
 
 answer_named : (t : TurnState) (v new : StoreValue) (result : Result Did PumpFault) → AllByRecursion (IsOut v.transactions.usages) (flat_map numbers_of v.transactions.queue) → t.number ≡ v.log.used → KeepsJob v new
     → MatchResult result (λ what. IsTurned t.stage t v what new) (λ why. TurnFails v why new) → (area : Area) (k : ℕ) → IsNamed v area k → IsNamed new area k
 answer_named t v new (Ok what) out number job answer = turned_named t.stage t v new what out number job answer
 answer_named t v new (Err why) out number job answer =
-    named_by v new (kept_same v.transactions.usages new.transactions.usages (ap (λ (x : TransactionsValue). x.usages) answer.transactions)) (omega (arith, ap (λ (l : LogState). l.used) answer.log)) (omega (arith, job.runs_end))
+    named_by v new (kept_same v.transactions.usages new.transactions.usages (ap (λ (x : TransactionsValue). x.usages) answer.transactions)) (omega (arith, ap (λ (l : LogState). l.used) answer.log)) (omega (arith, ap (λ (l : LogState). l.pieces) answer.log)) (omega (arith, job.runs_end))
 
 turns : (tells : Bool) (v new : StoreValue) (t : TurnState) (result : Result Did PumpFault) → AllByRecursion (IsOut v.transactions.usages) (flat_map numbers_of v.transactions.queue) → (IsTrue tells → AreSound v.disk.areas)
     → t.number ≡ v.log.used → TurnsSlot tells t v result new → Ends tells v new
@@ -102,7 +102,7 @@ turns tells v new t result out sound number s = record {
   leaves = record {
     left = λ told area k named.
         left_by_slot t.number t.body t.stage (disk_answer result) v.disk.areas new.disk.areas ((s.call).areas told) (sound told) area k
-        (λ is. let below : IsNamed v Status k = subst (λ (a : Area). IsNamed v a k) is named in omega (arith, below, number));
+        (λ is. let below : IsNamed v Status k = subst (λ (a : Area). IsNamed v a k) is named in let low = below.0 in omega (arith, low, number));
     named = answer_named t v new result out number s.job s.answer;
   };
   job = s.job;
@@ -135,7 +135,7 @@ begins tells v new result true goes is = ends_same tells v new is.1
 begins tells v new result false goes (inl short) = ends_same tells v new short.2
 begins tells v new result false goes (inr is) =
     let ends = turns tells (begun v) new _ result (subst (λ (ns : List ℕ). AllByRecursion (IsOut v.transactions.usages) ns) (sym (fresh_numbers v.transactions.reclaimed (v.transactions.group - 1) v.transactions.queue (slice_get v.transactions.queue (v.transactions.group - 1)) refl)) goes.out) goes.sound refl is.turns in record {
-      leaves = carried tells v (begun v) new (named_by v (begun v) (λ n kept. kept) (omega arith) (omega arith)) refl ends.leaves;
+      leaves = carried tells v (begun v) new (named_by v (begun v) (λ n kept. kept) (omega arith) (omega arith) (omega arith)) refl ends.leaves;
       job = record { job = (ends.job).job; archived = (ends.job).archived; runs_end = (ends.job).runs_end; archive = (ends.job).archive };
     }
 
@@ -170,7 +170,7 @@ by_failed tells true v new result failed typed is = ends_same tells v new is.1
 by_failed tells false v new result works typed is =
     let goes : Goes tells v = record { out = all_front (IsOut v.transactions.usages) (flat_map numbers_of v.transactions.queue) v.transactions.reserved ((typed.order).out).each; turn = turn_number v.turn v.log.used (((typed.in_step).turns works).turn); sound = typed.sound } in
     let ends = takes tells (next_step v.transactions) (started v) new result (goes_started tells v goes) is in record {
-      leaves = carried tells v (started v) new (named_by v (started v) (kept_same v.transactions.usages (grouped v.transactions).usages (grouped_usages v.transactions)) (omega arith) (omega arith)) refl ends.leaves;
+      leaves = carried tells v (started v) new (named_by v (started v) (kept_same v.transactions.usages (grouped v.transactions).usages (grouped_usages v.transactions)) (omega arith) (omega arith) (omega arith)) refl ends.leaves;
       job = record { job = (ends.job).job; archived = (ends.job).archived; runs_end = (ends.job).runs_end; archive = (ends.job).archive };
     }
 

@@ -18,10 +18,10 @@ use Rattle.recovery.specs.ReadsImage.{IsOpening}
 use Rattle.store.specs.Values.{StoreValue}
 use Rattle.store.specs.Opens.{Opens}
 use Rattle.named.specs.Named.{IsNamed, IsLeft, IsGivenUpIn, LeavesNamed, WritesBehind, IsTyped, bytes_in}
-use Rattle.named.specs.Laws.{IsCall, Began, Aborted, Submitting, Redeeming, Pumped, Archiving, Reclaiming, RaisingFloor, JobPumped, Viewed, AskedAt, AskedScan, AskedRows, AskedScanRows, AreCalls, end_of, IsGivenUpAmong, StaysNamed, HasNamed}
+use Rattle.named.specs.Laws.{IsCall, Began, Aborted, Submitting, Redeeming, Pumped, Archiving, Reclaiming, RaisingFloor, Growing, JobPumped, Viewed, AskedAt, AskedScan, AskedRows, AskedScanRows, AreCalls, end_of, IsGivenUpAmong, StaysNamed, HasNamed}
 use Rattle.named.proofs.Places.{same_left, left_twice}
 use Rattle.named.proofs.Naming.{LeavesAll, leaves_named, leaves_itself, behind_by}
-use Rattle.named.proofs.Calls.{began, aborted, redeemed, submitted, archiving, reclaiming, raising_floor, asked}
+use Rattle.named.proofs.Calls.{began, aborted, redeemed, submitted, archiving, reclaiming, raising_floor, starting_growth, asked}
 use Rattle.named.proofs.Pumping.{pumped}
 use Rattle.named.proofs.Jobs.{job_pumped}
 
@@ -35,7 +35,7 @@ each_kept us [] kept = tt
 each_kept us (e ∷ es) kept = (kept.0, each_kept us es kept.1)
 
 pub opened_names : (tells : Bool) (disk : DiskState) (mark : ℕ) (v : StoreValue) → Opens tells disk mark v → IsTrue tells
-    → (header : Header) × (layout : Layout) × (reading : Reading) × IsOpening header (image_of disk.areas) layout reading × HasNamed layout v
+    → (header : Header) × (layout : Layout) × (reading : Reading) × IsOpening header (image_of disk.areas) layout reading × HasNamed header layout v
 opened_names tells disk mark v opens told =
     let read = opens.read told in
     let usages : v.transactions.usages ≡ opens.recovered.extents = ap (λ (s : StoreValue). s.transactions.usages) opens.new_is in
@@ -45,6 +45,7 @@ opened_names tells disk mark v opens told =
       read.reading,
       read.opening,
       record {
+        pieces = ap (λ (s : StoreValue). s.log.pieces) opens.new_is;
         slots = ap (λ (s : StoreValue). s.log.used) opens.new_is ∙ (read.is).used;
         extents = subst (λ (us : List Usage). AllByRecursion (λ (e : Extent). IsKept us e.number) (live read.layout)) (sym usages) kept;
         runs = ap (λ (s : StoreValue). s.runs_end) opens.new_is ∙ ap (row_end 0) ((read.is).runs).runs_are;
@@ -67,7 +68,8 @@ call_leaves tells old new typed behind call = by_call call
     by_call (Pumped answer is) = all (pumped tells old new answer is typed behind)
     by_call (Archiving upto answer is) = all (archiving tells old new upto answer is behind)
     by_call (Reclaiming answer is) = all (reclaiming tells old new answer is typed behind)
-    by_call (RaisingFloor time answer is) = all (raising_floor tells old new time answer is behind)
+    by_call (RaisingFloor scope time answer is) = all (raising_floor tells old new scope time answer is behind)
+    by_call (Growing answer is) = all (starting_growth tells old new answer is behind)
     by_call (JobPumped answer is) = job_pumped tells old new answer is typed behind
     by_call (Viewed same) = all (leaves_itself tells old new same, subst WritesBehind (sym same) behind)
     by_call (AskedAt view key time answer is) = all (asked tells old new view time _ _ _ _ answer is behind)

@@ -22,6 +22,7 @@ use Rattle.group.specs.declared.answers.Did.{Did}
 use Rattle.group.specs.declared.answers.Did.TheVariants as group
 use Rattle.group.specs.declared.answers.PumpFault.{PumpFault}
 use Rattle.status.specs.declared.header.Header.{Header}
+use Rattle.status.specs.GrowthState.{GrowthState}
 use Rattle.status.specs.Rules.{row_end, runs_of}
 use Rattle.reading.specs.Layouts.{Layout, live}
 use Rattle.recovery.specs.ReadsImage.{IsOpening}
@@ -33,12 +34,14 @@ use Rattle.wire.specs.declared.slot.Anchors.{Anchors}
 use Rattle.store.specs.Calls.{Begins, Aborts, Submits, Redeems, AnswersAtView, AnswersScanAt, AnswersRows, AnswersScanRows}
 use Rattle.store.specs.Archives.{ArchiveJob, job_of, StartsArchive}
 use Rattle.store.specs.Reclaims.{StartsReclaim}
+use Rattle.floors.specs.Floors.{FloorsValue}
 use Rattle.store.specs.Floors.{StartsFloor}
+use Rattle.store.specs.Growths.{StartsGrowth}
 use Rattle.store.specs.Pumps.{Pumps}
 use Rattle.store.specs.Jobs.{PumpsJob}
 use Rattle.store.specs.Opens.{Opens}
 use Rattle.store.specs.declared.job.JobStage.{JobStage}
-use Rattle.store.specs.declared.job.JobWork.TheVariants.{Reclaim, Floor}
+use Rattle.store.specs.declared.job.JobWork.TheVariants.{Reclaim, Floor, Grow}
 use Rattle.store.specs.declared.job.StartFault.{StartFault}
 use Rattle.store.specs.declared.job.JobDid.{JobDid}
 use Rattle.store.specs.declared.job.JobDid.TheVariants as did
@@ -53,7 +56,8 @@ pub data IsCall (tells : Bool) (old new : StoreValue) : Type 0 where
   Pumped : (answer : Result Did PumpFault) → Pumps tells old answer new → IsCall tells old new
   Archiving : (upto : ℕ) (answer : Result (Unit {0}) StartFault) → StartsArchive old upto answer new → IsCall tells old new
   Reclaiming : (answer : Result (Unit {0}) StartFault) → StartsReclaim old answer new → IsCall tells old new
-  RaisingFloor : (time : ℕ) (answer : Result (Unit {0}) StartFault) → StartsFloor old time answer new → IsCall tells old new
+  RaisingFloor : (scope : Option ℕ) (time : ℕ) (answer : Result (Unit {0}) StartFault) → StartsFloor old scope time answer new → IsCall tells old new
+  Growing : (answer : Result (Unit {0}) StartFault) → StartsGrowth old answer new → IsCall tells old new
   JobPumped : (answer : Result JobDid PumpFault) → PumpsJob tells old answer new → IsCall tells old new
   -- a view, its end, or the times of a label
   Viewed : new ≡ old → IsCall tells old new
@@ -89,7 +93,8 @@ abbrev pub OpenedWritesBehind : Type 0
 OpenedWritesBehind = (tells : Bool) (disk : DiskState) (mark : ℕ) (v : StoreValue) → Opens tells disk mark v → WritesBehind v
 
 -- what the log of an image names a store has
-pub record HasNamed (layout : Layout) (v : StoreValue) : Type 0 where
+pub record HasNamed (header : Header) (layout : Layout) (v : StoreValue) : Type 0 where
+  pub pieces : v.log.pieces ≡ header.pieces
   pub slots : v.log.used ≡ length layout.slots
   pub extents : AllByRecursion (λ e. IsKept v.transactions.usages e.number) (live layout)
   pub runs : v.runs_end ≡ row_end 0 (runs_of layout.slots)
@@ -97,7 +102,7 @@ pub record HasNamed (layout : Layout) (v : StoreValue) : Type 0 where
 -- a store that opened has all that the image's log names
 abbrev pub OpenedNames : Type 0
 OpenedNames = (tells : Bool) (disk : DiskState) (mark : ℕ) (v : StoreValue) → Opens tells disk mark v → IsTrue tells
-    → (header : Header) × (layout : Layout) × (reading : Reading) × IsOpening header (image_of disk.areas) layout reading × HasNamed layout v
+    → (header : Header) × (layout : Layout) × (reading : Reading) × IsOpening header (image_of disk.areas) layout reading × HasNamed header layout v
 
 -- no call writes what the log names, and a job that it begins or goes on with will not
 abbrev pub CallLeavesNamed : Type 0
@@ -148,5 +153,16 @@ pub record NamesNoMore (old new : StoreValue) : Type 0 where
   pub runs : new.runs_end ≡ old.runs_end
 
 abbrev pub FloorNamesNoMore : Type 0
-FloorNamesNoMore = (tells : Bool) (old new : StoreValue) (time : ℕ) (stage : JobStage) → IsTyped tells old → old.job ≡ Some (record { work = Floor time; stage = stage })
+FloorNamesNoMore = (tells : Bool) (old new : StoreValue) (scope : Option ℕ) (time : ℕ) (floors : FloorsValue) (stage : JobStage) → IsTyped tells old → old.job ≡ Some (record { work = Floor scope time floors; stage = stage })
     → PumpsJob tells old (Ok did.JobDone) new → NamesNoMore old new
+
+-- a growth names nothing but its piece
+pub record NamesPiece (old new : StoreValue) : Type 0 where
+  pub pieces : new.log.pieces ≡ old.log.pieces + 1
+  pub slots : new.log.used ≡ old.log.used
+  pub usages : new.transactions.usages ≡ old.transactions.usages
+  pub runs : new.runs_end ≡ old.runs_end
+
+abbrev pub GrowthNamesPiece : Type 0
+GrowthNamesPiece = (tells : Bool) (old new : StoreValue) (growth : GrowthState) (stage : JobStage) → IsTyped tells old → old.job ≡ Some (record { work = Grow growth; stage = stage })
+    → PumpsJob tells old (Ok did.JobDone) new → NamesPiece old new

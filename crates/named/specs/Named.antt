@@ -1,5 +1,5 @@
 -- What the log of a store names, and that a call leaves it.
-use Rattle.std.specs.Prelude.{◌≡◌, ◌⊎◌, ℕ, ◌+◌, ◌<◌, ◌≤◌, Bool, IsTrue, List, length, slice_index, Some, MatchOption}
+use Rattle.std.specs.Prelude.{◌≡◌, ◌⊎◌, ℕ, ◌+◌, ◌*◌, ◌<◌, ◌≤◌, Bool, IsTrue, List, length, slice_index, Some, MatchOption}
 use Rattle.disk.specs.Areas.{AreaState, Image, AreSound, area_of, IsUntouched}
 use Rattle.disk.specs.declared.area.Area.{Area}
 use Rattle.disk.specs.declared.area.Area.TheVariants.{Status, Heap}
@@ -14,7 +14,8 @@ use Rattle.wire.specs.declared.slot.Anchors.{Anchors}
 use Rattle.store.specs.Values.{StoreValue, IsInStep}
 use Rattle.store.specs.declared.job.JobStage.{JobStage}
 use Rattle.store.specs.declared.job.JobWork.{JobWork}
-use Rattle.store.specs.declared.job.JobWork.TheVariants.{Archive, Reclaim, Floor}
+use Rattle.store.specs.Parts.{IsStageOf, GrowsBehind}
+use Rattle.store.specs.declared.job.JobWork.TheVariants.{Archive, Reclaim, Floor, Grow}
 
 -- the place lies in an extent that is kept
 pub record IsInKept (v : StoreValue) (k : ℕ) : Type 0 where
@@ -23,9 +24,9 @@ pub record IsInKept (v : StoreValue) (k : ℕ) : Type 0 where
   pub low : extent_start number ≤ k
   pub high : k < extent_start number + 8192
 
--- The log names this place of an area: of the status area the header and the slots that are used, of the heap the extents of the live chains, which are those that its slots name but for what a reclaim gave up, of the archive all up to the end of the last run.
+-- The log names this place of an area: of the status area the header, but for the gates of pieces that are not open, and the slots that are used, of the heap the extents of the live chains, which are those that its slots name but for what a reclaim gave up, of the archive all up to the end of the last run.
 abbrev pub IsNamed : StoreValue → Area → ℕ → Type 0
-IsNamed v Status k = k < slot_start v.log.used
+IsNamed v Status k = (k < slot_start v.log.used) × ((k < 16 + v.log.pieces) ⊎ (512 ≤ k))
 IsNamed v Heap k = IsInKept v k
 IsNamed v areas.Archive k = k < v.runs_end
 
@@ -59,11 +60,12 @@ pub record LeavesNamed (tells : Bool) (old new : StoreValue) : Type 0 where
   pub left : IsTrue tells → (area : Area) (k : ℕ) → IsNamed old area k → IsLeft k (area_of old.disk.areas area) (area_of new.disk.areas area)
   pub named : (area : Area) (k : ℕ) → IsNamed old area k → IsNamed new area k ⊎ IsGivenUpIn old new area k
 
--- a run lies behind the runs of the log, and is written there; a reclaim and a floor write no run
+-- a run lies behind the runs of the log, and is written there; no other job writes a run
 abbrev pub IsBehindRuns : ℕ → JobWork → Type 0
 IsBehindRuns end (Archive run writer) = (end ≤ run.start) × (end ≤ writer.at)
 IsBehindRuns end (Reclaim anchors source written) = Unit {0}
-IsBehindRuns end (Floor time) = Unit {0}
+IsBehindRuns end (Floor scope time floors) = Unit {0}
+IsBehindRuns end (Grow growth) = Unit {0}
 
 -- so it is of the job
 abbrev pub WritesBehind : StoreValue → Type 0
@@ -73,6 +75,9 @@ WritesBehind v = MatchOption v.job (Unit {0}) (λ job. IsBehindRuns v.runs_end j
 pub record IsTyped (tells : Bool) (v : StoreValue) : Type 0 where
   pub order : IsInOrder v.transactions
   pub in_step : IsInStep v
+  pub pieces : 256 * v.log.pieces ≤ v.log.slots
+  pub stage : MatchOption v.job (Unit {0}) (λ job. IsStageOf job.work job.stage)
+  pub grows : MatchOption v.job (Unit {0}) (λ job. GrowsBehind job.work v.log)
   pub sound : IsTrue tells → AreSound v.disk.areas
 
 -- the bytes of an area of an image

@@ -1,7 +1,7 @@
 //! What the log names is not written: laws of every store that opened, each as a function with nothing to do.
 #![tactic(auto)]
 
-ghost use Rattle.named.specs.Laws.{OpenedWritesBehind, OpenedNames, CallLeavesNamed, NamedStays, StopLeavesNamed, PublishedNamed, ArchivedNamed, AnchorsNamed, FloorNamesNoMore};
+ghost use Rattle.named.specs.Laws.{OpenedWritesBehind, OpenedNames, CallLeavesNamed, NamedStays, StopLeavesNamed, PublishedNamed, ArchivedNamed, AnchorsNamed, FloorNamesNoMore, GrowthNamesPiece};
 
 /// A store that opened runs no job, and has all that the log of its image names.
 pub fn opened_names()
@@ -24,10 +24,11 @@ pub fn named_stays()
 
 /// What the slot of a group or of a job names is named from the call on that opens it: the extents of
 /// the group's commits, the run of an archive, and the extents of a reclaim's anchors. A floor's slot
-/// names nothing.
+/// names nothing, and the last call of a growth nothing but its piece.
 pub fn slots_name()
     ensures group { PublishedNamed }
     ensures job { ArchivedNamed }
     ensures anchors { AnchorsNamed }
     ensures floor { FloorNamesNoMore }
+    ensures growth { GrowthNamesPiece }
 {}

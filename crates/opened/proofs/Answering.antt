@@ -1,5 +1,5 @@
 -- Views are answered by the history, after a stop as before it.
-use Rattle.std.proofs.Common.{◌≡◌, inl, inr, ℕ, zero, suc, ◌≤◌, ◌==◌, nat_lt, Bool, true, false, IsTrue, List, [], ◌∷◌, ◌++◌, map, take, Option, None, Some, Result, Err, MatchBool, MatchOption, ◌⊎◌, refl, arith, ap, sym, subst, ◌∙◌}
+use Rattle.std.proofs.Common.{◌≡◌, inl, inr, ℕ, zero, suc, ◌≤◌, ◌==◌, nat_lt, Bool, true, false, IsTrue, List, [], ◌∷◌, ◌++◌, map, take, Option, Some, Result, MatchOption, ◌⊎◌, refl, arith, ap, sym, subst, ◌∙◌}
 use Rattle.std.specs.List.{filter}
 use Rattle.std.proofs.lemmas.Bool.Decides.{nat_tests}
 use Rattle.std.proofs.lemmas.List.{append-nil, map-append}
@@ -9,14 +9,13 @@ use Rattle.history.specs.declared.key.Key.{Key}
 use Rattle.history.specs.Histories.{Commit, History, HasRisingTimes, last, last_after}
 use Rattle.history.specs.Answers.{at_answer, times_of}
 use Rattle.history.specs.Floors.{Raising, covers, raised}
-use Rattle.history.specs.Fronts.{OnFront, OnRaised}
+use Rattle.history.specs.Fronts.{OnFront}
 use Rattle.history.specs.Machine.{Machine, MayRaise, opened}
 use Rattle.history.proofs.Histories.{state-append, last_after-append, rising-from_following, times-earlier, may_follow-behind}
 use Rattle.image.specs.Values.{Value, IsValue}
 use Rattle.group.specs.CommitOrder as orders
 use Rattle.timequery.specs.View.{ViewValue}
 use Rattle.timequery.specs.declared.fault.QueryFault.{QueryFault}
-use Rattle.timequery.specs.declared.fault.QueryFault.TheVariants as query
 use Rattle.transactions.specs.Calls.{order_of}
 use Rattle.store.specs.Values.{StoreValue}
 use Rattle.store.specs.Calls.{IsViewOf, AnswersAtView}

@@ -1,6 +1,7 @@
 -- A store that is opened on an image that stands for a history.
-use Rattle.std.proofs.Common.{◌≡◌, ℕ, ◌≤◌, Bool, IsTrue, List, [], ◌∷◌, ◌++◌, length, map, refl, arith, ap, sym, subst, ◌∙◌, inl}
-use Rattle.std.specs.Prelude.{Contains}
+use Rattle.std.proofs.Common.{◌≡◌, ◌≢◌, ℕ, ◌≤◌, ◌==◌, Bool, false, IsTrue, List, [], ◌∷◌, ◌++◌, length, map, Option, Some, None, MatchBool, refl, arith, ap, sym, subst, ◌∙◌, inl}
+use Rattle.std.specs.Prelude.{Contains, IsSome, IsNone}
+use Rattle.std.proofs.lemmas.Bool.Decides.{nat_tests}
 use Rattle.std.specs.List.{AllByRecursion}
 use Rattle.std.proofs.lemmas.List.{append-nil, length-map}
 use Rattle.std.proofs.lemmas.List.Sorted.{IsPermutation-refl}
@@ -17,9 +18,10 @@ use Rattle.history.specs.Time.{IsRisingAfter, writes_after}
 use Rattle.history.proofs.Machines.{opened-machine}
 use Rattle.history.proofs.Members.{Contains-nil}
 use Rattle.image.specs.Values.{Value, IsValue}
-use Rattle.image.specs.Reading.{Head, Reading, ArchiveRecord}
+use Rattle.image.specs.Reading.{Head, Slot, Commits, Archived, Reclaimed, Floor, Reading, ArchiveRecord}
 use Rattle.image.specs.Reading as readings
-use Rattle.image.specs.Log.{archive_mark, AreRisingAfter, last_time_after}
+use Rattle.image.specs.Log.{archive_mark, floor_of, floors_after, AreRisingAfter, last_time_after, IsScopeOf, MayAllCome}
+use Rattle.history.specs.Floors.{raised}
 use Rattle.image.specs.Facts.{old_writes, heap_facts}
 use Rattle.image.specs.StandsFor.{head_of, archived_upto, reclaimed_upto, AreRunsOf}
 use Rattle.image.proofs.Standing.{last_time-heads, heads-rising, rises, facts-rise, archived-range, floor-range}
@@ -58,7 +60,8 @@ use Rattle.store.proofs.Opened.{rising-opened, last-opened}
 use Rattle.standing.specs.Standing.{Name, name_of, name_at, HasWrites, HasForgotten, StandsInMemory}
 use Rattle.standing.specs.OnDisk.{IsImageOf, Works, StandsOnDisk}
 use Rattle.standing.specs.Homes.{AreArchived, RunsStand}
-use Rattle.standing.specs.Stands.{Stands}
+use Rattle.standing.specs.Stands.{AreOfProfile, Stands, StandsStill}
+use Rattle.standing.proofs.Growing.{as-still}
 use Rattle.standing.proofs.HeapForgets.{heap-forgot}
 use Rattle.standing.proofs.Held.{last-held}
 use Rattle.opened.proofs.Runs.{runs-hold, runs-end, marks-are}
@@ -102,6 +105,24 @@ rising-first-of [] ys t up = tt
 rising-first-of (x ∷ xs) ys t up = (up.0, up.1, rising-first-of xs ys x.time up.2)
 
 -- ---- what was read
+
+-- where no floor is of one relation, relations have the same one
+one-alike : (before : ℕ → ℕ) (profile : ℕ) → profile ≢ 3 → (scope : Option ℕ) (floor : ℕ) → IsScopeOf profile scope → ((relation : ℕ) → before relation ≡ before 0) → (relation : ℕ) → raised scope floor before relation ≡ raised scope floor before 0
+one-alike before profile other None floor is same relation = refl
+one-alike before profile other (Some only) floor is same relation =
+    let test : (profile == 3) ≡ false = grind (arith, nat_tests, other) in
+    absurd (let no : IsNone (Some only) = subst (λ (b : Bool). MatchBool b (IsSome (Some only)) (IsNone (Some only))) test is in cc)
+
+after-alike : (profile : ℕ) → profile ≢ 3 → (log before : List Slot) (floors : ℕ → ℕ) → MayAllCome profile before log → ((relation : ℕ) → floors relation ≡ floors 0) → (relation : ℕ) → floors_after floors log relation ≡ floors_after floors log 0
+after-alike profile other [] before floors may same relation = same relation
+after-alike profile other (Commits heads ∷ log) before floors may same relation = after-alike profile other log (before ++ Commits heads ∷ []) floors may.1 same relation
+after-alike profile other (Archived upto ∷ log) before floors may same relation = after-alike profile other log (before ++ Archived upto ∷ []) floors may.1 same relation
+after-alike profile other (Reclaimed upto ∷ log) before floors may same relation = after-alike profile other log (before ++ Reclaimed upto ∷ []) floors may.1 same relation
+after-alike profile other (Floor scope floor ∷ log) before floors may same relation =
+    after-alike profile other log (before ++ Floor scope floor ∷ []) (raised scope floor floors) may.1 (one-alike floors profile other scope floor (may.0).0 same) relation
+
+alike : (profile : ℕ) → profile ≢ 3 → (log before : List Slot) → MayAllCome profile before log → (relation : ℕ) → floor_of log relation ≡ floor_of log 0
+alike profile other log before may relation = after-alike profile other log before (λ q. 0) may (λ q. refl) relation
 
 module _ (old : DiskState) (mark : ℕ) (disk : DiskState) (r : Recovered) (archive : ArchiveValue) (header : Header) (h : History Value) (floors : ℕ → ℕ)
     (read : IsReadFrom (image_of old.areas) r) (fresh : IsUnread r.runs.items archive) (image : IsImageOf header (image_of old.areas) h floors)
@@ -177,7 +198,7 @@ module _ (old : DiskState) (mark : ℕ) (disk : DiskState) (r : Recovered) (arch
     group = refl;
     staged = λ staged. absurd staged;
     snapshots = IsPermutation-refl [];
-    floors = so.floor;
+    floors = so.floors_are;
     failed = refl;
   }
 
@@ -246,10 +267,15 @@ module _ (old : DiskState) (mark : ℕ) (disk : DiskState) (r : Recovered) (arch
     header = header;
     profile = ap (λ (x : Header). x.profile) same.0;
     slots = ap total same.0;
+    pieces = ap (λ (x : Header). x.pieces) same.0;
     profile_built = image.profile_built;
     leaves = leaves;
     works = λ works_on. works;
   }
+
+  -- the floors are of the header's profile
+  of_profile : AreOfProfile image.reading.profile floors
+  of_profile = λ other relation. sym (image.stands.opens.floors_given relation) ∙ alike image.reading.profile other image.reading.log [] image.stands.opens.reads.log relation ∙ image.stands.opens.floors_given 0
 
   -- ---- the runs
 
@@ -277,14 +303,14 @@ module _ (old : DiskState) (mark : ℕ) (disk : DiskState) (r : Recovered) (arch
         near = record { each = λ from bytes there. absurd (Contains-nil (from, bytes) (subst (λ (parts : List (ℕ × List ℕ)). Contains parts (from, bytes)) fresh.kept there)) };
       }
 
-  pub opened-stands : (tells : Bool) → Stands tells (opened_on mark r archive disk) (opened h floors)
+  pub opened-stands : (tells : Bool) → StandsStill tells (opened_on mark r archive disk) (opened h floors)
   opened-stands tells = record {
     memory = memory;
     machine = opened-machine IsValue h floors image.stands.opens.history (floor-range image.reading h floors image.stands);
     order = order;
     in_step = in_step;
     gate = λ works. refl;
-    raises = refl;
+    raises = record { is = refl; scope = tt; of_profile = subst (λ (n : ℕ). AreOfProfile n floors) (image.laid.heap.profile_is ∙ sym (ap (λ (x : Header). x.profile) same.0)) of_profile };
     marks = (let order = image.stands.homes.marks in omega (arith, marked, is.archived, order), (let upto = archived-range image.reading h floors image.stands in omega (arith, is.archived, upto)));
     job = tt;
     disk = λ tells_so. on_disk;
@@ -296,5 +322,5 @@ pub open-stands : (tells : Bool) (old : DiskState) (mark : ℕ) (v : StoreValue)
     → Opens tells old mark v → IsTrue tells → AreSound old.areas → IsImageOf header (image_of old.areas) h floors → Stands tells v (opened h floors)
 open-stands tells old mark v header h floors opens told sound image =
     let ordered : IsOrdered opens.recovered.chains = subst (λ (w : StoreValue). IsOrdered w.transactions.versions) opens.new_is opens.ordered in
-    subst (λ (w : StoreValue). Stands tells w (opened h floors)) (sym opens.new_is)
-    (opened-stands old mark v.disk opens.recovered v.archive header h floors (opens.read told) opens.unread image (opens.settled told) ordered sound tells)
+    as-still tells v (opened h floors) (subst (λ (w : StoreValue). StandsStill tells w (opened h floors)) (sym opens.new_is)
+    (opened-stands old mark v.disk opens.recovered v.archive header h floors (opens.read told) opens.unread image (opens.settled told) ordered sound tells))

@@ -18,7 +18,7 @@ use Rattle.recovery.proofs.HistoryRead.{stands_opening}
 use Rattle.store.specs.Values.{StoreValue}
 use Rattle.store.specs.Opens.{Opens, OpenRefuses}
 use Rattle.standing.specs.OnDisk.{IsImageOf}
-use Rattle.standing.specs.Stands.{Stands}
+use Rattle.standing.specs.Stands.{Stands, growth_of, may_have_grown}
 use Rattle.opened.specs.Laws.{OpensAgain, LeavesFronts}
 use Rattle.opened.proofs.Fronts.{front-says, front-is}
 use Rattle.opened.proofs.Opened.{open-stands}
@@ -36,7 +36,7 @@ open-refuses tells old new why header h floors refuses told image =
 pub close-leaves : (tells : Bool) (v : StoreValue) (m : Machine Value) (disk : DiskState) → Stands tells v m → IsTrue tells → disk ≡ v.disk → LeavesFronts disk.areas m
 close-leaves tells v m disk stands told same =
     let on = stands.disk told in
-    (on.header, λ image left. on.leaves image (subst (λ (d : DiskState). LeavesImage d.areas image) same left))
+    (on.header, may_have_grown (growth_of v.job), λ image left. on.leaves image (subst (λ (d : DiskState). LeavesImage d.areas image) same left))
 
 pub closed-left : (v : StoreValue) (disk : DiskState) → disk ≡ v.disk → AreSound disk.areas → LeavesImage v.disk.areas (image_of disk.areas)
 closed-left v disk same sound = subst (λ (d : DiskState). LeavesImage d.areas (image_of disk.areas)) same (LeavesImage-read disk.areas sound)
@@ -46,18 +46,18 @@ closed-left v disk same sound = subst (λ (d : DiskState). LeavesImage d.areas (
 pub reopen-stands : (tells : Bool) (v : StoreValue) (m : Machine Value) (disk : DiskState) (mark : ℕ) (again : StoreValue)
     → Stands tells v m → IsTrue tells → OpensAgain tells v disk mark again → OnFront (λ h floors. Stands tells again (opened h floors)) m
 reopen-stands tells v m disk mark again stands told opens =
-    let on = stands.disk told in
-    front-says (IsImageOf on.header (image_of disk.areas)) (λ h floors. Stands tells again (opened h floors)) m
-    (λ h floors image. open-stands tells disk mark again on.header h floors opens.opens told opens.sound image)
-    (on.leaves (image_of disk.areas) opens.left)
+    let l = (stands.disk told).leaves (image_of disk.areas) opens.left in
+    front-says (IsImageOf l.found (image_of disk.areas)) (λ h floors. Stands tells again (opened h floors)) m
+    (λ h floors image. open-stands tells disk mark again l.found h floors opens.opens told opens.sound image)
+    l.front
 
 pub reopen-refuses : (tells : Bool) (v : StoreValue) (m : Machine Value) (disk new : DiskState) (why : OpenFault)
     → Stands tells v m → IsTrue tells → LeavesImage v.disk.areas (image_of disk.areas) → OpenRefuses tells disk why new → IsReadFault why × (image_of new.areas ≡ image_of disk.areas)
 reopen-refuses tells v m disk new why stands told left refuses =
-    let on = stands.disk told in
-    front-is (IsImageOf on.header (image_of disk.areas)) m
-    (λ h floors image. let said = open-refuses tells disk new why on.header h floors refuses told image in (said.0, said.1))
-    (on.leaves (image_of disk.areas) left)
+    let l = (stands.disk told).leaves (image_of disk.areas) left in
+    front-is (IsImageOf l.found (image_of disk.areas)) m
+    (λ h floors image. let said = open-refuses tells disk new why l.found h floors refuses told image in (said.0, said.1))
+    l.front
 
 -- ---- a stop while it is opened, and a second stop
 
@@ -65,7 +65,7 @@ leaves-fronts : (tells : Bool) (v : StoreValue) (m : Machine Value) (middle new 
     → LeavesNoMore v.disk.areas middle → LeavesNoMore middle new → LeavesNoMore v.disk.areas new × LeavesFronts new m
 leaves-fronts tells v m middle new stands told first next =
     let on = stands.disk told in
-    (record { each = λ image left. first.each image (next.each image left) }, (on.header, λ image left. on.leaves image (first.each image (next.each image left))))
+    (record { each = λ image left. first.each image (next.each image left) }, (on.header, may_have_grown (growth_of v.job), λ image left. on.leaves image (first.each image (next.each image left))))
 
 pub opening-stops : (tells : Bool) (v : StoreValue) (m : Machine Value) (disk new : DiskState) (why : OpenFault)
     → Stands tells v m → IsTrue tells → LeavesNoMore v.disk.areas disk.areas → OpenRefuses tells disk why new → LeavesNoMore v.disk.areas new.areas × LeavesFronts new.areas m

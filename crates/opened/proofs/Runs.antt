@@ -1,14 +1,14 @@
 -- The runs of a log as an opened store knows them.
-use Rattle.std.proofs.Common.{◌≡◌, ℕ, zero, suc, ◌+◌, ◌<◌, ◌≤◌, ◌^◌, List, [], ◌∷◌, ◌++◌, map, length, flat_map, Option, Some, refl, arith, ap, sym, subst, ◌∙◌}
+use Rattle.std.proofs.Common.{◌≡◌, ℕ, zero, suc, ◌+◌, ◌≤◌, List, [], ◌∷◌, ◌++◌, map, length, Some, refl, arith, ap, sym, subst, ◌∙◌}
 use Rattle.std.specs.Prelude.{slice_get}
 use Rattle.std.specs.List.{AllByRecursion}
 use Rattle.disk.specs.Parts.{HoldsPart}
 use Rattle.image.specs.Reading as readings
 use Rattle.image.specs.Reading.{ArchiveRecord}
 use Rattle.image.specs.Log.{archive_mark, archive_mark_after, floor_of}
+use Rattle.floors.specs.Floors.{FloorsValue, floor_at, no_floors, raised_in}
 use Rattle.image.specs.StandsFor.{IsRun, IsArchived, AreRunsOf}
-use Rattle.image.proofs.Logs.{archive_mark-append, floors-append}
-use Rattle.history.specs.Floors.{raised}
+use Rattle.image.proofs.Logs.{archive_mark-append}
 use Rattle.wire.specs.declared.slot.Body.{Body}
 use Rattle.wire.specs.declared.slot.Body.TheVariants.{Commit, Archived, Reclaimed, Floor}
 use Rattle.wire.specs.declared.slot.Run.{Run}
@@ -18,8 +18,10 @@ use Rattle.archive.specs.Records as kept
 use Rattle.archive.specs.Runs as written
 use Rattle.archive.specs.Runs.{HoldRuns, RunsEndBy, run_end}
 use Rattle.reading.specs.Records.{IsArchiveRecord}
-use Rattle.reading.specs.Runs.{StoredRun, IsStoredRun, HoldsRun, run_bytes}
+use Rattle.reading.specs.Runs.{StoredRun, IsStoredRun, HoldsRun}
 use Rattle.reading.proofs.Lists.{weaker}
+use Rattle.status.specs.Kept.{kept_of}
+use Rattle.status.proofs.Kept.{kept-of, kept-append}
 use Rattle.status.specs.Rules.{runs_in, runs_of, row_end, AreInRow, slot_of, log_of}
 use Rattle.timequery.specs.View.{mark_after}
 use Rattle.recovery.specs.RunEntries.{runs_named, marks_before, floors_before, AreEntriesOf}
@@ -27,7 +29,7 @@ use Rattle.standing.proofs.Archiving.{run-same}
 
 -- ---- they stand in the archive's bytes
 
-one-run : (area : List ℕ) (s : StoredRun) (entry : RunEntry) (mark upto : ℕ) (floors : ℕ → ℕ) → entry.slot ≡ s.entry → entry.mark ≡ mark → ((relation : ℕ) → entry.floor ≡ floors relation) → s.entry.upto ≡ upto → IsRun mark floors upto s.records → IsStoredRun s → HoldsRun area s
+one-run : (area : List ℕ) (s : StoredRun) (entry : RunEntry) (mark upto : ℕ) (floors : ℕ → ℕ) → entry.slot ≡ s.entry → entry.mark ≡ mark → ((relation : ℕ) → floor_at entry.floors relation ≡ floors relation) → s.entry.upto ≡ upto → IsRun mark floors upto s.records → IsStoredRun s → HoldsRun area s
     → written.HoldsRun area entry s.records
 one-run area s entry mark upto floors slot marked floored upto_is rules stored held =
     let same = run-same s.records in
@@ -37,7 +39,7 @@ one-run area s entry mark upto floors slot marked floored upto_is rules stored h
       records_are = stored.records_are ∙ ap (λ (r : Run). r.records) (sym slot);
       each = weaker IsArchiveRecord kept.IsArchiveRecord s.records (λ r is. record { key = is.key; value = is.value }) stored.each;
       rules = record {
-        each = weaker (IsArchived mark floors upto) (IsArchived entry.mark (λ relation. entry.floor) entry.slot.upto) s.records
+        each = weaker (IsArchived mark floors upto) (IsArchived entry.mark (floor_at entry.floors) entry.slot.upto) s.records
             (λ r is.
             let after = is.after_floor in
             let floor = floored r.key.relation in
@@ -50,12 +52,12 @@ one-run area s entry mark upto floors slot marked floored upto_is rules stored h
     }
 
 -- the runs of slots that stand behind this mark and these floors
-abbrev AreFrom : ℕ → (ℕ → ℕ) → List Slot → List RunEntry → Type 0
-AreFrom mark floors ss entries = (runs_named entries ≡ runs_of ss) × (map (λ (e : RunEntry). e.mark) entries ≡ marks_before mark (log_of ss)) × ((relation : ℕ) → map (λ (e : RunEntry). e.floor) entries ≡ floors_before floors (log_of ss) relation)
+abbrev AreFrom : ℕ → FloorsValue → List Slot → List RunEntry → Type 0
+AreFrom mark floors ss entries = (runs_named entries ≡ runs_of ss) × (map (λ (e : RunEntry). e.mark) entries ≡ marks_before mark (log_of ss)) × (map (λ (e : RunEntry). e.floors) entries ≡ floors_before floors (log_of ss))
 
 -- the runs of these slots, behind others
 abbrev AreHeld : List ℕ → List Slot → Type 0
-AreHeld area ss = (before : List readings.Slot) (stored : List StoredRun) (entries : List RunEntry) (mark : ℕ) (floors : ℕ → ℕ) → archive_mark before ≡ mark → floor_of before ≡ floors → AreRunsOf before (log_of ss) (map (λ (s : StoredRun). s.records) stored)
+AreHeld area ss = (before : List readings.Slot) (stored : List StoredRun) (entries : List RunEntry) (mark : ℕ) (floors : FloorsValue) → archive_mark before ≡ mark → kept_of before ≡ floors → AreRunsOf before (log_of ss) (map (λ (s : StoredRun). s.records) stored)
     → map (λ (s : StoredRun). s.entry) stored ≡ runs_of ss → AllByRecursion IsStoredRun stored → AllByRecursion (HoldsRun area) stored → AreFrom mark floors ss entries → HoldRuns area entries (map (λ (s : StoredRun). s.records) stored)
 
 none-held : (area : List ℕ) → AreHeld area []
@@ -66,14 +68,14 @@ none-held area before (x ∷ xs) entries mark floors is floor runs same each hel
 one-held : (area : List ℕ) (ss : List Slot) → AreHeld area ss → (number : ℕ) (body : Body) → AreHeld area (record { number = number; body = body } ∷ ss)
 one-held area ss rest number (Commit members) before stored entries mark floors is floor runs same each held are =
     let slot = slot_of (Commit members) in
-    rest (before ++ slot ∷ []) stored entries mark floors (archive_mark-append 0 before (slot ∷ []) ∙ is) (floors-append (λ q. 0) before (slot ∷ []) ∙ floor) runs same each held are
+    rest (before ++ slot ∷ []) stored entries mark floors (archive_mark-append 0 before (slot ∷ []) ∙ is) (kept-append no_floors before (slot ∷ []) ∙ floor) runs same each held are
 one-held area ss rest number (Reclaimed anchors) before stored entries mark floors is floor runs same each held are =
     let slot = slot_of (Reclaimed anchors) in
-    rest (before ++ slot ∷ []) stored entries mark floors (archive_mark-append 0 before (slot ∷ []) ∙ is) (floors-append (λ q. 0) before (slot ∷ []) ∙ floor) runs same each held are
+    rest (before ++ slot ∷ []) stored entries mark floors (archive_mark-append 0 before (slot ∷ []) ∙ is) (kept-append no_floors before (slot ∷ []) ∙ floor) runs same each held are
 one-held area ss rest number (Floor scope new) before stored entries mark floors is floor runs same each held are =
     let slot = slot_of (Floor scope new) in
-    rest (before ++ slot ∷ []) stored entries mark (raised scope new floors) (archive_mark-append 0 before (slot ∷ []) ∙ is)
-    (floors-append (λ q. 0) before (slot ∷ []) ∙ ap (λ (f : ℕ → ℕ). raised scope new f) floor) runs same each held are
+    rest (before ++ slot ∷ []) stored entries mark (raised_in scope new floors) (archive_mark-append 0 before (slot ∷ []) ∙ is)
+    (kept-append no_floors before (slot ∷ []) ∙ ap (raised_in scope new) floor) runs same each held are
 one-held area ss rest number (Archived run) before [] entries mark floors is floor runs same each held are = absurd cc
 one-held area ss rest number (Archived run) before (x ∷ xs) [] mark floors is floor runs same each held are = let some = are.0 in absurd cc
 one-held area ss rest number (Archived run) before (x ∷ xs) (e ∷ es) mark floors is floor runs same each held are =
@@ -86,10 +88,11 @@ one-held area ss rest number (Archived run) before (x ∷ xs) (e ∷ es) mark fl
     let marked = are.1 in
     let mark_is : e.mark ≡ mark = cc in
     let marks_behind : map (λ (y : RunEntry). y.mark) es ≡ marks_before run.upto (log_of ss) = cc in
-    let floored : (relation : ℕ) → e.floor ≡ floors relation = λ relation. let all = are.2 relation in cc in
-    let floors_behind : (relation : ℕ) → map (λ (y : RunEntry). y.floor) es ≡ floors_before floors (log_of ss) relation = λ relation. let all = are.2 relation in cc in (
-      one-run area x e mark run.upto (floor_of before) (entry ∙ sym first) mark_is (λ relation. floored relation ∙ ap (λ (f : ℕ → ℕ). f relation) (sym floor)) (ap (λ (r : Run). r.upto) first) (subst (λ (n : ℕ). IsRun n (floor_of before) run.upto x.records) is runs.0) each.0 held.0,
-      rest (before ++ slot ∷ []) xs es run.upto floors (archive_mark-append 0 before (slot ∷ [])) (floors-append (λ q. 0) before (slot ∷ []) ∙ floor) runs.1 others each.1 held.1 (entries_behind, marks_behind, floors_behind),
+    let floored = are.2 in
+    let own : e.floors ≡ floors = cc in
+    let floors_behind : map (λ (y : RunEntry). y.floors) es ≡ floors_before floors (log_of ss) = cc in (
+      one-run area x e mark run.upto (floor_of before) (entry ∙ sym first) mark_is (λ relation. ap (λ (f : FloorsValue). floor_at f relation) (own ∙ sym floor) ∙ kept-of before relation) (ap (λ (r : Run). r.upto) first) (subst (λ (n : ℕ). IsRun n (floor_of before) run.upto x.records) is runs.0) each.0 held.0,
+      rest (before ++ slot ∷ []) xs es run.upto floors (archive_mark-append 0 before (slot ∷ [])) (kept-append no_floors before (slot ∷ []) ∙ floor) runs.1 others each.1 held.1 (entries_behind, marks_behind, floors_behind),
     )
 
 hold : (area : List ℕ) (ss : List Slot) → AreHeld area ss
@@ -98,7 +101,7 @@ hold area (s ∷ ss) = one-held area ss (hold area ss) s.number s.body
 
 pub runs-hold : (area : List ℕ) (ss : List Slot) (stored : List StoredRun) (entries : List RunEntry) → AreRunsOf [] (log_of ss) (map (λ (s : StoredRun). s.records) stored) → map (λ (s : StoredRun). s.entry) stored ≡ runs_of ss
     → AllByRecursion IsStoredRun stored → AllByRecursion (HoldsRun area) stored → AreEntriesOf ss entries → HoldRuns area entries (map (λ (s : StoredRun). s.records) stored)
-runs-hold area ss stored entries runs same each held are = hold area ss [] stored entries 0 (λ q. 0) refl refl runs same each held (are.runs_are, are.marks_are, are.floors_are)
+runs-hold area ss stored entries runs same each held are = hold area ss [] stored entries 0 no_floors refl refl runs same each held (are.runs_are, are.marks_are, are.floors_are)
 
 -- ---- where they end, and their mark
 

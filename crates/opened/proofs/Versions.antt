@@ -1,14 +1,10 @@
 -- Versions are no later than the last write of each key.
-use Rattle.std.proofs.Common.{◌≡◌, ℕ, ◌≤◌, Bool, true, false, cond, List, [], ◌∷◌, Option, None, Some, refl, arith, sym, subst}
-use Rattle.std.specs.Prelude.{find, option_map}
-use Rattle.std.specs.List.{cons_option}
+use Rattle.std.proofs.Common.{◌≡◌, ℕ, ◌≤◌, Bool, true, false, cond, List, [], ◌∷◌, Some, refl, arith, subst}
+use Rattle.std.specs.Prelude.{find}
 use Rattle.std.proofs.lemmas.Bool.Decides.{nat_tests}
 use Rattle.history.specs.declared.key.Key.{Key}
-use Rattle.history.specs.Key.{same_key, write_in}
-use Rattle.history.specs.Histories as histories
-use Rattle.history.specs.Histories.{History, HasRisingTimes, last_after, last}
-use Rattle.image.specs.Values.{Value}
-use Rattle.chains.specs.Writes.{Write, last_time, last_time_after}
+use Rattle.history.specs.Key.{same_key}
+use Rattle.chains.specs.Writes.{Write, last_time}
 use Rattle.chains.specs.KeyWrites.{KeyWrites, is_of, IsOrdered, writes_in, writes_of, latest}
 use Rattle.chains.proofs.Order.{find-below}
 use Rattle.chains.proofs.Commits.{key-same}

@@ -1,6 +1,6 @@
 -- A store that opening answers.
 use Rattle.std.proofs.Common.{◌≡◌, ◌≢◌, ℕ, suc, ◌+◌, ◌≤◌, ◌<◌, ◌^◌, Bool, true, false, IsTrue, List, [], ◌∷◌, ◌++◌, length, map, replicate, cond, Option, None, Some, Ok, refl, sym, ap, subst, ◌∙◌, arith}
-use Rattle.std.specs.Prelude.{◌==◌, ◌&&◌, nat_lt, slice_get, option_map, option_to_list}
+use Rattle.std.specs.Prelude.{nat_lt, option_map, option_to_list}
 use Rattle.std.specs.List.{AllByRecursion, cons_option}
 use Rattle.std.specs.List.Sorted.{IsStrictlySortedBy}
 use Rattle.std.specs.declared.alloc.Global.{Global}
@@ -22,7 +22,7 @@ use Rattle.history.proofs.Filters.{AllByRecursion-filter}
 use Rattle.image.specs.Values.{Value}
 use Rattle.image.specs.Reading as readings
 use Rattle.image.specs.Reading.{Head, OldRecord, Reading}
-use Rattle.image.specs.Log.{AreRisingAfter, heads_of, last_time, archive_mark, reclaim_mark, floor_of}
+use Rattle.image.specs.Log.{AreRisingAfter, heads_of, last_time, archive_mark, reclaim_mark}
 use Rattle.image.specs.Facts.{old_writes, heap_commits, values_at_mark, commits_from, commit_read, write_of}
 use Rattle.image.specs.StandsFor.{head_of, IsChain as IsMember}
 use Rattle.image.proofs.Standing.{heads-rising, rises}
@@ -41,8 +41,8 @@ use Rattle.wire.specs.declared.slot.Body.{Body}
 use Rattle.wire.specs.declared.slot.Body.TheVariants as bodies
 use Rattle.wire.specs.declared.slot.Slot.{Slot}
 use Rattle.status.specs.declared.header.Header.{Header}
-use Rattle.status.specs.Rules.{CoversAll, runs_in, runs_of}
-use Rattle.status.proofs.Rules.{rules_cover}
+use Rattle.status.specs.Kept.{kept_of}
+use Rattle.status.specs.Rules.{runs_in, runs_of}
 use Rattle.wire.specs.declared.slot.Run.{Run}
 use Rattle.reading.specs.Extents.{Extent}
 use Rattle.reading.specs.Layouts.{StoredMember, IsStoredMember, live, entries_of}
@@ -67,7 +67,7 @@ use Rattle.recovery.proofs.Settling.{settles_three}
 use Rattle.store.specs.Values.{ArchiveValue, StoreValue}
 use Rattle.archive.specs.declared.run.RunEntry.{RunEntry}
 use Rattle.recovery.specs.RunEntries.{runs_named, AreEntriesOf, AreMarkedFrom}
-use Rattle.recovery.proofs.RunEntries.{entries_made, floors_alike, go_on}
+use Rattle.recovery.proofs.RunEntries.{entries_made, go_on}
 use Rattle.store.specs.Opens.{IsUnread, Opens, opened_on}
 use Rattle.standing.specs.OnDisk.{IsImageOf}
 
@@ -222,13 +222,9 @@ module _ (alloc : Global) (header : Header) (image : Image) (h : History Value) 
   opening : IsOpening header image (unread_layout is.layout) (unread is.reading)
   opening = stands_opening header image is.layout is.reading h floors is.laid is.held is.stands is.profile_built is.built
 
-  -- each floor of the log is of every relation
-  floors_cover : AllByRecursion (λ (s : Slot). CoversAll s.body) is.layout.slots
-  floors_cover = rules_cover header.profile is.layout.slots opening.opens.log.rules
-
   -- its runs, each with what stood before its slot
   entries : (runs : List RunEntry) × AreEntriesOf is.layout.slots runs
-  entries = entries_made is.layout.slots runs_ranged floors_cover
+  entries = entries_made is.layout.slots runs_ranged
 
   runs_few : length entries.0 < 2 ^ 63
   runs_few =
@@ -269,7 +265,7 @@ module _ (alloc : Global) (header : Header) (image : Image) (h : History Value) 
     header = header;
     used = length is.layout.slots;
     commits = vec_of alloc (map name_as (heads_of is.reading.log)) commits_few;
-    floor = floor_of is.reading.log 0;
+    floors = kept_of is.reading.log;
     archived = archive_mark is.reading.log;
     reclaimed = reclaim_mark is.reading.log;
     runs = vec_of alloc entries.0 runs_few;
@@ -292,7 +288,7 @@ module _ (alloc : Global) (header : Header) (image : Image) (h : History Value) 
   read_as = record {
     used = refl;
     commits = names_again (heads_of is.reading.log);
-    floor = λ relation. subst (λ (l : List readings.Slot). floor_of l 0 ≡ floor_of l relation) is.laid.heap.log_is (floors_alike is.layout.slots floors_cover 0 relation);
+    floors = refl;
     archived = refl;
     reclaimed = refl;
     runs = entries.1;

@@ -1,5 +1,5 @@
 -- What opening a store, formatting a disk and closing a store stand for.
-use Rattle.std.specs.Prelude.{ℕ, ◌≡◌, ◌+◌, ◌≤◌, ◌++◌, Bool, IsTrue, List, [], Option, Result, MatchOption}
+use Rattle.std.specs.Prelude.{ℕ, ◌≡◌, ◌≢◌, ◌+◌, ◌<◌, ◌≤◌, ◌++◌, take, Bool, IsTrue, List, [], Option, Result, MatchOption}
 use Rattle.disk.specs.Areas.{Areas, Image, AreSound, LeavesImage, LeavesNoMore, image_of}
 use Rattle.disk.specs.Calls.{DiskState, top}
 use Rattle.std.specs.List.{AllByRecursion}
@@ -14,7 +14,7 @@ use Rattle.history.specs.Machine.{Machine, opened}
 use Rattle.history.specs.Answers.{at_answer}
 use Rattle.image.specs.Values.{Value}
 use Rattle.status.specs.declared.header.Header.{Header}
-use Rattle.status.specs.Header.{new_header, total}
+use Rattle.status.specs.Header.{new_header, total, piece_gate}
 use Rattle.status.specs.Reading.{ReadsHeader}
 use Rattle.recovery.specs.Format.{IsFormatted, LeavesShut}
 use Rattle.recovery.specs.Faults.{IsReadFault}
@@ -30,7 +30,7 @@ use Rattle.store.specs.Opens.{Opens, OpenRefuses}
 use Rattle.standing.specs.Laws.{SaysAt, SaysScanAt, SaysBetween, SaysScanBetween}
 use Rattle.standing.specs.Homes.{GoesOn, IsSure}
 use Rattle.standing.specs.OnDisk.{IsImageOf}
-use Rattle.standing.specs.Stands.{Stands}
+use Rattle.standing.specs.Stands.{Stands, LeavesFront}
 
 -- ---- opening
 
@@ -54,12 +54,16 @@ OpenRefusesFor = (tells : Bool) (old new : DiskState) (why : OpenFault) (header 
 -- a formatted disk holds an image of the empty history, and whatever a stop may leave of it is one
 abbrev pub FormatStands : Type 0
 FormatStands = (slots : ℕ) (old new : Areas) → IsFormatted slots old new
-    → IsImageOf (new_header 1 slots) (image_of new) [] (λ relation. 0) × ((image : Image) → LeavesImage new image → IsImageOf (new_header 1 slots) image [] (λ relation. 0))
+    → IsImageOf (new_header 3 slots) (image_of new) [] (λ relation. 0) × ((image : Image) → LeavesImage new image → IsImageOf (new_header 3 slots) image [] (λ relation. 0))
 
--- Where a stop within a format left all slots closed, a header of no more slots that is read there stands for the empty history too.
+-- no piece behind those that are open is open, where the header's profile has pieces
+abbrev pub HasNoPieceBehind : Header → List ℕ → Type 0
+HasNoPieceBehind header bytes = header.profile ≢ 1 → (i : ℕ) → header.pieces ≤ i → i < 255 → piece_gate (take 512 bytes) i ≢ 0xC7
+
+-- Where a stop within a format left all slots closed, a header of no more slots that is read there stands for the empty history too; where its profile has pieces, if it left no gate behind the open ones open.
 abbrev pub FormatStops : Type 0
 FormatStops = (slots : ℕ) (new : Areas) (image : Image) (header : Header) → LeavesShut slots new.status → LeavesImage new image → ReadsHeader image.status header → total header ≤ slots
-    → IsImageOf header image [] (λ relation. 0)
+    → HasNoPieceBehind header image.status → IsImageOf header image [] (λ relation. 0)
 
 -- a store that is opened on a formatted disk, or on what a stop left of it, stands for the empty history
 abbrev pub FormatOpens : Type 0
@@ -68,9 +72,9 @@ FormatOpens = (tells : Bool) (slots : ℕ) (old new : Areas) (disk : DiskState) 
 
 -- ---- closing, and opening again
 
--- whatever a stop may leave of these areas stands for a front of the commit order
+-- whatever a stop may leave of these areas stands for a front of the commit order, by one header or, where a piece's gate may be open, by that with one piece more
 abbrev pub LeavesFronts : Areas → Machine Value → Type 0
-LeavesFronts areas m = (header : Header) × ((image : Image) → LeavesImage areas image → OnFront (IsImageOf header image) m)
+LeavesFronts areas m = (header : Header) × (grows : Bool) × ((image : Image) → LeavesImage areas image → LeavesFront header grows image m)
 
 -- so it is of the disk that closing hands back
 abbrev pub CloseLeaves : Type 0

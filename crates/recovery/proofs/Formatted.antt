@@ -8,10 +8,10 @@ use Rattle.status.specs.Header.{new_header, HasNumbers, IsFront, piece_gate}
 use Rattle.status.specs.Log.{slot_start, IsOpen, HasRoom, OpensWith, IsLog}
 use Rattle.recovery.specs.Format.{IsSlotCount, HasZeroSlots, IsFormatted}
 
-pub has_numbers : (slots : ℕ) → IsSlotCount slots → HasNumbers (new_header 1 slots)
+pub has_numbers : (slots : ℕ) → IsSlotCount slots → HasNumbers (new_header 3 slots)
 has_numbers slots is = record { lowest = omega arith; highest = omega arith; some = is.0; whole = λ one. refl; total = let few = is.1 in omega arith }
 
-module _ (slots : ℕ) (front file : List ℕ) (is : IsSlotCount slots) (long : length front ≡ 512) (front_is : IsFront (new_header 1 slots) front)
+module _ (slots : ℕ) (front file : List ℕ) (is : IsSlotCount slots) (long : length front ≡ 512) (front_is : IsFront (new_header 3 slots) front)
     (behind : (k : ℕ) → 16 ≤ k → slice_index front k ≡ 0) (room : slot_start slots ≤ length file) (zeros : (k : ℕ) → 512 ≤ k → k < slot_start slots → slice_index file k ≡ 0) where
   bytes : List ℕ
   bytes = overlaid file 0 front
@@ -33,13 +33,13 @@ module _ (slots : ℕ) (front file : List ℕ) (is : IsSlotCount slots) (long : 
       let both : ◌≡◌ {A = ℕ} 0xC7 0 = sym opened ∙ same ∙ zero in
       absurd (omega arith)
 
-  has_room : HasRoom (new_header 1 slots) bytes
+  has_room : HasRoom (new_header 3 slots) bytes
   has_room = record { few = let few = is.1 in omega arith; room = room_left }
 
-  opens_none : OpensWith (new_header 1 slots) bytes []
+  opens_none : OpensWith (new_header 3 slots) bytes []
   opens_none = record { has_room = has_room; fits = omega arith; each_open = λ n slot at. cc; each_spelled = λ n slot at. cc }
 
-  pub formatted_log : IsLog (new_header 1 slots) (overlaid file 0 front) []
+  pub formatted_log : IsLog (new_header 3 slots) (overlaid file 0 front) []
   unfolding bytes
   formatted_log = record {
     header_is = record { front = rw front-bytes front_is; room = room_left };
@@ -55,5 +55,5 @@ module _ (slots : ℕ) (front file : List ℕ) (is : IsSlotCount slots) (long : 
   formatted before old new has is_file now = record {
     others = now ∙ ap (λ (a : Areas). record a { status = synced (written 0 front old.status) }) has.others ∙ ap (λ (a : AreaState). record before { status = a }) (sym (ap (λ (a : Areas). a.status) now));
     settled = rw now (record { firm = refl; loose = refl });
-    log = subst (λ (b : List ℕ). IsLog (new_header 1 slots) b []) (sym (ap (λ (a : Areas). a.status.bytes) now ∙ ap (λ (f : List ℕ). overlaid f 0 front) is_file)) formatted_log;
+    log = subst (λ (b : List ℕ). IsLog (new_header 3 slots) b []) (sym (ap (λ (a : Areas). a.status.bytes) now ∙ ap (λ (f : List ℕ). overlaid f 0 front) is_file)) formatted_log;
   }

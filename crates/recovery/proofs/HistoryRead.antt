@@ -22,7 +22,9 @@ use Rattle.image.proofs.Standing.{last_time-heads}
 use Rattle.chains.specs.KeyWrites as chains
 use Rattle.chains.specs.Writes.{last_time, last_time_after}
 use Rattle.status.specs.declared.header.Header.{Header}
+use Rattle.floors.specs.Floors.{FloorsValue, floor_at}
 use Rattle.status.specs.Rules.{is_built}
+use Rattle.status.proofs.Kept.{kept-of}
 use Rattle.reading.specs.Layouts.{Layout, IsLayoutOf, HoldsLayout}
 use Rattle.reading.specs.Opening.{AreBuilt, unread, unread_layout}
 use Rattle.reading.proofs.Opening.{held_opens}
@@ -109,7 +111,7 @@ module _ (header : Header) (image : Image) (layout : Layout) (reading : Reading)
       let mark : r.reclaimed ≡ reclaimed_upto reading = is.reclaimed in
       record {
         commits = is.commits ∙ stands.opens.commits;
-        floor = λ relation. is.floor relation ∙ stands.opens.floors_given relation;
+        floors_are = λ relation. ap (λ (f : FloorsValue). floor_at f relation) is.floors ∙ kept-of (unread reading).log relation ∙ stands.opens.floors_given relation;
         marks = let upto = stands.homes.marks in subst (λ (n : ℕ). n ≤ r.archived) (sym mark) (subst (λ (n : ℕ). reclaimed_upto reading ≤ n) (sym is.archived) upto);
         last_is = is.last_is ∙ ap (λ l. log.last_time_after 0 l) stands.opens.commits ∙ last_time-heads 0 h;
         versions_are = λ key.

@@ -9,7 +9,7 @@ use Rattle.disk.specs.declared.area.Area.TheVariants.{Status, Heap, Archive}
 use Rattle.wire.proofs.Again.{one_slot}
 use Rattle.wire.specs.declared.slot.Slot.{Slot}
 use Rattle.image.specs.Reading.{Reading}
-use Rattle.image.specs.Log.{heads_of, last_time, archive_mark, reclaim_mark, floor_of}
+use Rattle.image.specs.Log.{heads_of, last_time, archive_mark, reclaim_mark}
 use Rattle.image.specs.Facts.{heap_facts}
 use Rattle.extents.specs.declared.usage.Usage.{Usage}
 use Rattle.extents.specs.declared.usage.Usage.TheVariants.{Free, Kept}
@@ -19,6 +19,7 @@ use Rattle.status.specs.declared.header.Header.{Header}
 use Rattle.status.specs.declared.fault.LogFault.TheVariants as log
 use Rattle.status.specs.Log.{body_at, OpensWith}
 use Rattle.status.specs.Rules.{MayFollow, runs_of}
+use Rattle.status.specs.Kept.{kept_of}
 use Rattle.status.specs.Reading.{ReadsHeader, HoldsLog, IsDamaged}
 use Rattle.status.proofs.Opening.{only_log, one_log}
 use Rattle.reading.specs.Layouts.{Layout, live}
@@ -200,7 +201,7 @@ same_read image r s reads_r reads_s =
       headers = same.0;
       lengths = is_r.used ∙ ap (λ (l : Layout). length l.slots) same.1 ∙ sym is_s.used;
       names = is_r.commits ∙ ap (λ (x : Reading). heads_of x.log) same.2 ∙ sym is_s.commits;
-      floors = is_r.floor 0 ∙ ap (λ (x : Reading). floor_of x.log 0) same.2 ∙ sym (is_s.floor 0);
+      floors = is_r.floors ∙ ap (λ (x : Reading). kept_of x.log) same.2 ∙ sym is_s.floors;
       archives = is_r.archived ∙ ap (λ (x : Reading). archive_mark x.log) same.2 ∙ sym is_s.archived;
       reclaims = is_r.reclaimed ∙ ap (λ (x : Reading). reclaim_mark x.log) same.2 ∙ sym is_s.reclaimed;
       runs_are = one_list reads_r.layout.slots r.runs.items s.runs.items is_r.runs (subst (λ (l : Layout). AreEntriesOf l.slots s.runs.items) layout is_s.runs);

@@ -10,12 +10,13 @@ use Rattle.wire.specs.declared.slot.Body.{Body}
 use Rattle.wire.specs.declared.slot.Body.TheVariants.{Commit, Archived, Reclaimed, Floor}
 use Rattle.wire.specs.declared.slot.Slot.{Slot}
 use Rattle.image.specs.Reading as readings
-use Rattle.image.specs.Log.{heads_of, last_time_after, archive_mark, floor_of}
+use Rattle.image.specs.Log.{heads_of, last_time_after, archive_mark}
 use Rattle.chains.specs.KeyWrites.{KeyWrites, writes_of as chain_writes_of}
 use Rattle.extents.specs.declared.usage.Usage.{Usage}
 use Rattle.extents.specs.declared.usage.Usage.TheVariants.{Free}
 use Rattle.extents.specs.Usages.{IsKept, IsNoneOf}
 use Rattle.status.specs.declared.header.Header.{Header}
+use Rattle.status.specs.Kept.{kept_of}
 use Rattle.status.specs.Rules.{head_of, log_of, runs_in, runs_of}
 use Rattle.reading.specs.Extents.{Extent, HoldsExtent}
 use Rattle.reading.specs.Layouts.{StoredMember, IsStoredMember, Layout, extents_of, entries_of, later_than, no_anchors, anchors_after}
@@ -115,7 +116,7 @@ reading_of header slots olds members = record {
 pub record IsGathered (slots : List Slot) (read : HeapRead) (r : Recovered) : Type 0 where
   pub used : r.used ≡ length slots
   pub commits : map head_named r.commits.items ≡ map head_of (entries_of slots)
-  pub floor : (relation : ℕ) → r.floor ≡ floor_of (log_of slots) relation
+  pub floors : r.floors ≡ kept_of (log_of slots)
   pub archived : r.archived ≡ archive_mark (log_of slots)
   pub reclaimed : r.reclaimed ≡ mark_of slots
   pub runs : AreEntriesOf slots r.runs.items
@@ -212,7 +213,7 @@ module _ (image : Image) (header : Header) (slots : List Slot) (reads : ReadsSta
         is = record {
           used = gathered.used;
           commits = gathered.commits ∙ sym heads;
-          floor = gathered.floor;
+          floors = gathered.floors;
           archived = gathered.archived;
           reclaimed = gathered.reclaimed;
           runs = gathered.runs;

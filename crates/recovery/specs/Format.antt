@@ -57,7 +57,7 @@ StopsShut slots old new = KeepsFront old new ⊎ LeavesShut slots new
 pub record IsFormatted (slots : ℕ) (old new : Areas) : Type 0 where
   pub others : new ≡ record old { status = new.status }
   pub settled : IsSettled new.status
-  pub log : IsLog (new_header 1 slots) new.status.bytes []
+  pub log : IsLog (new_header 3 slots) new.status.bytes []
 
 -- a header stands in front of the area
 pub record IsOccupied (bytes : List ℕ) : Type 0 where

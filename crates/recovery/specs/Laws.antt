@@ -10,6 +10,7 @@ use Rattle.image.specs.StandsFor.{StandsFor, head_of}
 use Rattle.chains.specs.Writes.{last_time}
 use Rattle.chains.specs.KeyWrites as chains
 use Rattle.extents.specs.Usages.{IsFree, IsKept}
+use Rattle.floors.specs.Floors.{floor_at}
 use Rattle.status.specs.declared.header.Header.{Header}
 use Rattle.status.specs.Rules.{is_built}
 use Rattle.reading.specs.Layouts.{Layout, IsLayoutOf, HoldsLayout}
@@ -34,7 +35,7 @@ pub record SaySame (r s : Recovered) : Type 0 where
   pub headers : r.header ≡ s.header
   pub lengths : r.used ≡ s.used
   pub names : map head_named r.commits.items ≡ map head_named s.commits.items
-  pub floors : r.floor ≡ s.floor
+  pub floors : r.floors ≡ s.floors
   pub archives : r.archived ≡ s.archived
   pub reclaims : r.reclaimed ≡ s.reclaimed
   pub runs_are : r.runs.items ≡ s.runs.items
@@ -50,7 +51,7 @@ OpensOnce = (image : Image) (r s : Recovered) → IsReadFrom image r → IsReadF
 -- What was read is a history with its floors: of each key its versions that end after the reclaim mark and the floor, and when it was last written, if after that mark.
 pub record IsHistoryRead (h : History Value) (floors : ℕ → ℕ) (r : Recovered) : Type 0 where
   pub commits : map head_named r.commits.items ≡ map head_of h
-  pub floor : (relation : ℕ) → r.floor ≡ floors relation
+  pub floors_are : (relation : ℕ) → floor_at r.floors relation ≡ floors relation
   pub marks : r.reclaimed ≤ r.archived
   pub last_is : r.last ≡ last h
   pub versions_are : (key : Key) → filter (ends_after (floors key.relation)) (versions (chains.writes_of r.chains key)) ≡ filter (ends_after (floors key.relation)) (filter (ends_after r.reclaimed) (versions_of h key))

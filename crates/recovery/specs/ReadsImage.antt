@@ -4,13 +4,14 @@ use Rattle.std.specs.List.{AllByRecursion}
 use Rattle.disk.specs.Areas.{Image}
 use Rattle.history.specs.declared.key.Key.{Key}
 use Rattle.image.specs.Reading.{Reading}
-use Rattle.image.specs.Log.{heads_of, last_time, archive_mark, reclaim_mark, floor_of}
+use Rattle.image.specs.Log.{heads_of, last_time, archive_mark, reclaim_mark}
 use Rattle.image.specs.Facts.{heap_facts}
 use Rattle.chains.specs.KeyWrites.{writes_of}
 use Rattle.extents.specs.declared.usage.Usage.{Usage}
 use Rattle.extents.specs.Usages.{IsFree, IsKept, IsNoneOf}
 use Rattle.status.specs.declared.header.Header.{Header}
 use Rattle.status.specs.Rules.{is_built}
+use Rattle.status.specs.Kept.{kept_of}
 use Rattle.reading.specs.Layouts.{Layout, live}
 use Rattle.reading.specs.Opening.{Opens}
 use Rattle.recovery.specs.declared.recovered.Recovered.{Recovered}
@@ -33,7 +34,7 @@ pub record KeepsOnly (usages : List Usage) (numbers : List ℕ) : Type 0 where
 pub record IsReadAs (layout : Layout) (reading : Reading) (r : Recovered) : Type 0 where
   pub used : r.used ≡ length layout.slots
   pub commits : map head_named r.commits.items ≡ heads_of reading.log
-  pub floor : (relation : ℕ) → r.floor ≡ floor_of reading.log relation
+  pub floors : r.floors ≡ kept_of reading.log
   pub archived : r.archived ≡ archive_mark reading.log
   pub reclaimed : r.reclaimed ≡ reclaim_mark reading.log
   pub runs : AreEntriesOf layout.slots r.runs.items

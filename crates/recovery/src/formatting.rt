@@ -15,7 +15,7 @@ const FRONT_LEN: u64 = 512;
 
 const SLOT_LEN: u64 = 512;
 
-const PROFILE: u32 = 1;
+const PROFILE: u32 = 3;
 
 // The zeros that one call writes.
 const ZEROS_LEN: usize = 65_536;
@@ -69,7 +69,7 @@ fn close_slots<D: Disk>(disk: &mut D, zeros: &[u8], slots: u32) -> Result<(), De
 fn put_front<D: Disk>(disk: &mut D, slots: u32, front: &[u8]) -> Result<(), DeviceFault>
     requires slots { IsSlotCount slots }
     requires long { length front.now ≡ 512 }
-    requires is { IsFront (new_header 1 slots) front.now }
+    requires is { IsFront (new_header 3 slots) front.now }
     requires behind { (k : ℕ) → 16 ≤ k → slice_index front.now k ≡ 0 }
     ensures formatted { IsTrue D.tells → (before : _) → HasZeroSlots slots before (D.state disk.old).areas → OnOk result (IsFormatted slots before (D.state disk.new).areas) }
     ensures stop { IsTrue D.tells → (before : _) → HasZeroSlots slots before (D.state disk.old).areas → LeavesShut slots (D.state disk.new).areas.status }

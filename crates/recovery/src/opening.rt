@@ -1,10 +1,11 @@
 //! Reading the image of a store.
 
-ghost use Rattle.std.specs.Prelude.{◌≡◌, ◌≤◌, ◌<◌, ◌^◌, IsTrue, IfOk, IfErr, IfSome, IfNone, OnOk, OnErr, map, length, Err, flat_map};
+ghost use Rattle.std.specs.Prelude.{◌≡◌, ◌≤◌, ◌<◌, ◌^◌, ℕ, IsTrue, IfOk, IfErr, IfSome, IfNone, OnOk, OnErr, map, length, Err, flat_map};
 ghost use Rattle.std.specs.List.{AllByRecursion};
 ghost use Rattle.disk.specs.Areas.{image_of, settled_on, LeavesNoMore};
 ghost use Rattle.disk.specs.Calls.{refusals};
 ghost use Rattle.image.specs.Log.{AreRisingAfter, last_time_after};
+ghost use Rattle.floors.specs.Floors.{floor_at};
 ghost use Rattle.status.specs.Header.{total};
 ghost use Rattle.status.specs.Rules.{head_of, AreInRow, KeepsRules};
 ghost use Rattle.image.specs.Reading.{Reading};
@@ -135,7 +136,7 @@ fn read_settled<D: Disk>(alloc: Global, disk: &mut D) -> Result<Recovered, OpenF
     ensures last { IfOk result (λ r. r.last ≡ last_time_after 0 (map head_named r.commits.items)) }
     ensures latest { IfOk result (λ r. latest r.chains ≤ r.last) }
     ensures archived { IfOk result (λ r. r.archived ≤ r.last) }
-    ensures floor { IfOk result (λ r. r.floor ≤ r.last) }
+    ensures floors { IfOk result (λ r. (relation : ℕ) → floor_at r.floors relation ≤ r.last) }
     ensures runs { IfOk result (λ r. AreInRow 0 (runs_named r.runs.items) × AreMarkedFrom 0 r.runs.items) }
     ensures found { IsTrue D.tells → IfOk result (IsReadFrom (image_of (D.state disk.old).areas)) }
     ensures fault { IsTrue D.tells → IfErr result (IsImageFault (image_of (D.state disk.old).areas)) }
@@ -155,7 +156,7 @@ fn read_settled<D: Disk>(alloc: Global, disk: &mut D) -> Result<Recovered, OpenF
         header,
         used: slots.len() as u32,
         commits,
-        floor: read.floor,
+        floors: read.floors,
         archived: read.archived,
         reclaimed: last_anchors(&slots).upto,
         runs: read.runs,
@@ -178,7 +179,7 @@ pub fn read_image<D: Disk>(alloc: Global, disk: &mut D) -> Result<Recovered, Ope
     ensures last { IfOk result (λ r. r.last ≡ last_time_after 0 (map head_named r.commits.items)) }
     ensures latest { IfOk result (λ r. latest r.chains ≤ r.last) }
     ensures archived { IfOk result (λ r. r.archived ≤ r.last) }
-    ensures floor { IfOk result (λ r. r.floor ≤ r.last) }
+    ensures floors { IfOk result (λ r. (relation : ℕ) → floor_at r.floors relation ≤ r.last) }
     ensures runs { IfOk result (λ r. AreInRow 0 (runs_named r.runs.items) × AreMarkedFrom 0 r.runs.items) }
 
     ensures found { IsTrue D.tells → IfOk result (IsReadFrom (image_of (D.state disk.old).areas)) }

@@ -6,6 +6,7 @@ ghost use Rattle.chains.specs.KeyWrites.{latest};
 use archive::RunEntry;
 use chains::Frozen;
 use extents::Extents;
+use floors::Floors;
 use status::Header;
 
 /// A commit, as its slot names it: its time, in microseconds since 1970, and its label.
@@ -43,12 +44,11 @@ pub struct Recovered {
     pub used: u32,
     /// The commits of the log, in its order.
     pub commits: Vec<CommitName>,
-    /// The floor of every relation, the archive mark and the reclaim mark of the log, in microseconds since 1970;
-    /// 0 for none.
-    pub floor: u64,
+    pub floors: Floors,
+    /// The archive mark and the reclaim mark of the log, in microseconds since 1970; 0 for none.
     pub archived: u64,
     pub reclaimed: u64,
-    /// The runs of the archive, in the log's order, each with the archive mark and the floor before its slot.
+    /// The runs of the archive, in the log's order, each with the archive mark and the floors before its slot.
     pub runs: Vec<RunEntry>,
     /// The extents of the live chains are kept, and the others are free.
     pub extents: Extents,

@@ -1,10 +1,9 @@
 -- What was acknowledged is published, and stays so.
 use Rattle.std.proofs.Common.{◌≡◌, ℕ, Bool, true, false, cond, List, [], ◌∷◌, ◌++◌, sym, subst}
-use Rattle.std.specs.Prelude.{Contains}
 use Rattle.std.specs.List.{AllByRecursion}
 use Rattle.std.proofs.lemmas.List.Elements.{Contains-append_left}
 use Rattle.history.specs.Answers as answers
-use Rattle.history.specs.Histories.{Commit, History}
+use Rattle.history.specs.Histories.{History}
 use Rattle.history.proofs.Runs.{run-shows}
 use Rattle.history.proofs.Tickets.{done-published}
 use Rattle.image.specs.Values.{Value, IsValue}
@@ -62,7 +61,8 @@ call-done tells w (call.End i) time next does = absurd does
 call-done tells w (call.TimesOf label) time next does = absurd does
 call-done tells w (call.Archive upto) time next does = absurd does
 call-done tells w call.Reclaim time next does = absurd does
-call-done tells w (call.Floor floor) time next does = absurd does
+call-done tells w (call.Floor scope floor) time next does = absurd does
+call-done tells w call.Grow time next does = absurd does
 call-done tells w call.JobPump time next does = absurd does
 
 -- what is published stays so
@@ -102,4 +102,5 @@ call-acknowledges tells w c (answer.TimesOf x) next times does follows all = fol
 call-acknowledges tells w c (answer.Archive x) next times does follows all = follows-have w next times follows all
 call-acknowledges tells w c (answer.Reclaim x) next times does follows all = follows-have w next times follows all
 call-acknowledges tells w c (answer.Floor x) next times does follows all = follows-have w next times follows all
+call-acknowledges tells w c (answer.Grow x) next times does follows all = follows-have w next times follows all
 call-acknowledges tells w c (answer.JobPump x) next times does follows all = follows-have w next times follows all

@@ -10,26 +10,18 @@ use Rattle.history.specs.Histories.{History, last}
 use Rattle.history.specs.Machine.{Machine}
 use Rattle.history.specs.Steps as steps
 use Rattle.image.specs.Values.{Value, IsValue}
-use Rattle.status.specs.SlotCalls.{SlotStage}
-use Rattle.status.specs.SlotCalls as slots
-use Rattle.status.specs.TurnState.{TurnState}
 use Rattle.group.specs.declared.answers.PumpFault.{PumpFault}
 use Rattle.group.specs.declared.answers.PumpFault.TheVariants as pump
-use Rattle.transactions.specs.Values.{TransactionsValue, spare, with_slot_lent, with_slot_used}
-use Rattle.transactions.specs.Steps as groups
+use Rattle.transactions.specs.Values.{spare}
 use Rattle.store.specs.Values.{StoreValue}
 use Rattle.store.specs.Calls as stores
-use Rattle.store.specs.Archives.{refusal_now, BeginsRun, StartsArchive, IsRunRefusal}
+use Rattle.store.specs.Archives.{refusal_now, BeginsRun, StartsArchive}
 use Rattle.store.specs.Reclaims.{below, refusal_for_use, reclaim_refusal, BeginsReclaim, StartsReclaim}
 use Rattle.transactions.specs.Reclaims.{oldest}
-use Rattle.store.specs.Jobs.{PumpsJob, TakesJobStep, Stores, WritesOrSyncs, AnchorsOrSync, BeginsJobSlot, TurnsJob, IsJobTurned, JobMoves, work_done, slot_opened, made_ready, first_turn, slot_taken}
-use Rattle.archive.specs.Pieces.{InWriting}
-use Rattle.vacuum.specs.Anchors.{Sourced}
-use Rattle.wire.specs.declared.slot.Anchors.{Anchors}
-use Rattle.wire.specs.declared.slot.Run.{Run as WireRun}
+use Rattle.store.specs.Jobs.{PumpsJob, TakesJobStep, Stores, WritesOrSyncs, AnchorsOrSync, BeginsJobSlot, TurnsJob, made_ready, first_turn, slot_taken}
 use Rattle.store.specs.declared.job.Job.{Job}
 use Rattle.store.specs.declared.job.JobWork.{JobWork}
-use Rattle.store.specs.declared.job.JobWork.TheVariants.{Archive, Reclaim, Floor}
+use Rattle.store.specs.declared.job.JobWork.TheVariants.{Archive, Reclaim, Floor, Grow}
 use Rattle.store.specs.declared.job.JobStage.{JobStage}
 use Rattle.store.specs.declared.job.JobStage.TheVariants as stages
 use Rattle.store.specs.declared.job.JobDid.{JobDid}
@@ -38,7 +30,10 @@ use Rattle.store.specs.declared.job.StartFault.{StartFault}
 use Rattle.store.specs.declared.job.StartFault.TheVariants as start
 use Rattle.standing.specs.Laws.{job_ends_in}
 use Rattle.standing.specs.Stands.{Stands}
-use Rattle.standing.proofs.Whole.{archive-start-stands, archive-start-goes, reclaim-start-stands, reclaim-start-goes, job-pump-stands, job-pump-goes}
+use Rattle.standing.proofs.JobLeaving.{start-leaves, reclaim-leaves, pumped-leaves}
+use Rattle.standing.proofs.GrowingCalls.{archive-start-stands, reclaim-start-stands}
+use Rattle.standing.proofs.GrowingViews.{archive-start-goes, reclaim-start-goes, job-pump-goes}
+use Rattle.standing.proofs.GrowingPiece.{job-pump-stands}
 use Rattle.standing.proofs.Memory.{last-is}
 use Rattle.snapshot.specs.OpenTable.{lesser, least_with, least_open}
 use Rattle.standing.specs.Standing.{snapshots_of}
@@ -51,27 +46,7 @@ use Rattle.run.specs.Worlds.{World, IsWorld, moved, same}
 use Rattle.run.specs.Runs.{Does, Goes, Follows, IsStepFault, Archives, Reclaims}
 use Rattle.run.proofs.Runs.{no-step}
 use Rattle.run.proofs.Places.{reads-move, reads-plain, push_nothing, move, GoesOn, goes_on-same, run-goes_on, stays}
-use Rattle.run.proofs.Pumping.{Leaves, leaves-so, counted-few, pump-keeps, any-fault}
-
--- what is left alone is left alone by a store that is the same but for its transactions
-pub same-leaves : (old : TransactionsValue) (so new : StoreValue) → Leaves old so.transactions → new ≡ so → Leaves old new.transactions
-same-leaves old so new leaves is = leaves-so old so.transactions new.transactions leaves (ap (λ (v : StoreValue). v.transactions) is)
-
-pub nothing-left : (old : StoreValue) (new : StoreValue) → new ≡ old → Leaves old.transactions new.transactions
-nothing-left old new is = same-leaves old.transactions old new (record { mark = refl; opened = refl; heads = refl }) is
-
--- ---- the beginning
-
-start-leaves : (old new : StoreValue) (upto : ℕ) (r : Result (Unit {0}) StartFault) → StartsArchive old upto r new → Leaves old.transactions new.transactions
-start-leaves old new upto r starts = by-refusal (refusal_now old upto) starts
-  where
-    begins : (r : Result (Unit {0}) StartFault) → BeginsRun old upto r new → Leaves old.transactions new.transactions
-    begins (Ok done) is = same-leaves old.transactions _ new (record { mark = refl; opened = refl; heads = refl }) is.2.new_is
-    begins (Err why) is = nothing-left old new is.1
-
-    by-refusal : (o : Option StartFault) → MatchOption o (BeginsRun old upto r new) (λ why. (r ≡ Err why) × (new ≡ old)) → Leaves old.transactions new.transactions
-    by-refusal None is = begins r is
-    by-refusal (Some why) is = nothing-left old new is.1
+use Rattle.run.proofs.Pumping.{counted-few, pump-keeps, any-fault}
 
 pub start-few : (old new : StoreValue) (upto : ℕ) (r : Result (Unit {0}) StartFault) → StartsArchive old upto r new → new.disk.made ≤ old.disk.made + 1
 start-few old new upto r starts = by-refusal (refusal_now old upto) starts
@@ -102,7 +77,9 @@ start-says tells v v' w upto r stands starts =
     begins on early (Ok done) is = (sym stands.memory.failed ∙ on, (let low : upto ≤ stores.last v = grind (arith, nat_tests) in omega (arith, low, at-last)), refl)
     begins on early (Err start.ArchiveFull) is = refl
     begins on early (Err start.NoMemory) is = refl
+    begins on early (Err start.NotGrowable) is = absurd is.0
     begins on early (Err start.Failed) is = absurd is.0
+    begins on early (Err start.WrongProfile) is = absurd is.0
     begins on early (Err start.JobBusy) is = absurd is.0
     begins on early (Err start.NothingToDo) is = absurd is.0
     begins on early (Err (start.NotYet time)) is = absurd is.0
@@ -183,17 +160,6 @@ least-open opened snapshot is = by (least-among opened None snapshot is)
     by (inl none) = absurd cc
     by (inr there) = there
 
-reclaim-leaves : (old new : StoreValue) (r : Result (Unit {0}) StartFault) → StartsReclaim old r new → Leaves old.transactions new.transactions
-reclaim-leaves old new r starts = by-refusal (reclaim_refusal old) starts
-  where
-    begins : (r : Result (Unit {0}) StartFault) → BeginsReclaim old r new → Leaves old.transactions new.transactions
-    begins (Ok done) is = same-leaves old.transactions _ new (record { mark = refl; opened = refl; heads = refl }) (is.1).new_is
-    begins (Err why) is = nothing-left old new is.1
-
-    by-refusal : (o : Option StartFault) → MatchOption o (BeginsReclaim old r new) (λ why. (r ≡ Err why) × (new ≡ old)) → Leaves old.transactions new.transactions
-    by-refusal None is = begins r is
-    by-refusal (Some why) is = nothing-left old new is.1
-
 pub reclaim-few : (old new : StoreValue) (r : Result (Unit {0}) StartFault) → StartsReclaim old r new → new.disk.made ≤ old.disk.made + 1
 reclaim-few old new r starts = by-refusal (reclaim_refusal old) starts
   where
@@ -220,12 +186,14 @@ reclaim-says tells v v' w r stands starts = by-tests v.transactions.failed refl 
     begins on (Err start.HeapFull) is = refl
     begins on (Err start.NoMemory) is = refl
     begins on (Err start.Failed) is = absurd is.0
+    begins on (Err start.WrongProfile) is = absurd is.0
     begins on (Err start.JobBusy) is = absurd is.0
     begins on (Err start.NothingToDo) is = absurd is.0
     begins on (Err (start.NotYet time)) is = absurd is.0
     begins on (Err (start.InUse time)) is = absurd is.0
     begins on (Err start.StatusFull) is = absurd is.0
     begins on (Err start.ArchiveFull) is = absurd is.0
+    begins on (Err start.NotGrowable) is = absurd is.0
 
     in-use : (snapshot : ℕ) → below (oldest v.transactions) v.archived ≡ Some snapshot → Contains w.machine.snapshots snapshot
     in-use snapshot is =
@@ -264,67 +232,6 @@ reclaim-goes tells v v' xs r starts w is = (
 
 -- ---- a step
 
-moves-leave : (what : JobDid) (made refused : Job) (old new : StoreValue) (r : Result JobDid PumpFault) → JobMoves what made refused old r new → Leaves old.transactions new.transactions
-moves-leave what made refused old new (Ok said) is = same-leaves old.transactions _ new (record { mark = refl; opened = refl; heads = refl }) is.1
-moves-leave what made refused old new (Err why) is = same-leaves old.transactions _ new (record { mark = refl; opened = refl; heads = refl }) is.1
-
-done-leaves : (work : JobWork) (turn : TurnState) (old new : StoreValue) → Leaves old.transactions (slot_opened (work_done work old) turn new).transactions
-done-leaves (Archive run writer) turn old new = record { mark = refl; opened = refl; heads = refl }
-done-leaves (Reclaim anchors source written) turn old new = record { mark = refl; opened = refl; heads = refl }
-done-leaves (Floor floor) turn old new = record { mark = refl; opened = refl; heads = refl }
-
-turned-leave : (stage : SlotStage) (turn : TurnState) (j : Job) (old new : StoreValue) (what : JobDid) → IsJobTurned stage turn j old what new → Leaves old.transactions new.transactions
-turned-leave slots.Begun turn j old new what is = same-leaves old.transactions _ new (record { mark = refl; opened = refl; heads = refl }) is.1
-turned-leave slots.BodyWritten turn j old new what is = same-leaves old.transactions _ new (record { mark = refl; opened = refl; heads = refl }) is.1
-turned-leave slots.BodySynced turn j old new what is = same-leaves old.transactions _ new (record { mark = refl; opened = refl; heads = refl }) is.1
-turned-leave slots.GateWritten turn j old new what is = same-leaves old.transactions _ new (done-leaves j.work turn old new) is.2
-turned-leave slots.Opened turn j old new what is = absurd is
-
-turn-leaves : (tells : Bool) (j : Job) (turn : TurnState) (old new : StoreValue) (r : Result JobDid PumpFault) → TurnsJob tells j turn old r new → Leaves old.transactions new.transactions
-turn-leaves tells j turn old new (Ok what) is = turned-leave turn.stage turn j old new what is.answer
-turn-leaves tells j turn old new (Err why) is = same-leaves old.transactions _ new (record { mark = refl; opened = refl; heads = refl }) is.answer.1
-
-write-leaves : (tells : Bool) (left : List ℕ) (run : WireRun) (writer : InWriting) (j : Job) (old new : StoreValue) (r : Result JobDid PumpFault) → WritesOrSyncs tells left run writer j old r new → Leaves old.transactions new.transactions
-write-leaves tells [] run writer j old new r is = moves-leave _ _ _ old new r is.moves
-write-leaves tells (b ∷ bs) run writer j old new r is = moves-leave _ _ _ old new r is.moves
-
-anchors-leave : (tells : Bool) (o : Option ℕ) (anchors : Anchors) (source : Sourced) (written : ℕ) (j : Job) (old new : StoreValue) (r : Result JobDid PumpFault) → AnchorsOrSync tells o anchors source written j old r new → Leaves old.transactions new.transactions
-anchors-leave tells None anchors source written j old new r is = moves-leave _ _ _ old new r is.moves
-anchors-leave tells (Some number) anchors source written j old new r is = moves-leave _ _ _ old new r is.moves
-
-stores-leave : (tells : Bool) (work : JobWork) (j : Job) (old new : StoreValue) (r : Result JobDid PumpFault) → Stores tells work j old r new → Leaves old.transactions new.transactions
-stores-leave tells (Archive run writer) j old new r is = write-leaves tells writer.left run writer j old new r is
-stores-leave tells (Floor floor) j old new r is = absurd is
-stores-leave tells (Reclaim anchors source written) j old new r is = anchors-leave tells _ anchors source written j old new r is
-
-begun-leaves : (tells : Bool) (work : JobWork) (j : Job) (old new : StoreValue) (r : Result JobDid PumpFault) → TurnsJob tells j (first_turn old j) (slot_taken (made_ready work old)) r new → Leaves old.transactions new.transactions
-begun-leaves tells (Archive run writer) j old new r is = turn-leaves tells j (first_turn old j) (slot_taken old) new r is
-begun-leaves tells (Floor floor) j old new r is = turn-leaves tells j (first_turn old j) (slot_taken old) new r is
-begun-leaves tells (Reclaim anchors source written) j old new r is =
-    let left = turn-leaves tells j (first_turn old j) (slot_taken (made_ready (Reclaim anchors source written) old)) new r is in
-    record { mark = left.mark; opened = left.opened; heads = left.heads }
-
-job-leaves : (tells : Bool) (s : JobStage) (j : Job) (old new : StoreValue) (r : Result JobDid PumpFault) → TakesJobStep tells s j old r new → Leaves old.transactions new.transactions
-job-leaves tells stages.Writing j old new r is = stores-leave tells j.work j old new r is
-job-leaves tells stages.Stored j old new r is = by-turn (is_some old.turn) is
-  where
-    by-turn : (b : Bool) → MatchBool b ((r ≡ Err pump.Busy) × (new ≡ old)) (BeginsJobSlot tells j old r new) → Leaves old.transactions new.transactions
-    by-turn true busy = nothing-left old new busy.1
-    by-turn false (inl short) = nothing-left old new short.2
-    by-turn false (inr first) = begun-leaves tells j.work j old new r first
-job-leaves tells (stages.Turning turn) j old new r is = turn-leaves tells j turn old new r is
-
-pumped-leaves : (tells : Bool) (old new : StoreValue) (r : Result JobDid PumpFault) → PumpsJob tells old r new → Leaves old.transactions new.transactions
-pumped-leaves tells old new r pumps = by-failure old.transactions.failed pumps
-  where
-    by-job : (o : Option Job) → MatchOption o ((r ≡ Ok did.Idle) × (new ≡ old)) (λ j. TakesJobStep tells j.stage j old r new) → Leaves old.transactions new.transactions
-    by-job None is = nothing-left old new is.1
-    by-job (Some j) is = job-leaves tells j.stage j old new r is
-
-    by-failure : (b : Bool) → MatchBool b ((r ≡ Err pump.Failed) × (new ≡ old)) (MatchOption old.job ((r ≡ Ok did.Idle) × (new ≡ old)) (λ j. TakesJobStep tells j.stage j old r new)) → Leaves old.transactions new.transactions
-    by-failure true is = nothing-left old new is.1
-    by-failure false is = by-job old.job is
-
 -- ---- refusals
 
 pumped-refused : (r : Result JobDid PumpFault) → IfErr r IsStepFault
@@ -339,7 +246,8 @@ stores-few tells (Archive run writer) j old new r is = by-left writer.left is
     by-left : (left : List ℕ) → WritesOrSyncs tells left run writer j old r new → new.disk.made ≤ old.disk.made + 1
     by-left [] syncs = omega (arith, syncs.call.counts.made, counted-few old.disk.made)
     by-left (b ∷ bs) writes = omega (arith, writes.call.counts.made, counted-few old.disk.made)
-stores-few tells (Floor floor) j old new r is = absurd is
+stores-few tells (Floor scope floor floors) j old new r is = absurd is
+stores-few tells (Grow growth) j old new r is = omega (arith, is.call.counts.made, counted-few old.disk.made)
 stores-few tells (Reclaim anchors source written) j old new r is = by-extent (slice_get old.transactions.reserved written) is
   where
     by-extent : (o : Option ℕ) → AnchorsOrSync tells o anchors source written j old r new → new.disk.made ≤ old.disk.made + 1
@@ -348,7 +256,8 @@ stores-few tells (Reclaim anchors source written) j old new r is = by-extent (sl
 
 begun-few : (tells : Bool) (work : JobWork) (j : Job) (old new : StoreValue) (r : Result JobDid PumpFault) → TurnsJob tells j (first_turn old j) (slot_taken (made_ready work old)) r new → new.disk.made ≤ old.disk.made + 1
 begun-few tells (Archive run writer) j old new r first = omega (arith, first.call.counts.made, counted-few old.disk.made)
-begun-few tells (Floor floor) j old new r first = omega (arith, first.call.counts.made, counted-few old.disk.made)
+begun-few tells (Floor scope floor floors) j old new r first = omega (arith, first.call.counts.made, counted-few old.disk.made)
+begun-few tells (Grow growth) j old new r first = omega (arith, first.call.counts.made, counted-few old.disk.made)
 begun-few tells (Reclaim anchors source written) j old new r first = omega (arith, first.call.counts.made, counted-few old.disk.made)
 
 job-few : (tells : Bool) (s : JobStage) (j : Job) (old new : StoreValue) (r : Result JobDid PumpFault) → TakesJobStep tells s j old r new → new.disk.made ≤ old.disk.made + 1

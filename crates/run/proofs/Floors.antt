@@ -37,7 +37,7 @@ use Rattle.run.specs.Places.{Place, Free, Running, Waits, Views, place_at}
 use Rattle.run.specs.Worlds.{World, same, moved, spent}
 use Rattle.run.specs.Runs.{Does, Begins, Puts, Deletes, Submits, Submitted, Aborts, Redeems, Shows, Raises, IsStepFault, submission}
 use Rattle.run.specs.Laws.{IsKeptTime}
-use Rattle.run.proofs.Passing.{get-same, scan-same, asks-same, asks_scan-same, asks_between-same, asks_scan_between-same, give_up-spent, closes-spent, archive-same, reclaim-same}
+use Rattle.run.proofs.Passing.{get-same, scan-same, asks-same, asks_scan-same, asks_between-same, asks_scan_between-same, give_up-spent, closes-spent, archive-same, reclaim-same, grow-same}
 
 -- the floors, and the one in the making, are the same
 abbrev pub SameFloors : Machine Value → Machine Value → Type 0
@@ -154,6 +154,8 @@ run-kept old (event ∷ events) new relation time none run kept = run-kept run.0
 floor-steps : (what : JobDid) (r : Raising) → AllByRecursion BeginsNone (floor_ends_in what r)
 floor-steps job_did.Idle r = tt
 floor-steps job_did.WroteRun r = tt
+floor-steps job_did.WroteZeros r = tt
+floor-steps job_did.ZerosSynced r = tt
 floor-steps job_did.RunSynced r = tt
 floor-steps job_did.WroteExtent r = tt
 floor-steps job_did.HeapSynced r = tt
@@ -245,27 +247,29 @@ view-floors : (w : World) (said : Result (Unit {0}) AllocError) (next : World) �
 view-floors w (Ok u) next does = all-same w.machine next.machine (ap (λ (x : World). x.machine) does.2)
 view-floors w (Err why) next does = same-floors w next does
 
--- the floor that a call begins, if it does, is no later
-abbrev pub AllowsTime : ℕ → Call → Answer → Type 0
-AllowsTime time c a = (floor : ℕ) → c ≡ call.Floor floor → a ≡ answer.Floor (Ok tt) → floor ≤ time
+-- the floor that a call begins, if it does and covers the relation, is no later
+abbrev pub AllowsTime : (relation time : ℕ) → Call → Answer → Type 0
+AllowsTime relation time c a = (scope : Option ℕ) (floor : ℕ) → c ≡ call.Floor scope floor → a ≡ answer.Floor (Ok tt) → IsTrue (covers scope relation) → floor ≤ time
 
 abbrev pub KeepsTimes : World → Call → Answer → World → Type 0
-KeepsTimes w c a next = (relation time : ℕ) → AllowsTime time c a → IsKeptTime w.machine relation time → IsKeptTime next.machine relation time
+KeepsTimes w c a next = (relation time : ℕ) → AllowsTime relation time c a → IsKeptTime w.machine relation time → IsKeptTime next.machine relation time
 
 unraised : (w : World) (c : Call) (a : Answer) (next : World) → SameFloors w.machine next.machine → KeepsTimes w c a next
 unraised w c a next is = λ relation time allows kept. held w.machine next.machine relation time is kept
 
-floor-times : (w : World) (floor : ℕ) (said : Result (Unit {0}) StartFault) (next : World) → Raises w floor said next → KeepsTimes w (call.Floor floor) (answer.Floor said) next
-floor-times w floor (Ok u) next does = λ relation time allows kept. subst (λ (x : World). IsKeptTime x.machine relation time) (sym does.1) (kept.0, λ covered. allows floor refl refl)
-floor-times w floor (Err start.NothingToDo) next does = unraised w _ _ next (same-floors w next does.1)
-floor-times w floor (Err (start.NotYet time)) next does = unraised w _ _ next (same-floors w next does.1)
-floor-times w floor (Err (start.InUse snapshot)) next does = unraised w _ _ next (same-floors w next does.1)
-floor-times w floor (Err start.Failed) next does = unraised w _ _ next (same-floors w next does.1)
-floor-times w floor (Err start.JobBusy) next does = unraised w _ _ next (same-floors w next does)
-floor-times w floor (Err start.StatusFull) next does = unraised w _ _ next (same-floors w next does)
-floor-times w floor (Err start.ArchiveFull) next does = absurd does
-floor-times w floor (Err start.HeapFull) next does = absurd does
-floor-times w floor (Err start.NoMemory) next does = absurd does
+floor-times : (w : World) (scope : Option ℕ) (floor : ℕ) (said : Result (Unit {0}) StartFault) (next : World) → Raises w scope floor said next → KeepsTimes w (call.Floor scope floor) (answer.Floor said) next
+floor-times w scope floor (Ok u) next does = λ relation time allows kept. subst (λ (x : World). IsKeptTime x.machine relation time) (sym does.1) (kept.0, λ covered. allows scope floor refl refl covered)
+floor-times w scope floor (Err start.NothingToDo) next does = unraised w _ _ next (same-floors w next does.1)
+floor-times w scope floor (Err (start.NotYet time)) next does = unraised w _ _ next (same-floors w next does.1)
+floor-times w scope floor (Err (start.InUse snapshot)) next does = unraised w _ _ next (same-floors w next does.1)
+floor-times w scope floor (Err start.Failed) next does = unraised w _ _ next (same-floors w next does.1)
+floor-times w scope floor (Err start.WrongProfile) next does = unraised w _ _ next (same-floors w next does)
+floor-times w scope floor (Err start.JobBusy) next does = unraised w _ _ next (same-floors w next does)
+floor-times w scope floor (Err start.StatusFull) next does = unraised w _ _ next (same-floors w next does)
+floor-times w scope floor (Err start.ArchiveFull) next does = absurd does
+floor-times w scope floor (Err start.HeapFull) next does = absurd does
+floor-times w scope floor (Err start.NoMemory) next does = unraised w _ _ next (same-floors w next does.1)
+floor-times w scope floor (Err start.NotGrowable) next does = absurd does
 
 job-times : (w : World) (said : Result JobDid PumpFault) (next : World) (failed : Bool)
     → MatchBool failed ((said ≡ Err pump.Failed) × (next ≡ same w)) ((after : Machine Value) × IfErr said IsStepFault × steps.Run IsValue w.machine (job_ends_in w.machine said) after × (next ≡ same (moved w after))) → KeepsTimes w call.JobPump (answer.JobPump said) next
@@ -294,6 +298,7 @@ call-times tells w (call.End i) answer.End next does = unraised w (call.End i) a
 call-times tells w (call.TimesOf label) (answer.TimesOf said) next does = unraised w (call.TimesOf label) (answer.TimesOf said) next (same-floors w next does.1)
 call-times tells w (call.Archive upto) (answer.Archive said) next does = unraised w (call.Archive upto) (answer.Archive said) next (same-floors w next (archive-same w upto said next does))
 call-times tells w call.Reclaim (answer.Reclaim said) next does = unraised w call.Reclaim (answer.Reclaim said) next (same-floors w next (reclaim-same w said next does))
-call-times tells w (call.Floor floor) (answer.Floor said) next does = floor-times w floor said next does
+call-times tells w (call.Floor scope floor) (answer.Floor said) next does = floor-times w scope floor said next does
+call-times tells w call.Grow (answer.Grow said) next does = unraised w call.Grow (answer.Grow said) next (same-floors w next (grow-same w said next does))
 call-times tells w call.JobPump (answer.JobPump said) next does = job-times w said next w.machine.failed does
 call-times tells w c a next does = absurd does

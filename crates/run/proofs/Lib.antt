@@ -6,6 +6,7 @@ pub mod Submitting
 pub mod Pumping
 pub mod Archiving
 pub mod FloorCalls
+pub mod GrowCalls
 pub mod Tickets
 pub mod Views
 pub mod Runs

@@ -1,7 +1,5 @@
 -- A call leads from one moment to the next, and one call after another makes a chain.
-use Rattle.std.proofs.Common.{◌≡◌, ℕ, ◌+◌, ◌≤◌, ◌⊎◌, Bool, List, [], ◌∷◌, ◌++◌, refl, ap, sym, subst, inl, inr, arith}
-use Rattle.std.specs.Prelude.{IsTrue}
-use Rattle.disk.specs.Areas.{Image, LeavesImage}
+use Rattle.std.proofs.Common.{◌+◌, ◌≤◌, Bool, List, [], ◌∷◌, ◌++◌, refl, sym, subst, inl, inr}
 use Rattle.store.specs.Values.{StoreValue}
 use Rattle.opened.proofs.Opened.{open-stands}
 use Rattle.history.specs.Machine.{Machine, opened}
@@ -13,7 +11,7 @@ use Rattle.run.specs.declared.held.Held.{Held}
 use Rattle.run.specs.Worlds.{World, IsWorld}
 use Rattle.run.specs.Runs.{Does, Follows}
 use Rattle.run.specs.Moments.{Moment, first_moment, with_answer, IsAtMoment}
-use Rattle.run.specs.Promise.{Survives, Leaves, LeavesBetween, Link, Chain, Promise}
+use Rattle.run.specs.Promise.{Leaves, LeavesBetween, Link, Chain, Promise}
 use Rattle.run.proofs.Acknowledging.{call-acknowledges}
 use Rattle.run.proofs.Runs.{started-world}
 use Rattle.run.proofs.Survival.{moment-leaves}

@@ -38,7 +38,7 @@ use Rattle.run.specs.declared.calls.RedeemOutcome.{RedeemOutcome}
 use Rattle.run.specs.declared.calls.RedeemOutcome.TheVariants as told
 use Rattle.run.specs.Places.{Place, Free, Running, Waits, Views, place_at}
 use Rattle.run.specs.Worlds.{World, leaves, put, moved, same, spent}
-use Rattle.run.specs.Runs.{Does, Begins, Puts, Deletes, Gets, Scans, Submits, Submitted, Aborts, Redeems, GivesUp, Shows, Asks, AsksScan, AsksBetween, AsksScanBetween, Closes, Archives, Reclaims, Raises, PutSays, DeleteSays, deleted, submission}
+use Rattle.run.specs.Runs.{Does, Begins, Puts, Deletes, Gets, Scans, Submits, Submitted, Aborts, Redeems, GivesUp, Shows, Asks, AsksScan, AsksBetween, AsksScanBetween, Closes, Archives, Reclaims, Raises, Grows, PutSays, DeleteSays, deleted, submission}
 use Rattle.run.specs.Traces.{LeavesKey}
 use Rattle.run.proofs.Lists.{length-set, length-push, place-push_old, place-push_new}
 
@@ -293,6 +293,7 @@ closes-spent w i (Waits t) next does = absurd does
 pub archive-same : (w : World) (upto : ℕ) (said : Result (Unit {0}) StartFault) (next : World) → Archives w upto said next → next ≡ same w
 archive-same w upto (Ok u) next does = does.2
 archive-same w upto (Err start.Failed) next does = does.1
+archive-same w upto (Err start.WrongProfile) next does = absurd does
 archive-same w upto (Err start.JobBusy) next does = does
 archive-same w upto (Err start.NothingToDo) next does = does
 archive-same w upto (Err (start.NotYet time)) next does = does.2
@@ -301,10 +302,12 @@ archive-same w upto (Err start.ArchiveFull) next does = does
 archive-same w upto (Err (start.InUse time)) next does = absurd does
 archive-same w upto (Err start.HeapFull) next does = absurd does
 archive-same w upto (Err start.NoMemory) next does = does
+archive-same w upto (Err start.NotGrowable) next does = absurd does
 
 pub reclaim-same : (w : World) (said : Result (Unit {0}) StartFault) (next : World) → Reclaims w said next → next ≡ same w
 reclaim-same w (Ok u) next does = does.1
 reclaim-same w (Err start.Failed) next does = does.1
+reclaim-same w (Err start.WrongProfile) next does = absurd does
 reclaim-same w (Err start.JobBusy) next does = does
 reclaim-same w (Err start.NothingToDo) next does = does
 reclaim-same w (Err (start.InUse time)) next does = does.1
@@ -313,6 +316,21 @@ reclaim-same w (Err start.HeapFull) next does = does
 reclaim-same w (Err start.NoMemory) next does = does
 reclaim-same w (Err (start.NotYet time)) next does = absurd does
 reclaim-same w (Err start.ArchiveFull) next does = absurd does
+reclaim-same w (Err start.NotGrowable) next does = absurd does
+
+pub grow-same : (w : World) (said : Result (Unit {0}) StartFault) (next : World) → Grows w said next → next ≡ same w
+grow-same w (Ok u) next does = does.1
+grow-same w (Err start.Failed) next does = does.1
+grow-same w (Err start.JobBusy) next does = does
+grow-same w (Err start.NotGrowable) next does = does
+grow-same w (Err start.WrongProfile) next does = absurd does
+grow-same w (Err start.NothingToDo) next does = absurd does
+grow-same w (Err (start.NotYet time)) next does = absurd does
+grow-same w (Err (start.InUse time)) next does = absurd does
+grow-same w (Err start.StatusFull) next does = absurd does
+grow-same w (Err start.ArchiveFull) next does = absurd does
+grow-same w (Err start.HeapFull) next does = absurd does
+grow-same w (Err start.NoMemory) next does = absurd does
 
 view-passes : (w : World) (said : Result (Unit {0}) AllocError) (next : World) → Shows w said next → Passes w call.View (answer.View said) next
 view-passes w (Ok u) next does = leaves-passes w w (Views w.machine.published w.machine.floors does.0) call.View (answer.View (Ok u)) next (beside-same call.View w) does.2 (refl, refl, refl, refl, does.1)
@@ -352,17 +370,19 @@ asks_scan_between-same tells w relation a b (Waits t) said next does = absurd do
 asks_scan_between-same tells w relation a b (Views h floors reclaimed) said next does = does.1
 
 -- a floor's start leaves the places
-floor-passes : (w : World) (floor : ℕ) (said : Result (Unit {0}) StartFault) (next : World) → Raises w floor said next → Passes w (call.Floor floor) (answer.Floor said) next
-floor-passes w floor (Ok u) next does = gives-nothing w (moved w (steps.floor_started w.machine (raising_to floor))) (call.Floor floor) (answer.Floor (Ok u)) next (beside-moved (call.Floor floor) w (steps.floor_started w.machine (raising_to floor))) does.1
-floor-passes w floor (Err start.NothingToDo) next does = same-passes w (call.Floor floor) (answer.Floor (Err start.NothingToDo)) next does.1
-floor-passes w floor (Err (start.NotYet time)) next does = same-passes w (call.Floor floor) (answer.Floor (Err (start.NotYet time))) next does.1
-floor-passes w floor (Err (start.InUse snapshot)) next does = same-passes w (call.Floor floor) (answer.Floor (Err (start.InUse snapshot))) next does.1
-floor-passes w floor (Err start.Failed) next does = same-passes w (call.Floor floor) (answer.Floor (Err start.Failed)) next does.1
-floor-passes w floor (Err start.JobBusy) next does = same-passes w (call.Floor floor) (answer.Floor (Err start.JobBusy)) next does
-floor-passes w floor (Err start.StatusFull) next does = same-passes w (call.Floor floor) (answer.Floor (Err start.StatusFull)) next does
-floor-passes w floor (Err start.ArchiveFull) next does = absurd does
-floor-passes w floor (Err start.HeapFull) next does = absurd does
-floor-passes w floor (Err start.NoMemory) next does = absurd does
+floor-passes : (w : World) (scope : Option ℕ) (floor : ℕ) (said : Result (Unit {0}) StartFault) (next : World) → Raises w scope floor said next → Passes w (call.Floor scope floor) (answer.Floor said) next
+floor-passes w scope floor (Ok u) next does = gives-nothing w (moved w (steps.floor_started w.machine (raising_to scope floor))) (call.Floor scope floor) (answer.Floor (Ok u)) next (beside-moved (call.Floor scope floor) w (steps.floor_started w.machine (raising_to scope floor))) does.1
+floor-passes w scope floor (Err start.NothingToDo) next does = same-passes w (call.Floor scope floor) (answer.Floor (Err start.NothingToDo)) next does.1
+floor-passes w scope floor (Err (start.NotYet time)) next does = same-passes w (call.Floor scope floor) (answer.Floor (Err (start.NotYet time))) next does.1
+floor-passes w scope floor (Err (start.InUse snapshot)) next does = same-passes w (call.Floor scope floor) (answer.Floor (Err (start.InUse snapshot))) next does.1
+floor-passes w scope floor (Err start.Failed) next does = same-passes w (call.Floor scope floor) (answer.Floor (Err start.Failed)) next does.1
+floor-passes w scope floor (Err start.WrongProfile) next does = same-passes w (call.Floor scope floor) (answer.Floor (Err start.WrongProfile)) next does
+floor-passes w scope floor (Err start.JobBusy) next does = same-passes w (call.Floor scope floor) (answer.Floor (Err start.JobBusy)) next does
+floor-passes w scope floor (Err start.StatusFull) next does = same-passes w (call.Floor scope floor) (answer.Floor (Err start.StatusFull)) next does
+floor-passes w scope floor (Err start.ArchiveFull) next does = absurd does
+floor-passes w scope floor (Err start.HeapFull) next does = absurd does
+floor-passes w scope floor (Err start.NoMemory) next does = same-passes w (call.Floor scope floor) (answer.Floor (Err start.NoMemory)) next does.1
+floor-passes w scope floor (Err start.NotGrowable) next does = absurd does
 
 -- each call passes
 pub passes : (tells : Bool) (w : World) (c : Call) (a : Answer) (next : World) → Does tells w c a next → Passes w c a next
@@ -385,7 +405,8 @@ passes tells w (call.ScanBetween i relation a b) (answer.ScanBetween said) next 
 passes tells w (call.End i) answer.End next does = spent-passes w i (call.End i) answer.End next (closes-spent w i (place_at w.places i) next does)
 passes tells w (call.TimesOf label) (answer.TimesOf said) next does = same-passes w (call.TimesOf label) (answer.TimesOf said) next does.1
 passes tells w (call.Archive upto) (answer.Archive said) next does = same-passes w (call.Archive upto) (answer.Archive said) next (archive-same w upto said next does)
-passes tells w (call.Floor floor) (answer.Floor said) next does = floor-passes w floor said next does
+passes tells w (call.Floor scope floor) (answer.Floor said) next does = floor-passes w scope floor said next does
 passes tells w call.Reclaim (answer.Reclaim said) next does = same-passes w call.Reclaim (answer.Reclaim said) next (reclaim-same w said next does)
+passes tells w call.Grow (answer.Grow said) next does = same-passes w call.Grow (answer.Grow said) next (grow-same w said next does)
 passes tells w call.JobPump (answer.JobPump said) next does = moves-passes w call.JobPump (answer.JobPump said) next w.machine.failed _ _ _ does
 passes tells w c a next does = absurd does

@@ -1,5 +1,5 @@
 -- A step of a group.
-use Rattle.std.proofs.Common.{◌≡◌, ℕ, ◌+◌, ◌≤◌, ◌==◌, ◌&&◌, nat_lt, min, length, Bool, true, false, cond, List, [], ◌∷◌, ◌++◌, Some, None, Option, Result, Ok, Err, MatchBool, MatchOption, refl, sym, ◌∙◌, ap, subst, inl, inr, arith}
+use Rattle.std.proofs.Common.{◌≡◌, ℕ, ◌+◌, ◌≤◌, Bool, true, false, List, [], ◌∷◌, ◌++◌, Some, None, Option, Result, Ok, Err, MatchBool, MatchOption, refl, sym, ap, subst, inl, inr, arith}
 use Rattle.std.specs.Prelude.{IsTrue, IfErr, is_some}
 use Rattle.disk.specs.Areas.{AreSound}
 use Rattle.disk.specs.Calls.{counted}
@@ -7,28 +7,26 @@ use Rattle.history.specs.Machine.{Machine}
 use Rattle.history.specs.Steps as steps
 use Rattle.history.specs.Histories.{History}
 use Rattle.image.specs.Values.{Value, IsValue}
-use Rattle.status.specs.SlotCalls.{SlotStage}
-use Rattle.status.specs.SlotCalls as slots
 use Rattle.status.specs.TurnState.{TurnState}
 use Rattle.group.specs.CommitOrder.{is_awaited}
 use Rattle.group.specs.declared.commit_order.CommitHead.{CommitHead}
 use Rattle.group.specs.declared.answers.Did.{Did}
-use Rattle.group.specs.declared.answers.Did.TheVariants as did
 use Rattle.group.specs.declared.answers.PumpFault.{PumpFault}
 use Rattle.group.specs.declared.answers.PumpFault.TheVariants as pump
 use Rattle.group.specs.declared.queued.StoredExtent.{StoredExtent}
 use Rattle.snapshot.specs.OpenTable.{snapshot_of}
 use Rattle.transactions.specs.Values.{TransactionsValue}
 use Rattle.transactions.specs.Steps as groups
-use Rattle.transactions.specs.declared.stage.GroupStage.TheVariants as stages
 use Rattle.transactions.specs.declared.stage.NextStep.{NextStep}
 use Rattle.transactions.specs.declared.stage.NextStep.TheVariants as next
 use Rattle.store.specs.Values.{StoreValue, turn_of}
-use Rattle.store.specs.Pumps.{Pumps, TakesStep, WritesExtent, MayBeginSlot, TurnsSlot, IsTurned, Steps, started, begun}
+use Rattle.store.specs.Pumps.{Pumps, TakesStep, WritesExtent, MayBeginSlot, TurnsSlot, started}
 use Rattle.standing.specs.Laws.{begins_in, ends_in}
+use Rattle.standing.specs.Leaving.{Leaves}
 use Rattle.standing.specs.Stands.{Stands}
-use Rattle.standing.proofs.Whole.{pump-stands}
-use Rattle.standing.proofs.Whole as whole
+use Rattle.standing.proofs.Leaving.{pump-leaves}
+use Rattle.standing.proofs.GrowingPumps.{pump-stands}
+use Rattle.standing.proofs.GrowingViews as lasting
 use Rattle.run.specs.declared.calls.Call.TheVariants as call
 use Rattle.run.specs.declared.calls.Answer.TheVariants as answer
 use Rattle.run.specs.declared.held.Held.{Held}
@@ -38,72 +36,6 @@ use Rattle.run.specs.Worlds.{World, IsWorld, moved, same}
 use Rattle.run.specs.Runs.{Does, Goes, Follows, IsStepFault}
 use Rattle.run.proofs.Runs.{no-step}
 use Rattle.run.proofs.Places.{reads-move, reads-plain, push_nothing, move, GoesOn, goes_on-same, run-goes_on, Keeps, stays}
-
--- what a step leaves alone
-pub record Leaves (old new : TransactionsValue) : Type 0 where
-  pub mark : new.mark ≡ old.mark
-  pub opened : new.opened ≡ old.opened
-  pub heads : new.heads ≡ old.heads
-
--- the same transactions but for what it does not leave alone
-pub leaves-so : (old so new : TransactionsValue) → Leaves old so → new ≡ so → Leaves old new
-leaves-so old so new leaves is = subst (λ (v : TransactionsValue). Leaves old v) (sym is) leaves
-
-leaves-then : (old mid new : TransactionsValue) → Leaves old mid → Leaves mid new → Leaves old new
-leaves-then old mid new first second = record { mark = second.mark ∙ first.mark; opened = second.opened ∙ first.opened; heads = second.heads ∙ first.heads }
-
-grouped-leaves : (v : TransactionsValue) → Leaves v (groups.grouped v)
-grouped-leaves v = by-test ((v.group == 0) && nat_lt 0 (length v.queue))
-  where
-    by-test : (b : Bool) → Leaves v (cond b (record v { group = min (length v.queue) 16; stage = stages.Storing 0 0 }) v)
-    by-test true = record { mark = refl; opened = refl; heads = refl }
-    by-test false = record { mark = refl; opened = refl; heads = refl }
-
-broken-leaves : (v new : TransactionsValue) → new ≡ groups.broken v → Leaves v new
-broken-leaves v new is = leaves-so v (groups.broken v) new (record { mark = refl; opened = refl; heads = refl }) is
-
-wrote-leaves : (tells : Bool) (o : Option StoredExtent) (old new : StoreValue) (r : Result Did PumpFault) → MatchOption o ⊥ (λ stored. WritesExtent tells stored old r new) → Leaves old.transactions new.transactions
-wrote-leaves tells None old new r takes = absurd takes
-wrote-leaves tells (Some stored) old new (Ok said) takes = leaves-so old.transactions (groups.wrote_extent old.transactions) new.transactions (record { mark = refl; opened = refl; heads = refl }) takes.steps.answer.1
-wrote-leaves tells (Some stored) old new (Err why) takes = broken-leaves old.transactions new.transactions takes.steps.answer.1
-
-turned-leaves : (stage : SlotStage) (turn : TurnState) (old new : StoreValue) (what : Did) → IsTurned stage turn old what new → Leaves old.transactions new.transactions
-turned-leaves slots.Begun turn old new what is = leaves-so old.transactions old.transactions new.transactions (record { mark = refl; opened = refl; heads = refl }) is.1
-turned-leaves slots.BodyWritten turn old new what is = leaves-so old.transactions old.transactions new.transactions (record { mark = refl; opened = refl; heads = refl }) is.1
-turned-leaves slots.BodySynced turn old new what is = leaves-so old.transactions old.transactions new.transactions (record { mark = refl; opened = refl; heads = refl }) is.1
-turned-leaves slots.GateWritten turn old new what is = leaves-so old.transactions (groups.published old.transactions) new.transactions (record { mark = refl; opened = refl; heads = refl }) is.1
-turned-leaves slots.Opened turn old new what is = absurd is
-
-slot-leaves : (tells : Bool) (turn : TurnState) (old new : StoreValue) (r : Result Did PumpFault) → TurnsSlot tells turn old r new → Leaves old.transactions new.transactions
-slot-leaves tells turn old new (Ok what) turns = turned-leaves turn.stage turn old new what turns.answer
-slot-leaves tells turn old new (Err why) turns = broken-leaves old.transactions new.transactions turns.answer.transactions
-
-advance-leaves : (tells : Bool) (o : Option TurnState) (old new : StoreValue) (r : Result Did PumpFault) → MatchOption o ⊥ (λ turn. TurnsSlot tells turn old r new) → Leaves old.transactions new.transactions
-advance-leaves tells None old new r takes = absurd takes
-advance-leaves tells (Some turn) old new r takes = slot-leaves tells turn old new r takes
-
-synced-leaves : (old new : StoreValue) (what : Did) (r : Result Did PumpFault) → Steps what (groups.at_stage stages.Stored old.transactions) old r new → Leaves old.transactions new.transactions
-synced-leaves old new what (Ok said) does = leaves-so old.transactions (groups.at_stage stages.Stored old.transactions) new.transactions (record { mark = refl; opened = refl; heads = refl }) does.answer.1
-synced-leaves old new what (Err why) does = broken-leaves old.transactions new.transactions does.answer.1
-
-step-leaves : (tells : Bool) (s : NextStep) (old new : StoreValue) (r : Result Did PumpFault) → TakesStep tells s old r new → Leaves old.transactions new.transactions
-step-leaves tells next.Idle old new r takes = leaves-so old.transactions old.transactions new.transactions (record { mark = refl; opened = refl; heads = refl }) (ap (λ (v : StoreValue). v.transactions) takes.1)
-step-leaves tells next.WriteExtent old new r takes = wrote-leaves tells (groups.next_extent old.transactions) old new r takes
-step-leaves tells next.SyncHeap old new r takes = synced-leaves old new _ r takes.steps
-step-leaves tells next.BeginSlot old new r takes = by-job (is_some (turn_of old.job)) takes
-  where
-    by-job : (b : Bool) → MatchBool b ((r ≡ Err pump.Busy) × (new ≡ old)) (MayBeginSlot tells old r new) → Leaves old.transactions new.transactions
-    by-job true is = leaves-so old.transactions old.transactions new.transactions (record { mark = refl; opened = refl; heads = refl }) (ap (λ (v : StoreValue). v.transactions) is.1)
-    by-job false (inl short) = leaves-so old.transactions old.transactions new.transactions (record { mark = refl; opened = refl; heads = refl }) (ap (λ (v : StoreValue). v.transactions) short.2)
-    by-job false (inr first) = leaves-then old.transactions (begun old).transactions new.transactions (record { mark = refl; opened = refl; heads = refl }) (slot-leaves tells _ (begun old) new r first.turns)
-step-leaves tells next.AdvanceSlot old new r takes = advance-leaves tells old.turn old new r takes
-
-pump-leaves : (tells : Bool) (old new : StoreValue) (r : Result Did PumpFault) → Pumps tells old r new → Leaves old.transactions new.transactions
-pump-leaves tells old new r pumps = by-failure old.transactions.failed pumps
-  where
-    by-failure : (b : Bool) → MatchBool b ((r ≡ Err pump.Failed) × (new ≡ old)) (TakesStep tells (groups.next_step old.transactions) (started old) r new) → Leaves old.transactions new.transactions
-    by-failure true is = leaves-so old.transactions old.transactions new.transactions (record { mark = refl; opened = refl; heads = refl }) (ap (λ (v : StoreValue). v.transactions) is.1)
-    by-failure false takes = leaves-then old.transactions (groups.grouped old.transactions) new.transactions (grouped-leaves old.transactions) (step-leaves tells (groups.next_step old.transactions) (started old) new r takes)
 
 -- ---- refusals
 
@@ -164,7 +96,7 @@ pump-goes tells v v' xs r sound pumps w is =
         (move v.transactions v'.transactions w.machine.published h' xs w.places is.places (λ i x p at shows. stays v.transactions v'.transactions w.machine.published h' x p (pump-keeps v.transactions v'.transactions x (pump-leaves tells v v' r pumps)) goes shows))
 
     read : AreRead tells v' (xs ++ held.Nothing ∷ []) (w.places ++ Free ∷ [])
-    read = reads-plain tells v' xs w.places held.Nothing Free is.places.many tt (reads-move tells v v' xs w.places (whole.pump-goes tells v v' r w.machine is.stands pumps) is.views)
+    read = reads-plain tells v' xs w.places held.Nothing Free is.places.many tt (reads-move tells v v' xs w.places (lasting.pump-goes tells v v' r w.machine is.stands pumps) is.views)
 
     by-failure : (b : Bool) → w.machine.failed ≡ b → IfErr r IsStepFault → MatchBool b ((r ≡ Err pump.Failed) × Stands tells v' w.machine) ((after : Machine Value) × steps.Run IsValue w.machine (begins_in w.machine ++ ends_in w.machine.gate r) after × Stands tells v' after)
         → (next : World) × Does tells w call.Pump (answer.Pump r) next × Follows w.machine next.machine × IsWorld tells v' (xs ++ held.Nothing ∷ []) next

@@ -1,12 +1,10 @@
 -- Worlds before any call, and after one that leaves the machine as it is.
-use Rattle.std.proofs.Common.{Bool, List, [], ◌∷◌, ◌++◌, refl, subst}
+use Rattle.std.proofs.Common.{Bool, [], refl}
 use Rattle.history.specs.Machine.{Machine}
 use Rattle.image.specs.Values.{Value}
 use Rattle.standing.specs.Stands.{Stands}
 use Rattle.store.specs.Values.{StoreValue}
-use Rattle.run.specs.declared.calls.Answer.{Answer}
-use Rattle.run.specs.declared.calls.Call.{Call}
-use Rattle.run.specs.Worlds.{World, IsWorld, started}
+use Rattle.run.specs.Worlds.{IsWorld, started}
 use Rattle.run.specs.Runs.{Follows}
 
 -- a call that leaves the machine as it is

@@ -5,8 +5,6 @@ use Rattle.std.specs.List.{AllByRecursion, list_all}
 use Rattle.std.proofs.lemmas.Bool.Decides.{nat_tests}
 use Rattle.history.specs.declared.key.Key.{Key}
 use Rattle.history.specs.declared.key.KeyWrite.{KeyWrite}
-use Rattle.history.specs.declared.time.TimedWrite.{TimedWrite}
-use Rattle.history.specs.Time.{value_at}
 use Rattle.history.specs.Histories.{History, last}
 use Rattle.history.specs.Machine.{Machine}
 use Rattle.history.specs.Steps.{Step, Began, Aborted, begun}
@@ -21,7 +19,7 @@ use Rattle.store.specs.Values.{StoreValue}
 use Rattle.store.specs.Calls as stores
 use Rattle.standing.specs.Stands.{Stands}
 use Rattle.standing.proofs.Memory.{begun-sees, open-sees}
-use Rattle.standing.proofs.Calling.{begin-stands, abort-stands}
+use Rattle.standing.proofs.GrowingCalls.{begin-stands, abort-stands}
 use Rattle.run.specs.declared.calls.Call.{Call}
 use Rattle.run.specs.declared.calls.Call.TheVariants as call
 use Rattle.run.specs.declared.calls.Answer.TheVariants as answer

@@ -1,14 +1,12 @@
 -- A submit.
-use Rattle.std.proofs.Common.{◌≡◌, ℕ, ◌<◌, ◌^◌, Bool, true, false, List, [], ◌∷◌, ◌++◌, Some, Result, Ok, Err, MatchBool, refl, sym, ◌∙◌, ap, subst, arith}
+use Rattle.std.proofs.Common.{◌≡◌, ℕ, ◌<◌, ◌^◌, Bool, true, false, List, [], ◌∷◌, ◌++◌, Some, Result, Ok, Err, MatchBool, refl, sym, ap, subst, arith}
 use Rattle.std.specs.Prelude.{slice_get, slice_set}
-use Rattle.history.specs.Histories.{History, last}
-use Rattle.history.specs.Machine.{Machine, commit_order}
+use Rattle.history.specs.Histories.{History}
+use Rattle.history.specs.Machine.{Machine}
 use Rattle.history.specs.Steps.{Event, Step, Decided}
 use Rattle.history.specs.Steps as steps
 use Rattle.history.specs.Submissions as submissions
 use Rattle.history.specs.Submissions.{Submission, commit_made}
-use Rattle.history.proofs.Histories.{last_after-append}
-use Rattle.history.proofs.Runs.{step-added}
 use Rattle.image.specs.Values.{Value, IsValue}
 use Rattle.snapshot.specs.Txn.{TxnValue, AreTxnWrites}
 use Rattle.group.specs.CommitOrder.{last_time, last_time_after, IsRisingAfter}
@@ -19,15 +17,14 @@ use Rattle.group.specs.declared.answers.Submitted.TheVariants as submitted
 use Rattle.group.specs.declared.answers.SubmitFault.{SubmitFault}
 use Rattle.group.specs.declared.answers.SubmitFault.TheVariants as refused
 use Rattle.transactions.specs.Values.{TransactionsValue, is_own, over}
-use Rattle.transactions.specs.Submits.{JoinsQueue, with_queued, SubmitsOwn, AnswersSubmit}
-use Rattle.transactions.proofs.Orders.{last_time-push}
+use Rattle.transactions.specs.Submits.{with_queued, SubmitsOwn}
 use Rattle.store.specs.Values.{StoreValue}
 use Rattle.store.specs.Calls as stores
-use Rattle.standing.specs.Standing.{StandsInMemory}
 use Rattle.standing.specs.Laws.{submission_of, event_of}
 use Rattle.standing.specs.Stands.{Stands}
-use Rattle.standing.proofs.Submitting.{order-last}
-use Rattle.standing.proofs.Calling.{submit-stands}
+use Rattle.standing.specs.Leaving.{LeftBySubmit}
+use Rattle.standing.proofs.Told.{left-is, ticket-time}
+use Rattle.standing.proofs.GrowingCalls.{submit-stands}
 use Rattle.run.specs.declared.calls.Call.TheVariants as call
 use Rattle.run.specs.declared.calls.SubmitOutcome.{SubmitOutcome}
 use Rattle.run.specs.declared.calls.SubmitOutcome.TheVariants as outcome
@@ -40,31 +37,6 @@ use Rattle.run.specs.Runs as told
 use Rattle.standing.proofs.Whole.{rest-goes}
 use Rattle.run.proofs.Places.{reads-move, reads-plain, reads-set, push, push_nothing, move, own_transaction, own_ticket, at_transaction, goes_on-same, run-goes_on, Keeps, stays, awaited-push, awaited-early, awaited-new}
 use Rattle.run.proofs.Steps.{own-is, over-places}
-
--- the transactions after a submit of the store's own transaction, by the answer
-abbrev pub Left : TransactionsValue → TxnValue → ℕ → Result Submitted SubmitFault → TransactionsValue → Type 0
-Left v t label (Ok (submitted.ReadOnly snapshot)) new = (snapshot ≡ t.snapshot) × (new ≡ v)
-Left v t label (Ok (submitted.Queued ticket)) new = (ticket.mark ≡ v.mark) × JoinsQueue v label ticket.time t.writes new
-Left v t label (Err refused.Stranger) new = ⊥
-Left v t label (Err why) new = new ≡ v
-
-left-by : (v new : TransactionsValue) (t : TxnValue) (label now : ℕ) (r : Result Submitted SubmitFault) → AnswersSubmit v t label now r new → Left v t label r new
-left-by v new t label now (Ok (submitted.ReadOnly snapshot)) says = (says.1, says.2)
-left-by v new t label now (Ok (submitted.Queued ticket)) says = (says.1, says.2)
-left-by v new t label now (Err (refused.Conflict key)) says = says.1
-left-by v new t label now (Err refused.HeapFull) says = says.1
-left-by v new t label now (Err refused.StatusFull) says = says.1
-left-by v new t label now (Err refused.ClockEnd) says = says.1
-left-by v new t label now (Err refused.NoMemory) says = says.1
-left-by v new t label now (Err refused.Failed) says = says.1
-left-by v new t label now (Err refused.Stranger) says = absurd says.0
-
-left-is : (v new : TransactionsValue) (t : TxnValue) (label now : ℕ) (r : Result Submitted SubmitFault) → SubmitsOwn v t label now r new → Left v t label r new
-left-is v new t label now r says = by-failure v.failed says
-  where
-    by-failure : (b : Bool) → MatchBool b ((r ≡ Err refused.Failed) × (new ≡ v)) (AnswersSubmit v t label now r new) → Left v t label r new
-    by-failure true says = subst (λ (x : Result Submitted SubmitFault). Left v t label x new) (sym says.0) says.1
-    by-failure false says = left-by v new t label now r says
 
 -- the last is later than those before it
 rising-later : (t : ℕ) (heads : List CommitHead) (head : CommitHead) → IsRisingAfter t (heads ++ head ∷ []) → last_time_after t heads < head.time
@@ -85,16 +57,6 @@ later-apart v h ticket (held.Ticket u) p rising later shows clash =
     let early = awaited-early 0 u.time v.heads rising (own_ticket v h u p shows).awaited in
     absurd (omega (arith, early, later, clash))
 later-apart v h ticket (held.View u) p rising later shows clash = clash
-
--- the time of a commit that was queued is that of the machine's
-queued-time : (v new : TransactionsValue) (m after : Machine Value) (label time : ℕ) (t : TxnValue) (numbers : List ℕ) (s : Submission Value) → StandsInMemory new after → new ≡ with_queued v label time t.writes numbers
-    → Step IsValue m (Decided s (submissions.Queues (commit_made m s))) after → time ≡ (commit_made m s).time
-queued-time v new m after label time t numbers s stands is step =
-    let head : CommitHead = record { time = time; label = label; awaited = true } in
-    let heads : last_time new.heads ≡ time = ap (λ (x : TransactionsValue). last_time x.heads) is ∙ last_time-push 0 v.heads head in
-    let order : last (commit_order after) ≡ (commit_made m s).time =
-    ap (λ (h : History Value). last h) (step-added IsValue m after (Decided s (submissions.Queues (commit_made m s))) step) ∙ last_after-append 0 (commit_order m) (commit_made m s ∷ []) in
-    sym heads ∙ order-last new after stands ∙ order
 
 pub submit-goes : (tells : Bool) (v v' : StoreValue) (xs : List Held) (i : ℕ) (t : TxnValue) (label now : ℕ) (r : Result Submitted SubmitFault) → slice_get xs i ≡ Some (held.Transaction t) → AreTxnWrites t.state t.snapshot t.writes → label < 2 ^ 64
     → stores.Submits v t label now r v' → Goes tells v xs (call.Submit i label now) (submit_answer r).0 v' (slice_set xs i held.Nothing ++ (submit_answer r).1 ∷ [])
@@ -133,7 +95,7 @@ submit-goes tells v v' xs i t label now r here are range submits w is =
       },
     )
 
-    by-result : (o : Result Submitted SubmitFault) → Left (over v.transactions t.number) t label o v'.transactions → (after : Machine Value) → Step IsValue w.machine (event_of w.machine (submission_of t label now) o) after → Stands tells v' after
+    by-result : (o : Result Submitted SubmitFault) → LeftBySubmit (over v.transactions t.number) t label o v'.transactions → (after : Machine Value) → Step IsValue w.machine (event_of w.machine (submission_of t label now) o) after → Stands tells v' after
         → ShowsAs v.transactions w.machine.published (held.Transaction t) (place_at w.places i) → ArePlaces (over v.transactions t.number) after.published (slice_set xs i held.Nothing) (slice_set w.places i Free)
         → (next : World) × Does tells w (call.Submit i label now) (submit_answer o).0 next × Follows w.machine next.machine × IsWorld tells v' (slice_set xs i held.Nothing ++ (submit_answer o).1 ∷ []) next
     by-result (Ok (submitted.ReadOnly snapshot)) left after step stands shows places =
@@ -147,7 +109,7 @@ submit-goes tells v v' xs i t label now r here are range submits w is =
         let head : CommitHead = record { time = ticket.time; label = label; awaited = true } in
         let rising_new : IsRisingAfter 0 (old.heads ++ head ∷ []) = subst (λ (u : TransactionsValue). IsRisingAfter 0 u.heads) joins.new_is stands.memory.rising in
         let later = rising-later 0 old.heads head rising_new in
-        let time = queued-time old v'.transactions m after label ticket.time t joins.numbers s stands.memory joins.new_is step in
+        let time = ticket-time old v'.transactions m after t label now ticket joins stands.memory step in
         let kept = move old new after.published after.published (slice_set xs i held.Nothing) (slice_set w.places i Free) places (λ j x p at shown. stays old new after.published after.published x p (queued-keeps old label ticket.time t joins.numbers x) (goes_on-same after.published) shown) in
         let own : IsOwnTicket new ticket = record { mark = left.0; awaited = awaited-new 0 old.heads ticket.time label is.stands.memory.rising later } in
         let pushed = push new after.published (slice_set xs i held.Nothing) (slice_set w.places i Free) (held.Ticket ticket) (Waits (commit_made m s).time) kept (own, time)

@@ -1,5 +1,5 @@
 -- Whatever a stop may leave of a store survives, with all that was acknowledged.
-use Rattle.std.proofs.Common.{◌≡◌, ℕ, Bool, List, [], ◌∷◌, ◌++◌, take, Option, None, Some, ap, sym, subst, inl, inr}
+use Rattle.std.proofs.Common.{ℕ, Bool, List, take, Option, None, Some, sym, subst, inl, inr}
 use Rattle.std.specs.Prelude.{IsTrue}
 use Rattle.std.specs.List.{AllByRecursion}
 use Rattle.disk.specs.Areas.{Image, LeavesImage}
@@ -11,7 +11,6 @@ use Rattle.image.specs.Values.{Value}
 use Rattle.status.specs.declared.header.Header.{Header}
 use Rattle.store.specs.Values.{StoreValue}
 use Rattle.standing.specs.OnDisk.{IsImageOf}
-use Rattle.standing.specs.Stands.{Stands}
 use Rattle.opened.proofs.Opened.{open-stands}
 use Rattle.opened.proofs.Reopened.{open-refuses}
 use Rattle.opened.proofs.Answering.{stands-answers}
@@ -53,5 +52,5 @@ module _ (tells : Bool) (header : Header) (image : Image) (m : Machine Value) (d
 -- whatever a stop may leave at a moment of a store survives
 pub moment-leaves : (tells : Bool) (v : StoreValue) (held : List Held) (at : Moment) → IsAtMoment tells v held at → Leaves tells at
 moment-leaves tells v held at is told image left =
-    let d = is.world.stands.disk told in
-    on-front tells d.header image at.world.machine at.done told is.published (d.leaves image (subst (λ (x : StoreValue). LeavesImage x.disk.areas image) is.store left))
+    let l = (is.world.stands.disk told).leaves image (subst (λ (x : StoreValue). LeavesImage x.disk.areas image) is.store left) in
+    on-front tells l.found image at.world.machine at.done told is.published l.front

@@ -1,27 +1,26 @@
 -- The calls of tickets.
-use Rattle.std.proofs.Common.{◌≡◌, ℕ, ◌==◌, nat_le, Bool, true, false, cond, List, [], ◌∷◌, ◌++◌, Some, MatchBool, refl, sym, ◌∙◌, ap, subst, arith}
+use Rattle.std.proofs.Common.{◌≡◌, ℕ, Bool, List, [], ◌∷◌, ◌++◌, Some, refl, sym, ◌∙◌, ap, subst}
 use Rattle.std.specs.Prelude.{slice_get, slice_set}
-use Rattle.std.proofs.lemmas.Bool.Decides.{nat_tests}
 use Rattle.history.specs.Answers as answers
 use Rattle.group.specs.CommitOrder as orders
 use Rattle.group.specs.CommitOrder.{is_awaited, last_published}
 use Rattle.group.specs.Tickets.{TicketValue}
-use Rattle.group.specs.declared.commit_order.Standing.TheVariants as standing
 use Rattle.group.specs.declared.answers.Redeemed.{Redeemed}
 use Rattle.group.specs.declared.answers.Redeemed.TheVariants as redeemed
 use Rattle.transactions.specs.Values.{TransactionsValue}
-use Rattle.transactions.specs.Calls as calls
 use Rattle.store.specs.Values.{StoreValue}
 use Rattle.store.specs.Calls as stores
 use Rattle.standing.specs.Laws.{RedeemsAs}
+use Rattle.standing.specs.Leaving.{LeftByRedeem}
+use Rattle.standing.proofs.Told.{redeeming}
 use Rattle.standing.specs.Stands.{Stands}
-use Rattle.standing.proofs.Calling.{redeem-stands}
+use Rattle.standing.proofs.GrowingCalls.{redeem-stands}
 use Rattle.run.specs.declared.calls.Call.TheVariants as call
 use Rattle.run.specs.declared.calls.Answer.TheVariants as answer
 use Rattle.run.specs.declared.calls.RedeemOutcome.TheVariants as told
 use Rattle.run.specs.declared.held.Held.{Held}
 use Rattle.run.specs.declared.held.Held.TheVariants as held
-use Rattle.run.specs.Places.{Place, Free, place_at, HasNoTicket, IsNoTicket, IsOwnTicket, ShowsAs, Clash, ArePlaces, redeem_answer, AreRead}
+use Rattle.run.specs.Places.{Place, Free, place_at, HasNoTicket, IsNoTicket, ShowsAs, Clash, ArePlaces, redeem_answer, AreRead}
 use Rattle.run.specs.Worlds.{World, IsWorld, same, spent}
 use Rattle.run.specs.Runs.{Does, Goes, Redeems, GivesUp, Follows}
 use Rattle.run.proofs.Runs.{no-step}
@@ -31,32 +30,6 @@ use Rattle.run.proofs.Places.{reads-move, reads-plain, reads-set, push_nothing, 
 
 pub lacks-ticket : (tells : Bool) (v : StoreValue) (xs : List Held) (i : ℕ) → HasNoTicket (slice_get xs i) → (w : World) → IsWorld tells v xs w → IsNoTicket (place_at w.places i)
 lacks-ticket tells v xs i none w is = no_ticket v.transactions w.machine.published xs w.places i is.places none
-
--- the transactions after the store's own ticket is shown, by the answer
-abbrev pub Left : TransactionsValue → TicketValue → Redeemed → TransactionsValue → Type 0
-Left old k (redeemed.Done time) new = new ≡ record old { heads = orders.redeemed k.time old.heads }
-Left old k (redeemed.Waiting back) new = (back ≡ k) × (new ≡ old)
-Left old k redeemed.InDoubt new = new ≡ old
-Left old k redeemed.Stranger new = ⊥
-
-left-by : (old new : TransactionsValue) (k : TicketValue) (r : Redeemed) (late : Bool) → calls.AnswersTicket old k (cond late standing.Published standing.Waiting) r new → Left old k r new
-left-by old new k r true says = subst (λ (x : Redeemed). Left old k x new) (sym says.0) says.1
-left-by old new k r false says = by-failure old.failed says
-  where
-    by-failure : (b : Bool) → (r ≡ cond b redeemed.InDoubt (redeemed.Waiting k)) × (new ≡ old) → Left old k r new
-    by-failure true says = subst (λ (x : Redeemed). Left old k x new) (sym says.0) says.1
-    by-failure false says = subst (λ (x : Redeemed). Left old k x new) (sym says.0) (refl, says.1)
-
-left-is : (old new : TransactionsValue) (k : TicketValue) (r : Redeemed) → IsOwnTicket old k → calls.Redeems old k r new → Left old k r new
-left-is old new k r own redeems =
-    let mark : (k.mark == old.mark) ≡ true = let is = own.mark in grind (arith, nat_tests) in
-    by-mark (k.mark == old.mark) (is_awaited k.time old.heads) mark own.awaited redeems
-  where
-    by-mark : (b c : Bool) → b ≡ true → c ≡ true
-        → MatchBool b (calls.AnswersTicket old k (cond c (cond (nat_le k.time (last_published (calls.order_of old))) standing.Published standing.Waiting) standing.Unknown) r new) ((r ≡ redeemed.Stranger) × (new ≡ old)) → Left old k r new
-    by-mark true true mark waits says = left-by old new k r (nat_le k.time (last_published (calls.order_of old))) says
-    by-mark true false mark waits says = absurd cc
-    by-mark false c mark waits says = absurd cc
 
 redeemed-keeps : (v : TransactionsValue) (k : TicketValue) (x : Held) → (Clash (held.Ticket k) x → ⊥) → Keeps v (record v { heads = orders.redeemed k.time v.heads }) x
 redeemed-keeps v k held.Nothing apart = tt
@@ -69,15 +42,14 @@ pub redeem-goes : (tells : Bool) (v v' : StoreValue) (xs : List Held) (i : ℕ) 
 redeem-goes tells v v' xs i k r here redeems w is =
     let h = w.machine.published in
     let shows = is.places.each i (held.Ticket k) here in
-    let own = own_ticket v.transactions h k (place_at w.places i) shows in
     let did = redeem-stands tells v v' k r w.machine is.stands redeems in
-    let left = left-is v.transactions v'.transactions k r own redeems.transactions in
+    let left = redeeming v.transactions v'.transactions k r redeems.transactions in
     let freed = free v.transactions h xs w.places i (held.Ticket k) is.places here in
     let moved = move v.transactions (record v.transactions { heads = orders.redeemed k.time v.transactions.heads }) h h (slice_set xs i held.Nothing) (slice_set w.places i Free) freed
     (λ j x p at shown. stays v.transactions (record v.transactions { heads = orders.redeemed k.time v.transactions.heads }) h h x p (redeemed-keeps v.transactions k x (λ clash. freed_apart v.transactions h xs w.places i (held.Ticket k) is.places here j x at clash)) (goes_on-same h) shown) in
     by-result r left did.0 shows did.1 freed moved
   where
-    by-result : (o : Redeemed) → Left v.transactions k o v'.transactions → RedeemsAs (answers.redeemed_by w.machine k.time) o → ShowsAs v.transactions w.machine.published (held.Ticket k) (place_at w.places i) → Stands tells v' w.machine
+    by-result : (o : Redeemed) → LeftByRedeem v.transactions k o v'.transactions → RedeemsAs (answers.redeemed_by w.machine k.time) o → ShowsAs v.transactions w.machine.published (held.Ticket k) (place_at w.places i) → Stands tells v' w.machine
         → ArePlaces v.transactions w.machine.published (slice_set xs i held.Nothing) (slice_set w.places i Free)
         → ArePlaces (record v.transactions { heads = orders.redeemed k.time v.transactions.heads }) w.machine.published (slice_set xs i held.Nothing) (slice_set w.places i Free)
         → (next : World) × Does tells w (call.Redeem i) (redeem_answer o).0 next × Follows w.machine next.machine × IsWorld tells v' (slice_set xs i (redeem_answer o).1 ++ held.Nothing ∷ []) next
@@ -87,8 +59,8 @@ redeem-goes tells v v' xs i k r here redeems w is =
       no-step w.machine,
       record {
         stands = stands;
-        places = push_nothing v'.transactions w.machine.published (slice_set xs i held.Nothing) (slice_set w.places i Free) (subst (λ (t : TransactionsValue). ArePlaces t w.machine.published (slice_set xs i held.Nothing) (slice_set w.places i Free)) (sym left) moved);
-        views = reads-plain tells v' (slice_set xs i held.Nothing) (slice_set w.places i Free) held.Nothing Free moved.many tt (reads-set tells v' xs w.places i held.Nothing Free tt (reads-move tells v v' xs w.places (rest-goes tells v v' redeems.rest (ap (λ (t : TransactionsValue). t.mark) left)) is.views));
+        places = push_nothing v'.transactions w.machine.published (slice_set xs i held.Nothing) (slice_set w.places i Free) (subst (λ (t : TransactionsValue). ArePlaces t w.machine.published (slice_set xs i held.Nothing) (slice_set w.places i Free)) (sym left.3) moved);
+        views = reads-plain tells v' (slice_set xs i held.Nothing) (slice_set w.places i Free) held.Nothing Free moved.many tt (reads-set tells v' xs w.places i held.Nothing Free tt (reads-move tells v v' xs w.places (rest-goes tells v v' redeems.rest (ap (λ (t : TransactionsValue). t.mark) left.3)) is.views));
       },
     )
     by-result (redeemed.Waiting back) left says shows stands freed moved =
@@ -113,7 +85,9 @@ redeem-goes tells v v' xs i k r here redeems w is =
         views = reads-plain tells v' (slice_set xs i held.Nothing) (slice_set w.places i Free) held.Nothing Free freed.many tt (reads-set tells v' xs w.places i held.Nothing Free tt (reads-move tells v v' xs w.places (rest-goes tells v v' redeems.rest (ap (λ (t : TransactionsValue). t.mark) left)) is.views));
       },
     )
-    by-result redeemed.Stranger left says shows stands freed moved = absurd left
+    by-result redeemed.Stranger left says shows stands freed moved =
+        let own = own_ticket v.transactions w.machine.published k (place_at w.places i) shows in
+        absurd (left.1 own.mark own.awaited)
 
 pub give_up-goes : (tells : Bool) (v : StoreValue) (xs : List Held) (i : ℕ) (k : TicketValue) → slice_get xs i ≡ Some (held.Ticket k) → Goes tells v xs (call.GiveUp i) answer.GiveUp v (slice_set xs i held.Nothing ++ held.Nothing ∷ [])
 give_up-goes tells v xs i k here w is = (

@@ -1,6 +1,7 @@
 -- Lists of calls, from moment to moment.
 use Rattle.std.proofs.Common.{◌≡◌, ◌⊎◌, inl, inr, ◌<◌, ◌≤◌, ◌+◌, ◌-◌, ◌++◌, ℕ, zero, suc, Bool, true, false, cond, List, [], ◌∷◌, length, map, Option, Some, None, Result, Ok, Bor, refl, ap, sym, subst, ◌∙◌, arith, append_assoc}
-use Rattle.std.specs.Prelude.{slice_get, slice_set, Contains, IsSome}
+use Rattle.std.specs.Prelude.{slice_get, slice_set, Contains, IsSome, IsTrue}
+use Rattle.history.specs.Floors.{covers}
 use Rattle.std.proofs.lemmas.Bool.Decides.{nat_tests}
 use Rattle.std.proofs.lemmas.List.Elements.{Contains-append_left, Contains-push}
 use Rattle.history.specs.declared.key.Key.{Key}
@@ -180,23 +181,23 @@ floors-rise tells t p q relation low =
     (run-later (machine_at t p) (machine_at t q) run.0 (machine-is t p) (machine-is t q) run.1).floors relation
 
 -- the call after a moment keeps a time where the floor that it begins is no later
-next-times : {tells : Bool} (t : Trace tells) (n relation time : ℕ) → ((floor : ℕ) → IsCall t n (call.Floor floor) (answer.Floor (Ok tt)) → floor ≤ time) → IsKeptTime (machine_at t n) relation time → IsKeptTime (machine_at t (suc n)) relation time
+next-times : {tells : Bool} (t : Trace tells) (n relation time : ℕ) → ((scope : Option ℕ) (floor : ℕ) → IsCall t n (call.Floor scope floor) (answer.Floor (Ok tt)) → IsTrue (covers scope relation) → floor ≤ time) → IsKeptTime (machine_at t n) relation time → IsKeptTime (machine_at t (suc n)) relation time
 next-times {tells} t n relation time low kept = elim (next-call t n) as (λ o. IsKeptTime (machine_at t (suc n)) relation time) [
   | inl next ↦ call-times tells (moment_at t n).world next.asked next.said (moment_at t (suc n)).world (calls-link tells t n next.asked next.said next.is).does relation time
-      (λ floor asked said. low floor (next.is.0 ∙ ap (λ (c : Call). Some c) asked, next.is.1 ∙ ap (λ (a : Answer). Some a) said)) kept
+      (λ scope floor asked said. low scope floor (next.is.0 ∙ ap (λ (c : Call). Some c) asked, next.is.1 ∙ ap (λ (a : Answer). Some a) said)) kept
   | inr past ↦ subst (λ (m : Moment). IsKeptTime m.world.machine relation time) (sym (past-end tells t.calls t.answers t.start t.end t.promises.chain n past)) kept
 ]
 
-times-on : {tells : Bool} (t : Trace tells) (p d relation time : ℕ) → ((i floor : ℕ) → p ≤ i → i < on p d → IsCall t i (call.Floor floor) (answer.Floor (Ok tt)) → floor ≤ time) → IsKeptTime (machine_at t p) relation time → IsKeptTime (machine_at t (on p d)) relation time
+times-on : {tells : Bool} (t : Trace tells) (p d relation time : ℕ) → ((i : ℕ) (scope : Option ℕ) (floor : ℕ) → p ≤ i → i < on p d → IsCall t i (call.Floor scope floor) (answer.Floor (Ok tt)) → IsTrue (covers scope relation) → floor ≤ time) → IsKeptTime (machine_at t p) relation time → IsKeptTime (machine_at t (on p d)) relation time
 times-on t p zero relation time low kept = kept
 times-on t p (suc d) relation time low kept =
-    next-times t (on p d) relation time (λ floor is. low (on p d) floor (omega (arith, on-is p d)) (omega arith) is)
-    (times-on t p d relation time (λ i floor from upto is. low i floor from (omega (arith, upto)) is) kept)
+    next-times t (on p d) relation time (λ scope floor is. low (on p d) scope floor (omega (arith, on-is p d)) (omega arith) is)
+    (times-on t p d relation time (λ i scope floor from upto is. low i scope floor from (omega (arith, upto)) is) kept)
 
 pub times-stay-kept : TimesStayKept
 times-stay-kept tells t p q relation time low kept floors =
     let same : on p (q - p) ≡ q = omega (arith, low, on-is p (q - p)) in
-    subst (λ (n : ℕ). IsKeptTime (machine_at t n) relation time) same (times-on t p (q - p) relation time (λ i floor from upto is. floors i floor from (omega (arith, upto, same)) is) kept)
+    subst (λ (n : ℕ). IsKeptTime (machine_at t n) relation time) same (times-on t p (q - p) relation time (λ i scope floor from upto is. floors i scope floor from (omega (arith, upto, same)) is) kept)
 
 leaves-at : {tells : Bool} (t : Trace tells) (p : ℕ) → Leaves tells (moment_at t p)
 leaves-at {tells} t p =

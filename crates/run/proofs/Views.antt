@@ -1,12 +1,10 @@
 -- The calls of views, and those that ask of what is published.
-use Rattle.std.proofs.Common.{◌≡◌, ℕ, ◌+◌, ◌≤◌, ◌==◌, Bool, true, false, List, [], ◌∷◌, ◌++◌, Some, None, Option, Result, Ok, Err, Vec, MatchBool, refl, sym, ◌∙◌, ap, subst, arith}
+use Rattle.std.proofs.Common.{◌≡◌, ℕ, ◌+◌, ◌≤◌, Bool, true, false, List, [], ◌∷◌, ◌++◌, Some, None, Option, Result, Ok, Err, Vec, MatchBool, refl, sym, ◌∙◌, ap, subst, arith}
 use Rattle.std.specs.Prelude.{slice_get, slice_set, IfOk}
 use Rattle.std.specs.declared.alloc.Global.{Global}
 use Rattle.std.specs.declared.alloc.AllocError.{AllocError}
-use Rattle.std.proofs.lemmas.Bool.Decides.{nat_tests}
 use Rattle.history.specs.declared.key.Key.{Key}
 use Rattle.history.specs.declared.time.Version.{Version}
-use Rattle.history.specs.Answers as answers
 use Rattle.image.specs.Values.{Value}
 use Rattle.disk.specs.Calls.{DiskState}
 use Rattle.timequery.specs.Faults.{after_query}
@@ -21,7 +19,7 @@ use Rattle.history.specs.Histories.{History}
 use Rattle.standing.specs.Homes.{ViewStands, ViewReads, GoesOn}
 use Rattle.standing.specs.Stands.{Stands}
 use Rattle.standing.proofs.Answering.{times-of_label}
-use Rattle.standing.proofs.Asking.{query-stands}
+use Rattle.standing.proofs.GrowingViews.{query-stands}
 use Rattle.standing.proofs.Views.{view-of-history, at-answered, scan_at-answered, between-answered, scan_between-answered}
 use Rattle.run.specs.declared.calls.Call.TheVariants as call
 use Rattle.run.specs.declared.calls.Answer.TheVariants as answer

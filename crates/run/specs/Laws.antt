@@ -94,10 +94,10 @@ StepIsList = (tells : Bool) (old new : StoreValue) (before after : List Held) (c
 abbrev pub IsKeptTime : Machine Value → ℕ → ℕ → Type 0
 IsKeptTime m relation time = (m.floors relation ≤ time) × MatchOption m.raising (Unit {0}) (λ r. IsTrue (covers r.scope relation) → r.floor ≤ time)
 
--- A time that is kept stays so, unless a call between begins a later floor.
+-- A time that is kept of a relation stays so, unless a call between begins a later floor that covers it.
 abbrev pub TimesStayKept : Type 0
 TimesStayKept = (tells : Bool) (t : Trace tells) (p q relation time : ℕ) → p ≤ q → IsKeptTime (machine_at t p) relation time
-    → ((i floor : ℕ) → p ≤ i → i < q → IsCall t i (call.Floor floor) (answer.Floor (Ok tt)) → floor ≤ time) → IsKeptTime (machine_at t q) relation time
+    → ((i : ℕ) (scope : Option ℕ) (floor : ℕ) → p ≤ i → i < q → IsCall t i (call.Floor scope floor) (answer.Floor (Ok tt)) → IsTrue (covers scope relation) → floor ≤ time) → IsKeptTime (machine_at t q) relation time
 
 -- and no floor falls
 abbrev pub FloorsRise : Type 0

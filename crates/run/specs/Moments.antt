@@ -54,6 +54,7 @@ with_answer (answer.TimesOf said) done = done
 with_answer (answer.Archive said) done = done
 with_answer (answer.Reclaim said) done = done
 with_answer (answer.Floor said) done = done
+with_answer (answer.Grow said) done = done
 with_answer (answer.JobPump said) done = done
 
 -- a commit of this time stands in the history

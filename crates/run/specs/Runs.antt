@@ -1,5 +1,5 @@
 -- What each call answers and does, and lists of calls.
-use Rattle.std.specs.Prelude.{ℕ, ◌≡◌, ◌≢◌, ◌<◌, ◌≤◌, ◌⊎◌, ◌+◌, ◌↔◌, ◌++◌, Bool, true, false, List, [], ◌∷◌, map, is_some, IsSome, Option, None, Some, Contains, Result, Ok, Err, IfOk, IfErr, OnOk, OnErr, MatchBool, Vec, if◌then◌else◌}
+use Rattle.std.specs.Prelude.{ℕ, ◌≡◌, ◌≢◌, ◌<◌, ◌≤◌, ◌⊎◌, ◌+◌, ◌↔◌, ◌++◌, Bool, true, false, List, [], map, is_some, IsSome, Option, None, Some, Contains, Result, Ok, Err, IfOk, IfErr, OnOk, OnErr, MatchBool, Vec, if◌then◌else◌}
 use Rattle.std.specs.declared.alloc.Global.{Global}
 use Rattle.std.specs.declared.alloc.AllocError.{AllocError}
 use Rattle.history.specs.declared.key.Key.{Key}
@@ -180,6 +180,7 @@ ListsTimes w label said next = IfOk said (λ times. times.items ≡ answers.time
 abbrev pub Archives : World → ℕ → Result (Unit {0}) StartFault → World → Type 0
 Archives w upto (Ok u) next = (w.machine.failed ≡ false) × (upto ≤ last w.machine.published) × (next ≡ same w)
 Archives w upto (Err start.Failed) next = (w.machine.failed ≡ true) × (next ≡ same w)
+Archives w upto (Err start.WrongProfile) next = ⊥
 Archives w upto (Err start.JobBusy) next = next ≡ same w
 Archives w upto (Err start.NothingToDo) next = next ≡ same w
 Archives w upto (Err (start.NotYet time)) next = (time ≡ last w.machine.published) × (time < upto) × (next ≡ same w)
@@ -188,11 +189,13 @@ Archives w upto (Err start.ArchiveFull) next = next ≡ same w
 Archives w upto (Err (start.InUse time)) next = ⊥
 Archives w upto (Err start.HeapFull) next = ⊥
 Archives w upto (Err start.NoMemory) next = next ≡ same w
+Archives w upto (Err start.NotGrowable) next = ⊥
 
 -- nor does a reclaim; it does not begin where an open transaction reads what it is to forget
 abbrev pub Reclaims : World → Result (Unit {0}) StartFault → World → Type 0
 Reclaims w (Ok u) next = (w.machine.failed ≡ false) × (next ≡ same w)
 Reclaims w (Err start.Failed) next = (w.machine.failed ≡ true) × (next ≡ same w)
+Reclaims w (Err start.WrongProfile) next = ⊥
 Reclaims w (Err start.JobBusy) next = next ≡ same w
 Reclaims w (Err start.NothingToDo) next = next ≡ same w
 Reclaims w (Err (start.InUse time)) next = Contains w.machine.snapshots time × (next ≡ same w)
@@ -201,19 +204,37 @@ Reclaims w (Err start.HeapFull) next = next ≡ same w
 Reclaims w (Err start.NoMemory) next = next ≡ same w
 Reclaims w (Err (start.NotYet time)) next = ⊥
 Reclaims w (Err start.ArchiveFull) next = ⊥
+Reclaims w (Err start.NotGrowable) next = ⊥
 
--- A floor begins where the machine may raise it, or is refused as the machine says; which slots there are and what job runs the machine does not know.
-abbrev pub Raises : World → ℕ → Result (Unit {0}) StartFault → World → Type 0
-Raises w floor (Ok u) next = steps.Step IsValue w.machine (steps.FloorStarted (raising_to floor)) (steps.floor_started w.machine (raising_to floor)) × (next ≡ same (moved w (steps.floor_started w.machine (raising_to floor))))
-Raises w floor (Err start.NothingToDo) next = steps.Step IsValue w.machine (steps.FloorRefused (raising_to floor) floors.NothingToDo) w.machine × (next ≡ same w)
-Raises w floor (Err (start.NotYet time)) next = steps.Step IsValue w.machine (steps.FloorRefused (raising_to floor) (floors.NotYet time)) w.machine × (next ≡ same w)
-Raises w floor (Err (start.InUse snapshot)) next = steps.Step IsValue w.machine (steps.FloorRefused (raising_to floor) (floors.InUse snapshot)) w.machine × (next ≡ same w)
-Raises w floor (Err start.Failed) next = (w.machine.failed ≡ true) × (next ≡ same w)
-Raises w floor (Err start.JobBusy) next = next ≡ same w
-Raises w floor (Err start.StatusFull) next = next ≡ same w
-Raises w floor (Err start.ArchiveFull) next = ⊥
-Raises w floor (Err start.HeapFull) next = ⊥
-Raises w floor (Err start.NoMemory) next = ⊥
+-- A floor begins where the machine may raise it, or is refused as the machine says; which slots there are, what job runs and the store's profile the machine does not know. One of one relation may want for memory.
+abbrev pub Raises : World → Option ℕ → ℕ → Result (Unit {0}) StartFault → World → Type 0
+Raises w scope floor (Ok u) next = steps.Step IsValue w.machine (steps.FloorStarted (raising_to scope floor)) (steps.floor_started w.machine (raising_to scope floor)) × (next ≡ same (moved w (steps.floor_started w.machine (raising_to scope floor))))
+Raises w scope floor (Err start.NothingToDo) next = steps.Step IsValue w.machine (steps.FloorRefused (raising_to scope floor) floors.NothingToDo) w.machine × (next ≡ same w)
+Raises w scope floor (Err (start.NotYet time)) next = steps.Step IsValue w.machine (steps.FloorRefused (raising_to scope floor) (floors.NotYet time)) w.machine × (next ≡ same w)
+Raises w scope floor (Err (start.InUse snapshot)) next = steps.Step IsValue w.machine (steps.FloorRefused (raising_to scope floor) (floors.InUse snapshot)) w.machine × (next ≡ same w)
+Raises w scope floor (Err start.Failed) next = (w.machine.failed ≡ true) × (next ≡ same w)
+Raises w scope floor (Err start.WrongProfile) next = next ≡ same w
+Raises w scope floor (Err start.JobBusy) next = next ≡ same w
+Raises w scope floor (Err start.StatusFull) next = next ≡ same w
+Raises w scope floor (Err start.ArchiveFull) next = ⊥
+Raises w scope floor (Err start.HeapFull) next = ⊥
+Raises w scope floor (Err start.NoMemory) next = IsSome scope × (next ≡ same w)
+Raises w scope floor (Err start.NotGrowable) next = ⊥
+
+-- a growth changes nothing of the machine, nor does the machine know how many slots there may be
+abbrev pub Grows : World → Result (Unit {0}) StartFault → World → Type 0
+Grows w (Ok u) next = (w.machine.failed ≡ false) × (next ≡ same w)
+Grows w (Err start.Failed) next = (w.machine.failed ≡ true) × (next ≡ same w)
+Grows w (Err start.JobBusy) next = next ≡ same w
+Grows w (Err start.NotGrowable) next = next ≡ same w
+Grows w (Err start.WrongProfile) next = ⊥
+Grows w (Err start.NothingToDo) next = ⊥
+Grows w (Err (start.NotYet time)) next = ⊥
+Grows w (Err (start.InUse time)) next = ⊥
+Grows w (Err start.StatusFull) next = ⊥
+Grows w (Err start.ArchiveFull) next = ⊥
+Grows w (Err start.HeapFull) next = ⊥
+Grows w (Err start.NoMemory) next = ⊥
 
 -- Of a job's steps those of a floor's slot are the machine's; and it fails where the device refuses one.
 abbrev pub JobPumps : World → Result JobDid PumpFault → World → Type 0
@@ -243,7 +264,8 @@ NamesNone w (call.End i) = IsNoView (place_at w.places i)
 NamesNone w (call.TimesOf label) = ⊥
 NamesNone w (call.Archive upto) = ⊥
 NamesNone w call.Reclaim = ⊥
-NamesNone w (call.Floor floor) = ⊥
+NamesNone w (call.Floor scope floor) = ⊥
+NamesNone w call.Grow = ⊥
 NamesNone w call.JobPump = ⊥
 
 -- The call may have this answer, and then lead to this world. It is Unknown exactly where the place that it names holds no such value.
@@ -268,7 +290,8 @@ Does tells w (call.End i) answer.End next = Closes w i (place_at w.places i) nex
 Does tells w (call.TimesOf label) (answer.TimesOf said) next = ListsTimes w label said next
 Does tells w (call.Archive upto) (answer.Archive said) next = Archives w upto said next
 Does tells w call.Reclaim (answer.Reclaim said) next = Reclaims w said next
-Does tells w (call.Floor floor) (answer.Floor said) next = Raises w floor said next
+Does tells w (call.Floor scope floor) (answer.Floor said) next = Raises w scope floor said next
+Does tells w call.Grow (answer.Grow said) next = Grows w said next
 Does tells w call.JobPump (answer.JobPump said) next = JobPumps w said next
 Does tells w c a next = ⊥
 

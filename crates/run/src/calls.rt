@@ -83,10 +83,13 @@ pub enum Call<'a> {
     },
     /// Begins a reclaim: the heap and memory are to give up what ended by the archive mark.
     Reclaim,
-    /// Begins to raise the floor of every relation to this time, in microseconds since 1970: what ended by it need not be kept.
+    /// Begins to raise the floor of one relation, or of every relation, to this time, in microseconds since 1970: what ended by it need not be kept.
     Floor {
+        scope: Option<u16>,
         floor: u64,
     },
+    /// Begins to make 256 slots more.
+    Grow,
     /// The next step of the job that runs.
     JobPump,
 }
@@ -138,5 +141,6 @@ pub enum Answer {
     Archive(Result<(), StartFault>),
     Reclaim(Result<(), StartFault>),
     Floor(Result<(), StartFault>),
+    Grow(Result<(), StartFault>),
     JobPump(Result<JobDid, PumpFault>),
 }

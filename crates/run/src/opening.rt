@@ -13,6 +13,7 @@ ghost use Rattle.recovery.specs.Settling.{Settles, CountsMore, CountsAtMost};
 ghost use Rattle.store.specs.Opens.{Opens, OpenRefuses};
 ghost use Rattle.standing.specs.OnDisk.{IsImageOf};
 ghost use Rattle.standing.specs.Stands.{Stands};
+ghost use Rattle.opened.specs.Laws.{LeavesFronts};
 ghost use Rattle.run.specs.Promise.{Promise};
 
 use disk::Disk;
@@ -27,9 +28,9 @@ use store::{OpenFault, Store};
 /// Those of `recovery::format`.
 pub fn format<D: Disk>(alloc: Global, disk: &mut D, slots: u32) -> Result<(), FormatFault>
     // Whatever a stop may leave of a formatted disk is an image of the empty history.
-    ensures stands { IsTrue D.tells → OnOk result ((image : Image) → LeavesImage (D.state disk.new).areas image → IsImageOf (new_header 1 slots) image [] (λ relation. 0)) }
+    ensures stands { IsTrue D.tells → OnOk result ((image : Image) → LeavesImage (D.state disk.new).areas image → IsImageOf (new_header 3 slots) image [] (λ relation. 0)) }
     // So is what is read of it, which is what `open` speaks of.
-    ensures reads { IsTrue D.tells → OnOk result (IsImageOf (new_header 1 slots) (image_of (D.state disk.new).areas) [] (λ relation. 0)) }
+    ensures reads { IsTrue D.tells → OnOk result (IsImageOf (new_header 3 slots) (image_of (D.state disk.new).areas) [] (λ relation. 0)) }
     ensures bad_slots { (result ≡ Err FormatFault.BadSlots) ↔ ¬ IsSlotCount slots }
     ensures occupied { IsTrue D.tells → result ≡ Err FormatFault.Occupied → IsOccupied (D.state disk.old).areas.status.bytes }
     ensures free { IsTrue D.tells → IsOccupied (D.state disk.old).areas.status.bytes → IsTakenAnswer result }
@@ -63,7 +64,7 @@ pub fn open<D: Disk>(alloc: Global, disk: D, mark: u64) -> Result<Store<D>, (Ope
 pub fn close<D: Disk>(store: Store<D>) -> D
     ensures state { D.state result ≡ store.disk }
     // Whatever a stop may leave of the disk is an image of a front of the commit order.
-    ensures stands { (m : Machine Value) → Stands D.tells store m → IsTrue D.tells → (header : Header) × ((image : Image) → LeavesImage (D.state result).areas image → OnFront (IsImageOf header image) m) }
+    ensures stands { (m : Machine Value) → Stands D.tells store m → IsTrue D.tells → LeavesFronts (D.state result).areas m }
     // What is read of the disk, of which `open` speaks, is among it.
     ensures reads { IsTrue D.tells → LeavesImage (D.state result).areas (image_of (D.state result).areas) }
 {

@@ -160,7 +160,8 @@ fn answer_call<D: Disk>(
         Call::TimesOf { label } => (times_of(store, places, label), Held::Nothing),
         Call::Archive { upto } => (archive(store, places, upto), Held::Nothing),
         Call::Reclaim => (reclaim(store, places), Held::Nothing),
-        Call::Floor { floor } => (raise_floor(store, places, floor), Held::Nothing),
+        Call::Floor { scope, floor } => (raise_floor(store, places, scope, floor), Held::Nothing),
+        Call::Grow => (grow(store, places), Held::Nothing),
         Call::JobPump => (job_pump(store, places), Held::Nothing),
     }
 }
@@ -189,12 +190,25 @@ fn reclaim<D: Disk>(store: &mut Store<D>, places: &[Held]) -> Answer
     Answer::Reclaim(store.reclaim_start())
 }
 
-fn raise_floor<D: Disk>(store: &mut Store<D>, places: &[Held], floor: u64) -> Answer
-    ensures goes { Goes D.tells store.old places.now (Call.Floor floor) result store.new (places.now ++ Held.Nothing ∷ []) }
+fn raise_floor<D: Disk>(
+    store: &mut Store<D>,
+    places: &[Held],
+    scope: Option<u16>,
+    floor: u64,
+) -> Answer
+    ensures goes { Goes D.tells store.old places.now (Call.Floor scope floor) result store.new (places.now ++ Held.Nothing ∷ []) }
     ensures made { MakesFew store.old store.new }
 {
     let _ = places;
-    Answer::Floor(store.floor_start(floor))
+    Answer::Floor(store.start_floor(scope, floor))
+}
+
+fn grow<D: Disk>(store: &mut Store<D>, places: &[Held]) -> Answer
+    ensures goes { Goes D.tells store.old places.now Call.Grow result store.new (places.now ++ Held.Nothing ∷ []) }
+    ensures made { MakesFew store.old store.new }
+{
+    let _ = places;
+    Answer::Grow(store.grow_start())
 }
 
 fn job_pump<D: Disk>(store: &mut Store<D>, places: &[Held]) -> Answer

@@ -70,10 +70,15 @@ abbrev pub archive_of : List Text → Option Line
 archive_of (time ∷ []) = option_map (λ t. line.Archive t) (time_in time)
 archive_of _ = None
 
--- the time that the floor is raised to
+-- the time that the floor of every relation is raised to
 abbrev pub floor_of : List Text → Option Line
-floor_of (time ∷ []) = option_map (λ t. line.Floor t) (time_in time)
+floor_of (time ∷ []) = option_map (λ t. line.Floor None t) (time_in time)
 floor_of _ = None
+
+-- a relation, and the time that its floor is raised to
+abbrev pub floorof_of : List Text → Option Line
+floorof_of (relation ∷ time ∷ []) = option_and_then (λ r. option_map (λ t. line.Floor (Some r) t) (time_in time)) (number_in 65_535 relation)
+floorof_of _ = None
 
 -- a line of its command alone
 abbrev pub alone : Line → List Text → Option Line
@@ -99,10 +104,12 @@ line_of (command ∷ rest) =
     else (if bytes_eq command (codes "archive") then archive_of rest
     else (if bytes_eq command (codes "reclaim") then alone line.Reclaim rest
     else (if bytes_eq command (codes "floor") then floor_of rest
+    else (if bytes_eq command (codes "floorof") then floorof_of rest
+    else (if bytes_eq command (codes "grow") then alone line.Grow rest
     else (if bytes_eq command (codes "job") then alone line.Job rest
     else (if bytes_eq command (codes "finish") then alone line.Finish rest
     else (if bytes_eq command (codes "reopen") then alone line.Reopen rest
-    else None))))))))))))))))))
+    else None))))))))))))))))))))
 
 -- what a line of the script asks for, if it has such a form
 abbrev pub said : Text → Option Line

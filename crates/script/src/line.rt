@@ -43,9 +43,12 @@ pub enum Line<'a> {
     Archive(u64),
     /// Begins a reclaim of what is archived.
     Reclaim,
-    /// Begins to raise the floor to a time: what stood before it need not be kept.
-    Floor(u64),
-    /// Takes one step of the archive, the reclaim or the floor that is being made.
+    /// Begins to raise the floor of one relation, or of every relation, to a time: what stood before it need
+    /// not be kept.
+    Floor(Option<u16>, u64),
+    /// Begins to make 256 slots more.
+    Grow,
+    /// Takes one step of the archive, the reclaim, the floor or the slots that are being made.
     Job,
     /// Takes steps of it until nothing is left to do, or one is refused.
     Finish,
@@ -181,7 +184,19 @@ fn floor<'a>(mut words: Words<'a>) -> Option<Line<'a>>
     if !words.is_empty() {
         return None;
     }
-    Some(Line::Floor(read_time(floor)?))
+    Some(Line::Floor(None, read_time(floor)?))
+}
+
+fn floor_of<'a>(mut words: Words<'a>) -> Option<Line<'a>>
+    ensures { result ≡ told.floorof_of words.entry }
+{
+    let relation = words.next()?;
+    let floor = words.next()?;
+    if !words.is_empty() {
+        return None;
+    }
+    let relation = relation_number(relation)?;
+    Some(Line::Floor(Some(relation), read_time(floor)?))
 }
 
 /// A line of its command alone.
@@ -229,6 +244,10 @@ fn read<'a>(command: &[u8], words: Words<'a>) -> Option<Line<'a>>
         alone(Line::Reclaim, words)
     } else if is(command, "floor") {
         floor(words)
+    } else if is(command, "floorof") {
+        floor_of(words)
+    } else if is(command, "grow") {
+        alone(Line::Grow, words)
     } else if is(command, "job") {
         alone(Line::Job, words)
     } else if is(command, "finish") {

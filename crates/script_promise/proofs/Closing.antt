@@ -1,5 +1,5 @@
 -- A session is closed, and its store opened again or not.
-use Rattle.std.proofs.Common.{◌≡◌, ℕ, suc, ◌+◌, Bool, IsTrue, List, [], ◌∷◌, ◌++◌, length, map, take, Some, None, Option, refl, sym, ◌∙◌, ap, subst, inl, inr}
+use Rattle.std.proofs.Common.{◌≡◌, ℕ, suc, Bool, IsTrue, List, [], ◌∷◌, ◌++◌, length, map, take, Some, None, Option, refl, sym, ◌∙◌, ap, subst, inl, inr}
 use Rattle.std.specs.Prelude.{slice_get, slice_set}
 use Rattle.std.specs.List.{AllByRecursion}
 use Rattle.disk.specs.Areas.{LeavesImage, image_of}
@@ -119,11 +119,11 @@ reopen-keeps tells told m is r new reopens =
     let c = close-keeps tells m is reopens.given reopens.closes in
     let given = reopens.given in
     let machine = c.closed.end.world.machine in
-    let on = c.is.world.stands.disk told in
     let left : LeavesImage c.store.disk.areas (image_of given.areas) = closed-left c.store given c.same (reopens.sound told) in
+    let on = (c.is.world.stands.disk told).leaves (image_of given.areas) left in
     let published : AllByRecursion (HasCommitAt machine.published) m.done = subst (λ (times : List ℕ). AllByRecursion (HasCommitAt machine.published) times) c.closed.done c.is.published in
-    at-front (IsImageOf on.header (image_of given.areas)) machine m.done published (λ h floors image has into.
-    let stands = open-stands tells given 1 reopens.opened on.header h floors reopens.opens told (reopens.sound told) image in
+    at-front (IsImageOf on.found (image_of given.areas)) machine m.done published (λ h floors image has into.
+    let stands = open-stands tells given 1 reopens.opened on.found h floors reopens.opens told (reopens.sound told) image in
     let after : ScriptMoment = record { state = fresh reopens.opened; machine = opened h floors; done = m.done } in
     let at = opened-moment tells reopens.opened h floors m.done stands has in
     record {
@@ -139,7 +139,7 @@ reopen-keeps tells told m is r new reopens =
       };
       is = at;
     })
-    (on.leaves (image_of given.areas) left)
+    on.front
 
 pub unopened-keeps : (tells : Bool) → IsTrue tells → (m : ScriptMoment) → IsScriptMoment tells m → (why : OpenFault) (disk : DiskState) → DoesNotReopen tells m.state why disk → KeepsUnopened tells m why disk
 unopened-keeps tells told m is why disk refused =

@@ -13,7 +13,7 @@ use Rattle.timequery.specs.declared.fault.QueryFault.{QueryFault}
 use Rattle.timequery.specs.declared.fault.QueryFault.TheVariants as query
 use Rattle.script.specs.declared.line.Line.{Line}
 use Rattle.script.specs.declared.line.Line.TheVariants as line
-use Rattle.session.specs.Session.{State, KeepsNames, StepsGroup, StepsJob, PumpStep, TakesSteps, Flushes, JobStep, TakesJobSteps, Finishes, ArchiveStep, ReclaimStep, FloorStep, AtStep, ScanStep, BetweenStep, TimesStep}
+use Rattle.session.specs.Session.{State, KeepsNames, StepsGroup, StepsJob, PumpStep, TakesSteps, Flushes, JobStep, TakesJobSteps, Finishes, ArchiveStep, ReclaimStep, GrowStep, FloorStep, AtStep, ScanStep, BetweenStep, TimesStep}
 use Rattle.session.specs.Session as session
 use Rattle.session.specs.Texts.{Text}
 use Rattle.session.specs.declared.fault.Fault.TheVariants as fault
@@ -35,6 +35,7 @@ use Rattle.run.specs.Promise.{Chain}
 use Rattle.run.specs.Runs.{Goes}
 use Rattle.run.proofs.Archiving.{start-goes, reclaim-goes, start-few, reclaim-few, pumped-goes, pumped-few}
 use Rattle.run.proofs.FloorCalls.{floor-goes, floor-few}
+use Rattle.run.proofs.GrowCalls.{grow-goes, grow-few}
 use Rattle.run.proofs.Pumping.{pump-goes, pump-few}
 use Rattle.run.proofs.Views.{asked-few, view-goes, at-goes, scan_at-goes, between-goes, end-goes, times-goes}
 use Rattle.script_promise.specs.ScriptMoments.{ScriptMoment, held_of, moment_of, with_reply}
@@ -117,10 +118,15 @@ reclaim-line tells m is r new step names =
     by-call tells m is line.Reclaim r call.Reclaim (answer.Reclaim step.0) (step.0, refl, step.2) (silent r _ m.done step.2 (started-silent step.0 m.done))
     new.store (held_of m.state ++ held.Nothing ∷ []) (reclaim-goes tells m.state.store new.store (held_of m.state) step.0 step.1) (reclaim-few m.state.store new.store step.0 step.1) new refl (kept-more m new names)
 
-pub floor-line : (tells : Bool) (m : ScriptMoment) → IsScriptMoment tells m → (floor : ℕ) (r : Reply) (new : State) → FloorStep m.state.store floor r new.store → KeepsNames m.state new → LeadsTo tells (line.Floor floor) r m new
-floor-line tells m is floor r new step names =
-    by-call tells m is (line.Floor floor) r (call.Floor floor) (answer.Floor step.0) (step.0, refl, step.2) (silent r _ m.done step.2 (started-silent step.0 m.done))
-    new.store (held_of m.state ++ held.Nothing ∷ []) (floor-goes tells m.state.store new.store (held_of m.state) floor step.0 step.1) (floor-few m.state.store new.store floor step.0 step.1) new refl (kept-more m new names)
+pub floor-line : (tells : Bool) (m : ScriptMoment) → IsScriptMoment tells m → (scope : Option ℕ) (floor : ℕ) (r : Reply) (new : State) → FloorStep m.state.store scope floor r new.store → KeepsNames m.state new → LeadsTo tells (line.Floor scope floor) r m new
+floor-line tells m is scope floor r new step names =
+    by-call tells m is (line.Floor scope floor) r (call.Floor scope floor) (answer.Floor step.0) (step.0, refl, step.2) (silent r _ m.done step.2 (started-silent step.0 m.done))
+    new.store (held_of m.state ++ held.Nothing ∷ []) (floor-goes tells m.state.store new.store (held_of m.state) scope floor step.0 step.1) (floor-few m.state.store new.store scope floor step.0 step.1) new refl (kept-more m new names)
+
+pub grow-line : (tells : Bool) (m : ScriptMoment) → IsScriptMoment tells m → (r : Reply) (new : State) → GrowStep m.state.store r new.store → KeepsNames m.state new → LeadsTo tells line.Grow r m new
+grow-line tells m is r new step names =
+    by-call tells m is line.Grow r call.Grow (answer.Grow step.0) (step.0, refl, step.2) (silent r _ m.done step.2 (started-silent step.0 m.done))
+    new.store (held_of m.state ++ held.Nothing ∷ []) (grow-goes tells m.state.store new.store (held_of m.state) step.0 step.1) (grow-few m.state.store new.store step.0 step.1) new refl (kept-more m new names)
 
 worked-silent : (o : Result JobDid PumpFault) (done : List ℕ) → with_reply (session.worked o) done ≡ done
 worked-silent (Ok step) done = refl
@@ -275,4 +281,5 @@ times-line tells m is label r new step same = subst (λ (s : State). LeadsTo tel
     by-reply (reply.Rows x) of = refused _ of
     by-reply (reply.Records x) of = refused _ of
     by-reply (reply.Opened x y) of = refused _ of
+    by-reply (reply.OpenedByRelation x y) of = refused _ of
     by-reply (reply.Refused x) of = refused _ of

@@ -15,7 +15,7 @@ use Rattle.script_promise.specs.ScriptMoments.{ScriptMoment}
 use Rattle.script_promise.specs.Keeps.{KeepsBy, LineKeeps, KeepsUnopened}
 use Rattle.script_promise.specs.Promise.{BadKeeps, CutKeeps, UnopenedKeeps, UnsaidKeeps, TurnKeeps, ScriptKeeps, ScriptPromise}
 use Rattle.script_promise.proofs.Leading.{IsScriptMoment}
-use Rattle.script_promise.proofs.Lines.{pump-line, flush-line, archive-line, reclaim-line, floor-line, job-line, finish-line, at-line, scan-line, between-line, times-line}
+use Rattle.script_promise.proofs.Lines.{pump-line, flush-line, archive-line, reclaim-line, floor-line, grow-line, job-line, finish-line, at-line, scan-line, between-line, times-line}
 use Rattle.script_promise.proofs.Steps.{begin-line, put-line, delete-line, get-line, abort-line, submit-line, redeem-line}
 use Rattle.script_promise.proofs.Closing.{close-keeps, reopen-keeps, unopened-keeps, first-script}
 
@@ -42,7 +42,8 @@ line-leads tells told m is (line.Scan relation time) r new step = let to = scan-
 line-leads tells told m is (line.Times label) r new step = let to = times-line tells m is label r new step.0 step.1 in record { after = to.after; is_state = to.is_state; keeps = to.keeps; is = to.is }
 line-leads tells told m is (line.Archive upto) r new step = let to = archive-line tells m is upto r new step.0 step.1 in record { after = to.after; is_state = to.is_state; keeps = to.keeps; is = to.is }
 line-leads tells told m is line.Reclaim r new step = let to = reclaim-line tells m is r new step.0 step.1 in record { after = to.after; is_state = to.is_state; keeps = to.keeps; is = to.is }
-line-leads tells told m is (line.Floor floor) r new step = let to = floor-line tells m is floor r new step.0 step.1 in record { after = to.after; is_state = to.is_state; keeps = to.keeps; is = to.is }
+line-leads tells told m is (line.Floor scope floor) r new step = let to = floor-line tells m is scope floor r new step.0 step.1 in record { after = to.after; is_state = to.is_state; keeps = to.keeps; is = to.is }
+line-leads tells told m is line.Grow r new step = let to = grow-line tells m is r new step.0 step.1 in record { after = to.after; is_state = to.is_state; keeps = to.keeps; is = to.is }
 line-leads tells told m is line.Job r new step = let to = job-line tells m is r new step.0 step.1 in record { after = to.after; is_state = to.is_state; keeps = to.keeps; is = to.is }
 line-leads tells told m is line.Finish r new step = let to = finish-line tells m is r new step.0 step.1 in record { after = to.after; is_state = to.is_state; keeps = to.keeps; is = to.is }
 line-leads tells told m is line.Reopen r new step = let to = reopen-keeps tells told m is r new step in record { after = to.after; is_state = to.is_state; keeps = to.keeps; is = to.is }
@@ -65,7 +66,8 @@ line-ends tells told m is (line.Scan relation time) why disk refuses = absurd re
 line-ends tells told m is (line.Times label) why disk refuses = absurd refuses
 line-ends tells told m is (line.Archive upto) why disk refuses = absurd refuses
 line-ends tells told m is line.Reclaim why disk refuses = absurd refuses
-line-ends tells told m is (line.Floor floor) why disk refuses = absurd refuses
+line-ends tells told m is (line.Floor scope floor) why disk refuses = absurd refuses
+line-ends tells told m is line.Grow why disk refuses = absurd refuses
 line-ends tells told m is line.Job why disk refuses = absurd refuses
 line-ends tells told m is line.Finish why disk refuses = absurd refuses
 

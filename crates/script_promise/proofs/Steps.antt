@@ -20,7 +20,7 @@ use Rattle.session.specs.declared.names.OpenName.{OpenName}
 use Rattle.session.specs.declared.names.TicketName.{TicketName}
 use Rattle.session.specs.declared.reply.Reply.{Reply}
 use Rattle.session.specs.declared.reply.Reply.TheVariants as reply
-use Rattle.standing.proofs.Calling.{begin-stands}
+use Rattle.standing.proofs.GrowingCalls.{begin-stands}
 use Rattle.store.specs.Calls as stores
 use Rattle.run.specs.declared.calls.Call.TheVariants as call
 use Rattle.run.specs.declared.calls.Answer.TheVariants as answer
@@ -34,7 +34,7 @@ use Rattle.run.proofs.Reading.{get-goes, put-goes, delete-goes}
 use Rattle.run.proofs.Submitting.{submit-goes}
 use Rattle.run.proofs.Tickets.{redeem-goes}
 use Rattle.script_promise.specs.ScriptMoments.{ScriptMoment, held_of, with_reply}
-use Rattle.script_promise.specs.Says.{Exchange, Says, SaysBegin, SaysPut, SaysDelete, SaysGet, SaysSubmit, SaysAbort, SaysRedeem, RefusesName, no_call}
+use Rattle.script_promise.specs.Says.{Exchange, Says, SaysBegin, SaysPut, SaysDelete, SaysGet, SaysSubmit, SaysAbort, SaysRedeem, no_call}
 use Rattle.script_promise.proofs.Among.{Among, all, wider}
 use Rattle.script_promise.proofs.Names.{as-state, held_in, open-held, open-added, open-removed, open-changed, ticket-held, ticket-removed, ticket-changed, ticket-added}
 use Rattle.script_promise.proofs.Leading.{IsScriptMoment, LeadsTo, silent, by-call, by-none, by-refusal, by-name, same-few}

@@ -145,8 +145,11 @@ SaysArchive upto made r = (said : Result (Unit {0}) StartFault) × (made ≡ one
 abbrev pub SaysReclaim : Exchange → Reply → Type 0
 SaysReclaim made r = (said : Result (Unit {0}) StartFault) × (made ≡ one_call call.Reclaim (answer.Reclaim said)) × (r ≡ session.started said)
 
-abbrev pub SaysFloor : ℕ → Exchange → Reply → Type 0
-SaysFloor floor made r = (said : Result (Unit {0}) StartFault) × (made ≡ one_call (call.Floor floor) (answer.Floor said)) × (r ≡ session.started said)
+abbrev pub SaysFloor : Option ℕ → ℕ → Exchange → Reply → Type 0
+SaysFloor scope floor made r = (said : Result (Unit {0}) StartFault) × (made ≡ one_call (call.Floor scope floor) (answer.Floor said)) × (r ≡ session.started said)
+
+abbrev pub SaysGrow : Exchange → Reply → Type 0
+SaysGrow made r = (said : Result (Unit {0}) StartFault) × (made ≡ one_call call.Grow (answer.Grow said)) × (r ≡ session.started said)
 
 abbrev pub SaysJob : Exchange → Reply → Type 0
 SaysJob made r = (said : Result JobDid PumpFault) × (made ≡ one_call call.JobPump (answer.JobPump said)) × (r ≡ session.worked said)
@@ -177,7 +180,8 @@ Says m (line.Scan relation time) made r = SaysScan m relation time made r
 Says m (line.Times label) made r = SaysTimes label made r
 Says m (line.Archive upto) made r = SaysArchive upto made r
 Says m line.Reclaim made r = SaysReclaim made r
-Says m (line.Floor floor) made r = SaysFloor floor made r
+Says m (line.Floor scope floor) made r = SaysFloor scope floor made r
+Says m line.Grow made r = SaysGrow made r
 Says m line.Job made r = SaysJob made r
 Says m line.Finish made r = SaysFinish made r
 Says m line.Reopen made r = ⊥

@@ -18,7 +18,7 @@ use Rattle.wire.specs.declared.slot.Run.{Run}
 use Rattle.store.specs.Jobs.{PumpsJob, TakesJobStep, Stores, WritesOrSyncs, AnchorsOrSync, BeginsJobSlot, TurnsJob, first_turn, slot_taken, made_ready}
 use Rattle.store.specs.declared.job.Job.{Job}
 use Rattle.store.specs.declared.job.JobWork.{JobWork}
-use Rattle.store.specs.declared.job.JobWork.TheVariants.{Archive, Reclaim, Floor}
+use Rattle.store.specs.declared.job.JobWork.TheVariants.{Archive, Reclaim, Floor, Grow}
 use Rattle.store.specs.declared.job.JobStage.{JobStage}
 use Rattle.store.specs.declared.job.JobStage.TheVariants as stages
 use Rattle.store.specs.declared.job.JobDid.{JobDid}
@@ -47,12 +47,14 @@ anchors-fewer tells (Some number) anchors source written job old new what takes 
 stores-fewer : (tells : Bool) (work : JobWork) (job : Job) (old new : StoreValue) (what : JobDid) → Stores tells work job old (Ok what) new → IsFewer old.disk new.disk
 stores-fewer tells (Archive run writer) job old new what takes = run-fewer tells writer.left run writer job old new what takes
 stores-fewer tells (Reclaim anchors source written) job old new what takes = anchors-fewer tells (slice_get old.transactions.reserved written) anchors source written job old new what takes
-stores-fewer tells (Floor floor) job old new what takes = absurd takes
+stores-fewer tells (Floor scope floor floors) job old new what takes = absurd takes
+stores-fewer tells (Grow growth) job old new what takes = counted-fewer old.disk new.disk takes.call.counts
 
 first-fewer : (tells : Bool) (work : JobWork) (job : Job) (old new : StoreValue) (what : JobDid) → TurnsJob tells job (first_turn old job) (slot_taken (made_ready work old)) (Ok what) new → IsFewer old.disk new.disk
 first-fewer tells (Archive run writer) job old new what takes = counted-fewer old.disk new.disk takes.call.counts
 first-fewer tells (Reclaim anchors source written) job old new what takes = counted-fewer old.disk new.disk takes.call.counts
-first-fewer tells (Floor floor) job old new what takes = counted-fewer old.disk new.disk takes.call.counts
+first-fewer tells (Floor scope floor floors) job old new what takes = counted-fewer old.disk new.disk takes.call.counts
+first-fewer tells (Grow growth) job old new what takes = counted-fewer old.disk new.disk takes.call.counts
 
 begun-fewer : (tells b : Bool) (job : Job) (old new : StoreValue) (what : JobDid) → MatchBool b (Path (Result JobDid PumpFault) (Ok what) (Err fault.Busy) × (new ≡ old)) (BeginsJobSlot tells job old (Ok what) new) → IsFewer old.disk new.disk
 begun-fewer tells true job old new what takes = absurd (let is = takes.0 in cc)

@@ -1,13 +1,12 @@
 -- A run goes on by one line.
-use Rattle.std.proofs.Common.{subst, sym, ap, ◌∙◌, ◌≡◌, ℕ, ◌+◌, Bool, true, false, List, [], ◌∷◌, ◌++◌, refl, Option, Some, None, Ok, Err, append_assoc, append-nil, inl, inr}
-use Rattle.std.specs.Prelude.{⊤, if◌then◌else◌, MatchOption, MatchResult, Result}
-use Rattle.script.specs.Lines.{said}
+use Rattle.std.proofs.Common.{subst, sym, ap, ◌∙◌, ◌≡◌, ℕ, ◌+◌, Bool, true, false, List, [], ◌∷◌, ◌++◌, refl, Option, Some, None, Ok, Err, append_assoc, inl, inr}
+use Rattle.std.specs.Prelude.{⊤, if◌then◌else◌, MatchOption, Result}
 use Rattle.script.specs.declared.line.Line.{Line}
 use Rattle.script.specs.declared.line.Line.TheVariants.{Reopen}
 use Rattle.std.specs.Io.KnownBytes.{Appends, Keeps}
 use Rattle.std.proofs.KnownBytes.{Appends-kept, Appends-nil, Appends-trans}
 use Rattle.session.specs.Lines.{AreLines, Reads, lines_of}
-use Rattle.session.specs.Run.{Answered, Answers, End, EndsBadly, EndsCut, IsCut, Run, Turn}
+use Rattle.session.specs.Run.{Answered, Answers, End, EndsBadly, IsCut, Run, Turn}
 use Rattle.session.specs.Session.{State, Closes}
 use Rattle.session.specs.Texts.{Text}
 use Rattle.session.specs.declared.ending.Ending.TheVariants as ending

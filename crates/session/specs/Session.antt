@@ -1,5 +1,5 @@
 -- One line of the script, on a store and the names in use.
-use Rattle.std.specs.Prelude.{◌≡◌, ◌≢◌, ℕ, ◌+◌, ◌↔◌, Bool, true, false, not, ◌||◌, ◌⊎◌, ◌<◌, ◌^◌, nat_lt, List, [], ◌∷◌, ◌++◌, length, Option, Some, None, Result, Ok, Err, IfOk, OnOk, OnErr, IsSome, IsTrue, is_some, position, MatchOption, slice_get, remove}
+use Rattle.std.specs.Prelude.{◌≡◌, ◌≢◌, ◌==◌, if◌then◌else◌, ℕ, ◌+◌, ◌↔◌, Bool, true, false, not, ◌||◌, ◌⊎◌, ◌<◌, ◌^◌, nat_lt, List, [], ◌∷◌, ◌++◌, length, Option, Some, None, Result, Ok, Err, IfOk, OnOk, OnErr, IsSome, IsTrue, is_some, position, MatchOption, slice_get, remove}
 use Rattle.std.specs.Str.{bytes_eq}
 use Rattle.std.specs.declared.alloc.AllocError.{AllocError}
 use Rattle.std.specs.declared.alloc.Global.{Global}
@@ -30,6 +30,7 @@ use Rattle.store.specs.Pumps.{Pumps}
 use Rattle.store.specs.Archives.{StartsArchive}
 use Rattle.store.specs.Reclaims.{StartsReclaim}
 use Rattle.store.specs.Floors.{StartsFloor}
+use Rattle.store.specs.Growths.{StartsGrowth}
 use Rattle.store.specs.Jobs.{PumpsJob}
 use Rattle.store.specs.declared.job.StartFault.{StartFault}
 use Rattle.store.specs.declared.job.JobDid.{JobDid}
@@ -230,8 +231,11 @@ ArchiveStep old upto r new = (answer : Result (Unit {0}) StartFault) × StartsAr
 abbrev pub ReclaimStep : StoreValue → Reply → StoreValue → Type 0
 ReclaimStep old r new = (answer : Result (Unit {0}) StartFault) × StartsReclaim old answer new × (r ≡ started answer)
 
-abbrev pub FloorStep : StoreValue → ℕ → Reply → StoreValue → Type 0
-FloorStep old time r new = (answer : Result (Unit {0}) StartFault) × StartsFloor old time answer new × (r ≡ started answer)
+abbrev pub FloorStep : StoreValue → Option ℕ → ℕ → Reply → StoreValue → Type 0
+FloorStep old scope time r new = (answer : Result (Unit {0}) StartFault) × StartsFloor old scope time answer new × (r ≡ started answer)
+
+abbrev pub GrowStep : StoreValue → Reply → StoreValue → Type 0
+GrowStep old r new = (answer : Result (Unit {0}) StartFault) × StartsGrowth old answer new × (r ≡ started answer)
 
 abbrev pub worked : Result JobDid PumpFault → Reply
 worked (Ok step) = reply.JobDid step
@@ -319,6 +323,10 @@ AbortsAll old (e ∷ rest) new = (mid : StoreValue) × IsTxn e.txn × store.Abor
 abbrev pub Closes : State → DiskState → Type 0
 Closes old given = (end : StoreValue) × AbortsAll old.store old.opened end × (given ≡ end.disk)
 
+-- what is said of a store that is open: its last commit and its floor, or how many relations have one where each has its own
+abbrev pub opened_reply : StoreValue → Reply
+opened_reply v = if v.log.profile == 3 then reply.OpenedByRelation (store.last v) (length (store.floors v).own) else reply.Opened (store.last v) (store.floors v).every
+
 -- what is open is aborted, and the store is closed and opened again
 pub record Reopens (tells : Bool) (old : State) (r : Reply) (new : State) : Type 0 where
   pub given : DiskState
@@ -327,7 +335,7 @@ pub record Reopens (tells : Bool) (old : State) (r : Reply) (new : State) : Type
   pub sound : IsTrue tells → AreSound given.areas
   pub opened : StoreValue
   pub opens : Opens tells given 1 opened
-  pub reply : r ≡ reply.Opened (store.last opened) (store.floor opened)
+  pub reply : r ≡ opened_reply opened
   pub names : new ≡ fresh opened
 
 -- it is closed, and does not open
@@ -359,7 +367,8 @@ Step tells old (line.Scan relation time) r new = ScanStep tells old.store relati
 Step tells old (line.Times label) r new = TimesStep old.store label r × (new ≡ old)
 Step tells old (line.Archive upto) r new = ArchiveStep old.store upto r new.store × KeepsNames old new
 Step tells old line.Reclaim r new = ReclaimStep old.store r new.store × KeepsNames old new
-Step tells old (line.Floor time) r new = FloorStep old.store time r new.store × KeepsNames old new
+Step tells old (line.Floor scope time) r new = FloorStep old.store scope time r new.store × KeepsNames old new
+Step tells old line.Grow r new = GrowStep old.store r new.store × KeepsNames old new
 Step tells old line.Job r new = JobStep tells old.store r new.store × KeepsNames old new
 Step tells old line.Finish r new = Finishes tells old.store r new.store × KeepsNames old new
 Step tells old line.Reopen r new = Reopens tells old r new

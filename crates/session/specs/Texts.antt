@@ -90,6 +90,8 @@ step_text (did.Published count) = codes "published " ++ decimal count ++ codes "
 abbrev pub job_step_text : JobDid → Text
 job_step_text job.Idle = codes "idle\n"
 job_step_text job.WroteRun = codes "wrote run\n"
+job_step_text job.WroteZeros = codes "wrote zeros\n"
+job_step_text job.ZerosSynced = codes "zeros synced\n"
 job_step_text job.RunSynced = codes "run synced\n"
 job_step_text job.WroteExtent = codes "wrote extent\n"
 job_step_text job.HeapSynced = codes "heap synced\n"
@@ -138,6 +140,7 @@ submit_line submit.Stranger = codes "refused: stranger\n"
 
 abbrev pub start_line : StartFault → Text
 start_line start.Failed = codes "refused: failed\n"
+start_line start.WrongProfile = codes "refused: wrong profile\n"
 start_line start.JobBusy = codes "refused: job busy\n"
 start_line start.NothingToDo = codes "refused: nothing to do\n"
 start_line (start.NotYet last) = codes "refused: not yet " ++ decimal last ++ codes "\n"
@@ -145,6 +148,7 @@ start_line start.StatusFull = codes "refused: status full\n"
 start_line start.ArchiveFull = codes "refused: archive full\n"
 start_line (start.InUse oldest) = codes "refused: in use " ++ decimal oldest ++ codes "\n"
 start_line start.HeapFull = codes "refused: heap full\n"
+start_line start.NotGrowable = codes "refused: not growable\n"
 start_line start.NoMemory = codes "refused: no memory\n"
 
 abbrev pub query_line : QueryFault → Text
@@ -195,6 +199,7 @@ line_text (reply.Times times) = times_text times.items
 line_text (reply.Rows rows) = []
 line_text (reply.Records found) = []
 line_text (reply.Opened last floor) = codes "last " ++ (decimal last ++ (codes " floor " ++ (decimal floor ++ codes "\n")))
+line_text (reply.OpenedByRelation last many) = codes "last " ++ (decimal last ++ (codes " floors " ++ (decimal many ++ codes "\n")))
 line_text (reply.Refused f) = refusal_line f
 
 -- the lines of an answer

@@ -32,8 +32,8 @@ fn reopen<D: Disk, W: Write>(
 {
     match session.reopen(alloc) {
         Ok(session) => {
-            let (last, floor) = session.ends();
-            match write_reply(output, &Reply::Opened(last, floor)) {
+            let opened = session.opened_reply();
+            match write_reply(output, &opened) {
                 Ok(()) => Ok(session),
                 Err(_) => Err((Ending::OutputRefused, session.close())),
             }

@@ -31,7 +31,7 @@ pub enum Reply {
     InDoubt,
     /// What a step of the commits that are queued did.
     Did(Did),
-    /// An archive, a reclaim or a floor began.
+    /// An archive, a reclaim, a floor or a growth began.
     Started,
     /// What a step of it did.
     JobDid(JobDid),
@@ -43,6 +43,8 @@ pub enum Reply {
     Records(Vec<(u64, SharedValue)>),
     /// The store was closed and opened: the time of its last commit, and its floor.
     Opened(u64, u64),
+    /// The same of a store with floors by relation: the time, and how many relations have one.
+    OpenedByRelation(u64, usize),
     Refused(Fault),
 }
 
@@ -68,6 +70,7 @@ pub fn spell_line(text: &mut Vec<u8>, reply: &Reply) -> io::Result<()>
         Reply::Rows(_) => Ok(()),
         Reply::Records(_) => Ok(()),
         Reply::Opened(last, floor) => writeln!(text, "last {last} floor {floor}"),
+        Reply::OpenedByRelation(last, many) => writeln!(text, "last {last} floors {many}"),
         Reply::Refused(fault) => write_refusal(text, *fault),
     }
 }

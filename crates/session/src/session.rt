@@ -1,9 +1,7 @@
 //! A store and the names in use.
 ghost use Rattle.std.specs.Prelude.{◌≡◌, ◌↔◌, ◌<◌, ◌+◌, ◌≤◌, ◌||◌, ◌++◌, ◌∷◌, [], not, nat_lt, length, map, position, MatchOption, MatchResult, IfOk, IfErr, IfSome, IsTrue, Ok, Err, Some, slice_get, remove, vec_capacity};
 ghost use Rattle.snapshot.specs.Txn.{seen_by};
-ghost use Rattle.store.specs.Calls.{last, floor};
 ghost use Rattle.script.specs.declared.line.Line.TheVariants.{Reopen};
-ghost use Rattle.session.specs.declared.reply.Reply.TheVariants.{Opened};
 ghost use Rattle.session.specs.Session as told;
 
 use crate::fault::Fault;
@@ -23,6 +21,9 @@ use timequery::QueryFault;
 
 /// At most so many names are in use.
 const MAX_NAMES: usize = 64;
+
+/// The profile whose relations have floors of their own.
+const BY_RELATION: u32 = 3;
 
 /// The mark of a session's store.
 pub const MARK: u64 = 1;
@@ -257,7 +258,7 @@ impl<D: Disk> Session<D> {
     ///
     /// Where the store does not open; the disk comes back.
     pub fn reopen(self, alloc: Global) -> Result<Session<D>, (OpenFault, D)>
-        ensures { MatchResult result (λ s. told.Reopens D.tells self (Opened (last s.store) (floor s.store)) s) (λ e. told.DoesNotReopen D.tells self e.0 (D.state e.1)) }
+        ensures { MatchResult result (λ s. told.Reopens D.tells self (told.opened_reply s.store) s) (λ e. told.DoesNotReopen D.tells self e.0 (D.state e.1)) }
     {
         let Session {
             mut store,
@@ -280,11 +281,17 @@ impl<D: Disk> Session<D> {
         }
     }
 
-    /// The time of the store's last commit, and its floor.
-    pub fn ends(&self) -> (u64, u64)
-        ensures { result ≡ (last self.now.store, floor self.now.store) }
+    /// What is answered once the store is opened again.
+    pub fn opened_reply(&self) -> Reply
+        ensures { result ≡ told.opened_reply self.now.store }
     {
-        (self.store.last(), self.store.floor())
+        let last = self.store.last();
+        let floors = self.store.floors();
+        if self.store.profile() == BY_RELATION {
+            Reply::OpenedByRelation(last, floors.relations())
+        } else {
+            Reply::Opened(last, floors.every())
+        }
     }
 
     fn txn_place(&self, name: &Name) -> Option<usize>
@@ -536,11 +543,21 @@ impl<D: Disk> Session<D> {
         }
     }
 
-    fn raise_floor(&mut self, floor: u64) -> Reply
-        ensures steps { told.FloorStep self.old.store floor result self.new.store }
+    fn raise_floor(&mut self, scope: Option<u16>, floor: u64) -> Reply
+        ensures steps { told.FloorStep self.old.store scope floor result self.new.store }
         ensures names { told.KeepsNames self.old self.new }
     {
-        match self.store.floor_start(floor) {
+        match self.store.start_floor(scope, floor) {
+            Ok(()) => Reply::Started,
+            Err(fault) => Reply::Refused(Fault::Start(fault)),
+        }
+    }
+
+    fn grow(&mut self) -> Reply
+        ensures steps { told.GrowStep self.old.store result self.new.store }
+        ensures names { told.KeepsNames self.old self.new }
+    {
+        match self.store.grow_start() {
             Ok(()) => Reply::Started,
             Err(fault) => Reply::Refused(Fault::Start(fault)),
         }
@@ -584,7 +601,8 @@ impl<D: Disk> Session<D> {
             Line::Times(label) => Some(self.times(label)),
             Line::Archive(upto) => Some(self.archive(upto)),
             Line::Reclaim => Some(self.reclaim()),
-            Line::Floor(floor) => Some(self.raise_floor(floor)),
+            Line::Floor(scope, floor) => Some(self.raise_floor(scope, floor)),
+            Line::Grow => Some(self.grow()),
             Line::Job => Some(self.job()),
             Line::Finish => Some(self.finish()),
             Line::Reopen => None,

@@ -162,6 +162,8 @@ fn job_step_words(step: JobDid) -> &'static str
         JobDid::RunSynced => "run synced",
         JobDid::WroteExtent => "wrote extent",
         JobDid::HeapSynced => "heap synced",
+        JobDid::WroteZeros => "wrote zeros",
+        JobDid::ZerosSynced => "zeros synced",
         JobDid::BodyWritten => "body written",
         JobDid::BodySynced => "body synced",
         JobDid::GateWritten => "gate written",
@@ -262,6 +264,7 @@ fn write_start_fault<W: Write>(output: &mut W, fault: StartFault) -> io::Result<
 {
     match fault {
         StartFault::Failed => write_refused(output, "failed"),
+        StartFault::WrongProfile => write_refused(output, "wrong profile"),
         StartFault::JobBusy => write_refused(output, "job busy"),
         StartFault::NothingToDo => write_refused(output, "nothing to do"),
         StartFault::NotYet(last) => write_refused_number(output, "not yet", last),
@@ -270,6 +273,7 @@ fn write_start_fault<W: Write>(output: &mut W, fault: StartFault) -> io::Result<
         StartFault::HeapFull => write_refused(output, "heap full"),
         StartFault::ArchiveFull => write_refused(output, "archive full"),
         StartFault::NoMemory => write_refused(output, "no memory"),
+        StartFault::NotGrowable => write_refused(output, "not growable"),
     }
 }
 

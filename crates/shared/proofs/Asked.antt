@@ -27,7 +27,7 @@ module _ (tells : Bool) (start : Machine Value) (brand : ℕ) (table : TableId) 
       let reads = still-reads tells start brand table v shares at pass asked.shown asked.seen h s in
       let found = subst (λ (w : ViewValue). stores.AnswersAtView tells v w key time r new) is says in
       subst (λ (x : ViewMoment). OfSeen start x.seen (λ m. SaysAt (IsSure tells x.shown.reclaimed time) (answers.at_answer m.published m.floors key time) r)) same
-      (m, s.reached, s.seen_is, s.floor, at-answered tells v new h.state asked.shown m.published m.floors key time r h.stands s.stands reads found)
+      (m, s.reached, s.seen_is, at-answered tells v new h.state asked.shown m.published m.floors key time r h.stands s.stands reads found)
 
   pub scan_at-says : (relation time : ℕ) (r : Result (Vec (ℕ × Value) Global) QueryFault) → stores.AnswersScanAt tells v shown relation time r new → OfSeen start lent.seen (λ m. SaysScanAt (IsSure tells lent.shown.reclaimed time) m.published m.floors relation time r)
   scan_at-says relation time r says =
@@ -35,7 +35,7 @@ module _ (tells : Bool) (start : Machine Value) (brand : ℕ) (table : TableId) 
       let reads = still-reads tells start brand table v shares at pass asked.shown asked.seen h s in
       let found = subst (λ (w : ViewValue). stores.AnswersScanAt tells v w relation time r new) is says in
       subst (λ (x : ViewMoment). OfSeen start x.seen (λ m. SaysScanAt (IsSure tells x.shown.reclaimed time) m.published m.floors relation time r)) same
-      (m, s.reached, s.seen_is, s.floor, scan_at-answered tells v new h.state asked.shown m.published m.floors relation time r h.stands s.stands reads found)
+      (m, s.reached, s.seen_is, scan_at-answered tells v new h.state asked.shown m.published m.floors relation time r h.stands s.stands reads found)
 
   pub between-says : (key : Key) (a b : ℕ) (r : Result (Vec (Version Value) Global) QueryFault) → stores.AnswersRows tells v shown key a b r new → OfSeen start lent.seen (λ m. SaysBetween (IsSure tells lent.shown.reclaimed a) m.published m.floors key a b r)
   between-says key a b r says =
@@ -43,7 +43,7 @@ module _ (tells : Bool) (start : Machine Value) (brand : ℕ) (table : TableId) 
       let reads = still-reads tells start brand table v shares at pass asked.shown asked.seen h s in
       let found = subst (λ (w : ViewValue). stores.AnswersRows tells v w key a b r new) is says in
       subst (λ (x : ViewMoment). OfSeen start x.seen (λ m. SaysBetween (IsSure tells x.shown.reclaimed a) m.published m.floors key a b r)) same
-      (m, s.reached, s.seen_is, s.floor, between-answered tells v new h.state asked.shown m.published m.floors key a b r h.stands s.stands reads found)
+      (m, s.reached, s.seen_is, between-answered tells v new h.state asked.shown m.published m.floors key a b r h.stands s.stands reads found)
 
   pub scan_between-says : (relation a b : ℕ) (r : Result (Vec (ℕ × Version Value) Global) QueryFault) → stores.AnswersScanRows tells v shown relation a b r new → OfSeen start lent.seen (λ m. SaysScanBetween (IsSure tells lent.shown.reclaimed a) m.published m.floors relation a b r)
   scan_between-says relation a b r says =
@@ -51,4 +51,4 @@ module _ (tells : Bool) (start : Machine Value) (brand : ℕ) (table : TableId) 
       let reads = still-reads tells start brand table v shares at pass asked.shown asked.seen h s in
       let found = subst (λ (w : ViewValue). stores.AnswersScanRows tells v w relation a b r new) is says in
       subst (λ (x : ViewMoment). OfSeen start x.seen (λ m. SaysScanBetween (IsSure tells x.shown.reclaimed a) m.published m.floors relation a b r)) same
-      (m, s.reached, s.seen_is, s.floor, scan_between-answered tells v new h.state asked.shown m.published m.floors relation a b r h.stands s.stands reads found)
+      (m, s.reached, s.seen_is, scan_between-answered tells v new h.state asked.shown m.published m.floors relation a b r h.stands s.stands reads found)

@@ -8,6 +8,7 @@ use Rattle.std.specs.declared.sync.ledger.Ledger as ledgers
 use Rattle.history.proofs.key.Key.TheSendSync as key
 use Rattle.history.proofs.key.KeyWrite.TheSendSync as key_write
 use Rattle.chains.proofs.shared_value.SharedValue.TheSendSync as shared_value
+use Rattle.floors.proofs.floors.Floors.TheSendSync as floors
 use Rattle.snapshot.specs.contracts.txn.Txn as Txn
 use Rattle.snapshot.specs.contracts.txn.Txn.TheInside as txn
 use Rattle.timequery.proofs.runs.Runs.TheSendSync as runs
@@ -23,7 +24,7 @@ use Rattle.shared.proofs.observer.Observer.TheSendSync as observer
 use Rattle.shared.proofs.Sending.{frozen_send}
 
 view_inside : IsSend view.the_row
-view_inside = declared_send view.the_type (search sendable, (search sendable, (search sendable, (search sendable, (search (sendable, runs.the_send), (search (sendable, frozen_send), tt))))))
+view_inside = declared_send view.the_type (search sendable, (search sendable, (search (sendable, floors.the_send), (search sendable, (search (sendable, runs.the_send), (search (sendable, frozen_send), tt))))))
 
 view_sent : IsSend View.the_row
 view_sent = view_send view.the_row _ _ _ _ view_inside

@@ -31,7 +31,7 @@ opened-told tells old mark v m opens stands =
 
 pub fresh-stands : (tells : Bool) (slots : ℕ) (old : Areas) (disk : DiskState) (mark : ℕ) (v : StoreValue)
     → IsTrue tells → AreSound disk.areas → IsFormatted slots old disk.areas → Opens tells disk mark v → Stands tells v (opened [] (λ relation. 0))
-fresh-stands tells slots old disk mark v told sound is opens = open-stands tells disk mark v (new_header 1 slots) [] (λ relation. 0) opens told sound (formatted-stands slots old disk.areas is)
+fresh-stands tells slots old disk mark v told sound is opens = open-stands tells disk mark v (new_header 3 slots) [] (λ relation. 0) opens told sound (formatted-stands slots old disk.areas is)
 
 pub fresh-told : (tells : Bool) (old : DiskState) (mark : ℕ) (v : StoreValue) → Opens tells old mark v → Stands tells v (opened [] (λ relation. 0)) → told_count v.transactions.heads ≡ 0
 fresh-told tells old mark v opens stands = opened-told tells old mark v (opened [] (λ relation. 0)) opens stands

@@ -14,17 +14,17 @@ pub front-then : (a b c : History Value) → IsFrontOf a b → IsFrontOf b c →
 front-then a b c x y = (x.0 ++ y.0, y.1 ∙ ap (λ (l : History Value). l ++ y.0) x.1 ∙ append_assoc a x.0 y.0)
 
 pub later-same : (s : Seen) → IsLater s s
-later-same s = record { published = front-same s.published; order = front-same (order_of s); floor = omega arith }
+later-same s = record { published = front-same s.published; order = front-same (order_of s); floors = λ relation. omega arith }
 
 pub later-then : (a b c : Seen) → IsLater a b → IsLater b c → IsLater a c
 later-then a b c x y = record {
   published = front-then a.published b.published c.published x.published y.published;
   order = front-then (order_of a) (order_of b) (order_of c) x.order y.order;
-  floor = let first = x.floor in let second = y.floor in omega (arith, first, second);
+  floors = λ relation. let first = x.floors relation in let second = y.floors relation in omega (arith, first, second);
 }
 
 pub later-nothing : (s : Seen) → IsLater nothing s
-later-nothing s = record { published = (s.published, refl); order = (order_of s, refl); floor = omega arith }
+later-nothing s = record { published = (s.published, refl); order = (order_of s, refl); floors = λ relation. omega arith }
 
 -- the last time of a front is no later
 pub last-front : (front whole : History Value) → IsHistory IsValue whole → IsFrontOf front whole → last front ≤ last whole

@@ -1,10 +1,9 @@
 pub mod Sending
 pub mod Carrying
+pub mod Floors
 pub mod Fronts
 pub mod Archives
 pub mod Passes
-pub mod Leaving
-pub mod JobLeaving
 pub mod Counting
 pub mod Stepping
 pub mod Moves

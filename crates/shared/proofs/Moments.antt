@@ -27,7 +27,6 @@ shows-later start brand old new view seen later s = record {
   machine = s.machine;
   reached = s.reached;
   seen_is = s.seen_is;
-  floor = s.floor;
   mark = s.mark;
   stands = s.stands;
   reads = reads-later old new view s.machine.published s.machine.floors later s.reads;

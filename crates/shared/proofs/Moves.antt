@@ -1,26 +1,21 @@
 -- What one call of the store leaves under the lock.
-use Rattle.std.proofs.Common.{◌≡◌, ℕ, ◌+◌, ◌<◌, ◌^◌, ◌≤◌, ◌==◌, nat_le, Bool, true, false, cond, List, [], ◌∷◌, ◌++◌, length, Option, Result, Ok, Err, MatchBool, refl, sym, ap, ◌∙◌, subst, arith}
+use Rattle.std.proofs.Common.{◌≡◌, ℕ, ◌+◌, ◌<◌, ◌^◌, ◌≤◌, Bool, true, false, cond, List, [], ◌++◌, length, Option, Result, Ok, Err, MatchBool, refl, sym, ap, ◌∙◌, subst, arith}
 use Rattle.std.specs.Prelude.{IsTrue}
 use Rattle.std.proofs.lemmas.List.{append-nil}
-use Rattle.std.proofs.lemmas.Bool.Decides.{nat_tests}
 use Rattle.atomic_table.specs.Seated.{TableId}
 use Rattle.disk.specs.Areas.{AreSound}
 use Rattle.history.specs.declared.key.KeyWrite.{KeyWrite}
 use Rattle.history.specs.Histories.{Commit, History, last}
 use Rattle.history.specs.Floors.{Raising}
-use Rattle.history.specs.Machine.{Machine, commit_order}
-use Rattle.history.specs.Steps.{Step, Run, Began, Aborted, Decided, FloorStarted, begun, floor_started}
-use Rattle.history.specs.Submissions as submissions
-use Rattle.history.specs.Submissions.{Submission, commit_made}
-use Rattle.history.proofs.Histories.{last_after-append}
-use Rattle.history.proofs.Runs.{step-added}
+use Rattle.history.specs.Machine.{Machine}
+use Rattle.history.specs.Steps.{Step, Run, Began, Aborted, FloorStarted, begun, floor_started}
+use Rattle.history.specs.Submissions.{commit_made}
 use Rattle.image.specs.Values.{Value, IsValue}
 use Rattle.snapshot.specs.Txn.{TxnValue, AreTxnWrites}
 use Rattle.group.specs.CommitOrder as orders
 use Rattle.group.specs.CommitOrder.{last_time, is_awaited, last_published}
 use Rattle.group.specs.Tickets.{TicketValue}
 use Rattle.group.specs.declared.commit_order.CommitHead.{CommitHead}
-use Rattle.group.specs.declared.commit_order.Standing.TheVariants as standing
 use Rattle.group.specs.declared.answers.BeginFault.{BeginFault}
 use Rattle.group.specs.declared.answers.BeginFault.TheVariants as begin
 use Rattle.group.specs.declared.answers.Did.{Did}
@@ -33,9 +28,7 @@ use Rattle.group.specs.declared.answers.Submitted.TheVariants as submitted
 use Rattle.group.specs.declared.answers.SubmitFault.{SubmitFault}
 use Rattle.group.specs.declared.answers.SubmitFault.TheVariants as refused
 use Rattle.transactions.specs.Values.{TransactionsValue, is_own, over}
-use Rattle.transactions.specs.Calls as calls
-use Rattle.transactions.specs.Submits.{JoinsQueue, with_queued, SubmitsOwn, AnswersSubmit}
-use Rattle.transactions.proofs.Orders.{last_time-push}
+use Rattle.transactions.specs.Submits.{SubmitsOwn}
 use Rattle.timequery.specs.View.{ViewValue}
 use Rattle.timequery.specs.declared.fault.QueryFault.{QueryFault}
 use Rattle.timequery.specs.declared.fault.QueryFault.TheVariants as query
@@ -55,21 +48,27 @@ use Rattle.standing.specs.Calls.{raising_to, StartsOn}
 use Rattle.standing.specs.Homes.{GoesOn}
 use Rattle.standing.specs.Laws.{submission_of, event_of, begins_in, ends_in, job_ends_in}
 use Rattle.standing.specs.Stands.{Stands, raising_of}
+use Rattle.standing.specs.Leaving.{Leaves, LeftBySubmit, LeftByRedeem, count_in}
+use Rattle.standing.proofs.Leaving.{pump-leaves}
+use Rattle.standing.proofs.JobLeaving.{start-leaves, reclaim-leaves, floor-leaves, pumped-leaves}
+use Rattle.standing.proofs.Told.{left-is, ticket-time, redeeming}
 use Rattle.standing.proofs.Memory.{last-is}
 use Rattle.standing.proofs.Submitting.{order-last}
-use Rattle.standing.proofs.Calling.{begin-stands, abort-stands, submit-stands, redeem-stands}
-use Rattle.standing.proofs.Whole.{pump-stands, pump-goes, job-pump-stands, job-pump-goes, archive-start-stands, archive-start-goes, reclaim-start-stands, reclaim-start-goes, floor-start-stands, floor-start-goes, rest-goes}
-use Rattle.standing.proofs.Asking.{query-stands}
+use Rattle.standing.proofs.GrowingCalls.{begin-stands, abort-stands, submit-stands, redeem-stands}
+use Rattle.standing.proofs.GrowingPumps.{pump-stands}
+use Rattle.standing.proofs.GrowingViews.{pump-goes, job-pump-goes, archive-start-goes, reclaim-start-goes, floor-start-goes}
+use Rattle.standing.proofs.GrowingPiece.{job-pump-stands}
+use Rattle.standing.proofs.GrowingCalls.{archive-start-stands, reclaim-start-stands, floor-start-stands}
+use Rattle.standing.proofs.Whole.{rest-goes}
+use Rattle.standing.proofs.GrowingViews.{query-stands}
 use Rattle.shared.specs.Archives.{ArchiveSeen, IsArchiveLater, archive_seen, no_archive}
 use Rattle.shared.specs.Counts.{told_count, told_after}
 use Rattle.shared.specs.Reached.{Reached, opened, stepped}
 use Rattle.shared.specs.Seen.{Seen, SightValue, seen_of, IsLater}
-use Rattle.shared.specs.Shared.{IsShared, Submits, SubmitSays, SubmitHappens, FloorSays, FloorHappens, queued_seen, job_seen, count_in, noted, done_in}
+use Rattle.shared.specs.Shared.{IsShared, Submits, SubmitSays, SubmitHappens, FloorSays, FloorHappens, queued_seen, job_seen, noted, done_in}
 use Rattle.shared.proofs.Archives.{archive-same, archive-then, archive-first, archive-on}
 use Rattle.shared.proofs.Counting.{told-push, after-push, told-redeemed, after-redeemed, after-later, none-after}
 use Rattle.shared.proofs.Fronts.{last-seen, later-same}
-use Rattle.shared.proofs.Leaving.{Leaves, pump-leaves}
-use Rattle.shared.proofs.JobLeaving.{start-leaves, reclaim-leaves, floor-leaves, pumped-leaves}
 use Rattle.shared.proofs.Stepping.{follows, later-published, submit_seen, submit-seen, pump_seen, pump-seen, published-none, job-seen, later-job}
 
 -- what is known of an archive, by another name
@@ -179,47 +178,12 @@ abort-keeps tells start brand table old new shares at pass txn h aborts =
 
 -- ---- submits
 
--- the transactions after a submit of the store's own transaction, by the answer
-abbrev pub Left : TransactionsValue → TxnValue → ℕ → Result Submitted SubmitFault → TransactionsValue → Type 0
-Left v t label (Ok (submitted.ReadOnly snapshot)) new = (snapshot ≡ t.snapshot) × (new ≡ v)
-Left v t label (Ok (submitted.Queued ticket)) new = (ticket.mark ≡ v.mark) × JoinsQueue v label ticket.time t.writes new
-Left v t label (Err refused.Stranger) new = ⊥
-Left v t label (Err why) new = new ≡ v
-
-left-by : (v new : TransactionsValue) (t : TxnValue) (label now : ℕ) (r : Result Submitted SubmitFault) → AnswersSubmit v t label now r new → Left v t label r new
-left-by v new t label now (Ok (submitted.ReadOnly snapshot)) says = (says.1, says.2)
-left-by v new t label now (Ok (submitted.Queued ticket)) says = (says.1, says.2)
-left-by v new t label now (Err (refused.Conflict key)) says = says.1
-left-by v new t label now (Err refused.HeapFull) says = says.1
-left-by v new t label now (Err refused.StatusFull) says = says.1
-left-by v new t label now (Err refused.ClockEnd) says = says.1
-left-by v new t label now (Err refused.NoMemory) says = says.1
-left-by v new t label now (Err refused.Failed) says = says.1
-left-by v new t label now (Err refused.Stranger) says = absurd says.0
-
-left-is : (v new : TransactionsValue) (t : TxnValue) (label now : ℕ) (r : Result Submitted SubmitFault) → SubmitsOwn v t label now r new → Left v t label r new
-left-is v new t label now r says = by-failure v.failed says
-  where
-    by-failure : (b : Bool) → MatchBool b ((r ≡ Err refused.Failed) × (new ≡ v)) (AnswersSubmit v t label now r new) → Left v t label r new
-    by-failure true says = subst (λ (x : Result Submitted SubmitFault). Left v t label x new) (sym says.0) says.1
-    by-failure false says = left-by v new t label now r says
-
--- the time of a commit that was queued is that of the machine's
-queued-time : (v new : TransactionsValue) (m after : Machine Value) (label time : ℕ) (t : TxnValue) (numbers : List ℕ) (s : Submission Value) → StandsInMemory new after → new ≡ with_queued v label time t.writes numbers
-    → Step IsValue m (Decided s (submissions.Queues (commit_made m s))) after → time ≡ (commit_made m s).time
-queued-time v new m after label time t numbers s stands is step =
-    let head : CommitHead = record { time = time; label = label; awaited = true } in
-    let heads : last_time new.heads ≡ time = ap (λ (x : TransactionsValue). last_time x.heads) is ∙ last_time-push 0 v.heads head in
-    let order : last (commit_order after) ≡ (commit_made m s).time =
-    ap (λ (h : History Value). last h) (step-added IsValue m after (Decided s (submissions.Queues (commit_made m s))) step) ∙ last_after-append 0 (commit_order m) (commit_made m s ∷ []) in
-    sym heads ∙ order-last new after stands ∙ order
-
 -- what a submit of an own transaction leads to
 pub record Submitting (tells : Bool) (old new : StoreValue) (m : Machine Value) (t : TxnValue) (label now : ℕ) (r : Result Submitted SubmitFault) : Type 0 where
   pub after : Machine Value
   pub step : Step IsValue m (event_of m (submission_of t label now) r) after
   pub stands : Stands tells new after
-  pub left : Left (over old.transactions t.number) t label r new.transactions
+  pub left : LeftBySubmit (over old.transactions t.number) t label r new.transactions
 
 -- or it is a stranger
 pub submitting : (tells : Bool) (old new : StoreValue) (m : Machine Value) (t : TxnValue) (label now : ℕ) (r : Result Submitted SubmitFault) → Stands tells old m → AreTxnWrites t.state t.snapshot t.writes → label < 2 ^ 64 → stores.Submits old t label now r new
@@ -253,7 +217,7 @@ pub record KeepsCounts (old new : TransactionsValue) : Type 0 where
 counts-same : (old new : TransactionsValue) → new.mark ≡ old.mark → new.heads ≡ old.heads → KeepsCounts old new
 counts-same old new mark heads = record { mark = mark; told = ap told_count heads; after = λ t. ap (told_after t) heads }
 
-left-counts : (v new : TransactionsValue) (t : TxnValue) (label : ℕ) (r : Result Submitted SubmitFault) → Left (over v t.number) t label r new → KeepsCounts v new
+left-counts : (v new : TransactionsValue) (t : TxnValue) (label : ℕ) (r : Result Submitted SubmitFault) → LeftBySubmit (over v t.number) t label r new → KeepsCounts v new
 left-counts v new t label (Ok (submitted.ReadOnly at)) left = counts-same v new (ap (λ (x : TransactionsValue). x.mark) left.1) (ap (λ (x : TransactionsValue). x.heads) left.1)
 left-counts v new t label (Ok (submitted.Queued ticket)) left =
     let is = left.1.new_is in
@@ -271,11 +235,11 @@ left-counts v new t label (Err refused.Failed) left = counts-same v new (ap (λ 
 left-counts v new t label (Err refused.Stranger) left = absurd left
 
 -- what the answer says of an own transaction's submit
-left-says : (brand : ℕ) (v new : TransactionsValue) (m after : Machine Value) (t : TxnValue) (label now : ℕ) (r : Result Submitted SubmitFault) → v.mark ≡ brand → Left (over v t.number) t label r new → StandsInMemory new after
+left-says : (brand : ℕ) (v new : TransactionsValue) (m after : Machine Value) (t : TxnValue) (label now : ℕ) (r : Result Submitted SubmitFault) → v.mark ≡ brand → LeftBySubmit (over v t.number) t label r new → StandsInMemory new after
     → Step IsValue m (event_of m (submission_of t label now) r) after → SubmitSays brand t.snapshot (commit_made m (submission_of t label now)).time r
 left-says brand v new m after t label now (Ok (submitted.ReadOnly at)) mark left stands step = left.0
 left-says brand v new m after t label now (Ok (submitted.Queued ticket)) mark left stands step =
-    (left.0 ∙ mark, queued-time (over v t.number) new m after label ticket.time t left.1.numbers (submission_of t label now) stands left.1.new_is step)
+    (left.0 ∙ mark, ticket-time (over v t.number) new m after t label now ticket left.1 stands step)
 left-says brand v new m after t label now (Err why) mark left stands step = tt
 
 -- what a submit leaves, of an own transaction or of a stranger
@@ -429,34 +393,36 @@ reclaim-keeps tells start brand table old new shares at pass r h starts =
     quiet tells start brand table old new shares at pass h h.state (reclaim-start-stands tells old new r h.state h.stands starts) (reclaim-start-goes tells old new r h.state h.stands starts) h.reached refl left.mark left.heads
 
 -- a floor begins, or is refused
-pub floor-begins : (tells : Bool) (start : Machine Value) (brand : ℕ) (table : TableId) (old new : StoreValue) (shares : ℕ) (at : TableId) (pass : SightValue) (floor : ℕ) (r : Result (Unit {0}) StartFault) → IsShared tells start brand table old shares at pass → StartsFloor old floor r new
-    → IsShared tells start brand table new shares at pass × FloorHappens start floor r
-floor-begins tells start brand table old new shares at pass floor r h starts =
-    let did = by-answer r (floor-start-stands tells old new floor r h.state h.stands starts) in (did.0, (h.state, h.reached, did.1))
+pub floor-begins : (tells : Bool) (start : Machine Value) (brand : ℕ) (table : TableId) (old new : StoreValue) (shares : ℕ) (at : TableId) (pass : SightValue) (scope : Option ℕ) (floor : ℕ) (r : Result (Unit {0}) StartFault) → IsShared tells start brand table old shares at pass → StartsFloor old scope floor r new
+    → IsShared tells start brand table new shares at pass × FloorHappens start scope floor r
+floor-begins tells start brand table old new shares at pass scope floor r h starts =
+    let did = by-answer r (floor-start-stands tells old new scope floor r h.state h.stands starts) in (did.0, (h.state, h.reached, did.1))
   where
     left : Leaves old.transactions new.transactions
-    left = floor-leaves old new floor r starts
+    left = floor-leaves old new scope floor r starts
 
     goes : GoesOn tells old new
-    goes = floor-start-goes tells old new floor r h.state h.stands starts
+    goes = floor-start-goes tells old new scope floor r h.state h.stands starts
 
     same : Stands tells new h.state → IsShared tells start brand table new shares at pass
     same stands = quiet tells start brand table old new shares at pass h h.state stands goes h.reached refl left.mark left.heads
 
-    by-answer : (x : Result (Unit {0}) StartFault) → StartsOn tells h.state (raising_to floor) x new → IsShared tells start brand table new shares at pass × FloorSays h.state (raising_to floor) x
+    by-answer : (x : Result (Unit {0}) StartFault) → StartsOn tells h.state (raising_to scope floor) x new → IsShared tells start brand table new shares at pass × FloorSays h.state (raising_to scope floor) x
     by-answer (Ok done) did = (
-      quiet tells start brand table old new shares at pass h (floor_started h.state (raising_to floor)) did.1 goes (stepped (FloorStarted (raising_to floor)) h.reached did.0) refl left.mark left.heads,
+      quiet tells start brand table old new shares at pass h (floor_started h.state (raising_to scope floor)) did.1 goes (stepped (FloorStarted (raising_to scope floor)) h.reached did.0) refl left.mark left.heads,
       did.0,
     )
     by-answer (Err fault.NothingToDo) did = (same did.1, did.0)
     by-answer (Err (fault.NotYet time)) did = (same did.1, did.0)
     by-answer (Err (fault.InUse snapshot)) did = (same did.1, did.0)
     by-answer (Err fault.Failed) did = (same did.1, did.0)
+    by-answer (Err fault.WrongProfile) did = (same did, tt)
     by-answer (Err fault.JobBusy) did = (same did, tt)
     by-answer (Err fault.StatusFull) did = (same did, tt)
     by-answer (Err fault.ArchiveFull) did = absurd did
     by-answer (Err fault.HeapFull) did = absurd did
-    by-answer (Err fault.NoMemory) did = absurd did
+    by-answer (Err fault.NoMemory) did = (same did.1, did.0)
+    by-answer (Err fault.NotGrowable) did = absurd did
 
 pub record JobPumped (tells : Bool) (start : Machine Value) (m : Machine Value) (old new : StoreValue) (r : Result JobDid PumpFault) : Type 0 where
   pub after : Machine Value
@@ -487,8 +453,8 @@ job-pumped tells start m old new r reached stands sound pumps = by-failure m.fai
       run = subst (λ (b : Bool). MatchBool b ((r ≡ Err pump.Failed) × (did.0 ≡ m)) (Run IsValue m (job_ends_in m r) did.0)) (sym is) did.1;
       stands = did.2;
       reached = follows start m did.0 (job_ends_in m r) reached did.1;
-      seen = job-seen m did.0 old.job r stands.raises did.1;
-      later = later-job m did.0 old.job r stands.machine stands.raises did.1;
+      seen = job-seen m did.0 old.job r stands.raises.is did.1;
+      later = later-job m did.0 old.job r stands.machine stands.raises.is did.1;
       left = pumped-leaves tells old new r pumps;
       goes = job-pump-goes tells old new r m stands pumps;
     }
@@ -539,32 +505,6 @@ query-keeps tells start brand table old new shares at pass view from Refuses Rec
 
 -- ---- tickets
 
--- the transactions after a ticket was shown, by the answer
-abbrev pub Redeeming : TransactionsValue → TicketValue → Redeemed → TransactionsValue → Type 0
-Redeeming old k (redeemed.Done time) new = (time ≡ k.time) × (is_awaited k.time old.heads ≡ true) × (k.time ≤ calls.last old) × (new ≡ record old { heads = orders.redeemed k.time old.heads })
-Redeeming old k (redeemed.Waiting back) new = (back ≡ k) × (new ≡ old)
-Redeeming old k redeemed.InDoubt new = new ≡ old
-Redeeming old k redeemed.Stranger new = new ≡ old
-
-pub redeeming : (old new : TransactionsValue) (k : TicketValue) (r : Redeemed) → calls.Redeems old k r new → Redeeming old k r new
-redeeming old new k r redeems = by-mark (k.mark == old.mark) (is_awaited k.time old.heads) refl (nat_le k.time (last_published (calls.order_of old))) refl redeems
-  where
-    stranger : (r ≡ redeemed.Stranger) × (new ≡ old) → Redeeming old k r new
-    stranger says = subst (λ (x : Redeemed). Redeeming old k x new) (sym says.0) says.1
-
-    by-failure : (b : Bool) → (r ≡ cond b redeemed.InDoubt (redeemed.Waiting k)) × (new ≡ old) → Redeeming old k r new
-    by-failure true says = subst (λ (x : Redeemed). Redeeming old k x new) (sym says.0) says.1
-    by-failure false says = subst (λ (x : Redeemed). Redeeming old k x new) (sym says.0) (refl, says.1)
-
-    by-mark : (a b : Bool) → is_awaited k.time old.heads ≡ b → (d : Bool) → nat_le k.time (last_published (calls.order_of old)) ≡ d
-        → MatchBool a (calls.AnswersTicket old k (cond b (cond d standing.Published standing.Waiting) standing.Unknown) r new) ((r ≡ redeemed.Stranger) × (new ≡ old)) → Redeeming old k r new
-    by-mark true true waits true early says =
-        let le : k.time ≤ last_published (calls.order_of old) = grind (arith, nat_tests) in
-        subst (λ (x : Redeemed). Redeeming old k x new) (sym says.0) (refl, waits, le, says.1)
-    by-mark true true waits false late says = by-failure old.failed says
-    by-mark true false none d is says = stranger says
-    by-mark false b is d early says = stranger says
-
 pub redeem-keeps : (tells : Bool) (start : Machine Value) (brand : ℕ) (table : TableId) (old new : StoreValue) (shares : ℕ) (at : TableId) (pass : SightValue) (k : TicketValue) (r : Redeemed) → IsShared tells start brand table old shares at pass → stores.Redeems old k r new
     → IsShared tells start brand table new (shares + done_in r) at pass
 redeem-keeps tells start brand table old new shares at pass k r h redeems =
@@ -574,7 +514,7 @@ redeem-keeps tells start brand table old new shares at pass k r h redeems =
     same x none is stands = subst (λ (n : ℕ). IsShared tells start brand table new n at pass) (omega (arith, none))
         (quiet tells start brand table old new shares at pass h h.state stands (rest-goes tells old new redeems.rest (ap (λ (v : TransactionsValue). v.mark) is)) h.reached refl (ap (λ (v : TransactionsValue). v.mark) is) (ap (λ (v : TransactionsValue). v.heads) is))
 
-    by-result : (x : Redeemed) → Redeeming old.transactions k x new.transactions → Stands tells new h.state → IsShared tells start brand table new (shares + done_in x) at pass
+    by-result : (x : Redeemed) → LeftByRedeem old.transactions k x new.transactions → Stands tells new h.state → IsShared tells start brand table new (shares + done_in x) at pass
     by-result (redeemed.Done time) left stands =
         let heads : new.transactions.heads ≡ orders.redeemed k.time old.transactions.heads = ap (λ (v : TransactionsValue). v.heads) left.3 in
         let one = told-redeemed k.time old.transactions.heads left.1 in
@@ -594,4 +534,4 @@ redeem-keeps tells start brand table old new shares at pass k r h redeems =
         }
     by-result (redeemed.Waiting back) left stands = same (redeemed.Waiting back) refl left.1 stands
     by-result redeemed.InDoubt left stands = same redeemed.InDoubt refl left stands
-    by-result redeemed.Stranger left stands = same redeemed.Stranger refl left stands
+    by-result redeemed.Stranger left stands = same redeemed.Stranger refl left.0 stands

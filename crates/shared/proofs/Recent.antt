@@ -20,6 +20,7 @@ use Rattle.chains.proofs.Shown.{scan_is}
 use Rattle.chains.proofs.ShownRows.{scan_of_rows}
 use Rattle.scans.proofs.Written.{numbers_of, state-written, between-written}
 use Rattle.scans.proofs.Made.{scan-made, scan_of_rows-made}
+use Rattle.floors.specs.Floors.{floor_at}
 use Rattle.timequery.specs.View.{ViewValue, AnswersAt, AnswersBetween, RefusesRecent, RefusesRecentScan, RefusesRecentRows}
 use Rattle.timequery.specs.declared.fault.QueryFault.{QueryFault}
 use Rattle.timequery.specs.declared.fault.QueryFault.TheVariants as query
@@ -46,7 +47,7 @@ rows-there h relation a b = scan_of_rows-made (λ key. between h key a b) relati
 rises : (view : ViewValue) (h : History Value) (floors : ℕ → ℕ) → ViewStands view h floors → HasRisingTimes 0 h
 rises view h floors stands = rising-from_following IsValue [] h stands.history
 
-scan-same : (view : ViewValue) (h : History Value) (floors : ℕ → ℕ) (relation time : ℕ) → ViewStands view h floors → view.floor ≤ time → time ≤ view.last → view.reclaimed ≤ time → IsScanAt h relation time (scanned relation time view.state)
+scan-same : (view : ViewValue) (h : History Value) (floors : ℕ → ℕ) (relation time : ℕ) → ViewStands view h floors → floor_at view.floors relation ≤ time → time ≤ view.last → view.reclaimed ≤ time → IsScanAt h relation time (scanned relation time view.state)
 scan-same view h floors relation time stands from upto recent =
     let is = scan_is view.state relation time stands.memory.ordered in
     let up = rises view h floors stands in
@@ -60,17 +61,23 @@ scan-same view h floors relation time stands from upto recent =
           ((λ there. sym same ∙ (is.each number value).0 there), (λ says. (is.each number value).1 (same ∙ says)));
     }
 
-rows-same : (view : ViewValue) (h : History Value) (floors : ℕ → ℕ) (key : Key) (a b : ℕ) → ViewStands view h floors → view.floor ≤ a → view.reclaimed ≤ a → rows_in view.state a b key ≡ between h key a b
+rows-same : (view : ViewValue) (h : History Value) (floors : ℕ → ℕ) (key : Key) (a b : ℕ) → ViewStands view h floors → floor_at view.floors key.relation ≤ a → view.reclaimed ≤ a → rows_in view.state a b key ≡ between h key a b
 rows-same view h floors key a b stands from recent = let floor = stands.floor_is key.relation in rows-held stands.memory (rises view h floors stands) key a b (omega arith) recent
 
-scan_rows-same : (view : ViewValue) (h : History Value) (floors : ℕ → ℕ) (relation a b : ℕ) → ViewStands view h floors → view.floor ≤ a → view.reclaimed ≤ a → IsScanBetween h relation a b (scanned_rows relation a b view.state)
+scan_rows-same : (view : ViewValue) (h : History Value) (floors : ℕ → ℕ) (relation a b : ℕ) → ViewStands view h floors → floor_at view.floors relation ≤ a → view.reclaimed ≤ a → IsScanBetween h relation a b (scanned_rows relation a b view.state)
 scan_rows-same view h floors relation a b stands from recent =
-    let same : Path (Key → List (Version Value)) (rows_in view.state a b) (λ key. between h key a b) = λ i key. rows-same view h floors key a b stands from recent i in
-    subst (λ (of : Key → List (Version Value)). IsScanOfRows of relation (scanned_rows relation a b view.state)) same (scan_of_rows view.state relation a b stands.memory.ordered)
+    let found = scanned_rows relation a b view.state in
+    let scan = scan_of_rows view.state relation a b stands.memory.ordered in
+    let held : Key → List (Version Value) = λ key. rows_in view.state a b (key_of relation key.record) in
+    let written : Key → List (Version Value) = λ key. between h (key_of relation key.record) a b in
+    let same : Path (Key → List (Version Value)) held written = λ i key. rows-same view h floors (key_of relation key.record) a b stands from recent i in
+    let own : IsScanOfRows held relation found = record { numbers = scan.numbers; rising = scan.rising; each = scan.each; found_is = scan.found_is } in
+    let shown = subst (λ (of : Key → List (Version Value)). IsScanOfRows of relation found) same own in
+    record { numbers = shown.numbers; rising = shown.rising; each = shown.each; found_is = shown.found_is }
 
 -- ---- what is refused is what the history refuses
 
-time-kept : (view : ViewValue) (h : History Value) (floors : ℕ → ℕ) (relation time : ℕ) → ViewStands view h floors → view.floor ≤ time → time ≤ view.last → answers.time_refusal (last h) (floors relation) time ≡ None
+time-kept : (view : ViewValue) (h : History Value) (floors : ℕ → ℕ) (relation time : ℕ) → ViewStands view h floors → floor_at view.floors relation ≤ time → time ≤ view.last → answers.time_refusal (last h) (floors relation) time ≡ None
 time-kept view h floors relation time stands from upto =
     let floor = stands.floor_is relation in
     let last_is = stands.last_is in
@@ -79,7 +86,7 @@ time-kept view h floors relation time stands from upto =
     rw (low, high) refl
 
 time-refused : {T X : Type 0} (held : T → X) (Found : X → Type 0) (view : ViewValue) (h : History Value) (floors : ℕ → ℕ) (relation time : ℕ) (fault : QueryFault) → ViewStands view h floors → (found : X) × Found found
-    → RefusesRecentScan view time fault → Recalls view time held (answers.IsScanAnswer (answers.time_refusal (last h) (floors relation) time) Found) (Err fault)
+    → RefusesRecentScan view relation time fault → Recalls view time held (answers.IsScanAnswer (answers.time_refusal (last h) (floors relation) time) Found) (Err fault)
 time-refused held Found view h floors relation time (query.BeforeKept floor) stands some says =
     let same = stands.floor_is relation in
     let low : nat_lt time (floors relation) ≡ true = let before = says.0 in let below : time < floors relation = omega arith in grind (arith, nat_tests) in
@@ -125,14 +132,14 @@ interval-empty newest floor a b from upto none =
     rw (low, high, full) refl
 
 -- the same of a view's bounds
-rows-kept : (view : ViewValue) (h : History Value) (floors : ℕ → ℕ) (relation a b : ℕ) → ViewStands view h floors → view.floor ≤ min a b → b ≤ view.last + 1 → a < b → answers.interval_refusal (last h) (floors relation) a b ≡ None
+rows-kept : (view : ViewValue) (h : History Value) (floors : ℕ → ℕ) (relation a b : ℕ) → ViewStands view h floors → floor_at view.floors relation ≤ min a b → b ≤ view.last + 1 → a < b → answers.interval_refusal (last h) (floors relation) a b ≡ None
 rows-kept view h floors relation a b stands from upto some =
     let floor = stands.floor_is relation in
     let last_is = stands.last_is in
     interval-kept (last h) (floors relation) a b (omega arith) (omega arith) some
 
 rows-refused : {T X : Type 0} (held : T → X) (Is : Result X answers.QueryRefusal → Type 0) (view : ViewValue) (h : History Value) (floors : ℕ → ℕ) (relation a b : ℕ) (fault : QueryFault) → ViewStands view h floors
-    → ((why : answers.QueryRefusal) → answers.interval_refusal (last h) (floors relation) a b ≡ Some why → Is (Err why)) → (answers.interval_refusal (last h) (floors relation) a b ≡ None → (found : X) × Is (Ok found)) → RefusesRecentRows view a b fault → Recalls view a held Is (Err fault)
+    → ((why : answers.QueryRefusal) → answers.interval_refusal (last h) (floors relation) a b ≡ Some why → Is (Err why)) → (answers.interval_refusal (last h) (floors relation) a b ≡ None → (found : X) × Is (Ok found)) → RefusesRecentRows view relation a b fault → Recalls view a held Is (Err fault)
 rows-refused held Is view h floors relation a b (query.BeforeKept named) stands refused kept says =
     let before = says.0 in
     let floor = stands.floor_is relation in
@@ -157,20 +164,20 @@ rows-refused held Is view h floors relation a b query.Stranger stands refused ke
 
 -- ---- the answers
 
-copied : (view : ViewValue) (key : Key) (time : ℕ) (r : Result (Option (Bor Value)) QueryFault) → MatchResult r (λ o. (view.reclaimed ≤ time) × AnswersAt view time (option_copied o) (value_at (writes_of view.state key) time)) (RefusesRecent view time)
-    → MatchResult (answer_copied r) (λ o. (view.reclaimed ≤ time) × AnswersAt view time o (value_at (writes_of view.state key) time)) (RefusesRecent view time)
+copied : (view : ViewValue) (key : Key) (time : ℕ) (r : Result (Option (Bor Value)) QueryFault) → MatchResult r (λ o. (view.reclaimed ≤ time) × AnswersAt view key.relation time (option_copied o) (value_at (writes_of view.state key) time)) (RefusesRecent view key.relation time)
+    → MatchResult (answer_copied r) (λ o. (view.reclaimed ≤ time) × AnswersAt view key.relation time o (value_at (writes_of view.state key) time)) (RefusesRecent view key.relation time)
 copied view key time (Ok o) says = says
 copied view key time (Err why) says = says
 
 scan-recalled : (view : ViewValue) (h : History Value) (floors : ℕ → ℕ) (relation time : ℕ) (r : Result (Vec (ℕ × Value) Global) QueryFault) → ViewStands view h floors
-    → MatchResult r (λ found. (view.reclaimed ≤ time) × AnswersAt view time found.items (scanned relation time view.state)) (RefusesRecentScan view time) → RecallsScan view h floors relation time r
+    → MatchResult r (λ found. (view.reclaimed ≤ time) × AnswersAt view relation time found.items (scanned relation time view.state)) (RefusesRecentScan view relation time) → RecallsScan view h floors relation time r
 scan-recalled view h floors relation time (Ok found) stands says =
     let a = says.1 in
     (time-kept view h floors relation time stands a.from_floor a.upto_last, subst (IsScanAt h relation time) (sym a.is) (scan-same view h floors relation time stands a.from_floor a.upto_last says.0))
 scan-recalled view h floors relation time (Err fault) stands says = time-refused (λ (found : Vec (ℕ × Value) Global). found.items) (IsScanAt h relation time) view h floors relation time fault stands (scan-there h relation time) says
 
 between-recalled : (view : ViewValue) (h : History Value) (floors : ℕ → ℕ) (key : Key) (a b : ℕ) (r : Result (Vec (Version Value) Global) QueryFault) → ViewStands view h floors
-    → MatchResult r (λ rows. (view.reclaimed ≤ a) × AnswersBetween view a b rows.items (rows_in view.state a b key)) (RefusesRecentRows view a b) → RecallsBetween view h floors key a b r
+    → MatchResult r (λ rows. (view.reclaimed ≤ a) × AnswersBetween view key.relation a b rows.items (rows_in view.state a b key)) (RefusesRecentRows view key.relation a b) → RecallsBetween view h floors key a b r
 between-recalled view h floors key a b (Ok found) stands says =
     let kept = says.1.kept in
     let from = kept.from_floor in
@@ -182,7 +189,7 @@ between-recalled view h floors key a b (Err fault) stands says =
     (λ why is. ap (λ (r : Option answers.QueryRefusal). answers.unless_refused r (between h key a b)) is) (λ none. (between h key a b, ap (λ (r : Option answers.QueryRefusal). answers.unless_refused r (between h key a b)) none)) says
 
 scan_between-recalled : (view : ViewValue) (h : History Value) (floors : ℕ → ℕ) (relation a b : ℕ) (r : Result (Vec (ℕ × Version Value) Global) QueryFault) → ViewStands view h floors
-    → MatchResult r (λ rows. (view.reclaimed ≤ a) × AnswersBetween view a b rows.items (scanned_rows relation a b view.state)) (RefusesRecentRows view a b) → RecallsScanBetween view h floors relation a b r
+    → MatchResult r (λ rows. (view.reclaimed ≤ a) × AnswersBetween view relation a b rows.items (scanned_rows relation a b view.state)) (RefusesRecentRows view relation a b) → RecallsScanBetween view h floors relation a b r
 scan_between-recalled view h floors relation a b (Ok found) stands says =
     let kept = says.1.kept in
     let from = kept.from_floor in
@@ -195,23 +202,23 @@ scan_between-recalled view h floors relation a b (Err fault) stands says =
 -- ---- by a view of a shared store
 
 module _ (start : Machine Value) (brand : ℕ) (archive : ArchiveSeen) (view : ViewValue) (seen : Seen) (v : ViewMoment) (is : record { shown = view; seen = seen } ≡ v) (s : Shows start brand archive view seen) where
-  pub recent-says : (key : Key) (time : ℕ) (r : Result (Option (Bor Value)) QueryFault) → MatchResult r (λ o. (view.reclaimed ≤ time) × AnswersAt view time (option_copied o) (value_at (writes_of view.state key) time)) (RefusesRecent view time)
+  pub recent-says : (key : Key) (time : ℕ) (r : Result (Option (Bor Value)) QueryFault) → MatchResult r (λ o. (view.reclaimed ≤ time) × AnswersAt view key.relation time (option_copied o) (value_at (writes_of view.state key) time)) (RefusesRecent view key.relation time)
       → OfSeen start v.seen (λ m. SaysRecent v.shown time (answers.at_answer m.published m.floors key time) (answer_copied r))
   recent-says key time r says =
       subst (λ (x : ViewMoment). OfSeen start x.seen (λ m. SaysRecent x.shown time (answers.at_answer m.published m.floors key time) (answer_copied r))) is
-      (s.machine, s.reached, s.seen_is, s.floor, recent-answered view s.machine.published s.machine.floors key time (answer_copied r) s.stands (copied view key time r says))
+      (s.machine, s.reached, s.seen_is, recent-answered view s.machine.published s.machine.floors key time (answer_copied r) s.stands (copied view key time r says))
 
-  pub scan-says : (relation time : ℕ) (r : Result (Vec (ℕ × Value) Global) QueryFault) → MatchResult r (λ found. (view.reclaimed ≤ time) × AnswersAt view time found.items (scanned relation time view.state)) (RefusesRecentScan view time)
+  pub scan-says : (relation time : ℕ) (r : Result (Vec (ℕ × Value) Global) QueryFault) → MatchResult r (λ found. (view.reclaimed ≤ time) × AnswersAt view relation time found.items (scanned relation time view.state)) (RefusesRecentScan view relation time)
       → OfSeen start v.seen (λ m. RecallsScan v.shown m.published m.floors relation time r)
   scan-says relation time r says =
-      subst (λ (x : ViewMoment). OfSeen start x.seen (λ m. RecallsScan x.shown m.published m.floors relation time r)) is (s.machine, s.reached, s.seen_is, s.floor, scan-recalled view s.machine.published s.machine.floors relation time r s.stands says)
+      subst (λ (x : ViewMoment). OfSeen start x.seen (λ m. RecallsScan x.shown m.published m.floors relation time r)) is (s.machine, s.reached, s.seen_is, scan-recalled view s.machine.published s.machine.floors relation time r s.stands says)
 
-  pub between-says : (key : Key) (a b : ℕ) (r : Result (Vec (Version Value) Global) QueryFault) → MatchResult r (λ rows. (view.reclaimed ≤ a) × AnswersBetween view a b rows.items (rows_in view.state a b key)) (RefusesRecentRows view a b)
+  pub between-says : (key : Key) (a b : ℕ) (r : Result (Vec (Version Value) Global) QueryFault) → MatchResult r (λ rows. (view.reclaimed ≤ a) × AnswersBetween view key.relation a b rows.items (rows_in view.state a b key)) (RefusesRecentRows view key.relation a b)
       → OfSeen start v.seen (λ m. RecallsBetween v.shown m.published m.floors key a b r)
   between-says key a b r says =
-      subst (λ (x : ViewMoment). OfSeen start x.seen (λ m. RecallsBetween x.shown m.published m.floors key a b r)) is (s.machine, s.reached, s.seen_is, s.floor, between-recalled view s.machine.published s.machine.floors key a b r s.stands says)
+      subst (λ (x : ViewMoment). OfSeen start x.seen (λ m. RecallsBetween x.shown m.published m.floors key a b r)) is (s.machine, s.reached, s.seen_is, between-recalled view s.machine.published s.machine.floors key a b r s.stands says)
 
-  pub scan_between-says : (relation a b : ℕ) (r : Result (Vec (ℕ × Version Value) Global) QueryFault) → MatchResult r (λ rows. (view.reclaimed ≤ a) × AnswersBetween view a b rows.items (scanned_rows relation a b view.state)) (RefusesRecentRows view a b)
+  pub scan_between-says : (relation a b : ℕ) (r : Result (Vec (ℕ × Version Value) Global) QueryFault) → MatchResult r (λ rows. (view.reclaimed ≤ a) × AnswersBetween view relation a b rows.items (scanned_rows relation a b view.state)) (RefusesRecentRows view relation a b)
       → OfSeen start v.seen (λ m. RecallsScanBetween v.shown m.published m.floors relation a b r)
   scan_between-says relation a b r says =
-      subst (λ (x : ViewMoment). OfSeen start x.seen (λ m. RecallsScanBetween x.shown m.published m.floors relation a b r)) is (s.machine, s.reached, s.seen_is, s.floor, scan_between-recalled view s.machine.published s.machine.floors relation a b r s.stands says)
+      subst (λ (x : ViewMoment). OfSeen start x.seen (λ m. RecallsScanBetween x.shown m.published m.floors relation a b r)) is (s.machine, s.reached, s.seen_is, scan_between-recalled view s.machine.published s.machine.floors relation a b r s.stands says)

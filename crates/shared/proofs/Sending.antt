@@ -24,6 +24,8 @@ use Rattle.chains.proofs.shared_value.SharedValue.TheSendSync as shared_value
 use Rattle.chains.specs.contracts.chain.Chain as Chain
 use Rattle.chains.specs.contracts.frozen.Frozen as Frozen
 use Rattle.snapshot.proofs.open_table.OpenTable.TheSendSync as open_table
+use Rattle.floors.proofs.floors.Floors.TheSendSync as floors
+use Rattle.status.proofs.growth.Growth.TheSendSync as growth
 use Rattle.status.proofs.status_log.StatusLog.TheSendSync as status_log
 use Rattle.status.proofs.turn.SlotTurn.TheSendSync as slot_turn
 use Rattle.group.proofs.commit_order.CommitOrder.TheSendSync as order
@@ -33,7 +35,9 @@ use Rattle.transactions.proofs.stage.GroupStage.TheSendSync as group_stage
 use Rattle.transactions.specs.contracts.transactions.Transactions as Transactions
 use Rattle.transactions.specs.contracts.transactions.Transactions.TheInside as transactions
 use Rattle.archive.proofs.writer.RunWriter.TheSendSync as run_writer
+use Rattle.vacuum.proofs.ahead.Ahead.TheSendSync as ahead
 use Rattle.vacuum.proofs.archive_walk.Place.TheSendSync as place
+use Rattle.vacuum.proofs.archive_walk.Since.TheSendSync as since
 use Rattle.chains.proofs.bound.Bound.TheSendSync as bound
 use Rattle.vacuum.specs.contracts.anchor_source.AnchorSource as AnchorSource
 use Rattle.vacuum.specs.contracts.anchor_source.AnchorSource.TheInside as source
@@ -95,7 +99,7 @@ transactions_inside = declared_send transactions.the_type (
                         (
                           search (sendable, group_stage.the_send),
                           (
-                            search sendable,
+                            search (sendable, floors.the_send),
                             (
                               search sendable,
                               (
@@ -124,7 +128,10 @@ transactions_send = view_send transactions.the_row _ _ _ _ transactions_inside
 -- ---- the job
 
 walk_inside : IsSend walk.the_row
-walk_inside = declared_send walk.the_type (search (sendable, frozen_send), (search sendable, (search sendable, (search (sendable, place.the_send), tt))))
+walk_inside = declared_send walk.the_type (
+  search (sendable, frozen_send),
+  (search (sendable, since.the_send), (search sendable, (search (sendable, place.the_send), (search (sendable, option.the_send, ahead.the_send), tt)))),
+)
 
 walk_send : IsSend ArchiveWalk.the_row
 walk_send = view_send walk.the_row _ _ _ _ walk_inside
@@ -138,7 +145,7 @@ source_send = view_send source.the_row _ _ _ _ source_inside
 work_send : IsSend JobWork.the_row
 work_send = variants_send JobWork.enum (
   (search (sendable, run.the_send), (search (sendable, run_writer.the_send, walk_send), tt)),
-  ((search (sendable, anchors.the_send), (search (sendable, source_send), (search sendable, tt))), ((search sendable, tt), tt)),
+  ((search (sendable, anchors.the_send), (search (sendable, source_send), (search sendable, tt))), ((search (sendable, option.the_send), (search sendable, (search (sendable, floors.the_send), tt))), ((search (sendable, growth.the_send), tt), tt))),
 )
 
 job_send : IsSend Job.the_row

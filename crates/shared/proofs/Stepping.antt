@@ -1,15 +1,14 @@
 -- What was seen, as the machine steps.
-use Rattle.std.proofs.Common.{◌≡◌, ℕ, ◌≤◌, ◌==◌, ◌&&◌, nat_lt, Bool, true, false, cond, List, [], ◌∷◌, ◌++◌, length, take, drop, Option, None, Some, Result, Ok, Err, refl, sym, ap, ◌∙◌, subst, append_assoc, arith}
+use Rattle.std.proofs.Common.{◌≡◌, ℕ, ◌≤◌, Bool, true, false, cond, List, [], ◌∷◌, ◌++◌, take, drop, Option, None, Some, Result, Ok, Err, refl, sym, ap, ◌∙◌, subst, append_assoc, arith}
 use Rattle.std.proofs.lemmas.List.{append-nil, take-append-drop}
 use Rattle.history.specs.Histories.{Commit, History}
 use Rattle.history.specs.Floors.{Raising}
 use Rattle.history.specs.Machine.{Machine, IsMachine, Gate, Shut, Due, MayBeOpen, OfGroup, OfFloor}
-use Rattle.history.specs.Steps.{Event, Step, Run, GroupBegan}
+use Rattle.history.specs.Steps.{Event, Step, Run}
 use Rattle.history.specs.Submissions.{Submission, commit_made}
 use Rattle.history.proofs.Machines.{run-floors}
 use Rattle.image.specs.Values.{Value, IsValue}
 use Rattle.group.specs.declared.answers.Did.{Did}
-use Rattle.group.specs.declared.answers.Did.TheVariants as did
 use Rattle.group.specs.declared.answers.PumpFault.{PumpFault}
 use Rattle.group.specs.declared.answers.PumpFault.TheVariants as pump
 use Rattle.group.specs.declared.answers.Submitted.{Submitted}
@@ -18,15 +17,18 @@ use Rattle.group.specs.declared.answers.SubmitFault.{SubmitFault}
 use Rattle.group.specs.declared.answers.SubmitFault.TheVariants as refused
 use Rattle.store.specs.declared.job.Job.{Job}
 use Rattle.store.specs.declared.job.JobWork.{JobWork}
-use Rattle.store.specs.declared.job.JobWork.TheVariants.{Archive, Reclaim, Floor}
+use Rattle.store.specs.declared.job.JobWork.TheVariants.{Archive, Reclaim, Floor, Grow}
 use Rattle.store.specs.declared.job.JobDid.{JobDid}
 use Rattle.store.specs.declared.job.JobDid.TheVariants as job_did
 use Rattle.standing.specs.Laws.{event_of, begins_in, ends_in, floor_ends_in, floor_ends, job_breaks_in, job_ends_in}
 use Rattle.standing.specs.Calls.{raising_to}
+use Rattle.standing.specs.Leaving.{count_in}
 use Rattle.standing.specs.Stands.{raising_by, raising_of}
+use Rattle.standing.proofs.Told.{pump-publishes}
 use Rattle.shared.specs.Reached.{Reached, stepped}
-use Rattle.shared.specs.Seen.{Seen, seen_of, order_of, IsFrontOf, IsLater}
-use Rattle.shared.specs.Shared.{published_seen, queued_seen, raised_seen, job_seen, is_done, count_in}
+use Rattle.shared.specs.Seen.{Seen, floors_listed, floor_in, seen_of, order_of, IsFrontOf, IsLater}
+use Rattle.shared.specs.Shared.{published_seen, queued_seen, raised_seen, job_seen, is_done}
+use Rattle.shared.proofs.Floors.{listed-raised, listed-later}
 use Rattle.shared.proofs.Fronts.{front-same, later-same}
 
 pub follows : (start m n : Machine Value) (events : List (Event Value)) → Reached start m → Run IsValue m events n → Reached start n
@@ -36,13 +38,13 @@ follows start m n (e ∷ es) reached run = follows start run.0 n es (stepped e r
 -- ---- what comes next is later
 
 pub later-queued : (s : Seen) (c : Commit Value) → IsLater s (queued_seen s c)
-later-queued s c = record { published = front-same s.published; order = (c ∷ [], sym (append_assoc s.published s.queue (c ∷ []))); floor = omega arith }
+later-queued s c = record { published = front-same s.published; order = (c ∷ [], sym (append_assoc s.published s.queue (c ∷ []))); floors = λ relation. omega arith }
 
 pub later-published : (s : Seen) (count : ℕ) → IsLater s (published_seen s count)
 later-published s count = record {
   published = (take count s.queue, refl);
   order = ([], append_assoc s.published (take count s.queue) (drop count s.queue) ∙ ap (λ (l : History Value). s.published ++ l) (take-append-drop count s.queue) ∙ sym (append-nil (order_of s)));
-  floor = omega arith;
+  floors = λ relation. omega arith;
 }
 
 -- ---- a submit
@@ -71,27 +73,12 @@ published-none s = ap (λ (h : History Value). record s { published = h }) (sym 
 abbrev pub pump_seen : Result Did PumpFault → Seen → Seen
 pump_seen r s = published_seen s (count_in r)
 
-ended-seen : (m n : Machine Value) (gate : Gate) (r : Result Did PumpFault) → Run IsValue m (ends_in gate r) n → seen_of n ≡ pump_seen r (seen_of m)
-ended-seen m n gate (Ok (did.Published count)) run = ap seen_of run.2 ∙ ap seen_of run.1.4 ∙ ap (λ (k : ℕ). published_seen (seen_of m) k) (sym run.1.2)
-ended-seen m n gate (Ok did.Idle) run = ap seen_of run ∙ published-none (seen_of m)
-ended-seen m n gate (Ok did.WroteExtent) run = ap seen_of run ∙ published-none (seen_of m)
-ended-seen m n gate (Ok did.HeapSynced) run = ap seen_of run ∙ published-none (seen_of m)
-ended-seen m n gate (Ok did.BodyWritten) run = ap seen_of run ∙ published-none (seen_of m)
-ended-seen m n gate (Ok did.BodySynced) run = ap seen_of run.2 ∙ ap seen_of run.1.3 ∙ published-none (seen_of m)
-ended-seen m n gate (Ok did.GateWritten) run = ap seen_of run.2 ∙ ap seen_of run.1.2 ∙ published-none (seen_of m)
-ended-seen m n gate (Err pump.Busy) run = ap seen_of run ∙ published-none (seen_of m)
-ended-seen m n gate (Err pump.NoMemory) run = ap seen_of run ∙ published-none (seen_of m)
-ended-seen m n Shut (Err pump.Failed) run = ap seen_of run.2 ∙ ap seen_of run.1.1 ∙ published-none (seen_of m)
-ended-seen m n (Due OfGroup) (Err pump.Failed) run = ap seen_of run.2.2 ∙ ap seen_of run.2.1.1 ∙ ap seen_of run.1.2 ∙ published-none (seen_of m)
-ended-seen m n (Due OfFloor) (Err pump.Failed) run = ap seen_of run.2 ∙ ap seen_of run.1.1 ∙ published-none (seen_of m)
-ended-seen m n (MayBeOpen change) (Err pump.Failed) run = ap seen_of run.2 ∙ ap seen_of run.1.1 ∙ published-none (seen_of m)
-
 pub pump-seen : (m n : Machine Value) (r : Result Did PumpFault) → Run IsValue m (begins_in m ++ ends_in m.gate r) n → seen_of n ≡ pump_seen r (seen_of m)
-pump-seen m n r run = by-group ((m.group == 0) && nat_lt 0 (length m.queue)) run
-  where
-    by-group : (b : Bool) → Run IsValue m (cond b (GroupBegan ∷ []) [] ++ ends_in m.gate r) n → seen_of n ≡ pump_seen r (seen_of m)
-    by-group true run = ended-seen run.0 n m.gate r run.2 ∙ ap (λ (x : Machine Value). pump_seen r (seen_of x)) run.1.3
-    by-group false run = ended-seen m n m.gate r run
+pump-seen m n r run =
+    let p = pump-publishes m n r run in
+    ap (λ (h : History Value). record { published = h; queue = n.queue; floors = floors_listed n.floors }) p.published
+    ∙ ap (λ (q : History Value). record { published = m.published ++ take (count_in r) m.queue; queue = q; floors = floors_listed n.floors }) p.queue
+    ∙ ap (λ (f : ℕ → ℕ). record { published = m.published ++ take (count_in r) m.queue; queue = drop (count_in r) m.queue; floors = floors_listed f }) p.floors
 
 -- ---- a step of a job
 
@@ -99,17 +86,19 @@ same-seen : (b : Bool) (s : Seen) → cond b s s ≡ s
 same-seen true s = refl
 same-seen false s = refl
 
--- of a floor's job, which raises that of every relation
-floor-seen : (m n : Machine Value) (what : JobDid) (time : ℕ) → Run IsValue m (floor_ends_in what (raising_to time)) n → seen_of n ≡ job_seen (Ok what) (Some (raising_to time)) (seen_of m)
-floor-seen m n job_did.Idle time run = ap seen_of run
-floor-seen m n job_did.WroteRun time run = ap seen_of run
-floor-seen m n job_did.RunSynced time run = ap seen_of run
-floor-seen m n job_did.WroteExtent time run = ap seen_of run
-floor-seen m n job_did.HeapSynced time run = ap seen_of run
-floor-seen m n job_did.BodyWritten time run = ap seen_of run
-floor-seen m n job_did.BodySynced time run = ap seen_of run.2 ∙ ap seen_of run.1.3
-floor-seen m n job_did.GateWritten time run = ap seen_of run.2 ∙ ap seen_of run.1.2
-floor-seen m n job_did.JobDone time run = ap seen_of run.2 ∙ ap seen_of run.1.3
+-- of a floor's job
+floor-seen : (m n : Machine Value) (what : JobDid) (r : Raising) → Run IsValue m (floor_ends_in what r) n → seen_of n ≡ job_seen (Ok what) (Some r) (seen_of m)
+floor-seen m n job_did.Idle r run = ap seen_of run
+floor-seen m n job_did.WroteRun r run = ap seen_of run
+floor-seen m n job_did.RunSynced r run = ap seen_of run
+floor-seen m n job_did.WroteExtent r run = ap seen_of run
+floor-seen m n job_did.HeapSynced r run = ap seen_of run
+floor-seen m n job_did.WroteZeros r run = ap seen_of run
+floor-seen m n job_did.ZerosSynced r run = ap seen_of run
+floor-seen m n job_did.BodyWritten r run = ap seen_of run
+floor-seen m n job_did.BodySynced r run = ap seen_of run.2 ∙ ap seen_of run.1.3
+floor-seen m n job_did.GateWritten r run = ap seen_of run.2 ∙ ap seen_of run.1.2
+floor-seen m n job_did.JobDone r run = ap seen_of run.2 ∙ ap seen_of run.1.3 ∙ ap (λ (l : List ℕ). record (seen_of m) { floors = l }) (listed-raised r.scope r.floor m.floors)
 
 unchanged-seen : (m n : Machine Value) (what : JobDid) → n ≡ m → seen_of n ≡ job_seen (Ok what) None (seen_of m)
 unchanged-seen m n what run = ap seen_of run ∙ sym (same-seen (is_done (Ok what)) (seen_of m))
@@ -117,7 +106,8 @@ unchanged-seen m n what run = ap seen_of run ∙ sym (same-seen (is_done (Ok wha
 work-seen : (m n : Machine Value) (what : JobDid) (work : JobWork) → Run IsValue m (floor_ends what (raising_by work)) n → seen_of n ≡ job_seen (Ok what) (raising_by work) (seen_of m)
 work-seen m n what (Archive run writer) ran = unchanged-seen m n what ran
 work-seen m n what (Reclaim anchors source written) ran = unchanged-seen m n what ran
-work-seen m n what (Floor time) ran = floor-seen m n what time ran
+work-seen m n what (Floor scope floor floors) ran = floor-seen m n what (raising_to scope floor) ran
+work-seen m n what (Grow growth) ran = unchanged-seen m n what ran
 
 done-seen : (m n : Machine Value) (what : JobDid) (job : Option Job) → Run IsValue m (floor_ends what (raising_of job)) n → seen_of n ≡ job_seen (Ok what) (raising_of job) (seen_of m)
 done-seen m n what None ran = unchanged-seen m n what ran
@@ -135,15 +125,15 @@ job-seen m n job (Err pump.Busy) is run = ap seen_of run
 job-seen m n job (Err pump.NoMemory) is run = ap seen_of run
 job-seen m n job (Err pump.Failed) is run = job_broken-seen m n m.gate run
 
--- the floor alone is raised
-raised-later : (s n : Seen) (b : Bool) (o : Option Raising) → n ≡ cond b (raised_seen o s) s → s.floor ≤ n.floor → IsLater s n
-raised-later s n true None is floor = subst (λ (x : Seen). IsLater s x) (sym is) (later-same s)
-raised-later s n true (Some r) is floor = record {
+-- floors alone are raised
+raised-later : (s n : Seen) (b : Bool) (o : Option Raising) → n ≡ cond b (raised_seen o s) s → ((relation : ℕ) → floor_in s.floors relation ≤ floor_in n.floors relation) → IsLater s n
+raised-later s n true None is rise = subst (λ (x : Seen). IsLater s x) (sym is) (later-same s)
+raised-later s n true (Some r) is rise = record {
   published = subst (λ (h : History Value). IsFrontOf s.published h) (sym (ap (λ (x : Seen). x.published) is)) (front-same s.published);
   order = subst (λ (h : History Value). IsFrontOf (order_of s) h) (sym (ap order_of is)) (front-same (order_of s));
-  floor = floor;
+  floors = rise;
 }
-raised-later s n false o is floor = subst (λ (x : Seen). IsLater s x) (sym is) (later-same s)
+raised-later s n false o is rise = subst (λ (x : Seen). IsLater s x) (sym is) (later-same s)
 
 pub later-job : (m n : Machine Value) (job : Option Job) (r : Result JobDid PumpFault) → IsMachine IsValue m → m.raising ≡ raising_of job → Run IsValue m (job_ends_in m r) n → IsLater (seen_of m) (seen_of n)
-later-job m n job r legal is run = raised-later (seen_of m) (seen_of n) (is_done r) (raising_of job) (job-seen m n job r is run) (run-floors IsValue m n (job_ends_in m r) 0 legal run)
+later-job m n job r legal is run = raised-later (seen_of m) (seen_of n) (is_done r) (raising_of job) (job-seen m n job r is run) (listed-later m.floors n.floors (λ relation. run-floors IsValue m n (job_ends_in m r) relation legal run))

@@ -22,17 +22,18 @@ use Rattle.transactions.specs.Calls as calls
 use Rattle.store.specs.Values.{StoreValue}
 use Rattle.store.specs.Calls as stores
 use Rattle.standing.specs.Laws.{RedeemsAs}
+use Rattle.standing.specs.Leaving.{LeftByRedeem}
+use Rattle.standing.proofs.Told.{redeeming}
 use Rattle.standing.proofs.Answering.{times-of_label}
 use Rattle.standing.proofs.Views.{view-of-history}
 use Rattle.standing.proofs.Memory.{last-is, begun-sees}
-use Rattle.standing.proofs.Calling.{begin-stands, redeem-stands}
+use Rattle.standing.proofs.GrowingCalls.{begin-stands, redeem-stands}
 use Rattle.shared.specs.Archives.{ArchiveSeen, ReadsArchive, archive_seen}
 use Rattle.shared.specs.Counts.{told_after, unredeemed}
 use Rattle.shared.specs.Seen.{Seen, SightValue}
 use Rattle.shared.specs.Shared.{IsShared, Shows, BeginHappens, HasCommitAt, RedeemSays, SeenReached}
 use Rattle.shared.proofs.Archives.{reads-taken}
 use Rattle.shared.proofs.Counting.{published-count}
-use Rattle.shared.proofs.Moves.{Redeeming, redeeming}
 
 pub shows : (tells : Bool) (start : Machine Value) (brand : ℕ) (table : TableId) (v : StoreValue) (shares : ℕ) (at : TableId) (pass : SightValue) (archive : ArchiveSeen) (seen : Seen) (r : Result ViewValue AllocError) → IsShared tells start brand table v shares at pass → archive ≡ archive_seen tells v → seen ≡ pass.seen
     → IfOk r (stores.IsViewOf v) → IfOk r (λ w. Shows start brand archive w seen)
@@ -42,7 +43,6 @@ shows tells start brand table v shares at pass archive seen (Ok w) h known same 
       machine = h.state;
       reached = h.reached;
       seen_is = same ∙ h.seen;
-      floor = λ relation. sym (h.stands.memory.floors relation) ∙ h.stands.memory.floors 0 ∙ ap (λ (s : Seen). s.floor) (sym (same ∙ h.seen));
       mark = ap (λ (x : ViewValue). x.mark) of ∙ h.mark;
       stands = is.0;
       reads = subst (λ (a : ArchiveSeen). ReadsArchive a w h.state.published h.state.floors) (sym known) (reads-taken tells v w h.state.published h.state.floors is.1);
@@ -70,7 +70,7 @@ pub redeem-says : (tells : Bool) (start : Machine Value) (brand : ℕ) (table : 
 redeem-says tells start brand table v new shares at pass seen k r h same redeems =
     by-result r (redeeming v.transactions new.transactions k r redeems.transactions) (redeem-stands tells v new k r h.state h.stands redeems).0
   where
-    by-result : (x : Redeemed) → Redeeming v.transactions k x new.transactions → RedeemsAs (answers.redeemed_by h.state k.time) x → RedeemSays k x seen
+    by-result : (x : Redeemed) → LeftByRedeem v.transactions k x new.transactions → RedeemsAs (answers.redeemed_by h.state k.time) x → RedeemSays k x seen
     by-result (redeemed.Done time) left says =
         let published : HasCommitAt h.state.published time = (done-published h.state time).0 (subst (λ (t : ℕ). answers.redeemed_by h.state t ≡ answers.Done time) (sym left.0) says) in
         (left.0, subst (λ (s : Seen). HasCommitAt s.published time) (sym (same ∙ h.seen)) published)

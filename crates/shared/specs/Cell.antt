@@ -1,4 +1,4 @@
--- The cell of the published time: its word, and what each pass has seen of the commits and the floor and knows of the archive.
+-- The cell of the published time: its word, and what each pass has seen of the commits and the floors and knows of the archive.
 use Rattle.std.specs.Prelude.{◌≡◌, ℕ, List, slice_index, true, false}
 use mathlib.Core.Option.{some}
 use lib.ListN.{get_elem?}
@@ -7,7 +7,7 @@ use Rattle.image.specs.Values.{IsValue}
 use Rattle.shared.specs.Archives.{ArchiveSeen, no_archive}
 use Rattle.shared.specs.Seen.{Seen, nothing, nothing_known, order_of, known_by, IsLater, IsMore, SightValue}
 
--- One view, the writer's, has seen all commits, which are a history, and the floor, and the word is the last published time. Each other view has seen a front of them and no later floor, and knows an earlier archive.
+-- One view, the writer's, has seen all commits, which are a history, and the floors, and the word is the last published time. Each other view has seen a front of them and no later floors, and knows an earlier archive.
 pub record IsPublished (words : List ℕ) (views : List SightValue) : Type 0 where
   pub writer : ℕ
   pub own : SightValue
@@ -17,7 +17,7 @@ pub record IsPublished (words : List ℕ) (views : List SightValue) : Type 0 whe
   pub legal : IsHistory IsValue (order_of own.seen)
   pub each : (by : ℕ) (v : SightValue) → get_elem? views by ≡ some v → IsMore (known_by v) (known_by own) × IsMore v.heard (known_by own) × (v.writes ≡ true → by ≡ writer)
 
--- a load: all commits and the floor are seen from then on, and the word is the last published time
+-- a load: all commits and the floors are seen from then on, and the word is the last published time
 abbrev pub Sees : SightValue → List ℕ → List ℕ → SightValue → Type 0
 Sees v before after w = IsLater v.seen w.seen × IsHistory IsValue (order_of w.seen) × (last w.seen.published ≡ slice_index after 0) × (w.writes ≡ v.writes)
 

@@ -1,4 +1,4 @@
--- What views and transactions of a shared store answer, by the history and the floor of their moment.
+-- What views and transactions of a shared store answer, by the history and the floors of their moment.
 use Rattle.std.specs.Prelude.{ℕ, ◌≡◌, Option, Result, Ok, Err, unwrap_or}
 use Rattle.std.specs.Borrow.{Bor}
 use Rattle.std.specs.Option.{option_copied}
@@ -12,21 +12,21 @@ use Rattle.group.specs.declared.answers.BeginFault.{BeginFault}
 use Rattle.timequery.specs.View.{ViewValue}
 use Rattle.timequery.specs.declared.fault.QueryFault.{QueryFault}
 use Rattle.shared.specs.Reached.{Reached}
-use Rattle.shared.specs.Seen.{Seen, seen_of, HasFloor}
+use Rattle.shared.specs.Seen.{Seen, seen_of}
 
--- a view, and the commits and the floor that its caller had seen when it was taken
+-- a view, and the commits and the floors that its caller had seen when it was taken
 pub record ViewMoment : Type 0 where
   pub shown : ViewValue
   pub seen : Seen
 
--- a transaction, and the commits and the floor that its caller had seen when it began
+-- a transaction, and the commits and the floors that its caller had seen when it began
 pub record TxnMoment : Type 0 where
   pub txn : TxnValue
   pub seen : Seen
 
--- this holds of a state that steps lead to, of which this was seen: its published history and its floor are those
+-- this holds of a state that steps lead to, of which this was seen: its published history and its floors are those
 abbrev pub OfSeen : Machine Value → Seen → (Machine Value → Type 0) → Type 0
-OfSeen start seen Holds = (m : Machine Value) × Reached start m × (seen ≡ seen_of m) × HasFloor m seen.floor × Holds m
+OfSeen start seen Holds = (m : Machine Value) × Reached start m × (seen ≡ seen_of m) × Holds m
 
 -- the transaction reads the published history of its moment
 pub record WorksOn (start : Machine Value) (brand : ℕ) (txn : TxnValue) (seen : Seen) : Type 0 where

@@ -1,40 +1,45 @@
--- What was seen of a machine's commits and of its floor, which is that of every relation.
-use Rattle.std.specs.Prelude.{ℕ, ◌≡◌, ◌≤◌, ◌++◌, Bool, true, false, []}
+-- What was seen of a machine's commits and of its floors.
+use Rattle.std.specs.Prelude.{ℕ, ◌≡◌, ◌≤◌, ◌^◌, ◌++◌, Bool, true, false, List, [], map, get_or}
+use Rattle.std.specs.List.{range_with_len}
 use Rattle.history.specs.Histories.{History}
 use Rattle.history.specs.Machine.{Machine}
 use Rattle.image.specs.Values.{Value}
 use Rattle.shared.specs.Archives.{ArchiveSeen, IsArchiveLater, no_archive}
 
--- the published commits, those that wait behind them, and the floor of what is kept
+-- the floors of all relations, in their order
+unfoldable pub floors_listed : (ℕ → ℕ) → List ℕ
+floors_listed floors = map floors (range_with_len 0 (2 ^ 16))
+
+-- that of a relation among them
+abbrev pub floor_in : List ℕ → ℕ → ℕ
+floor_in floors relation = get_or floors relation 0
+
+-- the published commits, those that wait behind them, and the floors of what is kept
 pub record Seen : Type 0 where
   pub published : History Value
   pub queue : History Value
-  pub floor : ℕ
+  pub floors : List ℕ
 
 abbrev pub nothing : Seen
-nothing = record { published = []; queue = []; floor = 0 }
+nothing = record { published = []; queue = []; floors = [] }
 
 -- the commit order
 abbrev pub order_of : Seen → History Value
 order_of s = s.published ++ s.queue
 
 abbrev pub seen_of : Machine Value → Seen
-seen_of m = record { published = m.published; queue = m.queue; floor = m.floors 0 }
-
--- each relation has this floor
-abbrev pub HasFloor : Machine Value → ℕ → Type 0
-HasFloor m floor = (relation : ℕ) → m.floors relation ≡ floor
+seen_of m = record { published = m.published; queue = m.queue; floors = floors_listed m.floors }
 
 abbrev pub IsFrontOf : History Value → History Value → Type 0
 IsFrontOf front whole = (rest : History Value) × (whole ≡ front ++ rest)
 
--- commits were published from the front of the queue and added behind it, the floor was raised, and nothing else
+-- commits were published from the front of the queue and added behind it, floors were raised, and nothing else
 pub record IsLater (old new : Seen) : Type 0 where
   pub published : IsFrontOf old.published new.published
   pub order : IsFrontOf (order_of old) (order_of new)
-  pub floor : old.floor ≤ new.floor
+  pub floors : (relation : ℕ) → floor_in old.floors relation ≤ floor_in new.floors relation
 
--- the commits and the floor that were seen, and what is known of the archive
+-- the commits and the floors that were seen, and what is known of the archive
 pub record Known : Type 0 where
   pub seen : Seen
   pub archive : ArchiveSeen

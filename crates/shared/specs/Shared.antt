@@ -1,10 +1,10 @@
 -- What the value under the lock keeps, and what the calls of a shared store answer.
-use Rattle.std.specs.Prelude.{◌≡◌, ℕ, ◌+◌, ◌++◌, Bool, true, false, List, [], ◌∷◌, length, map, take, drop, is_some, Contains, Option, None, Some, Result, Ok, Err, MatchBool, if◌then◌else◌}
+use Rattle.std.specs.Prelude.{◌≡◌, ℕ, ◌+◌, ◌++◌, Bool, true, false, List, [], ◌∷◌, length, map, take, drop, is_some, IsSome, Contains, Option, None, Some, Result, Ok, Err, MatchBool, if◌then◌else◌}
 use Rattle.atomic_table.specs.Seated.{TableId}
 use Rattle.history.specs.declared.key.Key.{Key}
 use Rattle.history.specs.declared.key.KeyWrite.{KeyWrite}
 use Rattle.history.specs.FloorStarts as floor_starts
-use Rattle.history.specs.Floors.{Raising}
+use Rattle.history.specs.Floors.{Raising, raised}
 use Rattle.history.specs.Histories.{Commit, History, IsHistory, last, state}
 use Rattle.history.specs.Machine.{Machine}
 use Rattle.history.specs.Steps.{Step, Run, FloorStarted, FloorRefused, floor_started}
@@ -16,7 +16,6 @@ use Rattle.group.specs.Tickets.{TicketValue}
 use Rattle.group.specs.declared.answers.BeginFault.{BeginFault}
 use Rattle.group.specs.declared.answers.BeginFault.TheVariants as begin
 use Rattle.group.specs.declared.answers.Did.{Did}
-use Rattle.group.specs.declared.answers.Did.TheVariants as did
 use Rattle.group.specs.declared.answers.PumpFault.{PumpFault}
 use Rattle.group.specs.declared.answers.PumpFault.TheVariants as pump
 use Rattle.group.specs.declared.answers.Redeemed.{Redeemed}
@@ -43,11 +42,11 @@ use Rattle.shared.specs.declared.committed.CommitFault.{CommitFault}
 use Rattle.shared.specs.Archives.{ArchiveSeen, IsArchiveLater, ReadsArchive, archive_seen}
 use Rattle.shared.specs.Counts.{told_count, told_after}
 use Rattle.shared.specs.Reached.{Reached}
-use Rattle.shared.specs.Seen.{Seen, SightValue, seen_of, order_of, HasFloor, IsFrontOf}
+use Rattle.shared.specs.Seen.{Seen, SightValue, floors_listed, floor_in, seen_of, order_of, IsFrontOf}
 
 -- ---- the value under the lock
 
--- The store stands for a state that steps of the machine lead to. The commits for which Done was answered since opening are those in the shares, and none of them waits. The pass is the cell's writer, and has seen all commits and the floor; what it knows of the archive is there still.
+-- The store stands for a state that steps of the machine lead to. The commits for which Done was answered since opening are those in the shares, and none of them waits. The pass is the cell's writer, and has seen all commits and the floors; what it knows of the archive is there still.
 pub record IsShared (tells : Bool) (start : Machine Value) (brand : ℕ) (table : TableId) (store : StoreValue) (shares : ℕ) (at : TableId) (pass : SightValue) : Type 0 where
   pub state : Machine Value
   pub stands : Stands tells store state
@@ -70,17 +69,6 @@ published_seen s count = record s { published = s.published ++ take count s.queu
 abbrev pub queued_seen : Seen → Commit Value → Seen
 queued_seen s commit = record s { queue = s.queue ++ commit ∷ [] }
 
--- how many commits a step of a group published
-abbrev pub count_in : Result Did PumpFault → ℕ
-count_in (Ok (did.Published count)) = count
-count_in (Ok did.Idle) = 0
-count_in (Ok did.WroteExtent) = 0
-count_in (Ok did.HeapSynced) = 0
-count_in (Ok did.BodyWritten) = 0
-count_in (Ok did.BodySynced) = 0
-count_in (Ok did.GateWritten) = 0
-count_in (Err why) = 0
-
 -- what is to be seen once a submit of these writes was answered
 abbrev pub noted : Result Submitted SubmitFault → Seen → ℕ → List (KeyWrite Value) → Seen
 noted (Ok (submitted.ReadOnly at)) s label writes = s
@@ -95,15 +83,17 @@ is_done (Ok job_did.WroteRun) = false
 is_done (Ok job_did.RunSynced) = false
 is_done (Ok job_did.WroteExtent) = false
 is_done (Ok job_did.HeapSynced) = false
+is_done (Ok job_did.WroteZeros) = false
+is_done (Ok job_did.ZerosSynced) = false
 is_done (Ok job_did.BodyWritten) = false
 is_done (Ok job_did.BodySynced) = false
 is_done (Ok job_did.GateWritten) = false
 is_done (Err why) = false
 
--- the floor in the making, if there is one, was raised, as a store's job raises it, for every relation
+-- the floor in the making, if there is one, was raised
 abbrev pub raised_seen : Option Raising → Seen → Seen
 raised_seen None s = s
-raised_seen (Some r) s = record s { floor = r.floor }
+raised_seen (Some r) s = record s { floors = floors_listed (raised r.scope r.floor (floor_in s.floors)) }
 
 -- what is to be seen after a step of a job, by the floor that was in the making
 abbrev pub job_seen : Result JobDid PumpFault → Option Raising → Seen → Seen
@@ -118,12 +108,11 @@ HasCommitAt h time = (c : Commit Value) × Contains h c × (c.time ≡ time)
 
 -- ---- views and transactions
 
--- the view stands for the published history that was seen and the floor of then, and this archive has its runs
+-- the view stands for the published history that was seen and the floors of then, and this archive has its runs
 pub record Shows (start : Machine Value) (brand : ℕ) (archive : ArchiveSeen) (view : ViewValue) (seen : Seen) : Type 0 where
   pub machine : Machine Value
   pub reached : Reached start machine
   pub seen_is : seen ≡ seen_of machine
-  pub floor : HasFloor machine seen.floor
   pub mark : view.mark ≡ brand
   pub stands : ViewStands view machine.published machine.floors
   pub reads : ReadsArchive archive view machine.published machine.floors
@@ -182,7 +171,7 @@ pub record JobHappens (start : Machine Value) (result : Result JobDid PumpFault)
 
 -- ---- floors
 
--- a floor begins, or it is refused as the machine says; or another job runs, or the log has no slot for it
+-- a floor begins, or it is refused as the machine says; or the store has no floors by relation, another job runs, the log has no slot for it or memory was refused
 abbrev pub FloorSays : Machine Value → Raising → Result (Unit {0}) StartFault → Type 0
 FloorSays m r (Ok done) = Step IsValue m (FloorStarted r) (floor_started m r)
 FloorSays m r (Err start_fault.NothingToDo) = Step IsValue m (FloorRefused r floor_starts.NothingToDo) m
@@ -191,13 +180,15 @@ FloorSays m r (Err (start_fault.InUse snapshot)) = Step IsValue m (FloorRefused 
 FloorSays m r (Err start_fault.Failed) = m.failed ≡ true
 FloorSays m r (Err start_fault.JobBusy) = Unit {0}
 FloorSays m r (Err start_fault.StatusFull) = Unit {0}
+FloorSays m r (Err start_fault.WrongProfile) = Unit {0}
 FloorSays m r (Err start_fault.ArchiveFull) = ⊥
 FloorSays m r (Err start_fault.HeapFull) = ⊥
-FloorSays m r (Err start_fault.NoMemory) = ⊥
+FloorSays m r (Err start_fault.NotGrowable) = ⊥
+FloorSays m r (Err start_fault.NoMemory) = IsSome r.scope
 
 -- at a state that steps lead to the machine does this
-abbrev pub FloorHappens : Machine Value → ℕ → Result (Unit {0}) StartFault → Type 0
-FloorHappens start floor result = (m : Machine Value) × Reached start m × FloorSays m (raising_to floor) result
+abbrev pub FloorHappens : Machine Value → Option ℕ → ℕ → Result (Unit {0}) StartFault → Type 0
+FloorHappens start scope floor result = (m : Machine Value) × Reached start m × FloorSays m (raising_to scope floor) result
 
 -- ---- tickets
 

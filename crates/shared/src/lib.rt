@@ -1,4 +1,4 @@
-//! Threads over one store under one lock, with an exact count of commits and a published time and a floor that never go back.
+//! Threads over one store under one lock, with an exact count of commits and a published time and floors that never go back.
 #![tactic(auto)]
 
 mod cell;

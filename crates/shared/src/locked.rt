@@ -153,13 +153,13 @@ impl<D: Disk, L: Opening> Locked<D, L> {
         self.store.reclaim_start()
     }
 
-    pub(crate) fn floor_start(&mut self, floor: u64) -> Result<(), StartFault>
-        ensures { FloorHappens L.start floor result }
+    pub(crate) fn start_floor(&mut self, scope: Option<u16>, floor: u64) -> Result<(), StartFault>
+        ensures { FloorHappens L.start scope floor result }
     {
-        self.store.floor_start(floor)
+        self.store.start_floor(scope, floor)
     }
 
-    /// One step of the job that runs. Where it raises the floor, the writer's pass has seen it before
+    /// One step of the job that runs. Where it raises a floor, the writer's pass has seen it before
     /// the lock is given up.
     pub(crate) fn job_pump<R: Wait>(
         &mut self,

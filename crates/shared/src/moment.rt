@@ -9,7 +9,7 @@ use crate::naming::Opening;
 use std::marker::{Model, PhantomData};
 use std::sync::Wait;
 
-/// A pass that stays at its moment. To a contract it is the commits, the floor and the archive that
+/// A pass that stays at its moment. To a contract it is the commits, the floors and the archive that
 /// were known.
 #[derive(Drop)]
 pub struct Moment<L: Opening> {

@@ -5,9 +5,10 @@ ghost use Rattle.history.specs.declared.key.KeyWrite.{KeyWrite};
 ghost use Rattle.history.specs.Floors.{Raising};
 ghost use Rattle.history.specs.Histories.{IsHistory, last};
 ghost use Rattle.image.specs.Values.{Value, IsValue};
+ghost use Rattle.standing.specs.Leaving.{count_in};
 ghost use Rattle.shared.specs.Archives.{IsArchiveLater, archive_seen};
 ghost use Rattle.shared.specs.Seen.{IsLater, order_of};
-ghost use Rattle.shared.specs.Shared.{published_seen, queued_seen, job_seen, is_done, count_in, noted, done_in};
+ghost use Rattle.shared.specs.Shared.{published_seen, queued_seen, job_seen, is_done, noted, done_in};
 
 use crate::cell::{PublishedCell, WriterPass};
 use crate::observer::{go_on, publish_next, queue_next, raise_next};
@@ -151,6 +152,8 @@ fn is_done(did: &Result<JobDid, PumpFault>) -> bool
         Ok(JobDid::RunSynced) => false,
         Ok(JobDid::WroteExtent) => false,
         Ok(JobDid::HeapSynced) => false,
+        Ok(JobDid::WroteZeros) => false,
+        Ok(JobDid::ZerosSynced) => false,
         Ok(JobDid::BodyWritten) => false,
         Ok(JobDid::BodySynced) => false,
         Ok(JobDid::GateWritten) => false,

@@ -1,5 +1,5 @@
 //! The store that threads share.
-ghost use Rattle.std.specs.Prelude.{◌≡◌, ◌≤◌, ◌+◌, ◌<◌, length, IfOk, OnOk};
+ghost use Rattle.std.specs.Prelude.{◌≡◌, ◌≤◌, ◌+◌, ◌<◌, length, IfOk, None, OnOk, Some};
 ghost use Rattle.history.specs.Answers as answers;
 ghost use Rattle.history.specs.Histories.{last};
 ghost use Rattle.history.specs.Machine.{Machine};
@@ -189,12 +189,26 @@ impl<D: Disk, L: Opening> SharedStore<D, L> {
         self.locked.lock(rt).reclaim_start()
     }
 
-    /// Begins to raise the floor to a time in microseconds since 1970: views that are taken once it is
-    /// raised answer `BeforeKept` below it, and those that were taken before answer as they did.
+    /// Begins to raise the floor of all relations to a time in microseconds since 1970: views that are
+    /// taken once it is raised answer `BeforeKept` below it, and those that were taken before answer as
+    /// they did.
     pub fn floor_start<R: Wait>(&self, rt: &R, floor: u64) -> Result<(), StartFault>
-        ensures { FloorHappens L.start floor result }
+        ensures { FloorHappens L.start None floor result }
     {
-        self.locked.lock(rt).floor_start(floor)
+        self.locked.lock(rt).start_floor(None, floor)
+    }
+
+    /// Begins to raise the floor of one relation, as `floor_start` that of all. A store that has one
+    /// floor for all of its relations answers `WrongProfile`.
+    pub fn floor_of_start<R: Wait>(
+        &self,
+        rt: &R,
+        relation: u16,
+        floor: u64,
+    ) -> Result<(), StartFault>
+        ensures { FloorHappens L.start (Some relation) floor result }
+    {
+        self.locked.lock(rt).start_floor(Some(relation), floor)
     }
 
     /// One step of the job that runs.

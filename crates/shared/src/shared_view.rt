@@ -17,7 +17,7 @@ use std::marker::Model;
 use std::sync::Wait;
 use store::{QueryFault, View};
 
-/// What was published at one moment, with the commits and the floor that its caller had seen then.
+/// What was published at one moment, with the commits and the floors that its caller had seen then.
 /// Later commits do not change it, nor does a vacuum or a floor that is raised, and it may go to
 /// another thread. It is to be given back to its store.
 pub struct SharedView<L: Opening> {
@@ -51,8 +51,8 @@ pub(crate) fn taken_at<L: Opening>(
 }
 
 impl<L: Opening> SharedView<L> {
-    /// The value of a key at a time in microseconds since 1970, by the history and the floor of the
-    /// view's moment. It takes no lock and no memory. `BeforeKept` comes first, then `NotYet`; below the reclaim mark
+    /// The value of a key at a time in microseconds since 1970, by the history and the floors of
+    /// the view's moment. It takes no lock and no memory. `BeforeKept` comes first, then `NotYet`; below the reclaim mark
     /// of the view's moment, where the disk has to be read, the answer is `NeedsDisk`.
     pub fn recent(&self, key: Key, time: u64) -> Result<Option<&SharedValue>, QueryFault>
         ensures { OfSeen L.start self.now.seen (λ m. SaysRecent self.now.shown time (answers.at_answer m.published m.floors key time) (answer_copied result)) }

@@ -22,13 +22,13 @@ use Rattle.status.specs.Reading.{refused_by}
 use Rattle.script_promise.specs.ScriptMoments.{ScriptMoment, first_script_moment}
 use Rattle.script_promise.proofs.Closing.{close-keeps, first-script}
 use Rattle.script_promise.proofs.Leading.{IsScriptMoment}
-use Rattle.script_promise.proofs.Lines.{archive-line, reclaim-line, finish-line}
+use Rattle.script_promise.proofs.Lines.{archive-line, reclaim-line, grow-line, finish-line}
 use Rattle.script_promise.proofs.Script.{promise}
 use Rattle.words.specs.declared.action.Action.{Action}
 use Rattle.words.specs.declared.action.Action.TheVariants as action
-use Rattle.shell.specs.Acts.{Acts, Input, Output, RefusesTime, Runs, RunsNew, RunsOnNew, RunsScript, SaysVacuum, Vacuums, VacuumsStore}
-use Rattle.shell.specs.Keeps.{LineLeads, LinesKeep, RunKeeps, NewRunKeeps, KeepsPromise, VacuumKeeps, VacuumOpenedKeeps, VacuumingKeeps}
-use Rattle.shell.specs.Vacuums.{DoesAll, DoesPart, DoesVacuum, is_refusal}
+use Rattle.shell.specs.Acts.{Acts, Grows, GrowsStore, Input, Output, RefusesTime, Runs, RunsNew, RunsOnNew, RunsScript, SaysGrown, SaysSlots, SaysVacuum, Vacuums, VacuumsStore}
+use Rattle.shell.specs.Keeps.{LineLeads, LinesKeep, RunKeeps, NewRunKeeps, KeepsPromise, VacuumKeeps, VacuumOpenedKeeps, VacuumingKeeps, GrowthKeeps, GrowthOpenedKeeps, GrowingKeeps}
+use Rattle.shell.specs.Vacuums.{DoesAll, DoesJob, DoesPart, DoesVacuum, is_refusal}
 use Rattle.shell.specs.declared.vacuuming.Vacuumed.{Vacuumed}
 use Rattle.shell.specs.declared.vacuuming.Vacuumed.TheVariants as vacuumed
 
@@ -53,7 +53,7 @@ new-keeps : (tells : Bool) (old new : DiskState) (input : Input) (output : Outpu
 new-keeps tells old new input output told runs = record {
   made = runs.made;
   formatted = runs.formatted told;
-  keeps = run-keeps tells runs.made new input output (new_header 1 16) [] (λ relation. 0) told (runs.sound told) (formatted-stands 16 old.areas runs.made.areas (runs.formatted told)) runs.runs;
+  keeps = run-keeps tells runs.made new input output (new_header 3 16) [] (λ relation. 0) told (runs.sound told) (formatted-stands 16 old.areas runs.made.areas (runs.formatted told)) runs.runs;
 }
 
 example-keeps : (tells : Bool) (old new : DiskState) (input : Input) (output : Output) → IsTrue tells → RunsNew tells old input output new → KeepsPromise tells action.Example old input output new
@@ -160,6 +160,45 @@ upto-keeps : (tells : Bool) (old new : DiskState) (time : Option ℕ) (output : 
 upto-keeps tells old new None output told sound refused = refused.0
 upto-keeps tells old new (Some t) output told sound did = vacuum-keeps tells old new t output told sound did
 
+-- ---- grow
+
+grow-led : (tells : Bool) → Led tells line.Grow
+grow-led tells m is r new step =
+    let to = grow-line tells m is r new step.0 step.1 in
+    record { after = to.after; is_state = to.is_state; leads = record { step = subst (λ (s : State). Step tells m.state line.Grow r s) (sym to.is_state) step; keeps = to.keeps }; is = to.is }
+
+growth-led : (tells : Bool) (m : ScriptMoment) → IsScriptMoment tells m → (refused : Option Reply) (new : State) → DoesJob (Step tells) line.Grow m.state refused new → To tells new (λ after. DoesJob (LineLeads tells) line.Grow m refused after)
+growth-led tells m is None new does = all-led tells line.Grow (grow-led tells) m is m.state new refl does
+growth-led tells m is (Some refusal) new does = part-led tells line.Grow (grow-led tells) m is m.state new refl refusal does
+
+slots-holds : (tells : Bool) (given new : DiskState) (o : Output) → SaysSlots tells given o new → new.areas ≡ given.areas
+slots-holds tells given new o (inl said) = ap (λ (s : DiskState). s.areas) said.3
+slots-holds tells given new o (inr lacks) = ap (λ (s : DiskState). s.areas) lacks.1.2 ∙ read-holds lacks.0 given
+
+grown-holds : (tells : Bool) (given new : DiskState) (refused : Option Reply) (o : Output) → SaysGrown tells given refused o new → new.areas ≡ given.areas
+grown-holds tells given new None o said = slots-holds tells given new o said
+grown-holds tells given new (Some refusal) o said = ap (λ (s : DiskState). s.areas) said.0
+
+store-growth-keeps : (tells : Bool) (old new : DiskState) (output : Output) (header : Header) (h : History Value) (floors : ℕ → ℕ) → IsTrue tells → AreSound old.areas → IsImageOf header (image_of old.areas) h floors
+    → (did : GrowsStore tells old output new) → GrowthKeeps tells h floors did.opened output new
+store-growth-keeps tells old new output header h floors told sound image did =
+    let first = first-script tells did.opened h floors (open-stands tells old 1 did.opened header h floors did.opens told sound image) in
+    let to = growth-led tells (first_script_moment did.opened (machine.opened h floors)) first did.refused did.asked did.does in
+    record {
+      refused = did.refused;
+      after = to.after;
+      does = to.leads;
+      given = did.given;
+      closed = (close-keeps tells to.after to.is did.given (subst (λ (s : State). Closes s did.given) (sym to.is_state) did.closes)).closed;
+      says = did.says;
+      holds = grown-holds tells did.given new did.refused output did.says;
+    }
+
+growth-keeps : (tells : Bool) (old new : DiskState) (output : Output) → IsTrue tells → AreSound old.areas → Grows tells old output new → GrowingKeeps tells old output new
+growth-keeps tells old new output told sound (inl refused) = λ header h floors image. inl (refused.0, refused.1)
+growth-keeps tells old new output told sound (inr (inl lacks)) = λ header h floors image. inr (lacks.0, lacks.1, inl lacks.2)
+growth-keeps tells old new output told sound (inr (inr did)) = λ header h floors image. inr (did.opened, did.opens, inr (store-growth-keeps tells old new output header h floors told sound image did))
+
 -- so does each action
 pub keeps-acts : (tells : Bool) (a : Action) (old new : DiskState) (input : Input) (output : Output) → IsTrue tells → AreSound old.areas → Acts tells a old input output new → KeepsPromise tells a old input output new
 keeps-acts tells action.Example old new input output told sound acts = example-keeps tells old new input output told acts
@@ -168,5 +207,6 @@ keeps-acts tells (action.Format dir slots) old new input output told sound acts 
 keeps-acts tells (action.At dir key time) old new input output told sound acts = tt
 keeps-acts tells (action.Between dir key from to) old new input output told sound acts = tt
 keeps-acts tells (action.Vacuum dir time) old new input output told sound acts = upto-keeps tells old new (time_in time.now) output told sound acts
+keeps-acts tells (action.Grow dir) old new input output told sound acts = growth-keeps tells old new output told sound acts
 keeps-acts tells (action.Dump dir) old new input output told sound acts = tt
 keeps-acts tells (action.Stress writers readers rounds) old new input output told sound acts = tt

@@ -14,7 +14,7 @@ use Rattle.session.specs.declared.ending.Ending.TheVariants.{OutputRefused, Whol
 use Rattle.session.specs.declared.reply.Reply.{Reply}
 use Rattle.words.specs.declared.action.Action.{Action}
 use Rattle.words.specs.declared.action.Action.TheVariants as action
-use Rattle.shell.specs.Acts.{Acts, Asks, Dumps, DoesNotOpen, GivesOut, HasNoMemory, HasStatusOf, Input, IsRefused, IsSaid, IsTold, Makes, Output, RefusesTime, RefusesToMake, Runs, RunsNew, RunsScript, SaysAll, SaysArchived, SaysBoth, SaysFront, SaysVacuum, Vacuums}
+use Rattle.shell.specs.Acts.{Acts, Asks, Dumps, DoesNotOpen, GivesOut, Grows, HasNoMemory, HasStatusOf, Input, IsRefused, IsSaid, IsTold, Makes, Output, RefusesTime, RefusesToMake, Runs, RunsNew, RunsScript, SaysAll, SaysArchived, SaysBoth, SaysFront, SaysGrown, SaysSlots, SaysVacuum, Vacuums}
 use Rattle.shell.specs.Vacuums.{is_refusal}
 use Rattle.shell.specs.declared.vacuuming.Vacuumed.{Vacuumed}
 use Rattle.shell.specs.declared.vacuuming.Vacuumed.TheVariants as vacuumed
@@ -174,6 +174,28 @@ upto-kept : (tells : Bool) (old new : DiskState) (time : Option ℕ) (o v : Outp
 upto-kept tells old new None o v gives refused = time-kept old new o v gives refused
 upto-kept tells old new (Some t) o v gives did = vacuums-kept tells old new t o v gives did
 
+slots-kept : (tells : Bool) (given new : DiskState) (o v : Output) → GivesOut o v → SaysSlots tells given o new → SaysSlots tells given v new
+slots-kept tells given new o v gives (inl said) = inl (said.0, said.1, said-kept o v _ gives said.2, said.3)
+slots-kept tells given new o v gives (inr lacks) = inr (lacks.0, lacks.1, refused-kept o v _ gives lacks.2)
+
+grown-kept : (tells : Bool) (given new : DiskState) (refused : Option Reply) (o v : Output) → GivesOut o v → SaysGrown tells given refused o new → SaysGrown tells given refused v new
+grown-kept tells given new None o v gives said = slots-kept tells given new o v gives said
+grown-kept tells given new (Some refusal) o v gives said = (said.0, refused-kept o v _ gives said.1)
+
+grows-kept : (tells : Bool) (old new : DiskState) (o v : Output) → GivesOut o v → Grows tells old o new → Grows tells old v new
+grows-kept tells old new o v gives (inl refused) = inl (not_opened-kept tells old new o v gives refused)
+grows-kept tells old new o v gives (inr (inl lacks)) = inr (inl (no_memory-kept tells old new o v gives lacks))
+grows-kept tells old new o v gives (inr (inr did)) = inr (inr (record {
+  opened = did.opened;
+  opens = did.opens;
+  refused = did.refused;
+  asked = did.asked;
+  does = did.does;
+  given = did.given;
+  closes = did.closes;
+  says = grown-kept tells did.given new did.refused o v gives did.says;
+}))
+
 dumps-kept : (tells : Bool) (old new : DiskState) (o v : Output) → GivesOut o v → Dumps tells old o new → Dumps tells old v new
 dumps-kept tells old new o v gives (inl (inl lacks)) = inl (inl (record { why = lacks.why; fault = lacks.fault; only = lacks.only; same = lacks.same; said = refused-kept o v _ gives lacks.said }))
 dumps-kept tells old new o v gives (inl (inr lacks)) = inl (inr (record { header = lacks.header; reads = lacks.reads; why = lacks.why; fault = lacks.fault; same = lacks.same; said = refused-kept o v _ gives lacks.said }))
@@ -187,5 +209,6 @@ acts-kept tells (action.Run dir) old new input o v gives acts = runs-kept tells 
 acts-kept tells (action.At dir key time) old new input o v gives acts = at-kept tells old new (time_in time.now) (λ t. line.At key t) o v gives acts
 acts-kept tells (action.Between dir key from to) old new input o v gives acts = between-kept tells old new (time_in from.now) (time_in to.now) (λ s t. line.Between key s t) o v gives acts
 acts-kept tells (action.Vacuum dir time) old new input o v gives acts = upto-kept tells old new (time_in time.now) o v gives acts
+acts-kept tells (action.Grow dir) old new input o v gives acts = grows-kept tells old new o v gives acts
 acts-kept tells (action.Dump dir) old new input o v gives acts = dumps-kept tells old new o v gives acts
 acts-kept tells (action.Stress writers readers rounds) old new input o v gives acts = (acts.0, refused-kept o v [] gives acts.1)

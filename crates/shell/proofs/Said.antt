@@ -14,7 +14,7 @@ use Rattle.session.specs.declared.ending.Ending.TheVariants.{Whole}
 use Rattle.session.specs.declared.reply.Reply.{Reply}
 use Rattle.words.specs.declared.action.Action.{Action}
 use Rattle.words.specs.declared.action.Action.TheVariants as action
-use Rattle.shell.specs.Acts.{Acts, Asks, HasStatusOf, Input, IsRefused, IsSaid, IsTold, Makes, Output, RefusesTime, RunsNew, RunsScript, SaysAll, SaysFront, SaysVacuum, Vacuums}
+use Rattle.shell.specs.Acts.{Acts, Asks, Grows, HasStatusOf, Input, IsRefused, IsSaid, IsTold, Makes, Output, RefusesTime, RunsNew, RunsScript, SaysAll, SaysFront, SaysGrown, SaysSlots, SaysVacuum, Vacuums}
 use Rattle.shell.specs.Vacuums.{is_refusal}
 use Rattle.shell.specs.declared.vacuuming.Vacuumed.{Vacuumed}
 use Rattle.shell.specs.declared.vacuuming.Vacuumed.TheVariants as vacuumed
@@ -125,6 +125,19 @@ upto-status : (tells : Bool) (old new : DiskState) (time : Option ℕ) (o : Outp
 upto-status tells old new None o refused = time-status old new o refused
 upto-status tells old new (Some t) o did = vacuums-status tells old new t o did
 
+slots-status : (tells : Bool) (given new : DiskState) (o : Output) → SaysSlots tells given o new → o.status ≤ 1
+slots-status tells given new o (inl said) = said-status o _ said.2
+slots-status tells given new o (inr lacks) = refused-status o _ lacks.2
+
+grown-status : (tells : Bool) (given new : DiskState) (refused : Option Reply) (o : Output) → SaysGrown tells given refused o new → o.status ≤ 1
+grown-status tells given new None o said = slots-status tells given new o said
+grown-status tells given new (Some refusal) o said = refused-status o _ said.1
+
+grows-status : (tells : Bool) (old new : DiskState) (o : Output) → Grows tells old o new → o.status ≤ 1
+grows-status tells old new o (inl refused) = refused-status o _ refused.2
+grows-status tells old new o (inr (inl lacks)) = refused-status o _ lacks.3
+grows-status tells old new o (inr (inr did)) = grown-status tells did.given new did.refused o did.says
+
 pub acts-status : (tells : Bool) (a : Action) (old new : DiskState) (input : Input) (o : Output) → Acts tells a old input o new → o.status ≤ 1
 acts-status tells action.Example old new input o acts = runs_new-status tells old new input o acts
 acts-status tells (action.Format dir slots) old new input o acts = makes-status tells old new slots o acts
@@ -132,6 +145,7 @@ acts-status tells (action.Run dir) old new input o acts = runs-status tells old 
 acts-status tells (action.At dir key time) old new input o acts = at-status tells old new (time_in time.now) (λ t. line.At key t) o acts
 acts-status tells (action.Between dir key from to) old new input o acts = between-status tells old new (time_in from.now) (time_in to.now) (λ s t. line.Between key s t) o acts
 acts-status tells (action.Vacuum dir time) old new input o acts = upto-status tells old new (time_in time.now) o acts
+acts-status tells (action.Grow dir) old new input o acts = grows-status tells old new o acts
 acts-status tells (action.Dump dir) old new input o (inl (inl lacks)) = refused-status o _ lacks.said
 acts-status tells (action.Dump dir) old new input o (inl (inr lacks)) = refused-status o _ lacks.said
 acts-status tells (action.Dump dir) old new input o (inr (inl done)) = said-status o done.text done.said

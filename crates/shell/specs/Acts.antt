@@ -1,5 +1,5 @@
 -- What an action does to the disk and writes.
-use Rattle.std.specs.Prelude.{[], ◌≡◌, ◌≢◌, ◌⊎◌, ◌+◌, ℕ, ◌++◌, Bool, true, false, IsTrue, List, Option, Err, codes, MatchBool, MatchOption}
+use Rattle.std.specs.Prelude.{[], ◌≡◌, ◌≢◌, ◌⊎◌, ◌+◌, ℕ, ◌++◌, Bool, true, false, IsTrue, List, Option, Some, None, Err, codes, MatchBool, MatchOption}
 use Rattle.std.specs.Fmt.{decimal}
 use Rattle.std.specs.Io.KnownBytes.{Appends, Keeps}
 use Rattle.disk.specs.Areas.{AreSound}
@@ -13,6 +13,7 @@ use Rattle.status.specs.Reading.{AnswersHeader, HoldsLog, IsHeaderFault, IsLogFa
 use Rattle.status.specs.declared.fault.LogFault.{LogFault}
 use Rattle.status.specs.declared.fault.LogFault.TheVariants as log
 use Rattle.status.specs.declared.header.Header.{Header}
+use Rattle.status.specs.Header.{total}
 use Rattle.wire.specs.declared.slot.Slot.{Slot}
 use Rattle.store.specs.Values.{StoreValue}
 use Rattle.store.specs.Opens.{Opens, OpenRefuses}
@@ -31,7 +32,7 @@ use Rattle.session.specs.declared.input.Lines.{Lines}
 use Rattle.session.specs.declared.output.Answers.{Answers}
 use Rattle.session.specs.declared.reply.Reply.{Reply}
 use Rattle.shell.specs.Dump.{IsDump}
-use Rattle.shell.specs.Vacuums.{DoesVacuum, HasLog, LacksLog, archived_line, is_refusal, reclaimed_line}
+use Rattle.shell.specs.Vacuums.{DoesJob, DoesVacuum, HasLog, HasNoHeaderFor, LacksLog, archived_line, is_refusal, reclaimed_line}
 use Rattle.shell.specs.declared.vacuuming.Vacuumed.{Vacuumed}
 use Rattle.shell.specs.declared.vacuuming.Vacuumed.TheVariants as vacuumed
 use Rattle.words.specs.declared.action.Action.{Action}
@@ -236,6 +237,39 @@ pub record VacuumsStore (tells : Bool) (old : DiskState) (upto : ℕ) (output : 
 abbrev pub Vacuums : Bool → DiskState → ℕ → Output → DiskState → Type 0
 Vacuums tells old upto output new = DoesNotOpen tells old output new ⊎ (HasNoMemory tells old output new ⊎ VacuumsStore tells old upto output new)
 
+-- ---- grow
+
+-- no header is read, and the disk is as it was
+abbrev pub LacksHeader : Bool → DiskState → LogFault → DiskState → Type 0
+LacksHeader tells old why new = IsHeaderFault why × (IsTrue tells → HasNoHeaderFor old.areas.status.bytes why) × (new ≡ refused_by why old)
+
+abbrev pub slots_line : Header → Text
+slots_line header = codes "slots " ++ (decimal (total header) ++ codes "\n")
+
+-- the slots of the header that stands on the disk are said, or why none is read
+abbrev pub SaysSlots : Bool → DiskState → Output → DiskState → Type 0
+SaysSlots tells given output new = ((header : Header) × (IsTrue tells → ReadsHeader given.areas.status.bytes header) × IsSaid output (slots_line header) × (new ≡ given))
+    ⊎ ((why : LogFault) × LacksHeader tells given why new × IsRefused output (open_line (open_fault_of why)))
+
+-- of a growth that was done, or was refused so, once the store is closed
+abbrev pub SaysGrown : Bool → DiskState → Option Reply → Output → DiskState → Type 0
+SaysGrown tells given None output new = SaysSlots tells given output new
+SaysGrown tells given (Some refusal) output new = (new ≡ given) × IsRefused output (text_of refusal)
+
+-- the store opens, a session answers `grow` and `finish`, and it is closed
+pub record GrowsStore (tells : Bool) (old : DiskState) (output : Output) (new : DiskState) : Type 0 where
+  pub opened : StoreValue
+  pub opens : Opens tells old 1 opened
+  pub refused : Option Reply
+  pub asked : State
+  pub does : DoesJob (Step tells) line.Grow (fresh opened) refused asked
+  pub given : DiskState
+  pub closes : Closes asked given
+  pub says : SaysGrown tells given refused output new
+
+abbrev pub Grows : Bool → DiskState → Output → DiskState → Type 0
+Grows tells old output new = DoesNotOpen tells old output new ⊎ (HasNoMemory tells old output new ⊎ GrowsStore tells old output new)
+
 -- ---- actions
 
 -- With status 0 it is done and said in full. With status 1 the store, the input or the output was refused, which is said as far as the output took it, and the disk is as this says.
@@ -247,5 +281,6 @@ Acts tells (action.At dir key time) old input output new = MatchOption (time_in 
 Acts tells (action.Between dir key from to) old input output new =
     MatchOption (time_in from.now) (RefusesTime old output new) (λ a. MatchOption (time_in to.now) (RefusesTime old output new) (λ b. Asks tells old (line.Between key a b) output new))
 Acts tells (action.Vacuum dir time) old input output new = MatchOption (time_in time.now) (RefusesTime old output new) (λ t. Vacuums tells old t output new)
+Acts tells (action.Grow dir) old input output new = Grows tells old output new
 Acts tells (action.Dump dir) old input output new = Dumps tells old output new
 Acts tells (action.Stress writers readers rounds) old input output new = DoesNothing old output new

@@ -1,5 +1,5 @@
 -- The text of a log.
-use Rattle.std.specs.Prelude.{◌≡◌, ℕ, ◌++◌, List, [], ◌∷◌, length, Some, None, MatchBool, codes, nat_lt}
+use Rattle.std.specs.Prelude.{◌≡◌, ◌==◌, if◌then◌else◌, ℕ, ◌++◌, List, [], ◌∷◌, length, Some, None, MatchBool, codes, nat_lt}
 use Rattle.std.specs.Fmt.{decimal}
 use Rattle.clock.specs.Instant.{Spells, second_at}
 use Rattle.session.specs.Texts.{Text}
@@ -41,20 +41,22 @@ IsBodyText n (body.Commit members) text = (lines : Text) × Each IsMemberLine me
 IsBodyText n (body.Archived run) text = text ≡ numbers_line n (codes " archived ") run.upto run.start run.len run.records
 IsBodyText n (body.Reclaimed anchors) text = text ≡ numbers_line n (codes " reclaimed ") anchors.upto anchors.first anchors.extents anchors.records
 IsBodyText n (body.Floor None floor) text = text ≡ codes "slot " ++ (decimal n ++ (codes " floor " ++ (decimal floor ++ codes "\n")))
-IsBodyText n (body.Floor (Some relation) floor) text = text ≡ codes "slot " ++ (decimal n ++ (codes " floor " ++ (decimal relation ++ (codes " " ++ (decimal floor ++ codes "\n")))))
+IsBodyText n (body.Floor (Some relation) floor) text = text ≡ codes "slot " ++ (decimal n ++ (codes " floor " ++ (decimal floor ++ (codes " relation " ++ (decimal relation ++ codes "\n")))))
 
 abbrev pub IsSlotText : Slot → Text → Type 0
 IsSlotText slot text = IsBodyText slot.number slot.body text
 
--- how many slots there are
-abbrev pub header_line : ℕ → Text
-header_line all = codes "header " ++ (decimal all ++ codes "\n")
+-- how many slots the header names, and how many pieces of more are open where its profile has pieces
+abbrev pub header_line : Header → Text
+header_line header =
+    if header.profile == 1 then codes "header " ++ (decimal header.slots ++ codes "\n")
+    else codes "header " ++ (decimal header.slots ++ (codes " pieces " ++ (decimal header.pieces ++ codes "\n")))
 
--- how many of them are used
+-- how many slots are used, of those that there are
 abbrev pub used_line : ℕ → ℕ → Text
 used_line used all = codes "used " ++ (decimal used ++ (codes " of " ++ (decimal all ++ codes "\n")))
 
--- the header's slots, the slots that are used, and how many these are
+-- the header, the slots that are used, and how many these are
 abbrev pub IsDump : Header → List Slot → Text → Type 0
 IsDump header slots text = (lines : Text) × Each IsSlotText slots lines
-    × (text ≡ header_line (total header) ++ (lines ++ used_line (length slots) (total header)))
+    × (text ≡ header_line header ++ (lines ++ used_line (length slots) (total header)))

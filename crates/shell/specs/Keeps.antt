@@ -1,5 +1,5 @@
 -- What the program promises of a script that it runs, however it ends.
-use Rattle.std.specs.Prelude.{ℕ, ◌≡◌, ◌⊎◌, ◌+◌, Bool, List, [], MatchOption}
+use Rattle.std.specs.Prelude.{ℕ, ◌≡◌, ◌⊎◌, ◌+◌, Bool, List, [], Option, MatchOption}
 use Rattle.disk.specs.Areas.{image_of}
 use Rattle.disk.specs.Calls.{DiskState}
 use Rattle.history.specs.Histories.{History}
@@ -13,6 +13,7 @@ use Rattle.standing.specs.OnDisk.{IsImageOf}
 use Rattle.store.specs.Values.{StoreValue}
 use Rattle.store.specs.Opens.{Opens, OpenRefuses}
 use Rattle.script.specs.declared.line.Line.{Line}
+use Rattle.script.specs.declared.line.Line.TheVariants as line
 use Rattle.session.specs.Lines.{AreLines}
 use Rattle.session.specs.declared.reply.Reply.{Reply}
 use Rattle.session.specs.Texts.{Text}
@@ -23,8 +24,8 @@ use Rattle.script_promise.specs.ScriptMoments.{ScriptMoment, first_script_moment
 use Rattle.script_promise.specs.Promise.{ScriptKeeps}
 use Rattle.words.specs.declared.action.Action.{Action}
 use Rattle.words.specs.declared.action.Action.TheVariants as action
-use Rattle.shell.specs.Acts.{Input, Output, SaysAll, SaysVacuum}
-use Rattle.shell.specs.Vacuums.{DoesVacuum}
+use Rattle.shell.specs.Acts.{Input, Output, SaysAll, SaysGrown, SaysVacuum}
+use Rattle.shell.specs.Vacuums.{DoesJob, DoesVacuum}
 use Rattle.shell.specs.declared.vacuuming.Vacuumed.{Vacuumed}
 
 -- The lines of the input are run, all or a front of them, and the run keeps the promise: at every moment whatever a stop may leave survives, with every commit of which `done` was written, and what is written is what a run of the machine answers.
@@ -73,7 +74,24 @@ abbrev pub VacuumingKeeps : Bool → DiskState → ℕ → Output → DiskState 
 VacuumingKeeps tells old upto output new = (header : Header) (h : History Value) (floors : ℕ → ℕ) → IsImageOf header (image_of old.areas) h floors
     → ((f : OpenFault) × OpenRefuses tells old f new) ⊎ VacuumOpenedKeeps tells h floors old upto output new
 
--- A script is run on an empty store, or on the one that a disk holds, of whatever history its image stands for, and so are the lines of a vacuum. The other actions run none.
+-- So are `grow` and `finish`.
+pub record GrowthKeeps (tells : Bool) (h : History Value) (floors : ℕ → ℕ) (store : StoreValue) (output : Output) (new : DiskState) : Type 0 where
+  pub refused : Option Reply
+  pub after : ScriptMoment
+  pub does : DoesJob (LineLeads tells) line.Grow (first_script_moment store (machine.opened h floors)) refused after
+  pub given : DiskState
+  pub closed : Closed tells after given
+  pub says : SaysGrown tells given refused output new
+  pub holds : new.areas ≡ given.areas
+
+abbrev pub GrowthOpenedKeeps : Bool → History Value → (ℕ → ℕ) → DiskState → Output → DiskState → Type 0
+GrowthOpenedKeeps tells h floors old output new = (store : StoreValue) × Opens tells old 1 store × ((new ≡ store.disk) ⊎ GrowthKeeps tells h floors store output new)
+
+abbrev pub GrowingKeeps : Bool → DiskState → Output → DiskState → Type 0
+GrowingKeeps tells old output new = (header : Header) (h : History Value) (floors : ℕ → ℕ) → IsImageOf header (image_of old.areas) h floors
+    → ((f : OpenFault) × OpenRefuses tells old f new) ⊎ GrowthOpenedKeeps tells h floors old output new
+
+-- A script is run on an empty store, or on the one that a disk holds, of whatever history its image stands for, and so are the lines of a vacuum and of a growth. The other actions run none.
 abbrev pub KeepsPromise : Bool → Action → DiskState → Input → Output → DiskState → Type 0
 KeepsPromise tells action.Example old input output new = ((f : FormatFault) × FormatRefuses tells 16 old f new) ⊎ NewRunKeeps tells old input output new
 KeepsPromise tells (action.Run dir) old input output new = (header : Header) (h : History Value) (floors : ℕ → ℕ) → IsImageOf header (image_of old.areas) h floors → RunKeeps tells h floors old input output new
@@ -81,5 +99,6 @@ KeepsPromise tells (action.Format dir slots) old input output new = Unit {0}
 KeepsPromise tells (action.At dir key time) old input output new = Unit {0}
 KeepsPromise tells (action.Between dir key from to) old input output new = Unit {0}
 KeepsPromise tells (action.Vacuum dir time) old input output new = MatchOption (time_in time.now) (new ≡ old) (λ t. VacuumingKeeps tells old t output new)
+KeepsPromise tells (action.Grow dir) old input output new = GrowingKeeps tells old output new
 KeepsPromise tells (action.Dump dir) old input output new = Unit {0}
 KeepsPromise tells (action.Stress writers readers rounds) old input output new = Unit {0}

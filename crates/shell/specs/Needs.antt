@@ -18,5 +18,6 @@ need_of (action.Run dir) = need.Change dir
 need_of (action.At dir key time) = if is_some (time_in time.now) then need.Change dir else need.Nothing
 need_of (action.Between dir key from to) = if is_some (time_in from.now) && is_some (time_in to.now) then need.Change dir else need.Nothing
 need_of (action.Vacuum dir time) = if is_some (time_in time.now) then need.Change dir else need.Nothing
+need_of (action.Grow dir) = need.Change dir
 need_of (action.Dump dir) = need.Read dir
 need_of (action.Stress writers readers rounds) = need.Nothing

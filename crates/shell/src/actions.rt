@@ -2,17 +2,17 @@
 ghost use Rattle.std.specs.Prelude.{◌++◌, codes, ◌≡◌, ◌≢◌, ◌≤◌, ◌⊎◌, Option, IfOk, IsTrue, MatchOption, MatchResult};
 ghost use Rattle.std.specs.Fmt.{decimal};
 ghost use Rattle.script.specs.Lines.{time_in};
-ghost use Rattle.script.specs.declared.line.Line.TheVariants.{At, Between, Reopen};
+ghost use Rattle.script.specs.declared.line.Line.TheVariants.{At, Between, Grow, Reopen};
 ghost use Rattle.session.specs.Streams.{Says, is_output_refused, text_said};
 ghost use Rattle.session.specs.Texts.{Text, open_line, refusal_line, text_of};
 ghost use Rattle.session.specs.declared.ending.Ending.TheVariants.{Whole};
-ghost use Rattle.shell.specs.Acts.{Acts, Asks, Dumps, GivesOut, IsRefused, IsTold, Makes, RefusesTime, RunsNew, RunsScript, SaysArchived, SaysBoth, SaysVacuum, Vacuums, given, open_fault_of, told};
+ghost use Rattle.shell.specs.Acts.{Acts, Asks, Dumps, GivesOut, Grows, IsRefused, IsTold, Makes, RefusesTime, RunsNew, RunsScript, SaysArchived, SaysBoth, SaysGrown, SaysSlots, SaysVacuum, Vacuums, given, open_fault_of, told};
 ghost use Rattle.shell.specs.Dump.{IsDump};
 ghost use Rattle.shell.specs.Keeps.{KeepsPromise};
 ghost use Rattle.shell.specs.Vacuums.{archived_line, reclaimed_line};
 
 use crate::dump::{DumpFault, write_dump};
-use crate::vacuuming::{Job, Vacuumed, do_jobs, is_refusal, log_of, records_in};
+use crate::vacuuming::{Job, Vacuumed, do_job, do_jobs, is_refusal, log_of, records_in};
 use disk::{Area, Disk};
 use history::Key;
 use recovery::{OpenFault, format};
@@ -350,6 +350,48 @@ fn refuse_log<W: Write>(output: &mut Answers<W>, fault: LogFault) -> u8
     refuse(output, Fault::Open(open_fault(fault)))
 }
 
+/// Says how many slots a store has, by the header that stands on its disk.
+fn tell_slots<D: Disk, W: Write>(disk: &mut D, output: &mut Answers<W>) -> u8
+    ensures { SaysSlots D.tells (D.state disk.old) (told W.contents result output.old output.new) (D.state disk.new) }
+{
+    match read_header(disk) {
+        Ok(header) => status_of(write_numbered(output, "slots ", header.total())),
+        Err(fault) => refuse_log(output, fault),
+    }
+}
+
+/// Says what a growth did, of the store that was closed after it.
+fn tell_grown<D: Disk, W: Write>(
+    disk: &mut D,
+    refused: &Option<Reply>,
+    output: &mut Answers<W>,
+) -> u8
+    ensures { SaysGrown D.tells (D.state disk.old) refused.now (told W.contents result output.old output.new) (D.state disk.new) }
+{
+    match refused {
+        Some(refusal) => refuse_reply(output, refusal),
+        None => tell_slots(disk, output),
+    }
+}
+
+/// Makes 256 slots more, in a store opened for it.
+fn grow<D: Disk, W: Write>(alloc: Global, disk: D, output: &mut Answers<W>) -> (u8, D)
+    ensures { Grows D.tells (D.state disk) (told W.contents result.0 output.old output.new) (D.state result.1) }
+{
+    let store = match Store::open(alloc, disk, MARK) {
+        Ok(store) => store,
+        Err((fault, disk)) => return (refuse(output, Fault::Open(fault)), disk),
+    };
+    let mut session = match Session::new(alloc, store) {
+        Ok(session) => session,
+        Err(store) => return (refuse(output, Fault::NoMemory), store.close()),
+    };
+    let refused = do_job(&mut session, alloc, Line::Grow);
+    let mut disk = session.close();
+    let status = tell_grown(&mut disk, &refused, output);
+    (status, disk)
+}
+
 /// The text of a log.
 fn dump_text(alloc: Global, header: &Header, slots: &[Slot]) -> Result<Vec<u8>, DumpFault>
     ensures { IfOk result (λ text. IsDump header.now slots.now text.items) }
@@ -400,6 +442,7 @@ fn perform<D: Disk, R: LineInput, W: Write>(
             to,
         } => ask_between(alloc, disk, key, from, to, output),
         Action::Vacuum { dir: _, time } => vacuum_upto(alloc, disk, time, output),
+        Action::Grow { dir: _ } => grow(alloc, disk, output),
         Action::Dump { dir: _ } => dump(alloc, disk, output),
         // It is of no disk: the program runs it in threads of its own.
         Action::Stress {

@@ -2,7 +2,7 @@
 ghost use Rattle.std.specs.Prelude.{OnOk};
 ghost use Rattle.std.specs.Io.KnownBytes.{Appends};
 ghost use Rattle.session.specs.Texts.{Text};
-ghost use Rattle.shell.specs.Dump.{Each, IsDump, IsInstant, IsMemberLine, IsSlotText};
+ghost use Rattle.shell.specs.Dump.{Each, IsDump, IsInstant, IsMemberLine, IsSlotText, header_line};
 
 use clock::show_instant;
 use status::Header;
@@ -100,7 +100,7 @@ fn write_slot<W: Write>(alloc: Global, output: &mut W, slot: &Slot) -> Result<()
         Body::Floor {
             relation: Some(relation),
             floor,
-        } => writeln!(output, "slot {number} floor {relation} {floor}")?,
+        } => writeln!(output, "slot {number} floor {floor} relation {relation}")?,
     }
     Ok(())
 }
@@ -114,7 +114,19 @@ fn write_slots<W: Write>(alloc: Global, output: &mut W, slots: &[Slot]) -> Resul
     Ok(())
 }
 
-/// Writes what a log says: how many slots it has, each slot that is used, and how many are.
+/// Writes how many slots the header names, and how many pieces of more are open where its profile has
+/// pieces.
+fn write_header<W: Write>(output: &mut W, header: &Header) -> io::Result<()>
+    ensures { OnOk result (Appends (W.contents output.old) (W.contents output.new) (header_line header.now)) }
+{
+    if header.profile == 1 {
+        writeln!(output, "header {}", header.slots)
+    } else {
+        writeln!(output, "header {} pieces {}", header.slots, header.pieces)
+    }
+}
+
+/// Writes what a log says: its header, each slot that is used, and how many are of how many.
 pub fn write_dump<W: Write>(
     alloc: Global,
     output: &mut W,
@@ -124,7 +136,7 @@ pub fn write_dump<W: Write>(
     ensures { OnOk result ((text : Text) × IsDump header.now slots.now text × Appends (W.contents output.old) (W.contents output.new) text) }
 {
     let all = header.total();
-    writeln!(output, "header {all}")?;
+    write_header(output, header)?;
     write_slots(alloc, output, slots)?;
     writeln!(output, "used {} of {all}", slots.len())?;
     Ok(())

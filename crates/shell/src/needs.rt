@@ -80,6 +80,7 @@ pub fn folder_need<'a>(action: &Action<'a>) -> Need<'a>
             to,
         } => change_if(are_times(from, to), dir),
         Action::Vacuum { dir, time } => change_if(is_time(time), dir),
+        Action::Grow { dir } => Need::Change(dir),
         Action::Dump { dir } => Need::Read(dir),
         Action::Stress {
             writers: _,

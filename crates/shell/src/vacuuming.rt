@@ -42,7 +42,7 @@ pub fn answer<D: Disk>(session: &mut Session<D>, alloc: Global, line: Line<'_>) 
 }
 
 /// Does the job that a line begins, to its end. The refusal, where the line or a step was refused.
-fn do_job<D: Disk>(session: &mut Session<D>, alloc: Global, line: Line<'_>) -> Option<Reply>
+pub fn do_job<D: Disk>(session: &mut Session<D>, alloc: Global, line: Line<'_>) -> Option<Reply>
     requires { line ≢ Reopen }
     ensures { DoesJob (Step D.tells) line.entry session.old result session.new }
 {

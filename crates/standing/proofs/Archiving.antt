@@ -1,67 +1,52 @@
 -- An archive begins: its run is the plan of an archive that may come next.
-use Rattle.std.proofs.Common.{◌≡◌, ℕ, ◌+◌, ◌-◌, ◌<◌, ◌≤◌, ◌^◌, ◌==◌, max, nat_lt, nat_le, Bool, true, false, cond, List, [], ◌∷◌, ◌++◌, length, map, take, drop, Option, None, Some, is_some, ◌||◌, Result, Ok, Err, MatchBool, MatchOption, refl, arith, ap, sym, subst, ◌∙◌, inl, inr, append_assoc}
-use Rattle.std.specs.Prelude.{IsTrue, filter, find, option_map, slice_range}
-use Rattle.std.specs.List.{AllByRecursion, flat_map, cons_option}
+use Rattle.std.proofs.Common.{◌≡◌, ℕ, ◌+◌, ◌-◌, ◌<◌, ◌≤◌, ◌^◌, ◌==◌, nat_lt, nat_le, Bool, true, false, cond, List, [], ◌∷◌, ◌++◌, length, map, take, drop, Option, None, Some, is_some, ◌||◌, Result, Ok, Err, MatchOption, refl, arith, ap, sym, subst, ◌∙◌, append_assoc}
+use Rattle.std.specs.Prelude.{filter, slice_range}
+use Rattle.std.specs.List.{AllByRecursion, flat_map}
 use Rattle.std.proofs.lemmas.Bool.Decides.{nat_tests}
 use Rattle.history.specs.declared.key.Key.{Key}
-use Rattle.history.specs.declared.key.KeyWrite.{KeyWrite}
 use Rattle.history.specs.declared.time.Version.{Version}
 use Rattle.history.specs.declared.time.TimedWrite.{TimedWrite}
-use Rattle.history.specs.Key.{IsKey, same_key, write_in}
-use Rattle.history.specs.Time.{IsRisingAfter, writes_after}
-use Rattle.history.specs.Versions.{versions, version_of, first_time, ends_after, ends_by}
-use Rattle.history.specs.Histories as histories
-use Rattle.history.specs.Histories.{History, last, IsWrite, MayAllFollow}
+use Rattle.history.specs.Key.{IsKey}
+use Rattle.history.specs.Time.{IsRisingAfter}
+use Rattle.history.specs.Versions.{versions, ends_after, ends_by}
 use Rattle.history.specs.Machine.{Machine, IsMachine}
 use Rattle.history.proofs.Filters.{AllByRecursion-append}
-use Rattle.history.proofs.Histories.{writes_of-commits_after}
 use Rattle.image.specs.Values.{Value, IsValue}
-use Rattle.image.specs.Reading.{ArchiveRecord, OldRecord, Reading}
-use Rattle.image.specs.Facts.{old_writes, heap_commits}
-use Rattle.image.specs.StandsFor.{reclaimed_upto}
+use Rattle.image.specs.Reading.{ArchiveRecord}
 use Rattle.image.specs.PlansMade.{archive_record}
 use Rattle.image.proofs.Standing.{rises, last-range}
-use Rattle.disk.specs.Areas.{Areas, AreSound}
 use Rattle.disk.specs.Parts.{HoldsPart}
 use Rattle.wire.specs.Numbers.{u16_bytes, u64_bytes}
 use Rattle.wire.specs.Values.{value_bytes}
-use Rattle.wire.specs.Spelling.{IsRun, kind_of}
-use Rattle.wire.specs.declared.slot.Body.{Body}
-use Rattle.wire.specs.declared.slot.Body.TheVariants.{Commit, Archived, Reclaimed, Floor}
-use Rattle.wire.specs.declared.slot.Slot.{Slot}
+use Rattle.wire.specs.Spelling.{IsRun}
 use Rattle.archive.specs.Records as kept
 use Rattle.archive.specs.Runs as written
 use Rattle.chains.specs.Writes.{Write}
-use Rattle.chains.specs.KeyWrites.{KeyWrites, is_of, IsOrdered, AreRising, writes_in, writes_of}
-use Rattle.chains.proofs.Order.{find-below}
-use Rattle.chains.proofs.Commits.{key-same}
-use Rattle.status.specs.Rules.{is_built, log_of, runs_of, row_end}
-use Rattle.reading.specs.Records.{archive_bytes, key_bytes, IsOldRecord, IsArchiveRecord}
-use Rattle.reading.specs.Runs.{StoredRun, run_bytes, index_from}
-use Rattle.reading.specs.Opening.{AreBuilt}
-use Rattle.reading.specs.Layouts.{Layout}
+use Rattle.chains.specs.KeyWrites.{KeyWrites}
+use Rattle.reading.specs.Records.{archive_bytes, IsArchiveRecord}
+use Rattle.reading.specs.Runs.{run_bytes, index_from}
 use Rattle.reading.proofs.RunWays.{row-within}
 use Rattle.reading.proofs.Lists.{weaker}
 use Rattle.status.specs.declared.header.Header.{Header}
-use Rattle.vacuum.specs.Archives.{AreInMemory, key_records, records_of, run_of, unwritten}
+use Rattle.vacuum.specs.Archives.{AreInMemory, key_records, since_of, records_of, run_of}
+use Rattle.vacuum.specs.declared.archive_walk.Since.{Since}
 use Rattle.vacuum.proofs.Plans.{archive_plan-is}
 use Rattle.transactions.specs.Order.{IsInOrder}
-use Rattle.transactions.specs.Values.{TransactionsValue, spare, claimed, with_slot_lent}
+use Rattle.transactions.specs.Values.{TransactionsValue, spare, with_slot_lent}
 use Rattle.store.specs.Calls as stores
 use Rattle.archive.specs.declared.run.RunEntry.{RunEntry}
-use Rattle.store.specs.Archives.{refusal_now, archive_of, with_archive, BeginsRun, StartsArchive}
-use Rattle.store.specs.Values.{StoreValue, IsInStep, IsOnItsWay, turn_of, lent_to}
+use Rattle.store.specs.Archives.{refusal_now, since_now, archive_of, with_archive, BeginsRun, StartsArchive}
+use Rattle.store.specs.Values.{StoreValue, IsInStep, turn_of, lent_to}
 use Rattle.store.specs.declared.job.Job.{Job}
-use Rattle.store.specs.declared.job.JobStage.TheVariants as job
 use Rattle.store.specs.declared.job.StartFault.{StartFault}
 use Rattle.store.specs.declared.job.StartFault.TheVariants as fault
 use Rattle.standing.specs.Standing.{StandsInMemory}
-use Rattle.standing.specs.OnDisk.{OfRun, IsNextRun, IsRested, HasJob, Works}
+use Rattle.standing.specs.OnDisk.{OfRun, IsNextRun, IsRested, Works}
 use Rattle.standing.specs.Stands.{job_gate, raising_of, StandsBeside as Stands}
+use Rattle.standing.proofs.Pumping.{raises-so}
 use Rattle.standing.proofs.Working.{gate-beside}
 use Rattle.standing.proofs.Held.{rising-held}
 use Rattle.standing.proofs.Memory.{last-is}
-use Rattle.standing.proofs.Jobs.{resting}
 use Rattle.standing.proofs.JobPumping.{keeps-parts}
 use Rattle.standing.proofs.Ranges.{IsInRange, each-chain, all-rising, versions-in-range, facts-in-range}
 
@@ -120,10 +105,11 @@ filtered-in-range key after upto (v ∷ vs) low each =
       | false ↦ rest
     ]
 
-records-in-range : (after upto : ℕ) (m : List KeyWrites) → upto < 2 ^ 63 → AllByRecursion (λ (c : KeyWrites). AllByRecursion (IsInRange c.key) c.writes) m → AllByRecursion IsArchiveRecord (records_of after upto m)
-records-in-range after upto [] low each = tt
-records-in-range after upto (c ∷ cs) low each =
-    AllByRecursion-append IsArchiveRecord (key_records after upto c) (records_of after upto cs) (filtered-in-range c.key after upto (versions c.writes) low (versions-in-range c.key c.writes each.0)) (records-in-range after upto cs low each.1)
+records-in-range : (since : Since) (upto : ℕ) (m : List KeyWrites) → upto < 2 ^ 63 → AllByRecursion (λ (c : KeyWrites). AllByRecursion (IsInRange c.key) c.writes) m → AllByRecursion IsArchiveRecord (records_of since upto m)
+records-in-range since upto [] low each = tt
+records-in-range since upto (c ∷ cs) low each =
+    let after : ℕ = since_of since c.key.relation in
+    AllByRecursion-append IsArchiveRecord (key_records after upto c) (records_of since upto cs) (filtered-in-range c.key after upto (versions c.writes) low (versions-in-range c.key c.writes each.0)) (records-in-range since upto cs low each.1)
 
 -- ---- the refusals
 
@@ -210,13 +196,13 @@ module _ (header : Header) (v : StoreValue) (m : Machine Value) (memory : Stands
   next-run : IsNextRun w.log.layout w.log.reading m.published (record { entry = run_of upto v.runs_end (archive_of v upto); records = archive_of v upto })
   next-run = record {
     plan = archive_plan-is w.log.reading v.transactions.versions in-memory (λ key. ap (λ (ws : List (TimedWrite Value)). versions ws) (sym (w.heap.facts key)))
-        v.archived (stores.floor v) upto (sym w.log.archived) (λ relation. w.log.stands.opens.floors_given relation ∙ sym (memory.floors relation));
+        (since_now v) upto (sym w.log.archived) (λ relation. w.log.stands.opens.floors_given relation ∙ sym (memory.floors relation));
     later = omega (arith, w.log.archived, may.later);
     by_last = omega (arith, may.by_last, last-is v.transactions m memory);
     stored = record {
       length_is = ap (λ (l : List ℕ). length l) (sym (run-same (archive_of v upto)));
       records_are = refl;
-      each = records-in-range (max v.archived (stores.floor v)) upto v.transactions.versions low
+      each = records-in-range (since_now v) upto v.transactions.versions low
           (weaker (λ (c : KeyWrites). IsRisingAfter 0 c.writes × AllByRecursion (IsInRange c.key) c.writes) (λ (c : KeyWrites). AllByRecursion (IsInRange c.key) c.writes) v.transactions.versions (λ c both. both.1) chains);
     };
     behind = w.log.runs_end;
@@ -275,7 +261,7 @@ archive-start-stands tells old new upto answer m stands starts = by-refusal (ref
           order = order;
           in_step = in_step;
           gate = λ on. stands.gate on ∙ gate-beside old.turn old.job _ (ap job_gate may.free) refl;
-          raises = stands.raises ∙ ap raising_of may.free;
+          raises = raises-so old (with_archive old upto is.2.entry) m m stands.raises refl refl refl (stands.raises.is ∙ ap raising_of may.free);
           marks = stands.marks;
           job = (let low = may.later in omega (arith, low), (let by = may.by_last in omega (arith, by, last-is old.transactions m stands.memory)));
           disk = λ told.
@@ -283,6 +269,7 @@ archive-start-stands tells old new upto answer m stands starts = by-refusal (ref
                 header = d.header;
                 profile = d.profile;
                 slots = d.slots;
+                pieces = d.pieces;
                 profile_built = d.profile_built;
                 leaves = d.leaves;
                 works = λ works. begun-works d.header old m stands.memory stands.machine (d.works works) upto may is.1 is.2.entry;

@@ -1,5 +1,5 @@
 -- A query leaves the store standing for what it stood for.
-use Rattle.std.proofs.Common.{◌≡◌, ℕ, ◌≤◌, ◌==◌, ◌&&◌, Bool, true, false, IsTrue, List, [], Option, Result, Ok, Err, MatchBool, refl, arith, ap, sym, subst, ◌∙◌}
+use Rattle.std.proofs.Common.{◌≡◌, ℕ, ◌==◌, ◌&&◌, Bool, true, false, IsTrue, List, [], Result, Ok, Err, MatchBool, refl, arith, ap, sym, subst, ◌∙◌}
 use Rattle.std.proofs.lemmas.List.{append-nil}
 use Rattle.disk.specs.Calls.{DiskState}
 use Rattle.history.specs.Histories.{History}
@@ -14,13 +14,13 @@ use Rattle.timequery.specs.declared.fault.QueryFault.TheVariants as query
 use Rattle.store.specs.Calls.{Asks, Finds, OrStranger, is_own, is_front}
 use Rattle.store.specs.Values.{StoreValue}
 use Rattle.standing.specs.Homes.{RunsStand, GoesOn}
-use Rattle.standing.specs.OnDisk.{StandsOnDisk, Works}
-use Rattle.standing.specs.Stands.{Stands}
+use Rattle.standing.specs.OnDisk.{Works}
+use Rattle.standing.specs.Stands.{StandsStill as Stands}
 use Rattle.standing.proofs.RunsKept.{up_to-same}
-use Rattle.standing.proofs.RunsStep.{KeepsArchive, goes-same, job-place-move, front-ends}
+use Rattle.standing.proofs.RunsStep.{goes-same, job-place-move, front-ends}
 
 -- a query changes the count of refusals alone
-after-is : {T : Type 0} (answer : Result T QueryFault) (disk : DiskState) → after_query answer disk ≡ record disk { refused = (after_query answer disk).refused }
+pub after-is : {T : Type 0} (answer : Result T QueryFault) (disk : DiskState) → after_query answer disk ≡ record disk { refused = (after_query answer disk).refused }
 after-is (Ok found) disk = refl
 after-is (Err query.Device) disk = refl
 after-is (Err (query.BeforeKept floor)) disk = refl
@@ -63,6 +63,7 @@ module _ (tells : Bool) (v : StoreValue) (m : Machine Value) (stands : Stands te
           header = d.header;
           profile = d.profile;
           slots = d.slots;
+          pieces = d.pieces;
           profile_built = d.profile_built;
           leaves = d.leaves;
           works = λ on. asked-works d.header (d.works on);
@@ -75,11 +76,11 @@ module _ (tells : Bool) (v : StoreValue) (m : Machine Value) (stands : Stands te
   unfolding asked
   asked-goes = record { mark = refl; more = []; runs = sym (append-nil v.archive.runs); end = λ told. omega arith; bytes = λ told. up_to-same v.runs_end (archive_of v.disk) }
 
-own-front : (a b : Bool) → (a && b) ≡ true → b ≡ true
+pub own-front : (a b : Bool) → (a && b) ≡ true → b ≡ true
 own-front true b is = is
 own-front false b is = absurd cc
 
-asks-stands : {T : Type 0} (tells : Bool) (v new : StoreValue) (m : Machine Value) (view : ViewValue) (answer : Result T QueryFault) → Stands tells v m → is_front view.runs v.archive.runs ≡ true → Asks tells v view answer new → Stands tells new m × GoesOn tells v new
+pub asks-stands : {T : Type 0} (tells : Bool) (v new : StoreValue) (m : Machine Value) (view : ViewValue) (answer : Result T QueryFault) → Stands tells v m → is_front view.runs v.archive.runs ≡ true → Asks tells v view answer new → Stands tells new m × GoesOn tells v new
 unfolding asked
 asks-stands tells v new m view answer stands front asks =
     let kept = new.archive.kept in

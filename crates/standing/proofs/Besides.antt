@@ -1,8 +1,7 @@
 -- The write of one extent, or a sync, beside other extents.
-use Rattle.std.proofs.Common.{◌≡◌, ◌≢◌, ℕ, ◌<◌, List, [], ◌∷◌, length, map, refl, arith, sym, subst, ap}
+use Rattle.std.proofs.Common.{◌≢◌, ℕ, ◌<◌, List, [], ◌∷◌, length, map, arith}
 use Rattle.std.specs.List.{AllByRecursion}
 use Rattle.disk.specs.Areas.{AreaState, IsSound, loosened, written, synced}
-use Rattle.disk.specs.Parts.{IsLoosened}
 use Rattle.extents.specs.declared.usage.Usage.{Usage}
 use Rattle.extents.specs.declared.usage.Usage.TheVariants.{Out, Kept}
 use Rattle.extents.specs.Usages.{IsKept, IsOut}

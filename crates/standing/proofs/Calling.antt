@@ -56,15 +56,16 @@ use Rattle.transactions.proofs.Publishing.{numbers-stored, length-stored}
 use Rattle.transactions.proofs.Kept.{by-last}
 use Rattle.transactions.proofs.Queueing.{keeps-queued}
 use Rattle.store.specs.Calls as stores
+use Rattle.floors.specs.Floors.{FloorsValue}
 use Rattle.store.specs.Values.{StoreValue, HasRest}
 use Rattle.store.specs.declared.job.Job.{Job}
 use Rattle.store.specs.declared.job.JobWork.{JobWork}
-use Rattle.store.specs.declared.job.JobWork.TheVariants.{Archive, Reclaim, Floor}
+use Rattle.store.specs.declared.job.JobWork.TheVariants.{Archive, Reclaim, Floor, Grow}
 use Rattle.standing.specs.Standing.{HasWrites, StandsInMemory, snapshots_of}
 use Rattle.standing.specs.OnDisk.{IsImageOf, packed, IsPacked, members_of, slot_for, group_of, written_before, IsAtStage, Works, StandsOnDisk}
-use Rattle.standing.specs.Stands.{KeepsWork, KeepsJobOf, Stands}
+use Rattle.standing.specs.Stands.{KeepsWork, KeepsJobOf, StandsStill as Stands}
 use Rattle.standing.specs.Laws.{submission_of, event_of, RedeemsAs}
-use Rattle.standing.specs.Calls.{BeginsOn}
+use Rattle.standing.specs.Calls.{BeginsTo}
 use Rattle.standing.proofs.Memory.{last-is, opened-were, closed-were, own-is, begin-step, abort-step}
 use Rattle.standing.proofs.Conflicts.{rising-behind}
 use Rattle.standing.proofs.Submitting.{order-has, order-sorted, order-rising, submit-step}
@@ -92,6 +93,7 @@ same-disk v m opened heads snapshots d = record {
   header = d.header;
   profile = d.profile;
   slots = d.slots;
+  pieces = d.pieces;
   profile_built = d.profile_built;
   leaves = d.leaves;
   works = λ on. same-works d.header v m opened heads snapshots (d.works on);
@@ -119,14 +121,15 @@ same-rest : (old new : StoreValue) (t : TransactionsValue) → HasRest old new �
 same-rest old new t rest is = let a = sym is in let b = sym rest.log in let c = sym rest.turn in let d = sym rest.disk in let j = sym rest.job.job in let k = sym rest.job.archived in let l = sym rest.job.runs_end in let n = sym rest.job.archive in λ i. record { transactions = a i; log = b i; turn = c i; job = j i; archived = k i; runs_end = l i; archive = n i; disk = d i }
 
 -- what memory keeps of a job is kept where each snapshot that is open was so, or is from the archive mark on
-keeps-opened : (o : Option Job) (archived newest : ℕ) (old new : List (Option ℕ)) (pending : Option (List KeyWrites)) (versions : List KeyWrites) → ((s : ℕ) → Contains (snapshots_of new) s → Contains (snapshots_of old) s ⊎ (archived ≤ s))
-    → KeepsJobOf o archived newest old pending versions → KeepsJobOf o archived newest new pending versions
-keeps-opened None archived newest old new pending versions were keeps = tt
-keeps-opened (Some job) archived newest old new pending versions were keeps = by-work job.work keeps
+keeps-opened : (o : Option Job) (archived newest : ℕ) (old new : List (Option ℕ)) (pending : Option (List KeyWrites)) (versions : List KeyWrites) (standing : FloorsValue) → ((s : ℕ) → Contains (snapshots_of new) s → Contains (snapshots_of old) s ⊎ (archived ≤ s))
+    → KeepsJobOf o archived newest old pending versions standing → KeepsJobOf o archived newest new pending versions standing
+keeps-opened None archived newest old new pending versions standing were keeps = tt
+keeps-opened (Some job) archived newest old new pending versions standing were keeps = by-work job.work keeps
   where
-    by-work : (work : JobWork) → KeepsWork work job.stage archived newest old pending versions → KeepsWork work job.stage archived newest new pending versions
+    by-work : (work : JobWork) → KeepsWork work job.stage archived newest old pending versions standing → KeepsWork work job.stage archived newest new pending versions standing
     by-work (Archive run writer) keeps = keeps
-    by-work (Floor floor) keeps = tt
+    by-work (Floor scope floor floors) keeps = keeps
+    by-work (Grow growth) keeps = absurd keeps
     by-work (Reclaim anchors source written) keeps = record {
       is = keeps.is;
       recent = λ s there. ⊎_elim (λ (was : Contains (snapshots_of old) s). keeps.recent s was) (λ (late : archived ≤ s). let upto = keeps.is in omega (arith, upto, late)) (were s there);
@@ -145,7 +148,7 @@ opened-stands tells v m opened snapshots stands were memory machine = record {
   gate = stands.gate;
   raises = stands.raises;
   marks = stands.marks;
-  job = keeps-opened v.job v.archived (last m.published) v.transactions.opened opened v.transactions.pending v.transactions.versions were stands.job;
+  job = keeps-opened v.job v.archived (last m.published) v.transactions.opened opened v.transactions.pending v.transactions.versions v.transactions.floors were stands.job;
   disk = λ told. same-disk v m opened v.transactions.heads snapshots (stands.disk told);
   place = (left-beside tells v m (record m { snapshots = snapshots }) (record v.transactions { opened = opened }) stands.machine refl refl refl refl stands.place stands.runs).place;
   runs = (left-beside tells v m (record m { snapshots = snapshots }) (record v.transactions { opened = opened }) stands.machine refl refl refl refl stands.place stands.runs).runs;
@@ -156,7 +159,7 @@ same-stands tells old new m stands rest same = subst (λ (x : StoreValue). Stand
 
 -- ---- begin
 
-pub begin-stands : (tells : Bool) (old new : StoreValue) (answer : Result TxnValue BeginFault) (m : Machine Value) → Stands tells old m → stores.Begins old answer new → BeginsOn tells m answer new
+pub begin-stands : (tells : Bool) (old new : StoreValue) (answer : Result TxnValue BeginFault) (m : Machine Value) → Stands tells old m → stores.Begins old answer new → BeginsTo (Stands tells) m answer new
 begin-stands tells old new (Ok txn) m stands begins =
     let is = begins.transactions in
     let done = begin-step old.transactions new.transactions (Ok txn) m stands.memory begins.transactions in
@@ -365,6 +368,7 @@ queued-disk v m label time numbers snapshots c order memory machine least many d
       header = d.header;
       profile = d.profile;
       slots = d.slots;
+      pieces = d.pieces;
       profile_built = d.profile_built;
       leaves = λ image left. by-front image (sym front) (d.leaves image left);
       works = λ on. queued-works d.header v m label time numbers snapshots c order memory machine least many (d.works on);
@@ -398,7 +402,7 @@ queued-stands tells v m label time numbers snapshots opened c stands were may le
   gate = stands.gate;
   raises = stands.raises;
   marks = stands.marks;
-  job = keeps-opened v.job v.archived (last m.published) v.transactions.opened opened v.transactions.pending v.transactions.versions were stands.job;
+  job = keeps-opened v.job v.archived (last m.published) v.transactions.opened opened v.transactions.pending v.transactions.versions v.transactions.floors were stands.job;
   disk = λ told.
       same-disk (with_transactions v (with_queued v.transactions label time c.writes numbers)) (record m { queue = m.queue ++ c ∷ [] }) opened (with_queued v.transactions label time c.writes numbers).heads snapshots
       (queued-disk v m label time numbers m.snapshots c stands.order stands.memory stands.machine least many (stands.disk told));

@@ -1,38 +1,38 @@
 -- A floor begins: it is one that may be raised, and may come next in the log. Or it is refused as the machine says.
-use Rattle.std.proofs.Common.{◌≡◌, ℕ, ◌+◌, ◌<◌, ◌≤◌, ◌^◌, ◌==◌, min, nat_le, nat_lt, Bool, true, false, cond, List, [], ◌∷◌, length, Option, None, Some, is_some, ◌||◌, Result, Ok, Err, MatchOption, refl, arith, ap, sym, subst, ◌∙◌, ⊎_elim, inl, inr}
+use Rattle.std.proofs.Common.{rules, ◌≡◌, ◌≢◌, ℕ, ◌+◌, ◌<◌, ◌≤◌, ◌==◌, min, nat_le, nat_lt, Bool, true, false, cond, List, [], ◌∷◌, Option, None, Some, is_some, ◌||◌, refl, arith, ap, sym, subst, ◌∙◌, ⊎_elim, inl, inr}
 use Rattle.std.specs.Prelude.{◌⊎◌, Contains, IsPermutation, IsTrue}
 use Rattle.std.specs.List.{AllByRecursion}
 use Rattle.std.proofs.lemmas.Bool.Decides.{nat_tests}
-use Rattle.history.specs.Floors.{Raising}
+use Rattle.history.specs.Floors.{Raising, covers, covered}
+use Rattle.floors.specs.Floors.{floor_at}
 use Rattle.history.specs.FloorStarts as floors
 use Rattle.history.specs.FloorStarts.{least, in_use_below, in_use_refusal}
 use Rattle.history.specs.Histories as histories
-use Rattle.history.specs.Machine.{Machine, MayRaise, IsMachine}
+use Rattle.history.specs.Machine.{Machine, MayRaise}
 use Rattle.history.specs.Steps.{Step, FloorStarted, FloorRefused, floor_started}
-use Rattle.history.specs.Steps as steps
 use Rattle.history.proofs.Machines.{run-machine}
 use Rattle.std.proofs.lemmas.Bool.{cases_lt}
 use Rattle.std.proofs.lemmas.List.Sorted.{IsPermutation-sym, Contains-permutation}
 use Rattle.history.proofs.Members.{Contains-head, Contains-tail, Contains-cons_cases, Contains-nil}
 use Rattle.image.specs.Values.{Value, IsValue}
-use Rattle.image.specs.Log.{IsScopeOf}
+use Rattle.wire.specs.Spelling.{IsRelationOf}
 use Rattle.image.proofs.Standing.{last-range}
 use Rattle.snapshot.specs.OpenTable.{lesser, least_with, least_open}
 use Rattle.status.specs.declared.header.Header.{Header}
-use Rattle.status.specs.Rules.{is_built}
+use Rattle.status.proofs.Rules.{scope_is as scope-of}
 use Rattle.transactions.specs.Values.{TransactionsValue, spare}
 use Rattle.transactions.specs.Reclaims.{oldest}
 use Rattle.store.specs.Calls as stores
 use Rattle.store.specs.Values.{StoreValue, IsInStep, turn_of, lent_to}
 use Rattle.store.specs.Reclaims.{below, refusal_for_use}
-use Rattle.store.specs.Floors.{floor_refusal, with_floor}
+use Rattle.store.specs.Floors.{IsRelation, is_wrong_profile, floor_refusal, with_floor}
 use Rattle.store.specs.declared.job.Job.{Job}
 use Rattle.store.specs.declared.job.StartFault.{StartFault}
 use Rattle.store.specs.declared.job.StartFault.TheVariants as fault
 use Rattle.standing.specs.Calls.{raising_to}
 use Rattle.standing.specs.Standing.{StandsInMemory, snapshots_of}
 use Rattle.standing.specs.OnDisk.{OfFloor, IsNextFloor, IsRested, Works}
-use Rattle.standing.specs.Stands.{job_gate, raising_of, StandsBeside as Stands}
+use Rattle.standing.specs.Stands.{job_gate, raising_of, RaisesFloor, StandsBeside as Stands}
 use Rattle.standing.proofs.Archiving.{lent-memory, lent-order}
 use Rattle.standing.proofs.Memory.{last-is}
 use Rattle.standing.proofs.Pumping.{goes-on-working}
@@ -42,10 +42,11 @@ use Rattle.standing.proofs.Working.{working, gate-beside}
 -- ---- the refusals
 
 -- what holds where no floor is refused
-record MayBegin (v : StoreValue) (floor : ℕ) : Type 0 where
+record MayBegin (v : StoreValue) (scope : Option ℕ) (floor : ℕ) : Type 0 where
   pub works : v.transactions.failed ≡ false
+  pub scope_is : is_wrong_profile v.log.profile scope ≡ false
   pub free : v.job ≡ None
-  pub rises : stores.floor v < floor
+  pub rises : floor_at (stores.floors v) (covered scope) < floor
   pub by_last : floor ≤ stores.last v
   pub unused : below (oldest v.transactions) floor ≡ None
   pub room : 0 < spare v.transactions
@@ -63,30 +64,33 @@ not-in-use v None is =
     ] refl is
 
 -- the tests in their order
-record Tests (v : StoreValue) (floor : ℕ) (a b c d : Bool) : Type 0 where
+record Tests (v : StoreValue) (scope : Option ℕ) (floor : ℕ) (a w b c d : Bool) : Type 0 where
   pub failed : v.transactions.failed ≡ a
+  pub wrong : is_wrong_profile v.log.profile scope ≡ w
   pub busy : is_some v.job ≡ b
-  pub low : nat_le floor (stores.floor v) ≡ c
+  pub low : nat_le floor (floor_at (stores.floors v) (covered scope)) ≡ c
   pub high : nat_lt (stores.last v) floor ≡ d
 
-abbrev Refusal : StoreValue → ℕ → Bool → Bool → Bool → Bool → Option StartFault
-Refusal v floor a b c d =
-    cond a (Some fault.Failed) (cond b (Some fault.JobBusy) (cond c (Some fault.NothingToDo) (cond d (Some (fault.NotYet (stores.last v))) (refusal_for_use v (below (oldest v.transactions) floor)))))
+abbrev Refusal : StoreValue → ℕ → Bool → Bool → Bool → Bool → Bool → Option StartFault
+Refusal v floor a w b c d =
+    cond a (Some fault.Failed) (cond w (Some fault.WrongProfile) (cond b (Some fault.JobBusy) (cond c (Some fault.NothingToDo) (cond d (Some (fault.NotYet (stores.last v))) (refusal_for_use v (below (oldest v.transactions) floor))))))
 
-may-begin : (v : StoreValue) (floor : ℕ) → floor_refusal v floor ≡ None → MayBegin v floor
-may-begin v floor none =
-    by-tests v.transactions.failed (is_some v.job) (nat_le floor (stores.floor v)) (nat_lt (stores.last v) floor) (record { failed = refl; busy = refl; low = refl; high = refl }) none
+may-begin : (v : StoreValue) (scope : Option ℕ) (floor : ℕ) → floor_refusal v scope floor ≡ None → MayBegin v scope floor
+may-begin v scope floor none =
+    by-tests v.transactions.failed (is_wrong_profile v.log.profile scope) (is_some v.job) (nat_le floor (floor_at (stores.floors v) (covered scope))) (nat_lt (stores.last v) floor)
+    (record { failed = refl; wrong = refl; busy = refl; low = refl; high = refl }) none
   where
-    by-tests : (a b c d : Bool) → Tests v floor a b c d → Path (Option StartFault) (Refusal v floor a b c d) None → MayBegin v floor
-    by-tests true b c d tests is = absurd cc
-    by-tests false true c d tests is = absurd cc
-    by-tests false false true d tests is = absurd cc
-    by-tests false false false true tests is = absurd cc
-    by-tests false false false false tests is =
+    by-tests : (a w b c d : Bool) → Tests v scope floor a w b c d → Path (Option StartFault) (Refusal v floor a w b c d) None → MayBegin v scope floor
+    by-tests true w b c d tests is = absurd cc
+    by-tests false true b c d tests is = absurd cc
+    by-tests false false true c d tests is = absurd cc
+    by-tests false false false true d tests is = absurd cc
+    by-tests false false false false true tests is = absurd cc
+    by-tests false false false false false tests is =
         let unused = not-in-use v (below (oldest v.transactions) floor) is in
         let low = tests.low in
         let high = tests.high in
-        record { works = tests.failed; free = none-there v.job tests.busy; rises = grind (arith, nat_tests); by_last = grind (arith, nat_tests); unused = unused.0; room = unused.1 }
+        record { works = tests.failed; scope_is = tests.wrong; free = none-there v.job tests.busy; rises = grind (arith, nat_tests); by_last = grind (arith, nat_tests); unused = unused.0; room = unused.1 }
 
 -- ---- the machine says so too
 
@@ -96,10 +100,12 @@ Refuses m r fault.NothingToDo = Step IsValue m (FloorRefused r floors.NothingToD
 Refuses m r (fault.NotYet time) = Step IsValue m (FloorRefused r (floors.NotYet time)) m
 Refuses m r (fault.InUse snapshot) = Step IsValue m (FloorRefused r (floors.InUse snapshot)) m
 Refuses m r fault.Failed = m.failed ≡ true
+Refuses m r fault.WrongProfile = Unit {0}
 Refuses m r fault.JobBusy = Unit {0}
 Refuses m r fault.StatusFull = Unit {0}
 Refuses m r fault.ArchiveFull = ⊥
 Refuses m r fault.HeapFull = ⊥
+Refuses m r fault.NotGrowable = ⊥
 Refuses m r fault.NoMemory = ⊥
 
 -- the least open snapshot is one of them
@@ -167,23 +173,24 @@ in-use places snapshots floor snapshot same is =
     machine-least snapshots floor snapshot (Contains-permutation (snapshots_of places) snapshots snapshot (IsPermutation-sym snapshots (snapshots_of places) same) there)
     (λ x has. least-is-low places snapshot x least-is.0 (Contains-permutation snapshots (snapshots_of places) x same has)) least-is.1
 
-pub refuses : (tells : Bool) (v : StoreValue) (floor : ℕ) (m : Machine Value) → Stands tells v m → (why : StartFault) → floor_refusal v floor ≡ Some why → Refuses m (raising_to floor) why
-refuses tells v floor m stands why some =
-    by-tests v.transactions.failed (is_some v.job) (nat_le floor (stores.floor v)) (nat_lt (stores.last v) floor) (record { failed = refl; busy = refl; low = refl; high = refl }) some
+pub refuses : (tells : Bool) (v : StoreValue) (scope : Option ℕ) (floor : ℕ) (m : Machine Value) → Stands tells v m → (why : StartFault) → floor_refusal v scope floor ≡ Some why → Refuses m (raising_to scope floor) why
+refuses tells v scope floor m stands why some =
+    by-tests v.transactions.failed (is_wrong_profile v.log.profile scope) (is_some v.job) (nat_le floor (floor_at (stores.floors v) (covered scope))) (nat_lt (stores.last v) floor)
+    (record { failed = refl; wrong = refl; busy = refl; low = refl; high = refl }) some
   where
     r : Raising
-    r = raising_to floor
+    r = raising_to scope floor
 
     given : (said : StartFault) → Refuses m r said → Path (Option StartFault) (Some said) (Some why) → Refuses m r why
     given said refuses is = let same : said ≡ why = cc in subst (Refuses m r) same refuses
 
-    low-is : (b : Bool) → nat_le floor (stores.floor v) ≡ b → nat_le floor (m.floors 0) ≡ b
-    low-is b is = ap (nat_le floor) (sym (stands.memory.floors 0)) ∙ is
+    low-is : (b : Bool) → nat_le floor (floor_at (stores.floors v) (covered scope)) ≡ b → nat_le floor (m.floors (covered scope)) ≡ b
+    low-is b is = ap (nat_le floor) (sym (stands.memory.floors (covered scope))) ∙ is
 
     high-is : (b : Bool) → nat_lt (stores.last v) floor ≡ b → nat_lt (histories.last m.published) floor ≡ b
     high-is b is = ap (λ (n : ℕ). nat_lt n floor) (sym (last-is v.transactions m stands.memory)) ∙ is
 
-    by-use : (o : Option ℕ) → below (oldest v.transactions) floor ≡ o → nat_le floor (m.floors 0) ≡ false → nat_lt (histories.last m.published) floor ≡ false → m.failed ≡ false → refusal_for_use v o ≡ Some why → Refuses m r why
+    by-use : (o : Option ℕ) → below (oldest v.transactions) floor ≡ o → nat_le floor (m.floors (covered scope)) ≡ false → nat_lt (histories.last m.published) floor ≡ false → m.failed ≡ false → refusal_for_use v o ≡ Some why → Refuses m r why
     by-use (Some snapshot) used low high works is =
         given (fault.InUse snapshot) (works, rw (low, high) (in-use v.transactions.opened m.snapshots floor snapshot stands.memory.snapshots used), refl) is
     by-use None used low high works is =
@@ -192,15 +199,16 @@ refuses tells v floor m stands why some =
           | false ↦ λ no. absurd cc
         ] is
 
-    by-tests : (a b c d : Bool) → Tests v floor a b c d → Path (Option StartFault) (Refusal v floor a b c d) (Some why) → Refuses m r why
-    by-tests true b c d tests is = given fault.Failed (sym stands.memory.failed ∙ tests.failed) is
-    by-tests false true c d tests is = given fault.JobBusy tt is
-    by-tests false false true d tests is = (let low = low-is true tests.low in given fault.NothingToDo (sym stands.memory.failed ∙ tests.failed, rw low refl, refl) is)
-    by-tests false false false true tests is =
+    by-tests : (a w b c d : Bool) → Tests v scope floor a w b c d → Path (Option StartFault) (Refusal v floor a w b c d) (Some why) → Refuses m r why
+    by-tests true w b c d tests is = given fault.Failed (sym stands.memory.failed ∙ tests.failed) is
+    by-tests false true b c d tests is = given fault.WrongProfile tt is
+    by-tests false false true c d tests is = given fault.JobBusy tt is
+    by-tests false false false true d tests is = (let low = low-is true tests.low in given fault.NothingToDo (sym stands.memory.failed ∙ tests.failed, rw low refl, refl) is)
+    by-tests false false false false true tests is =
         let low = low-is false tests.low in
         let high = high-is true tests.high in
         given (fault.NotYet (stores.last v)) (sym stands.memory.failed ∙ tests.failed, rw (low, high) (ap (λ (n : ℕ). Some (floors.NotYet n)) (sym (last-is v.transactions m stands.memory))), refl) is
-    by-tests false false false false tests is =
+    by-tests false false false false false tests is =
         by-use (below (oldest v.transactions) floor) refl (low-is false tests.low) (high-is false tests.high) (sym stands.memory.failed ∙ tests.failed) is
 
 -- ---- the floor begins
@@ -227,20 +235,35 @@ started-memory v m r stands = record {
   failed = stands.failed;
 }
 
--- where commits are built a floor is one of every relation
-every-relation : (profile : ℕ) → IsTrue (is_built profile 1) → IsScopeOf profile None
-every-relation profile built = (let one : profile ≡ 1 = grind (arith, nat_tests) in subst (λ (n : ℕ). IsScopeOf n None) (sym one) refl)
+-- the floor is of the store's profile
+of-relations : (profile : ℕ) (scope : Option ℕ) → is_wrong_profile profile scope ≡ false → IsRelation scope → IsRelationOf profile scope
+of-relations profile None right named = grind (arith, nat_tests)
+of-relations profile (Some only) right named = (grind (arith, nat_tests), named)
 
-module _ (header : Header) (v : StoreValue) (floor : ℕ) (m : Machine Value) (memory : StandsInMemory v.transactions m) (may : MayBegin v floor) (profile_built : IsTrue (is_built header.profile 1)) (w : Works header v m) where
-  next : IsNextFloor w.log.reading m.published floor
+-- each floor that it covers is below it
+all-rise : (v : StoreValue) (m : Machine Value) (scope : Option ℕ) (floor : ℕ) → StandsInMemory v.transactions m → RaisesFloor v m → MayBegin v scope floor → (relation : ℕ) → IsTrue (covers scope relation) → m.floors relation < floor
+all-rise v m None floor memory raises may relation covered =
+    let other : v.log.profile ≢ 3 = of-relations v.log.profile None may.scope_is tt in
+    let one = raises.of_profile other relation in
+    let same = memory.floors 0 in
+    let above = may.rises in
+    omega (arith, one, same, above)
+all-rise v m (Some only) floor memory raises may relation covered =
+    let same = memory.floors only in
+    let above = may.rises in
+    let one : only ≡ relation = search (rules, covered) in
+    subst (λ (r : ℕ). m.floors r < floor) one (omega (arith, same, above))
+
+module _ (header : Header) (v : StoreValue) (scope : Option ℕ) (floor : ℕ) (m : Machine Value) (memory : StandsInMemory v.transactions m) (raises : RaisesFloor v m) (may : MayBegin v scope floor) (named : IsRelation scope) (profile : v.log.profile ≡ header.profile) (w : Works header v m) where
+  next : IsNextFloor w.log.reading m.published scope floor
   next = record {
-    scope = subst (λ (n : ℕ). IsScopeOf n None) (sym w.log.laid.heap.profile_is) (every-relation header.profile profile_built);
-    rises = λ relation. (let given = w.log.stands.opens.floors_given relation in let same = memory.floors relation in let above = may.rises in omega (arith, given, same, above));
+    scope_is = of-relations w.log.reading.profile scope (subst (λ (n : ℕ). is_wrong_profile n scope ≡ false) (profile ∙ sym w.log.laid.heap.profile_is) may.scope_is) named;
+    rises = λ relation covered. (let given = w.log.stands.opens.floors_given relation in let above = all-rise v m scope floor memory raises may relation covered in omega (arith, given, above));
     by_last = omega (arith, may.by_last, last-is v.transactions m memory);
     in_range = omega (arith, may.by_last, last-is v.transactions m memory, last-range w.log.reading m.published m.floors w.log.stands);
   }
 
-  begun-works : Works header (with_floor v floor) (floor_started m (raising_to floor))
+  begun-works : Works header (with_floor v scope floor) (floor_started m (raising_to scope floor))
   begun-works = record {
     log = w.log;
     heap = w.heap;
@@ -250,24 +273,24 @@ module _ (header : Header) (v : StoreValue) (floor : ℕ) (m : Machine Value) (m
       rests = subst (λ (o : Option Job). IsRested header w.log.layout (turn_of o) w.group.rested v.disk.areas.status) may.free w.group.rests;
       at = w.group.at;
     };
-    job = record { product = OfFloor floor; made = refl; next = next; at = tt };
+    job = record { product = OfFloor scope floor; made = (refl, refl); next = next; at = tt };
     sound = w.sound;
   }
 
-pub begins : (tells : Bool) (v : StoreValue) (floor : ℕ) (m : Machine Value) → Stands tells v m → floor_refusal v floor ≡ None
-    → Step IsValue m (FloorStarted (raising_to floor)) (floor_started m (raising_to floor)) × Stands tells (with_floor v floor) (floor_started m (raising_to floor))
-begins tells v floor m stands none =
-    let r : Raising = raising_to floor in
-    let may = may-begin v floor none in
+pub begins : (tells : Bool) (v : StoreValue) (scope : Option ℕ) (floor : ℕ) (m : Machine Value) → Stands tells v m → floor_refusal v scope floor ≡ None → IsRelation scope
+    → Step IsValue m (FloorStarted (raising_to scope floor)) (floor_started m (raising_to scope floor)) × Stands tells (with_floor v scope floor) (floor_started m (raising_to scope floor))
+begins tells v scope floor m stands none named =
+    let r : Raising = raising_to scope floor in
+    let may = may-begin v scope floor none in
     let works : m.failed ≡ false = sym stands.memory.failed ∙ may.works in
     let raisable : MayRaise m r = record {
-      rises = λ relation covered. (let same = stands.memory.floors relation in let above = may.rises in omega (arith, same, above));
+      rises = all-rise v m scope floor stands.memory stands.raises may;
       upto_last = omega (arith, may.by_last, last-is v.transactions m stands.memory);
       in_use = all-reached m.snapshots floor (λ s there. none-reads-below v.transactions.opened floor may.unused s (Contains-permutation m.snapshots (snapshots_of v.transactions.opened) s stands.memory.snapshots there));
     } in
-    let step : Step IsValue m (FloorStarted r) (floor_started m r) = (works, stands.raises ∙ ap raising_of may.free, raisable, refl) in
+    let step : Step IsValue m (FloorStarted r) (floor_started m r) = (works, stands.raises.is ∙ ap raising_of may.free, raisable, refl) in
     let free : lent_to v.job ≡ 0 = ap lent_to may.free in
-    let in_step : IsInStep (with_floor v floor) = record {
+    let in_step : IsInStep (with_floor v scope floor) = record {
       slots = omega (arith, free, stands.in_step.slots, stands.order.room, may.room);
       used = stands.in_step.used;
       turns = λ on.
@@ -279,14 +302,14 @@ begins tells v floor m stands none =
           };
     } in (
       step,
-      goes-on-working tells v (with_floor v floor) m (floor_started m r) stands works (record {
+      goes-on-working tells v (with_floor v scope floor) m (floor_started m r) stands works (record {
         memory = started-memory _ m r (lent-memory v.transactions m stands.memory);
         machine = run-machine IsValue m (floor_started m r) (FloorStarted r ∷ []) stands.machine (floor_started m r, step, refl);
         order = lent-order v.transactions may.room stands.order;
         in_step = in_step;
         gate = λ on. stands.gate on ∙ gate-beside v.turn v.job _ (ap job_gate may.free) refl;
-        raises = refl;
+        raises = record { is = refl; scope = scope-of v.log.profile scope (of-relations v.log.profile scope may.scope_is named); of_profile = stands.raises.of_profile };
         marks = stands.marks;
-        job = tt;
-      }) works refl refl (λ told. let c = working tells v m stands works told in begun-works c.header v floor m stands.memory may c.profile_built c.works),
+        job = refl;
+      }) works refl refl refl (λ told. let c = working tells v m stands works told in begun-works c.header v scope floor m stands.memory stands.raises may named c.profile c.works),
     )

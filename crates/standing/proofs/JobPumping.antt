@@ -1,12 +1,15 @@
 -- Each step of a job keeps what the store stands for, in memory and on its disk.
-use Rattle.std.proofs.Common.{◌≡◌, ◌≢◌, slice_get, ℕ, zero, suc, ◌+◌, ◌<◌, ◌≤◌, ◌==◌, nat_lt, Bool, true, false, cond, unwrap_or, List, [], ◌∷◌, ◌++◌, length, take, drop, map, filter, Option, None, Some, is_some, ◌||◌, Result, Ok, Err, MatchBool, MatchOption, refl, arith, ap, sym, subst, ◌∙◌, inl, inr, length-append, append_assoc}
-use Rattle.std.specs.Prelude.{IsTrue, IsSome}
+use Rattle.std.proofs.Common.{rules, ◌≡◌, ◌≢◌, slice_get, ℕ, zero, suc, ◌+◌, ◌<◌, ◌≤◌, ◌==◌, Bool, true, false, cond, unwrap_or, List, [], ◌∷◌, ◌++◌, length, take, drop, map, filter, Option, None, Some, is_some, ◌||◌, Result, Ok, Err, MatchBool, MatchOption, refl, arith, ap, sym, subst, ◌∙◌, inl, inr, length-append, append_assoc}
+use Rattle.std.specs.Prelude.{IsTrue, IsSome, IsNone}
 use Rattle.std.proofs.lemmas.Bool.Decides.{nat_tests}
 use Rattle.std.specs.List.{AllByRecursion, flat_map}
 use Rattle.std.proofs.lemmas.List.{append-nil, map-append, take-append-drop, length-replicate}
 use Rattle.std.proofs.lemmas.Grind.{flat_map-append}
 use Rattle.history.specs.declared.key.Key.{Key}
-use Rattle.history.specs.Floors.{Raising, raised}
+use Rattle.history.specs.Floors.{Raising, covers, covered, raised}
+use Rattle.floors.specs.Floors.{FloorsValue, floor_at, raised_in}
+use Rattle.floors.proofs.Owns.{raised-is}
+use Rattle.image.specs.Log.{IsScopeOf}
 use Rattle.history.specs.Machine.{Machine, OfGroup, OfFloor, Gate, Shut, Due, MayBeOpen, MayRaise, IsMachine}
 use Rattle.history.specs.Fronts.{OnFront}
 use Rattle.history.specs.Histories.{History, last}
@@ -16,7 +19,6 @@ use Rattle.history.proofs.Filters.{AllByRecursion-append}
 use Rattle.history.proofs.Machines.{run-machine}
 use Rattle.image.specs.Values.{Value, IsValue}
 use Rattle.image.specs.Reading.{Archived, Reclaimed as ReclaimedSlot, Floor as FloorSlot, Reading}
-use Rattle.image.specs.Plans.{with_run, with_anchors}
 use Rattle.image.specs.StandsFor.{StandsFor, archived_upto, reclaimed_upto}
 use Rattle.history.specs.declared.time.Version.{Version}
 use Rattle.history.specs.Versions.{ends_after}
@@ -25,12 +27,11 @@ use Rattle.image.proofs.Logs.{archive_mark-append, reclaim_mark-append}
 use Rattle.disk.specs.declared.area.Area.TheVariants.{Status, Heap, Archive}
 use Rattle.disk.specs.declared.area.DeviceFault.{DeviceFault}
 use Rattle.disk.specs.Areas.{AreaState, Areas, Image, AreSound, IsSound, LeavesImage, loosened, written, synced, overlaid}
-use Rattle.disk.specs.Calls.{DiskState, Writes, Syncs}
-use Rattle.disk.specs.Parts.{HoldsPart, KeepsPart, IsLoosened}
+use Rattle.disk.specs.Parts.{HoldsPart, IsLoosened}
 use Rattle.disk.proofs.Stops.{left_by_write}
 use Rattle.disk.proofs.Parts.{synced_part, kept_by_sync}
 use Rattle.wire.specs.Numbers.{u16_bytes}
-use Rattle.wire.specs.Spelling.{IsSpelled, InRange, spelling, front_of, fields_of, u32_bytes, u64_bytes}
+use Rattle.wire.specs.Spelling.{IsSpelled, InRange, IsRelationOf, spelling, front_of, fields_of, u32_bytes, u64_bytes}
 use Rattle.wire.specs.declared.slot.Anchors.{Anchors}
 use Rattle.wire.specs.declared.slot.Run.{Run as WireRun}
 use Rattle.wire.specs.declared.slot.Slot.{Slot}
@@ -47,18 +48,18 @@ use Rattle.deltas.specs.Chains.{first_number}
 use Rattle.deltas.specs.declared.filled_extent.FilledExtent.{FilledExtent}
 use Rattle.wire.specs.declared.slot.Body.TheVariants.{Archived as ArchivedBody, Reclaimed as ReclaimedBody, Floor as FloorBody}
 use Rattle.chains.proofs.Forgetting.{latest-forgotten}
-use Rattle.extents.specs.Usages.{IsOut, IsKept, AreOut}
+use Rattle.extents.specs.Usages.{IsKept, AreOut}
 use Rattle.status.specs.declared.header.Header.{Header}
 use Rattle.status.specs.Header.{total}
-use Rattle.status.specs.Rules.{is_built, runs_of, runs_in, row_end}
+use Rattle.status.specs.Rules.{runs_of, runs_in, row_end}
 use Rattle.status.specs.SlotCalls.{SlotStage, IsSlotCall}
 use Rattle.status.specs.SlotCalls as slots
 use Rattle.status.specs.TurnState.{TurnState, LogState}
 use Rattle.reading.specs.Extents.{Extent, IsExtent, AreDistinct, HoldsExtent, KeepsExtent, extent_start, extent_bytes}
 use Rattle.reading.specs.Runs.{StoredRun, KeepsRun, run_bytes}
-use Rattle.reading.specs.Layouts.{Layout, live, IsLayoutOf, extents_of}
-use Rattle.reading.specs.Keeping.{KeepsExtents, KeepsRuns, KeepsParts, StatusRests, RestsAs}
-use Rattle.reading.specs.Jobs.{archived, reclaimed}
+use Rattle.reading.specs.Layouts.{Layout, live, extents_of}
+use Rattle.reading.specs.Keeping.{KeepsExtents, KeepsRuns, KeepsParts, StatusRests}
+use Rattle.reading.specs.Jobs.{reclaimed}
 use Rattle.reading.specs.SlotTurns.{IsTurnAt}
 use Rattle.reading.specs.Turn as turns
 use Rattle.reading.specs.Turn.{Group, laid_out}
@@ -72,24 +73,24 @@ use Rattle.group.specs.Queued.{QueuedValue, numbers_of}
 use Rattle.group.specs.declared.answers.PumpFault.{PumpFault}
 use Rattle.group.specs.declared.answers.PumpFault.TheVariants as pump
 use Rattle.transactions.specs.Order.{IsInOrder, StageFits}
-use Rattle.transactions.specs.Values.{TransactionsValue, is_turning, with_slot_used, raised_to}
+use Rattle.transactions.specs.Values.{TransactionsValue, is_turning, with_slot_used, with_floors}
 use Rattle.transactions.specs.Steps as groups
 use Rattle.transactions.specs.Reclaims.{prepared, versions_once, reclaimed_to}
 use Rattle.transactions.specs.declared.stage.GroupStage.{GroupStage}
 use Rattle.transactions.specs.declared.stage.GroupStage.TheVariants.{NoGroup, Storing, Stored, Turning}
 use Rattle.transactions.proofs.Publishing.{out-swapped}
-use Rattle.store.specs.Values.{StoreValue, IsInStep, IsOnItsWay, turn_in, turn_of, lent_to}
+use Rattle.store.specs.Values.{StoreValue, IsInStep, IsOnItsWay, turn_in, turn_of, lent_by, lent_to}
 use Rattle.store.specs.declared.job.Job.{Job}
 use Rattle.store.specs.declared.job.JobWork.{JobWork}
-use Rattle.store.specs.declared.job.JobWork.TheVariants.{Archive as ArchiveWork, Reclaim, Floor as FloorWork}
+use Rattle.store.specs.declared.job.JobWork.TheVariants.{Archive as ArchiveWork, Reclaim, Floor as FloorWork, Grow}
 use Rattle.store.specs.declared.job.JobStage.{JobStage}
 use Rattle.store.specs.declared.job.JobStage.TheVariants as job
 use Rattle.store.specs.declared.job.JobDid.{JobDid}
 use Rattle.store.specs.declared.job.JobDid.TheVariants as did
-use Rattle.store.specs.Jobs.{PumpsJob, TakesJobStep, Stores, WritesOrSyncs, WritesRun, AnchorsOrSync, WritesAnchors, SyncsStored, BeginsJobSlot, TurnsJob, IsJobTurned, with_job, job_fails, work_done, job_done, slot_opened, slot_body, behind_piece, first_turn, slot_taken}
+use Rattle.store.specs.Jobs.{PumpsJob, TakesJobStep, Stores, WritesOrSyncs, WritesRun, AnchorsOrSync, WritesAnchors, SyncsStored, BeginsJobSlot, TurnsJob, IsJobTurned, with_job, work_done, job_done, slot_opened, slot_body, behind_piece, first_turn, slot_taken}
 use Rattle.standing.specs.Standing.{StandsInMemory, Reclaims}
-use Rattle.standing.specs.OnDisk.{IsImageOf, AllPacked, HasTimes, group_of, IsAtStage, IsTurnOf, StoredAnchors, Product, OfRun, OfAnchors, OfFloor, body_of, slot_naming, laid_with, read_with, IsNextRun, IsNextChain, MayBeNext, IsMadeBy, IsWritten, IsFilling, KeepsProduct, IsTurnFor, IsAtJob, JobIsAt, HasJob, IsRested, Works, StandsOnDisk}
-use Rattle.standing.specs.Stands.{HasMarks, KeepsWork, KeepsJobOf, gate_at, gate_for, gate_in, job_gate, gate_of, raising_by, raising_of, StandsBeside as Stands}
+use Rattle.standing.specs.OnDisk.{IsImageOf, AllPacked, HasTimes, group_of, IsAtStage, StoredAnchors, Product, OfRun, OfAnchors, OfFloor, body_of, slot_naming, laid_with, read_with, IsNextRun, IsNextChain, MayBeNext, IsMadeBy, IsWritten, IsFilling, KeepsProduct, IsTurnFor, IsAtJob, JobIsAt, HasJob, IsRested, Works}
+use Rattle.standing.specs.Stands.{HasMarks, KeepsWork, KeepsJobOf, gate_at, gate_for, gate_in, job_gate, gate_of, raising_by, raising_of, AreOfProfile, RaisesFloor, StandsBeside as Stands}
 use Rattle.standing.specs.Laws.{floor_ends, job_breaks_in, job_ends_in}
 use Rattle.standing.proofs.Besides.{IsBeside, AreBeside, all-keep, all-hold, write-beside, torn-beside, sync-beside, beside-none, beside-out, beside-numbers}
 use Rattle.standing.proofs.Chains.{fill-is, all-filled}
@@ -98,10 +99,10 @@ use Rattle.standing.proofs.Joining as joining
 use Rattle.standing.proofs.Joining.{MayOpenWithin, numbers-split}
 use Rattle.standing.proofs.Publishing.{regated, breaks}
 use Rattle.standing.proofs.Reclaimed.{prepares, reclaims}
-use Rattle.standing.proofs.Retired.{reserved-out, reclaimed-kept, reclaimed-times, reclaimed-order, times-long}
-use Rattle.standing.proofs.Jobs.{floors_with, MayStand, IsFree, resting, adds, made_extents, made-are, live-with, product-built, laid-after, stands-after, built-after, product-leaves-within, product-leads}
-use Rattle.standing.proofs.Working.{Working, working, group_in, still-shut, gate-beside, room-left, job-room}
-use Rattle.standing.proofs.Pumping.{may-stand, gate-in-turn, now-at, job-free, out-middle, stage-leaves, works-leave, goes-on-working, goes-on-failed, broken-machine, broken-order, slot-alone}
+use Rattle.standing.proofs.Retired.{reclaimed-kept, reclaimed-times, reclaimed-order, times-long}
+use Rattle.standing.proofs.Jobs.{made-lends, floors_with, MayStand, IsFree, adds, laid-after, stands-after, built-after, product-leaves-within, product-leads}
+use Rattle.standing.proofs.Working.{Working, working, still-shut, gate-beside, job-room}
+use Rattle.standing.proofs.Pumping.{may-stand, gate-in-turn, now-at, job-free, out-middle, stage-leaves, works-leave, goes-on-working, goes-on-failed, raises-so, broken-machine, broken-order, slot-alone}
 
 -- ---- what a group's stage says of the areas
 
@@ -187,7 +188,7 @@ Ends tells m answer v = (after : Machine Value) × steps.Run IsValue m (job_ends
 
 -- what memory keeps of a job, in this store
 abbrev Keeps : StoreValue → Machine Value → JobWork → JobStage → Type 0
-Keeps v m work stage = KeepsWork work stage v.archived (last m.published) v.transactions.opened v.transactions.pending v.transactions.versions
+Keeps v m work stage = KeepsWork work stage v.archived (last m.published) v.transactions.opened v.transactions.pending v.transactions.versions v.transactions.floors
 
 -- a call that is made, of which the machine does nothing
 stays : (tells : Bool) (new to : StoreValue) (m : Machine Value) (said : JobDid) → floor_ends said m.raising ≡ [] → new ≡ to → Stands tells to m → Ends tells m (Ok said) new
@@ -195,20 +196,20 @@ stays tells new to m said nothing is parts =
     (m, subst (λ (es : List (Event Value)). Run IsValue m es m) (sym nothing) refl, subst (λ (x : StoreValue). Stands tells x m) (sym is) parts)
 
 -- a refused call leaves the gate so
-abbrev job_gate_left : Gate → Gate
+abbrev pub job_gate_left : Gate → Gate
 job_gate_left Shut = Shut
 job_gate_left (Due OfGroup) = Due OfGroup
 job_gate_left (Due OfFloor) = MayBeOpen OfFloor
 job_gate_left (MayBeOpen change) = MayBeOpen change
 
-job-breaks : (m : Machine Value) → m.failed ≡ false → (gate : Gate) → m.gate ≡ gate → Run IsValue m (job_breaks_in gate) (steps.broken (steps.gated m (job_gate_left gate)))
+pub job-breaks : (m : Machine Value) → m.failed ≡ false → (gate : Gate) → m.gate ≡ gate → Run IsValue m (job_breaks_in gate) (steps.broken (steps.gated m (job_gate_left gate)))
 job-breaks m works Shut is = (steps.broken m, (works, refl), ap (λ (g : Gate). steps.broken (steps.gated m g)) (sym is))
 job-breaks m works (Due OfGroup) is = (steps.broken m, (works, refl), ap (λ (g : Gate). steps.broken (steps.gated m g)) (sym is))
 job-breaks m works (Due OfFloor) is = (steps.gated m (MayBeOpen OfFloor), (works, is, refl), (steps.broken (steps.gated m (MayBeOpen OfFloor)), (works, refl), refl))
 job-breaks m works (MayBeOpen change) is = (steps.broken m, (works, refl), ap (λ (g : Gate). steps.broken (steps.gated m g)) (sym is))
 
 -- the same of a machine whose gate is so
-gated-so : (P : Machine Value → Type 0) (m : Machine Value) (gate : Gate) → gate ≡ m.gate → P m → P (steps.gated m gate)
+pub gated-so : (P : Machine Value → Type 0) (m : Machine Value) (gate : Gate) → gate ≡ m.gate → P m → P (steps.gated m gate)
 gated-so P m gate same p = subst (λ (g : Gate). P (steps.gated m g)) (sym same) p
 
 gated-machine : (m : Machine Value) (gate : Gate) → IsMachine IsValue m → IsMachine IsValue (steps.gated m gate)
@@ -228,28 +229,33 @@ gated-works header v m gate w = record { log = w.log; heap = w.heap; packed = w.
 abbrev pub machine_done : JobWork → Machine Value → Machine Value
 machine_done (ArchiveWork run writer) m = m
 machine_done (Reclaim anchors source written) m = m
-machine_done (FloorWork floor) m = steps.floor_published m (record { scope = None; floor = floor })
+machine_done (FloorWork scope floor floors) m = steps.floor_published m (record { scope = scope; floor = floor })
+machine_done (Grow growth) m = m
 
 done-failed : (m : Machine Value) (work : JobWork) → (machine_done work m).failed ≡ m.failed
 done-failed m (ArchiveWork run writer) = refl
 done-failed m (Reclaim anchors source written) = refl
-done-failed m (FloorWork floor) = refl
+done-failed m (FloorWork scope floor floors) = refl
+done-failed m (Grow growth) = refl
 
 -- no floor is in the making then, and the gate is shut
 done-raised : (m : Machine Value) (work : JobWork) → m.raising ≡ raising_by work → (machine_done work m).raising ≡ None
 done-raised m (ArchiveWork run writer) raises = raises
 done-raised m (Reclaim anchors source written) raises = raises
-done-raised m (FloorWork floor) raises = refl
+done-raised m (FloorWork scope floor floors) raises = refl
+done-raised m (Grow growth) raises = raises
 
 done-shut : (m : Machine Value) (work : JobWork) → m.gate ≡ gate_for work slots.GateWritten → (machine_done work m).gate ≡ Shut
 done-shut m (ArchiveWork run writer) gate = gate
 done-shut m (Reclaim anchors source written) gate = gate
-done-shut m (FloorWork floor) gate = refl
+done-shut m (FloorWork scope floor floors) gate = refl
+done-shut m (Grow growth) gate = gate
 
 begun-shut : (work : JobWork) → gate_for work slots.Begun ≡ Shut
 begun-shut (ArchiveWork run writer) = refl
 begun-shut (Reclaim anchors source written) = refl
-begun-shut (FloorWork floor) = refl
+begun-shut (FloorWork scope floor floors) = refl
+begun-shut (Grow growth) = refl
 
 -- ---- what the machine does in the calls of the slot
 
@@ -261,7 +267,7 @@ said_at slots.BodySynced = did.GateWritten
 said_at slots.GateWritten = did.JobDone
 said_at slots.Opened = did.JobDone
 
-by-floor : (m after : Machine Value) (said : JobDid) (o : Option Raising) → m.raising ≡ o → Run IsValue m (floor_ends said o) after → Run IsValue m (floor_ends said m.raising) after
+pub by-floor : (m after : Machine Value) (said : JobDid) (o : Option Raising) → m.raising ≡ o → Run IsValue m (floor_ends said o) after → Run IsValue m (floor_ends said m.raising) after
 by-floor m after said o is run = subst (λ (x : Option Raising). Run IsValue m (floor_ends said x) after) (sym is) run
 
 none-told : (m : Machine Value) (gate : Gate) → m.gate ≡ gate → Run IsValue m [] (steps.gated m gate)
@@ -272,22 +278,24 @@ gate-run : (m : Machine Value) (work : JobWork) (s : SlotStage) → m.failed ≡
     → Run IsValue m (floor_ends (said_at s) m.raising) (steps.gated m (gate_for work (slots.slot_stage_after s)))
 gate-run m (ArchiveWork run writer) s works way raises gate = by-floor m (steps.gated m Shut) (said_at s) None raises (none-told m Shut gate)
 gate-run m (Reclaim anchors source written) s works way raises gate = by-floor m (steps.gated m Shut) (said_at s) None raises (none-told m Shut gate)
-gate-run m (FloorWork floor) slots.Begun works way raises gate = by-floor m (steps.gated m Shut) did.BodyWritten (Some (record { scope = None; floor = floor })) raises (none-told m Shut gate)
-gate-run m (FloorWork floor) slots.BodyWritten works way raises gate =
-    by-floor m (steps.gated m (Due OfFloor)) did.BodySynced (Some (record { scope = None; floor = floor })) raises
+gate-run m (FloorWork scope floor floors) slots.Begun works way raises gate = by-floor m (steps.gated m Shut) did.BodyWritten (Some (record { scope = scope; floor = floor })) raises (none-told m Shut gate)
+gate-run m (FloorWork scope floor floors) slots.BodyWritten works way raises gate =
+    by-floor m (steps.gated m (Due OfFloor)) did.BodySynced (Some (record { scope = scope; floor = floor })) raises
     (steps.gated m (Due OfFloor), (works, subst (λ (o : Option Raising). IsSome o) (sym raises) refl, gate, refl), refl)
-gate-run m (FloorWork floor) slots.BodySynced works way raises gate =
-    by-floor m (steps.gated m (MayBeOpen OfFloor)) did.GateWritten (Some (record { scope = None; floor = floor })) raises (steps.gated m (MayBeOpen OfFloor), (works, gate, refl), refl)
-gate-run m (FloorWork floor) slots.GateWritten works way raises gate = absurd way
-gate-run m (FloorWork floor) slots.Opened works way raises gate = absurd way
+gate-run m (FloorWork scope floor floors) slots.BodySynced works way raises gate =
+    by-floor m (steps.gated m (MayBeOpen OfFloor)) did.GateWritten (Some (record { scope = scope; floor = floor })) raises (steps.gated m (MayBeOpen OfFloor), (works, gate, refl), refl)
+gate-run m (FloorWork scope floor floors) slots.GateWritten works way raises gate = absurd way
+gate-run m (FloorWork scope floor floors) slots.Opened works way raises gate = absurd way
+gate-run m (Grow growth) s works way raises gate = by-floor m (steps.gated m Shut) (said_at s) None raises (none-told m Shut gate)
 
 -- and in the last one
 done-run : (m : Machine Value) (work : JobWork) → m.failed ≡ false → m.raising ≡ raising_by work → m.gate ≡ gate_for work slots.GateWritten → Run IsValue m (floor_ends did.JobDone m.raising) (machine_done work m)
 done-run m (ArchiveWork run writer) works raises gate = by-floor m m did.JobDone None raises refl
 done-run m (Reclaim anchors source written) works raises gate = by-floor m m did.JobDone None raises refl
-done-run m (FloorWork floor) works raises gate =
-    let r : Raising = record { scope = None; floor = floor } in
+done-run m (FloorWork scope floor floors) works raises gate =
+    let r : Raising = record { scope = scope; floor = floor } in
     by-floor m (steps.floor_published m r) did.JobDone (Some r) raises (steps.floor_published m r, (works, raises, gate, refl), refl)
+done-run m (Grow growth) works raises gate = by-floor m m did.JobDone None raises refl
 
 job-left-is : (s : SlotStage) → MayOpenWithin s → job_gate_left (gate_at OfFloor s) ≡ MayBeOpen OfFloor
 job-left-is slots.Begun may = absurd may
@@ -297,10 +305,10 @@ job-left-is slots.GateWritten may = refl
 job-left-is slots.Opened may = refl
 
 -- a refused call
-fails : (tells : Bool) (v new : StoreValue) (m : Machine Value) (why : PumpFault) (log : LogState) (j : Job) → (stands : Stands tells v m) → (works : m.failed ≡ false) → why ≡ pump.Failed → log.profile ≡ v.log.profile → log.slots ≡ v.log.slots → log.used ≡ v.log.used → lent_to v.job ≡ 1
+fails : (tells : Bool) (v new : StoreValue) (m : Machine Value) (why : PumpFault) (log : LogState) (j : Job) → (stands : Stands tells v m) → (works : m.failed ≡ false) → why ≡ pump.Failed → log.profile ≡ v.log.profile → log.slots ≡ v.log.slots → log.pieces ≡ v.log.pieces → log.used ≡ v.log.used → lent_to v.job ≡ lent_by j.work
     → m.raising ≡ raising_by j.work → Keeps v m j.work j.stage → new ≡ record v { transactions = groups.broken v.transactions; log = log; job = Some j; disk = new.disk }
     → ((told : IsTrue tells) (image : Image) → LeavesImage new.disk.areas image → OnFront (IsImageOf (stands.disk told).header image) (steps.gated m (job_gate_left m.gate))) → Ends tells m (Err why) new
-fails tells v new m why log j stands works said profile many used lent raised keeps is leaves =
+fails tells v new m why log j stands works said profile many pieces used lent raised keeps is leaves =
     let after : Machine Value = steps.broken (steps.gated m (job_gate_left m.gate)) in
     subst (λ (e : PumpFault). Ends tells m (Err e) new) (sym said) (
       after,
@@ -311,14 +319,14 @@ fails tells v new m why log j stands works said profile many used lent raised ke
         order = broken-order v.transactions stands.order;
         in_step = record { slots = omega (arith, many, stands.in_step.slots, lent); used = used ∙ stands.in_step.used; turns = λ no. absurd cc };
         gate = λ no. absurd cc;
-        raises = raised;
+        raises = raises-so v (record v { transactions = groups.broken v.transactions; log = log; job = Some j; disk = new.disk }) m after stands.raises profile refl refl raised;
         marks = stands.marks;
         job = keeps;
-      }) refl profile many leaves),
+      }) refl profile many pieces leaves),
     )
 
 -- a group's gate is no job's
-own-gate-left : (o : Option TurnState) (job : Option Job) → job_gate job ≡ Shut → job_gate_left (gate_of o job) ≡ gate_of o job
+pub own-gate-left : (o : Option TurnState) (job : Option Job) → job_gate job ≡ Shut → job_gate_left (gate_of o job) ≡ gate_of o job
 own-gate-left None job shut = ap job_gate_left shut ∙ sym shut
 own-gate-left (Some t) job shut = by-stage t.stage
   where
@@ -330,12 +338,12 @@ own-gate-left (Some t) job shut = by-stage t.stage
     by-stage slots.Opened = refl
 
 -- so is one before the job's slot
-fails-still : (tells : Bool) (v new : StoreValue) (m : Machine Value) (why : PumpFault) (j : Job) → (stands : Stands tells v m) → (works : m.failed ≡ false) → why ≡ pump.Failed → lent_to v.job ≡ 1 → turn_of v.job ≡ None
+fails-still : (tells : Bool) (v new : StoreValue) (m : Machine Value) (why : PumpFault) (j : Job) → (stands : Stands tells v m) → (works : m.failed ≡ false) → why ≡ pump.Failed → lent_to v.job ≡ lent_by j.work → turn_of v.job ≡ None
     → m.raising ≡ raising_by j.work → Keeps v m j.work j.stage → new ≡ record v { transactions = groups.broken v.transactions; job = Some j; disk = new.disk }
     → ((told : IsTrue tells) (image : Image) → LeavesImage new.disk.areas image → OnFront (IsImageOf (stands.disk told).header image) m) → Ends tells m (Err why) new
 fails-still tells v new m why j stands works said lent still raised keeps is leaves =
     let same : job_gate_left m.gate ≡ m.gate = ap job_gate_left (stands.gate works) ∙ own-gate-left v.turn v.job (still-shut v.job still) ∙ sym (stands.gate works) in
-    fails tells v new m why v.log j stands works said refl refl refl lent raised keeps is
+    fails tells v new m why v.log j stands works said refl refl refl refl lent raised keeps is
     (λ told image left. gated-so (λ (x : Machine Value). OnFront (IsImageOf (stands.disk told).header image) x) m (job_gate_left m.gate) same (leaves told image left))
 
 -- ---- what the job makes is written
@@ -374,10 +382,17 @@ module _ (header : Header) (v : StoreValue) (m : Machine Value) (w : Works heade
     sound = sound;
   }
 
+-- a job of which memory keeps something has a slot lent
+lends : (v : StoreValue) (m : Machine Value) (work : JobWork) (stage : JobStage) → Keeps v m work stage → lent_by work ≡ 1
+lends v m (ArchiveWork run writer) stage keeps = refl
+lends v m (Reclaim anchors source written) stage keeps = refl
+lends v m (FloorWork scope floor floors) stage keeps = refl
+lends v m (Grow growth) stage keeps = absurd keeps
+
 -- the store is in step with another job whose slot is not in the writing
-in-step-with : (v new : StoreValue) (j j' : Job) → v.job ≡ Some j → turn_of v.job ≡ None → turn_in j'.stage ≡ None → IsInStep v → IsInStep (with_job v j' new)
-in-step-with v new j j' is none none' in_step = record {
-  slots = in_step.slots ∙ ap (λ (o : Option Job). v.transactions.slots + lent_to o) is;
+in-step-with : (v new : StoreValue) (j j' : Job) → v.job ≡ Some j → lent_by j.work ≡ lent_by j'.work → turn_of v.job ≡ None → turn_in j'.stage ≡ None → IsInStep v → IsInStep (with_job v j' new)
+in-step-with v new j j' is alike none none' in_step = record {
+  slots = in_step.slots ∙ ap (λ (o : Option Job). v.transactions.slots + lent_to o) is ∙ ap (λ (n : ℕ). v.transactions.slots + n) alike;
   used = in_step.used;
   turns = λ on.
       let was = in_step.turns on in record {
@@ -389,11 +404,8 @@ in-step-with v new j j' is none none' in_step = record {
 }
 
 module _ (tells : Bool) (v new : StoreValue) (m : Machine Value) (stands : Stands tells v m) (works : m.failed ≡ false) (sound : IsTrue tells → AreSound new.disk.areas) (j : Job) (is : v.job ≡ Some j) where
-  lent : lent_to v.job ≡ 1
-  lent = ap lent_to is
-
   kept-so : Keeps v m j.work j.stage
-  kept-so = subst (λ (o : Option Job). KeepsJobOf o v.archived (last m.published) v.transactions.opened v.transactions.pending v.transactions.versions) is stands.job
+  kept-so = subst (λ (o : Option Job). KeepsJobOf o v.archived (last m.published) v.transactions.opened v.transactions.pending v.transactions.versions v.transactions.floors) is stands.job
 
   -- what is left by a call that changed nothing
   same : (told : IsTrue tells) → new.disk.areas ≡ v.disk.areas → (image : Image) → LeavesImage new.disk.areas image → OnFront (IsImageOf (stands.disk told).header image) m
@@ -413,7 +425,7 @@ module _ (tells : Bool) (v new : StoreValue) (m : Machine Value) (stands : Stand
   moved : (j' : Job) → turn_of v.job ≡ None → turn_in j'.stage ≡ None → m.raising ≡ raising_by j'.work → Keeps v m j'.work j'.stage → ((told : IsTrue tells) → Works (stands.disk told).header (with_job v j' new) m) → Stands tells (with_job v j' new) m
   moved j' none none' raised keeps works-so =
       goes-on-working tells v (with_job v j' new) m m stands works
-      (record { memory = stands.memory; machine = stands.machine; order = stands.order; in_step = in-step-with v new j j' is none none' stands.in_step; gate = λ on. stands.gate on ∙ gate-beside v.turn v.job (Some j') (still-shut v.job none) (still-shut (Some j') none'); raises = raised; marks = stands.marks; job = keeps }) works refl refl works-so
+      (record { memory = stands.memory; machine = stands.machine; order = stands.order; in_step = in-step-with v new j j' is (lends v m j.work j.stage kept-so ∙ sym (lends v m j'.work j'.stage keeps)) none none' stands.in_step; gate = λ on. stands.gate on ∙ gate-beside v.turn v.job (Some j') (still-shut v.job none) (still-shut (Some j') none'); raises = raises-so v (with_job v j' new) m m stands.raises refl refl refl raised; marks = stands.marks; job = keeps }) works refl refl refl works-so
 
 -- the first of these have what all have
 all-front-of : {X : Type 0} (P : X → Type 0) (n : ℕ) (xs : List X) → AllByRecursion P xs → AllByRecursion P (take n xs)
@@ -432,7 +444,7 @@ module _ (tells : Bool) (v new : StoreValue) (m : Machine Value) (stands : Stand
   still-none = ap turn_of is
 
   no-floor : m.raising ≡ None
-  no-floor = stands.raises ∙ ap raising_of is
+  no-floor = stands.raises.is ∙ ap raising_of is
 
   -- the run as it is stored
   record OwnRun (layout : Layout) (reading : Reading) (archive : AreaState) : Type 0 where
@@ -445,7 +457,7 @@ module _ (tells : Bool) (v new : StoreValue) (m : Machine Value) (stands : Stand
       → IsAtJob header layout (ArchiveWork run writer) p job.Writing areas → OwnRun layout reading areas.archive
   own-run-of layout reading areas header (OfRun stored) made next at = record { stored = stored; entry = made; next = next; at = at }
   own-run-of layout reading areas header (OfAnchors a) made next at = absurd made
-  own-run-of layout reading areas header (OfFloor floor) made next at = absurd made
+  own-run-of layout reading areas header (OfFloor scope floor) made next at = absurd made
 
   own-run : (told : IsTrue tells) → OwnRun ((stands.disk told).works works).log.layout ((stands.disk told).works works).log.reading v.disk.areas.archive
   own-run told =
@@ -548,7 +560,7 @@ module _ (tells : Bool) (v new : StoreValue) (m : Machine Value) (stands : Stand
   none-turning = ap turn_of is
 
   no-floor-raised : m.raising ≡ None
-  no-floor-raised = stands.raises ∙ ap raising_of is
+  no-floor-raised = stands.raises.is ∙ ap raising_of is
 
   -- the anchors as they are stored
   record OwnAnchors (layout : Layout) (reading : Reading) (heap : AreaState) : Type 0 where
@@ -561,7 +573,7 @@ module _ (tells : Bool) (v new : StoreValue) (m : Machine Value) (stands : Stand
   own-anchors-of : (layout : Layout) (reading : Reading) (areas : Areas) (header : Header) (p : Product) → IsMadeBy v.transactions.reserved (Reclaim anchors source done) p → MayBeNext layout reading m.published p
       → IsAtJob header layout (Reclaim anchors source done) p job.Writing areas → OwnAnchors layout reading areas.heap
   own-anchors-of layout reading areas header (OfRun stored) made next at = absurd made
-  own-anchors-of layout reading areas header (OfFloor floor) made next at = absurd made
+  own-anchors-of layout reading areas header (OfFloor scope floor) made next at = absurd made
   own-anchors-of layout reading areas header (OfAnchors a) made next at = record { stored = a; entry = made.0; numbers = made.1; next = next; at = at }
 
   own-anchors : (told : IsTrue tells) → OwnAnchors ((stands.disk told).works works).log.layout ((stands.disk told).works works).log.reading v.disk.areas.heap
@@ -724,37 +736,39 @@ slot-front : (profile number : ℕ) (p : Product) → length (front_of profile (
 unfolding front_of fields_of u16_bytes u32_bytes u64_bytes
 slot-front profile number (OfRun run) = omega arith
 slot-front profile number (OfAnchors a) = omega arith
-slot-front profile number (OfFloor floor) =
-    elim (profile == 3) as (λ (b : Bool). length (4 ∷ 0 ∷ 0 ∷ (u32_bytes number ++ (u64_bytes floor ++ cond b (u16_bytes (unwrap_or None 0)) []))) ≤ 39) [ true ↦ omega arith | false ↦ omega arith ]
+slot-front profile number (OfFloor scope floor) =
+    elim (profile == 3) as (λ (b : Bool). length (4 ∷ 0 ∷ 0 ∷ (u32_bytes number ++ (u64_bytes floor ++ cond b (u16_bytes (unwrap_or scope 0)) []))) ≤ 39) [ true ↦ omega arith | false ↦ omega arith ]
 
 slot-long : (profile number : ℕ) (p : Product) → length (spelling profile (slot_naming number p)) ≡ 511
 unfolding spelling
 slot-long profile number p = let front = slot-front profile number p in simp (length-append, length-replicate) (omega (arith, front))
 
--- where commits are built a floor is one of every relation
-no-scope : (profile : ℕ) → IsTrue (is_built profile 1) → profile ≢ 3
-no-scope profile built is = (let one : profile ≡ 1 = grind (arith, nat_tests) in omega (arith, is, one))
+covers-own : (scope : Option ℕ) → IsTrue (covers scope (covered scope))
+covers-own None = search rules
+covers-own (Some only) = search rules
 
-slot-in-range : (layout : Layout) (reading : Reading) (h : History Value) (profile : ℕ) (p : Product) → IsTrue (is_built profile 1) → MayBeNext layout reading h p → InRange profile (body_of p)
-slot-in-range layout reading h profile (OfRun run) built next = next.in_range
-slot-in-range layout reading h profile (OfAnchors a) built next = next.in_range
-slot-in-range layout reading h profile (OfFloor floor) built next = (let above = next.rises 0 in omega (arith, above), next.in_range, no-scope profile built)
+slot-in-range : (layout : Layout) (reading : Reading) (h : History Value) (profile : ℕ) (p : Product) → reading.profile ≡ profile → MayBeNext layout reading h p → InRange profile (body_of p)
+slot-in-range layout reading h profile (OfRun run) same next = next.in_range
+slot-in-range layout reading h profile (OfAnchors a) same next = next.in_range
+slot-in-range layout reading h profile (OfFloor scope floor) same next =
+    (let above = next.rises (covered scope) (covers-own scope) in omega (arith, above), next.in_range, subst (λ (n : ℕ). IsRelationOf n scope) same next.scope_is)
 
 -- what the slot says is what the job made
 body-is : (reserved : List ℕ) (work : JobWork) (p : Product) → IsMadeBy reserved work p → body_of p ≡ slot_body work
 body-is reserved (ArchiveWork run writer) (OfRun r) made = ap (λ (x : WireRun). ArchivedBody x) made
 body-is reserved (ArchiveWork run writer) (OfAnchors a) made = absurd made
-body-is reserved (ArchiveWork run writer) (OfFloor to) made = absurd made
-body-is reserved (Reclaim anchors source written) (OfFloor to) made = absurd made
-body-is reserved (FloorWork floor) (OfRun r) made = absurd made
-body-is reserved (FloorWork floor) (OfAnchors a) made = absurd made
-body-is reserved (FloorWork floor) (OfFloor to) made = ap (λ (n : ℕ). FloorBody None n) made
+body-is reserved (ArchiveWork run writer) (OfFloor only to) made = absurd made
+body-is reserved (Reclaim anchors source written) (OfFloor only to) made = absurd made
+body-is reserved (FloorWork scope floor floors) (OfRun r) made = absurd made
+body-is reserved (FloorWork scope floor floors) (OfAnchors a) made = absurd made
+body-is reserved (FloorWork scope floor floors) (OfFloor only to) made = λ i. FloorBody (made.0 i) (made.1 i)
+body-is reserved (Grow growth) p made = absurd made
 body-is reserved (Reclaim anchors source written) (OfRun r) made = absurd made
 body-is reserved (Reclaim anchors source written) (OfAnchors a) made = ap (λ (x : Anchors). ReclaimedBody x) made.0
 
 -- it is kept beside what the log names
 product-kept : (layout : Layout) (p : Product) (areas : Areas) → KeepsParts layout areas → KeepsProduct p areas → KeepsParts (laid_with layout p) areas
-product-kept layout (OfFloor floor) areas parts kept = record { extents = parts.extents; runs = parts.runs }
+product-kept layout (OfFloor scope floor) areas parts kept = record { extents = parts.extents; runs = parts.runs }
 product-kept layout (OfRun run) areas parts kept = archive_kept layout (slot_naming (length layout.slots) (OfRun run)) run areas parts kept
 product-kept layout (OfAnchors a) areas parts kept = reclaim_kept layout (slot_naming (length layout.slots) (OfAnchors a)) a.entry.upto a.extents areas parts kept
 
@@ -773,7 +787,7 @@ module _ (v new : StoreValue) (m : Machine Value) (c : Working v m) (j : Job) (i
   product = mine.product
 
   place : length w.log.layout.slots < total header
-  place = job-room v m c (ap lent_to is)
+  place = job-room v m c (ap lent_to is ∙ made-lends v.transactions.reserved j.work product mine.made)
 
   free-now : IsFree w.log.layout product
   free-now = job-free v m c j.work product mine.made mine.next
@@ -791,7 +805,7 @@ module _ (v new : StoreValue) (m : Machine Value) (c : Working v m) (j : Job) (i
       let same : spelling header.profile (slot_naming (length w.log.layout.slots) product) ≡ spelling v.log.profile (record { number = v.log.used; body = slot_body j.work }) =
       (let p = sym c.profile in λ i. spelling (p i) (record { number = number i; body = what i })) in
       let whole : IsSpelled header.profile (length w.log.layout.slots) (spelling header.profile (slot_naming (length w.log.layout.slots) product)) (slot_naming (length w.log.layout.slots) product) =
-      record { own = refl; in_range = slot-in-range w.log.layout w.log.reading m.published header.profile product c.profile_built mine.next; bytes_are = refl } in
+      record { own = refl; in_range = slot-in-range w.log.layout w.log.reading m.published header.profile product w.log.laid.heap.profile_is mine.next; bytes_are = refl } in
       record {
         number = w.log.used;
         long = subst (λ (l : List ℕ). length l ≡ 511) same (slot-long header.profile (length w.log.layout.slots) product);
@@ -866,7 +880,7 @@ module _ (v new : StoreValue) (m : Machine Value) (c : Working v m) (j : Job) (i
       pub reclaimed : after.transactions.reclaimed ≡ reclaimed_upto reading
       pub runs_end : after.runs_end ≡ row_end 0 (runs_of layout.slots)
 
-    done-by : (work : JobWork) (p : Product) → IsMadeBy v.transactions.reserved work p → MayBeNext w.log.layout w.log.reading m.published p → KeepsWork work (job.Turning t) v.archived (last m.published) v.transactions.opened v.transactions.pending v.transactions.versions
+    done-by : (work : JobWork) (p : Product) → IsMadeBy v.transactions.reserved work p → MayBeNext w.log.layout w.log.reading m.published p → KeepsWork work (job.Turning t) v.archived (last m.published) v.transactions.opened v.transactions.pending v.transactions.versions v.transactions.floors
         → IsOrdered v.transactions.versions → IsDone (work_done work v) (laid_with w.log.layout p) (read_with w.log.reading p)
     done-by (ArchiveWork run writer) (OfRun r) made next keeps sorted =
         let slot' : Slot = slot_naming (length w.log.layout.slots) (OfRun r) in
@@ -881,22 +895,23 @@ module _ (v new : StoreValue) (m : Machine Value) (c : Working v m) (j : Job) (i
           runs_end = ap (λ (x : WireRun). x.start + x.len) (sym made) ∙ sym (ap (row_end 0) more ∙ row_end-more 0 (runs_of w.log.layout.slots) r.entry);
         }
     done-by (ArchiveWork run writer) (OfAnchors a) made next keeps sorted = absurd made
-    done-by (ArchiveWork run writer) (OfFloor to) made next keeps sorted = absurd made
-    done-by (FloorWork floor) (OfRun r) made next keeps sorted = absurd made
-    done-by (FloorWork floor) (OfAnchors a) made next keeps sorted = absurd made
-    done-by (FloorWork floor) (OfFloor to) made next keeps sorted =
-        let slot' : Slot = slot_naming (length w.log.layout.slots) (OfFloor to) in
+    done-by (Grow growth) p made next keeps sorted = absurd made
+    done-by (ArchiveWork run writer) (OfFloor only to) made next keeps sorted = absurd made
+    done-by (FloorWork scope floor floors) (OfRun r) made next keeps sorted = absurd made
+    done-by (FloorWork scope floor floors) (OfAnchors a) made next keeps sorted = absurd made
+    done-by (FloorWork scope floor floors) (OfFloor only to) made next keeps sorted =
+        let slot' : Slot = slot_naming (length w.log.layout.slots) (OfFloor only to) in
         let more : runs_of (w.log.layout.slots ++ slot' ∷ []) ≡ runs_of w.log.layout.slots = flat_map-append (λ (s : Slot). runs_in s.body) w.log.layout.slots (slot' ∷ []) ∙ append-nil (runs_of w.log.layout.slots) in
         record {
           kept = w.heap.kept;
           times = w.heap.times;
           times_long = w.heap.times_long;
           heap = w.heap.facts;
-          archived = w.log.archived ∙ sym (archive_mark-append 0 w.log.reading.log (FloorSlot None to ∷ []));
-          reclaimed = w.log.reclaimed ∙ sym (reclaim_mark-append 0 w.log.reading.log (FloorSlot None to ∷ []));
+          archived = w.log.archived ∙ sym (archive_mark-append 0 w.log.reading.log (FloorSlot only to ∷ []));
+          reclaimed = w.log.reclaimed ∙ sym (reclaim_mark-append 0 w.log.reading.log (FloorSlot only to ∷ []));
           runs_end = w.log.runs_end ∙ sym (ap (row_end 0) more);
         }
-    done-by (Reclaim anchors source written) (OfFloor to) made next keeps sorted = absurd made
+    done-by (Reclaim anchors source written) (OfFloor only to) made next keeps sorted = absurd made
     done-by (Reclaim anchors source written) (OfRun r) made next keeps sorted = absurd made
     done-by (Reclaim anchors source written) (OfAnchors a) made next keeps sorted =
         let slot' : Slot = slot_naming (length w.log.layout.slots) (OfAnchors a) in
@@ -931,13 +946,14 @@ module _ (v new : StoreValue) (m : Machine Value) (c : Working v m) (j : Job) (i
     floors-done : (work : JobWork) (p : Product) → IsMadeBy v.transactions.reserved work p → floors_with p m.floors ≡ (machine_done work m).floors
     floors-done (ArchiveWork run writer) (OfRun r) made = refl
     floors-done (ArchiveWork run writer) (OfAnchors a) made = absurd made
-    floors-done (ArchiveWork run writer) (OfFloor to) made = absurd made
+    floors-done (ArchiveWork run writer) (OfFloor only to) made = absurd made
     floors-done (Reclaim anchors source written) (OfRun r) made = absurd made
     floors-done (Reclaim anchors source written) (OfAnchors a) made = refl
-    floors-done (Reclaim anchors source written) (OfFloor to) made = absurd made
-    floors-done (FloorWork floor) (OfRun r) made = absurd made
-    floors-done (FloorWork floor) (OfAnchors a) made = absurd made
-    floors-done (FloorWork floor) (OfFloor to) made = ap (λ (n : ℕ). raised None n m.floors) made
+    floors-done (Reclaim anchors source written) (OfFloor only to) made = absurd made
+    floors-done (FloorWork scope floor floors) (OfRun r) made = absurd made
+    floors-done (FloorWork scope floor floors) (OfAnchors a) made = absurd made
+    floors-done (FloorWork scope floor floors) (OfFloor only to) made = λ i. raised (made.0 i) (made.1 i) m.floors
+    floors-done (Grow growth) p made = absurd made
 
     -- the works of the store once the slot is open, where its work is done
     opened-works : (x : StoreValue) (floors : ℕ → ℕ) → floors_with product m.floors ≡ floors → IsDone x behind-it (read_with w.log.reading product) → AllPacked m.published x.transactions.queue m.queue → AreSound new.disk.areas
@@ -989,8 +1005,9 @@ module _ (v new : StoreValue) (m : Machine Value) (c : Working v m) (j : Job) (i
             → IsAtStage header behind-it (group_of behind-it v.transactions m) v.transactions.queue v.transactions.stage v.turn new.disk.areas → Works header (slot_opened (work_done work v) t new) (machine_done work m)
         by-work (ArchiveWork run writer) are done stage = opened-works (work_done (ArchiveWork run writer) v) m.floors are done w.packed sound stage
         by-work (Reclaim anchors source written) are done stage = opened-works (work_done (Reclaim anchors source written) v) m.floors are done w.packed sound stage
-        by-work (FloorWork floor) are done stage =
-            let w' = opened-works (work_done (FloorWork floor) v) (raised None floor m.floors) are done w.packed sound stage in
+        by-work (Grow growth) are done stage = opened-works (work_done (Grow growth) v) m.floors are done w.packed sound stage
+        by-work (FloorWork scope floor floors) are done stage =
+            let w' = opened-works (work_done (FloorWork scope floor floors) v) (raised scope floor m.floors) are done w.packed sound stage in
             record { log = w'.log; heap = w'.heap; packed = w'.packed; group = w'.group; job = w'.job; sound = w'.sound }
 
 -- ---- the transactions once a lent slot is used
@@ -1032,8 +1049,17 @@ used-order v few order = record {
 raise : (low high : ℕ) (xs ys : List (Version Value)) → low ≤ high → filter (ends_after low) xs ≡ filter (ends_after low) ys → filter (ends_after high) xs ≡ filter (ends_after high) ys
 raise low high xs ys le same = sym (filter-later low high xs le) ∙ ap (filter (ends_after high)) same ∙ filter-later low high ys le
 
-raises-memory : (v : TransactionsValue) (m : Machine Value) (floor : ℕ) → StandsInMemory v m → ((relation : ℕ) → m.floors relation ≤ floor) → StandsInMemory (raised_to v floor) (steps.floor_published m (record { scope = None; floor = floor }))
-raises-memory v m floor stands up = record {
+-- a floor that may be raised is above those in whose place it comes
+not-below : (scope : Option ℕ) (floor : ℕ) (floors : ℕ → ℕ) → ((relation : ℕ) → IsTrue (covers scope relation) → floors relation < floor) → (relation : ℕ) → floors relation ≤ raised scope floor floors relation
+not-below scope floor floors rises relation =
+    elim (covers scope relation) as (λ (b : Bool). covers scope relation ≡ b → floors relation ≤ cond b floor (floors relation)) [
+      | true ↦ λ is. (let above = rises relation is in omega (arith, above))
+      | false ↦ λ is. omega arith
+    ] refl
+
+raises-memory : (v : TransactionsValue) (m : Machine Value) (scope : Option ℕ) (floor : ℕ) (floors : FloorsValue) → StandsInMemory v m → floors ≡ raised_in scope floor v.floors → ((relation : ℕ) → m.floors relation ≤ raised scope floor m.floors relation)
+    → StandsInMemory (with_floors v floors) (steps.floor_published m (record { scope = scope; floor = floor }))
+raises-memory v m scope floor floors stands is up = record {
   names = stands.names;
   rising = stands.rising;
   published = stands.published;
@@ -1044,7 +1070,7 @@ raises-memory v m floor stands up = record {
     rising = stands.versions.rising;
     early = stands.versions.early;
     writes = stands.versions.writes;
-    at_home = λ key. raise (m.floors key.relation) floor _ _ (up key.relation) (stands.versions.at_home key);
+    at_home = λ key. raise (m.floors key.relation) (raised scope floor m.floors key.relation) _ _ (up key.relation) (stands.versions.at_home key);
   };
   forgot = stands.forgot;
   recent = stands.recent;
@@ -1053,12 +1079,14 @@ raises-memory v m floor stands up = record {
   group = stands.group;
   staged = stands.staged;
   snapshots = stands.snapshots;
-  floors = λ relation. refl;
+  floors = λ relation.
+      let same : floor_at v.floors ≡ m.floors = λ i other. stands.floors other i in
+      ap (λ (f : FloorsValue). floor_at f relation) is ∙ raised-is v.floors scope floor relation ∙ ap (λ (f : ℕ → ℕ). raised scope floor f relation) same;
   failed = stands.failed;
 }
 
-raised-order : (v : TransactionsValue) (floor : ℕ) → IsInOrder v → IsInOrder (raised_to v floor)
-raised-order v floor order = record {
+raised-order : (v : TransactionsValue) (floors : FloorsValue) → IsInOrder v → IsInOrder (with_floors v floors)
+raised-order v floors order = record {
   split = order.split;
   pending = order.pending;
   latest = order.latest;
@@ -1071,26 +1099,40 @@ raised-order v floor order = record {
   slots_few = order.slots_few;
 }
 
+-- floors that are raised are of the store's profile
+of-profile-done : (v : StoreValue) (m : Machine Value) → RaisesFloor v m → (work : JobWork) → m.raising ≡ raising_by work → AreOfProfile v.log.profile (machine_done work m).floors
+of-profile-done v m raises (ArchiveWork run writer) is = raises.of_profile
+of-profile-done v m raises (Reclaim anchors source written) is = raises.of_profile
+of-profile-done v m raises (Grow growth) is = raises.of_profile
+of-profile-done v m raises (FloorWork None floor floors) is = λ other relation. refl
+of-profile-done v m raises (FloorWork (Some only) floor floors) is = λ other relation.
+    let scope : IsScopeOf v.log.profile (Some only) = subst (λ (o : Option Raising). MatchOption o (Unit {0}) (λ r. IsScopeOf v.log.profile r.scope)) is raises.scope in
+    let test : (v.log.profile == 3) ≡ false = grind (arith, nat_tests, other) in
+    absurd (let no : IsNone (Some only) = subst (λ (b : Bool). MatchBool b (IsSome (Some only)) (IsNone (Some only))) test scope in cc)
+
 -- ---- the work that is done
 
 -- of a store whose group's slot is not in the writing
 module _ (v : StoreValue) (m : Machine Value) (memory : StandsInMemory v.transactions m) (order : IsInOrder v.transactions) (marks : HasMarks v m) (still : is_turning v.transactions.stage ≡ false) where
   memory-done : (work : JobWork) (t : TurnState) → m.raising ≡ raising_by work → IsMachine IsValue m → Keeps v m work (job.Turning t) → StandsInMemory (work_done work v).transactions (machine_done work m)
   memory-done (ArchiveWork run writer) t raises machine keeps = memory
-  memory-done (FloorWork floor) t raises machine keeps =
-      let may : MayRaise m (record { scope = None; floor = floor }) = subst (λ (o : Option Raising). MatchOption o (Unit {0}) (MayRaise m)) raises machine.raising in
-      raises-memory v.transactions m floor memory (λ relation. (let above = may.rises relation refl in omega (arith, above)))
+  memory-done (FloorWork scope floor floors) t raises machine keeps =
+      let may : MayRaise m (record { scope = scope; floor = floor }) = subst (λ (o : Option Raising). MatchOption o (Unit {0}) (MayRaise m)) raises machine.raising in
+      raises-memory v.transactions m scope floor floors memory keeps (not-below scope floor m.floors may.rises)
+  memory-done (Grow growth) t raises machine keeps = absurd keeps
   memory-done (Reclaim anchors source written) t raises machine keeps =
       let is = keeps.is in let low = marks.0 in let high = marks.1 in
       reclaims v.transactions m anchors.upto memory (keeps.made refl) (omega (arith, is, low)) (omega (arith, is, high)) keeps.recent still
 
   order-done : (work : JobWork) → IsInOrder (work_done work v).transactions
   order-done (ArchiveWork run writer) = order
-  order-done (FloorWork floor) = raised-order v.transactions floor order
+  order-done (FloorWork scope floor floors) = raised-order v.transactions floors order
+  order-done (Grow growth) = order
   order-done (Reclaim anchors source written) = reclaimed-order v.transactions anchors.upto order
 
   marks-done : (work : JobWork) (t : TurnState) → Keeps v m work (job.Turning t) → ((work_done work v).transactions.reclaimed ≤ (work_done work v).archived) × ((work_done work v).archived ≤ last (machine_done work m).published)
-  marks-done (FloorWork floor) t keeps = marks
+  marks-done (FloorWork scope floor floors) t keeps = marks
+  marks-done (Grow growth) t keeps = absurd keeps
   marks-done (ArchiveWork run writer) t keeps = (let low = marks.0 in let up = keeps.0 in omega (arith, low, up), keeps.1)
   marks-done (Reclaim anchors source written) t keeps = (let is = keeps.is in omega (arith, is), marks.1)
 
@@ -1104,7 +1146,8 @@ module _ (v : StoreValue) (m : Machine Value) (memory : StandsInMemory v.transac
     pub log : x.log ≡ v.log
 
   slots-done : (work : JobWork) → LeavesSlots (work_done work v)
-  slots-done (FloorWork floor) = record { slots = refl; used = refl; turning = refl; failed = refl; turn = refl; log = refl }
+  slots-done (FloorWork scope floor floors) = record { slots = refl; used = refl; turning = refl; failed = refl; turn = refl; log = refl }
+  slots-done (Grow growth) = record { slots = refl; used = refl; turning = refl; failed = refl; turn = refl; log = refl }
   slots-done (ArchiveWork run writer) = record { slots = refl; used = refl; turning = refl; failed = refl; turn = refl; log = refl }
   slots-done (Reclaim anchors source written) = record { slots = refl; used = refl; turning = refl; failed = refl; turn = refl; log = refl }
 
@@ -1112,31 +1155,31 @@ module _ (tells : Bool) (v new : StoreValue) (m : Machine Value) (stands : Stand
   on : v.transactions.failed ≡ false
   on = stands.memory.failed ∙ works
 
-  one : lent_to v.job ≡ 1
-  one = ap lent_to is
-
   kept-now : Keeps v m j.work j.stage
   kept-now = kept-so tells v new m stands works sound j is
 
+  one : lent_to v.job ≡ 1
+  one = ap lent_to is ∙ lends v m j.work j.stage kept-now
+
   -- the floor that it is to raise is the one in the making
   raises-now : m.raising ≡ raising_by j.work
-  raises-now = stands.raises ∙ ap raising_of is
+  raises-now = stands.raises.is ∙ ap raising_of is
 
   -- the gate of the slot at a stage
   abbrev gate_on : SlotStage → Gate
   gate_on stage = gate_for j.work stage
 
   -- the slot goes on, and another call of it is to come
-  goes-on : (t : TurnState) (log : LogState) → log.profile ≡ v.log.profile → log.slots ≡ v.log.slots → log.used ≡ v.log.used → log.writing ≡ true → t.number ≡ v.log.used → v.turn ≡ None → IsOnItsWay (slots.slot_stage_after t.stage)
+  goes-on : (t : TurnState) (log : LogState) → log.profile ≡ v.log.profile → log.slots ≡ v.log.slots → log.pieces ≡ v.log.pieces → log.used ≡ v.log.used → log.writing ≡ true → t.number ≡ v.log.used → v.turn ≡ None → IsOnItsWay (slots.slot_stage_after t.stage)
       → Keeps v m j.work (job.Turning (record t { stage = slots.slot_stage_after t.stage }))
       → ((told : IsTrue tells) → Works (stands.disk told).header (record v { log = log; job = Some (record j { stage = job.Turning (record t { stage = slots.slot_stage_after t.stage }) }); disk = new.disk }) m)
       → Stands tells (record v { log = log; job = Some (record j { stage = job.Turning (record t { stage = slots.slot_stage_after t.stage }) }); disk = new.disk }) (steps.gated m (gate_on (slots.slot_stage_after t.stage)))
-  goes-on t log profile many used writing number free way keeps works-so =
+  goes-on t log profile many pieces used writing number free way keeps works-so =
       let was = stands.in_step.turns on in
       let gate : Gate = gate_on (slots.slot_stage_after t.stage) in
       let after : Option Job = Some (record j { stage = job.Turning (record t { stage = slots.slot_stage_after t.stage }) }) in
       let in_step : IsInStep (record v { log = log; job = Some (record j { stage = job.Turning (record t { stage = slots.slot_stage_after t.stage }) }); disk = new.disk }) = record {
-        slots = omega (arith, many, stands.in_step.slots, one);
+        slots = omega (arith, many, stands.in_step.slots, one, lends v m j.work j.stage kept-now);
         used = used ∙ stands.in_step.used;
         turns = λ _. record {
           turning = was.turning;
@@ -1151,10 +1194,10 @@ module _ (tells : Bool) (v new : StoreValue) (m : Machine Value) (stands : Stand
         order = stands.order;
         in_step = in_step;
         gate = λ _. sym (ap (λ (o : Option TurnState). gate_of o after) free);
-        raises = raises-now;
+        raises = raises-so v (record v { log = log; job = after; disk = new.disk }) m (steps.gated m gate) stands.raises profile refl refl raises-now;
         marks = stands.marks;
         job = keeps;
-      }) works profile many (λ told. gated-works (stands.disk told).header _ m gate (works-so told))
+      }) works profile many pieces (λ told. gated-works (stands.disk told).header _ m gate (works-so told))
 
   -- ---- the first call
 
@@ -1171,14 +1214,14 @@ module _ (tells : Bool) (v new : StoreValue) (m : Machine Value) (stands : Stand
       let log : LogState = record v.log { writing = true } in
       let shut : m.gate ≡ gate_on slots.Begun = stands.gate works ∙ ap (λ (o : Option TurnState). gate_of o v.job) free ∙ ap job_gate is ∙ ap (gate_in j.work) stored ∙ sym (begun-shut j.work) in
       slot-moves slots.Begun tt shut said takes.answer.0 (record v { log = log; job = Some (record j { stage = job.Turning (record (first_turn v j) { stage = slots.BodyWritten }) }); disk = new.disk }) takes.answer.1
-      (goes-on (first_turn v j) log refl refl refl refl refl free tt keeps (λ told.
+      (goes-on (first_turn v j) log refl refl refl refl refl refl free tt keeps (λ told.
       let c = working tells v m stands works told in
       let w = c.works in
       let none : turn_of v.job ≡ None = ap turn_of is ∙ ap turn_in stored in
       let at = begun v new m c j is stored on free in
       turning-works v new m c j is (first_turn v j) at log refl (sound told) v.disk.areas.status at.at.status (w.sound Status) (now-at v m c none) (takes.call.areas told)))
   begin-step stored keeps free (Err why) takes =
-      fails tells v new m why (record v.log { writing = true }) (record j { stage = job.Stored }) stands works takes.answer.0 refl refl refl one raises-now (subst (λ (s : JobStage). Keeps v m j.work s) stored kept-now) takes.answer.1 (λ told image left.
+      fails tells v new m why (record v.log { writing = true }) (record j { stage = job.Stored }) stands works takes.answer.0 refl refl refl refl (ap lent_to is) raises-now (subst (λ (s : JobStage). Keeps v m j.work s) stored kept-now) takes.answer.1 (λ told image left.
       let c = working tells v m stands works told in
       let w = c.works in
       let at = begun v new m c j is stored on free in
@@ -1197,11 +1240,13 @@ module _ (tells : Bool) (v new : StoreValue) (m : Machine Value) (stands : Stand
     any-turn : (work : JobWork) (u : TurnState) → Keeps v m work (job.Turning t) → Keeps v m work (job.Turning u)
     any-turn (ArchiveWork run writer) u keeps = keeps
     any-turn (Reclaim anchors source written) u keeps = keeps
-    any-turn (FloorWork floor) u keeps = tt
+    any-turn (FloorWork scope floor floors) u keeps = keeps
+    any-turn (Grow growth) u keeps = absurd keeps
 
     no-turn : (work : JobWork) → Keeps v m work (job.Turning t) → Keeps v m work job.Stored
     no-turn (ArchiveWork run writer) keeps = keeps
-    no-turn (FloorWork floor) keeps = tt
+    no-turn (FloorWork scope floor floors) keeps = keeps
+    no-turn (Grow growth) keeps = absurd keeps
     no-turn (Reclaim anchors source written) keeps = record { is = keeps.is; recent = keeps.recent; made = λ no. absurd cc }
 
     at-turn : (told : IsTrue tells) → IsTurnFor (stands.disk told).header ((stands.disk told).works works).log.layout (own (stands.disk told).header v m ((stands.disk told).works works) j is).product t v.disk.areas
@@ -1230,7 +1275,7 @@ module _ (tells : Bool) (v new : StoreValue) (m : Machine Value) (stands : Stand
         ap (λ (s : SlotStage). with_job v (record j { stage = job.Turning (record t { stage = slots.slot_stage_after s }) }) new) (sym at) in
         slot-moves t.stage (subst (λ (s : SlotStage). IsOnItsWay (slots.slot_stage_after s)) (sym at) way) gate-now said (named ∙ ap said_at (sym at))
         (with_job v (record j { stage = job.Turning (record t { stage = slots.slot_stage_after t.stage }) }) new) (to ∙ same)
-        (goes-on t v.log refl refl refl log-writes was-turning.0 was-turning.2 (subst (λ (s : SlotStage). IsOnItsWay (slots.slot_stage_after s)) (sym at) way) (any-turn j.work (record t { stage = slots.slot_stage_after t.stage }) keeps-turning) (λ told.
+        (goes-on t v.log refl refl refl refl log-writes was-turning.0 was-turning.2 (subst (λ (s : SlotStage). IsOnItsWay (slots.slot_stage_after s)) (sym at) way) (any-turn j.work (record t { stage = slots.slot_stage_after t.stage }) keeps-turning) (λ told.
         let c = working tells v m stands works told in
         let w = c.works in
         let rest = at-rest told in
@@ -1264,10 +1309,14 @@ module _ (tells : Bool) (v new : StoreValue) (m : Machine Value) (stands : Stand
           order = order;
           in_step = in_step;
           gate = λ _. done-shut m j.work (gate-now ∙ ap gate_on gate) ∙ sym (ap (λ (o : Option TurnState). gate_of o None) (leaves.turn ∙ free));
-          raises = done-raised m j.work raises-now;
+          raises = record {
+            is = done-raised m j.work raises-now;
+            scope = subst (λ (o : Option Raising). MatchOption o (Unit {0}) (λ r. IsScopeOf (job_done v j t new).log.profile r.scope)) (sym (done-raised m j.work raises-now)) tt;
+            of_profile = subst (λ (n : ℕ). AreOfProfile n after.floors) (sym (ap (λ (l : LogState). l.profile) leaves.log)) (of-profile-done v m stands.raises j.work raises-now);
+          };
           marks = marks-done v m stands.memory stands.order stands.marks still j.work t keeps-turning;
           job = tt;
-        }) (done-failed m j.work ∙ works) (ap (λ (l : LogState). l.profile) leaves.log) (ap (λ (l : LogState). l.slots) leaves.log) (λ told.
+        }) (done-failed m j.work ∙ works) (ap (λ (l : LogState). l.profile) leaves.log) (ap (λ (l : LogState). l.slots) leaves.log) (ap (λ (l : LogState). l.pieces) leaves.log) (λ told.
         let c = working tells v m stands works told in
         done-works v new m c j is t (at-turn told) gate (sound told) still keeps-turning stands.memory.versions.ordered c.works.group.at (call told)) in
         subst (λ (d : JobDid). Ends tells m (Ok d) new) (sym named) (after, run, subst (λ (y : StoreValue). Stands tells y after) (sym to) ends)
@@ -1282,12 +1331,12 @@ module _ (tells : Bool) (v new : StoreValue) (m : Machine Value) (stands : Stand
     turn-step : (answer : Result JobDid PumpFault) → TurnsJob tells j t v answer new → Ends tells m answer new
     turn-step (Ok said) takes = turned t.stage refl takes.call.areas said takes.answer
     turn-step (Err why) takes =
-        fails tells v new m why v.log (record j { stage = job.Stored }) stands works takes.answer.0 refl refl refl one raises-now (no-turn j.work keeps-turning) takes.answer.1 (λ told image left.
+        fails tells v new m why v.log (record j { stage = job.Stored }) stands works takes.answer.0 refl refl refl refl (ap lent_to is) raises-now (no-turn j.work keeps-turning) takes.answer.1 (λ told image left.
         let c = working tells v m stands works told in
         let has = own c.header v m c.works j is in
         turn-leaves v new m c j is t (at-turn told) (job_gate_left m.gate)
         (λ may. may-stand (steps.gated m (job_gate_left m.gate)) v.transactions.reserved j.work has.product has.made raises-now
-        (λ floor of. ap job_gate_left (gate-now ∙ ap (λ (work : JobWork). gate_for work t.stage) of) ∙ job-left-is t.stage may))
+        (λ scope floor floors of. ap job_gate_left (gate-now ∙ ap (λ (work : JobWork). gate_for work t.stage) of) ∙ job-left-is t.stage may))
         (takes.call.areas told) image left)
 
 -- ---- what is made in memory before the slot is begun
@@ -1320,7 +1369,7 @@ prepared-parts : (tells : Bool) (v : StoreValue) (m : Machine Value) (anchors : 
     → Stands tells (record v { transactions = prepared v.transactions anchors.upto }) m
 prepared-parts tells v m anchors source written is stands works =
     let after : StoreValue = record v { transactions = prepared v.transactions anchors.upto } in
-    let keeps : Keeps v m (Reclaim anchors source written) job.Stored = subst (λ (o : Option Job). KeepsJobOf o v.archived (last m.published) v.transactions.opened v.transactions.pending v.transactions.versions) is stands.job in
+    let keeps : Keeps v m (Reclaim anchors source written) job.Stored = subst (λ (o : Option Job). KeepsJobOf o v.archived (last m.published) v.transactions.opened v.transactions.pending v.transactions.versions v.transactions.floors) is stands.job in
     let keeps' : Reclaims v.archived anchors.upto false v.transactions.opened (Some (forgotten anchors.upto v.transactions.versions)) v.transactions.versions = record { is = keeps.is; recent = keeps.recent; made = λ no. absurd cc } in
     let in_step : IsInStep (record v { transactions = prepared v.transactions anchors.upto }) = record {
       slots = stands.in_step.slots;
@@ -1335,8 +1384,8 @@ prepared-parts tells v m anchors source written is stands works =
       gate = stands.gate;
       raises = stands.raises;
       marks = stands.marks;
-      job = subst (λ (o : Option Job). KeepsJobOf o v.archived (last m.published) v.transactions.opened (Some (forgotten anchors.upto v.transactions.versions)) v.transactions.versions) (sym is) keeps';
-    }) works refl refl (λ told. let c = working tells v m stands works told in prepared-works c.header v m anchors.upto c.works)
+      job = subst (λ (o : Option Job). KeepsJobOf o v.archived (last m.published) v.transactions.opened (Some (forgotten anchors.upto v.transactions.versions)) v.transactions.versions v.transactions.floors) (sym is) keeps';
+    }) works refl refl refl (λ told. let c = working tells v m stands works told in prepared-works c.header v m anchors.upto c.works)
 
 -- ---- every step
 
@@ -1345,9 +1394,10 @@ module _ (tells : Bool) (v new : StoreValue) (m : Machine Value) (stands : Stand
   begins-slot (ArchiveWork run writer) is free answer (inl short) = absurd short.0
   begins-slot (ArchiveWork run writer) is free answer (inr first) =
       begin-step tells v new m stands works sound (record { work = ArchiveWork run writer; stage = job.Stored }) is refl (kept-so tells v new m stands works sound (record { work = ArchiveWork run writer; stage = job.Stored }) is) free answer first
-  begins-slot (FloorWork floor) is free answer (inl short) = absurd short.0
-  begins-slot (FloorWork floor) is free answer (inr first) =
-      begin-step tells v new m stands works sound (record { work = FloorWork floor; stage = job.Stored }) is refl tt free answer first
+  begins-slot (FloorWork scope floor floors) is free answer (inl short) = absurd short.0
+  begins-slot (FloorWork scope floor floors) is free answer (inr first) =
+      begin-step tells v new m stands works sound (record { work = FloorWork scope floor floors; stage = job.Stored }) is refl (kept-so tells v new m stands works sound (record { work = FloorWork scope floor floors; stage = job.Stored }) is) free answer first
+  begins-slot (Grow growth) is free answer begins = absurd (kept-so tells v new m stands works sound (record { work = Grow growth; stage = job.Stored }) is)
   begins-slot (Reclaim anchors source written) is free answer (inl short) = subst (λ (r : Result JobDid PumpFault). Ends tells m r new) (sym short.1) (m, refl, subst (λ (x : StoreValue). Stands tells x m) (sym short.2) stands)
   begins-slot (Reclaim anchors source written) is free answer (inr first) =
       let ready : StoreValue = record v { transactions = prepared v.transactions anchors.upto } in
@@ -1362,7 +1412,8 @@ module _ (tells : Bool) (v new : StoreValue) (m : Machine Value) (stands : Stand
   waits-or-begins work is None free answer begins = begins-slot work is free answer begins
 
   write-step : (work : JobWork) → v.job ≡ Some (record { work = work; stage = job.Writing }) → (answer : Result JobDid PumpFault) → Stores tells work (record { work = work; stage = job.Writing }) v answer new → Ends tells m answer new
-  write-step (FloorWork floor) is answer takes = absurd takes
+  write-step (FloorWork scope floor floors) is answer takes = absurd takes
+  write-step (Grow growth) is answer takes = absurd (kept-so tells v new m stands works sound (record { work = Grow growth; stage = job.Writing }) is)
   write-step (ArchiveWork run writer) is answer takes = run-step tells v new m stands works sound run writer is writer.left refl answer takes
   write-step (Reclaim anchors source written) is answer takes = anchors-step tells v new m stands works sound anchors source written is (slice_get v.transactions.reserved written) refl answer takes
 
@@ -1372,7 +1423,7 @@ module _ (tells : Bool) (v new : StoreValue) (m : Machine Value) (stands : Stand
   job-step work (job.Turning t) is answer takes = turn-step tells v new m stands works sound (record { work = work; stage = job.Turning t }) is t refl answer takes
 
   step : (o : Option Job) → v.job ≡ o → (answer : Result JobDid PumpFault) → MatchOption o ((answer ≡ Ok did.Idle) × (new ≡ v)) (λ j. TakesJobStep tells j.stage j v answer new) → Ends tells m answer new
-  step None is answer idle = subst (λ (r : Result JobDid PumpFault). Ends tells m r new) (sym idle.0) (m, by-floor m m did.Idle None (stands.raises ∙ ap raising_of is) refl, subst (λ (x : StoreValue). Stands tells x m) (sym idle.1) stands)
+  step None is answer idle = subst (λ (r : Result JobDid PumpFault). Ends tells m r new) (sym idle.0) (m, by-floor m m did.Idle None (stands.raises.is ∙ ap raising_of is) refl, subst (λ (x : StoreValue). Stands tells x m) (sym idle.1) stands)
   step (Some j) is answer takes = job-step j.work j.stage is answer takes
 
 pub job-pump-stands : (tells : Bool) (old new : StoreValue) (answer : Result JobDid PumpFault) (m : Machine Value) → Stands tells old m → (IsTrue tells → AreSound new.disk.areas) → PumpsJob tells old answer new

@@ -1,5 +1,5 @@
 -- What a job makes, beside a group.
-use Rattle.std.proofs.Common.{◌≡◌, ◌≢◌, ℕ, zero, suc, ◌+◌, ◌<◌, ◌≤◌, nat_lt, Bool, true, false, cond, List, [], ◌∷◌, ◌++◌, length, take, drop, map, filter, Option, None, Some, Result, Ok, Err, refl, arith, ap, sym, subst, ◌∙◌, inl, inr}
+use Rattle.std.proofs.Common.{◌≡◌, ◌≢◌, ℕ, zero, suc, ◌<◌, ◌≤◌, nat_lt, Bool, true, false, cond, List, [], ◌∷◌, ◌++◌, length, take, filter, Option, None, Some, Result, Ok, refl, arith, ap, sym, subst, inl, inr}
 use Rattle.std.specs.Prelude.{IsTrue}
 use Rattle.std.specs.List.{AllByRecursion}
 use Rattle.std.proofs.lemmas.List.Concat.{flat_map-cons}
@@ -17,22 +17,22 @@ use Rattle.image.proofs.ReclaimStep.{reclaim-stands_for}
 use Rattle.image.proofs.FloorStep.{floor-stands_for}
 use Rattle.image.proofs.GroupStep.{length-map}
 use Rattle.image.proofs.Standing.{last-is}
-use Rattle.disk.specs.declared.area.Area.{Area}
 use Rattle.disk.specs.declared.area.Area.TheVariants.{Status, Heap, Archive}
 use Rattle.disk.specs.declared.area.DeviceFault.{DeviceFault}
-use Rattle.disk.specs.Areas.{AreaState, Areas, Image, AreSound, IsSound, LeavesImage, loosened, written, synced}
+use Rattle.disk.specs.Areas.{AreaState, Areas, Image, AreSound, IsSound, LeavesImage, written}
 use Rattle.disk.specs.Calls.{Writes, Syncs, MadeInPart}
 use Rattle.wire.specs.Spelling.{IsSpelled, kind_of}
 use Rattle.wire.specs.declared.slot.Slot.{Slot}
 use Rattle.status.specs.declared.header.Header.{Header}
 use Rattle.status.specs.Header.{total}
+use Rattle.status.proofs.Rules.{scope_is}
 use Rattle.status.specs.Rules.{is_built, runs_of, slot_of as status_slot}
 use Rattle.status.specs.SlotCalls.{SlotStage, IsSlotCall}
 use Rattle.status.specs.SlotCalls as slots
 use Rattle.status.specs.TurnState.{TurnState}
 use Rattle.reading.specs.Extents.{Extent, IsExtent, AreDistinct}
 use Rattle.reading.specs.Layouts.{Layout, StoredMember, live, extents_of, IsLayoutOf, HoldsLayout}
-use Rattle.reading.specs.Keeping.{KeepsExtents, StatusRests}
+use Rattle.reading.specs.Keeping.{KeepsExtents}
 use Rattle.reading.specs.Jobs.{reclaimed}
 use Rattle.reading.specs.Opening.{AreBuilt}
 use Rattle.reading.specs.SlotTurns.{Adds, IsTurnAt, MayAt, MayWithin}
@@ -42,10 +42,10 @@ use Rattle.reading.proofs.RunWays.{row-more}
 use Rattle.reading.proofs.SlotTurns.{turn_holds, turn_call_holds, turn_call_leads}
 use Rattle.store.specs.declared.job.Job.{Job}
 use Rattle.store.specs.declared.job.JobWork.{JobWork}
-use Rattle.store.specs.declared.job.JobWork.TheVariants.{Archive as ArchiveWork, Reclaim, Floor as FloorWork}
+use Rattle.store.specs.declared.job.JobWork.TheVariants.{Archive as ArchiveWork, Reclaim, Floor as FloorWork, Grow}
 use Rattle.store.specs.declared.job.JobStage.{JobStage}
 use Rattle.store.specs.declared.job.JobStage.TheVariants as job
-use Rattle.store.specs.Values.{turn_in, turn_of}
+use Rattle.store.specs.Values.{turn_in, turn_of, lent_by}
 use Rattle.standing.specs.OnDisk.{IsImageOf, Product, OfRun, OfAnchors, OfFloor, body_of, slot_naming, laid_with, read_with, MayBeNext, IsMadeBy, IsMaking, KeepsProduct, IsAtJob, HasJob, IsRested}
 use Rattle.standing.proofs.Besides.{IsBeside, AreBeside, all-keep, all-hold, beside-numbers}
 use Rattle.standing.proofs.Joining.{MayOpen, MayOpenWithin, built-more}
@@ -60,7 +60,7 @@ all-taken-of P (suc n) (x ∷ xs) all = (all.0, all-taken-of P n xs all.1)
 pub product-built : (profile : ℕ) (p : Product) → IsTrue (is_built profile 1) → IsTrue (is_built profile (kind_of (body_of p)))
 product-built profile (OfRun run) built = built
 product-built profile (OfAnchors a) built = built
-product-built profile (OfFloor floor) built = built
+product-built profile (OfFloor scope floor) built = built
 
 -- ---- the status area as it would rest
 
@@ -86,12 +86,12 @@ sound-at areas rested sound is Archive = sound Archive
 abbrev pub made_extents : Product → List Extent
 made_extents (OfRun run) = []
 made_extents (OfAnchors a) = a.extents
-made_extents (OfFloor floor) = []
+made_extents (OfFloor scope floor) = []
 
 pub made-are : (layout : Layout) (reading : Reading) (h : History Value) (p : Product) → MayBeNext layout reading h p → AllByRecursion IsExtent (made_extents p)
 made-are layout reading h (OfRun run) next = tt
 made-are layout reading h (OfAnchors a) next = next.chain.is_chain.each
-made-are layout reading h (OfFloor floor) next = tt
+made-are layout reading h (OfFloor scope floor) next = tt
 
 extents-filtered : (P : Extent → Type 0) (late : StoredMember → Bool) (members : List StoredMember) → AllByRecursion P (extents_of members) → AllByRecursion P (extents_of (filter late members))
 extents-filtered P late [] all = tt
@@ -106,21 +106,29 @@ extents-filtered P late (s ∷ members) all =
 -- the live extents once it stands in the log are of those before it, and its own
 pub live-with : (P : Extent → Type 0) (layout : Layout) (p : Product) → AllByRecursion P (live layout) → AllByRecursion P (made_extents p) → AllByRecursion P (live (laid_with layout p))
 live-with P layout (OfRun run) all made = all
-live-with P layout (OfFloor floor) all made = all
+live-with P layout (OfFloor scope floor) all made = all
 live-with P layout (OfAnchors a) all made =
     AllByRecursion-append P a.extents (extents_of (filter (λ (s : StoredMember). nat_lt a.entry.upto s.entry.time) layout.members)) made
     (extents-filtered P (λ (s : StoredMember). nat_lt a.entry.upto s.entry.time) layout.members (all_of_back P layout.anchors (extents_of layout.members) all))
+
+-- a job that makes something has a slot lent
+pub made-lends : (reserved : List ℕ) (work : JobWork) (p : Product) → IsMadeBy reserved work p → lent_by work ≡ 1
+made-lends reserved (ArchiveWork run writer) p made = refl
+made-lends reserved (Reclaim anchors source written) p made = refl
+made-lends reserved (FloorWork scope floor floors) p made = refl
+made-lends reserved (Grow growth) p made = absurd made
 
 -- its numbers are those that are out for the job
 pub made-beside : (layout : Layout) (reading : Reading) (h : History Value) (reserved : List ℕ) (work : JobWork) (p : Product) (n : ℕ) → IsMadeBy reserved work p → MayBeNext layout reading h p → AllByRecursion (λ (k : ℕ). k ≢ n) reserved → AreBeside n (made_extents p)
 made-beside layout reading h reserved (ArchiveWork run writer) (OfRun r) n made next others = tt
 made-beside layout reading h reserved (ArchiveWork run writer) (OfAnchors a) n made next others = absurd made
-made-beside layout reading h reserved (ArchiveWork run writer) (OfFloor floor) n made next others = absurd made
+made-beside layout reading h reserved (ArchiveWork run writer) (OfFloor scope floor) n made next others = absurd made
 made-beside layout reading h reserved (Reclaim anchors source written) (OfRun r) n made next others = absurd made
-made-beside layout reading h reserved (Reclaim anchors source written) (OfFloor floor) n made next others = absurd made
-made-beside layout reading h reserved (FloorWork floor) (OfRun r) n made next others = absurd made
-made-beside layout reading h reserved (FloorWork floor) (OfAnchors a) n made next others = absurd made
-made-beside layout reading h reserved (FloorWork floor) (OfFloor to) n made next others = tt
+made-beside layout reading h reserved (Reclaim anchors source written) (OfFloor scope floor) n made next others = absurd made
+made-beside layout reading h reserved (FloorWork scope floor floors) (OfRun r) n made next others = absurd made
+made-beside layout reading h reserved (FloorWork scope floor floors) (OfAnchors a) n made next others = absurd made
+made-beside layout reading h reserved (FloorWork scope floor floors) (OfFloor only to) n made next others = tt
+made-beside layout reading h reserved (Grow growth) p n made next others = absurd made
 made-beside layout reading h reserved (Reclaim anchors source written) (OfAnchors a) n made next others =
     beside-numbers n a.extents next.chain.is_chain.each (subst (AllByRecursion (λ (k : ℕ). k ≢ n)) (sym made.1) others)
 
@@ -146,9 +154,10 @@ job-beside-heap header layout reading h reserved (Some j) areas heap n beside ap
     making : (work : JobWork) (p : Product) → AreBeside n (made_extents p) → IsMaking work p areas → IsMaking work p (record areas { heap = heap })
     making (ArchiveWork run writer) (OfRun r) mine at = at
     making (ArchiveWork run writer) (OfAnchors a) mine at = absurd at
-    making (ArchiveWork run writer) (OfFloor floor) mine at = absurd at
-    making (FloorWork floor) p mine at = absurd at
-    making (Reclaim anchors source written) (OfFloor floor) mine at = absurd at
+    making (ArchiveWork run writer) (OfFloor scope floor) mine at = absurd at
+    making (FloorWork scope floor floors) p mine at = absurd at
+    making (Grow growth) p mine at = absurd at
+    making (Reclaim anchors source written) (OfFloor scope floor) mine at = absurd at
     making (Reclaim anchors source written) (OfRun r) mine at = absurd at
     making (Reclaim anchors source written) (OfAnchors a) mine at = record {
       rest = at.rest;
@@ -157,7 +166,7 @@ job-beside-heap header layout reading h reserved (Some j) areas heap n beside ap
 
     kept : (p : Product) → AreBeside n (made_extents p) → KeepsProduct p areas → KeepsProduct p (record areas { heap = heap })
     kept (OfRun r) mine at = at
-    kept (OfFloor floor) mine at = at
+    kept (OfFloor scope floor) mine at = at
     kept (OfAnchors a) mine at = all-keep n areas.heap heap beside a.extents mine at
 
     by-stage : (s : JobStage) → IsAtJob header layout j.work has.product s areas → IsAtJob header layout j.work has.product s (record areas { heap = heap })
@@ -182,15 +191,16 @@ job-beside-status header layout reading h reserved (Some j) areas status none ha
     making : (work : JobWork) (p : Product) → IsMaking work p areas → IsMaking work p (record areas { status = status })
     making (ArchiveWork run writer) (OfRun r) at = at
     making (ArchiveWork run writer) (OfAnchors a) at = at
-    making (ArchiveWork run writer) (OfFloor floor) at = at
-    making (FloorWork floor) p at = at
-    making (Reclaim anchors source written) (OfFloor floor) at = at
+    making (ArchiveWork run writer) (OfFloor scope floor) at = at
+    making (FloorWork scope floor floors) p at = at
+    making (Grow growth) p at = at
+    making (Reclaim anchors source written) (OfFloor scope floor) at = at
     making (Reclaim anchors source written) (OfRun r) at = at
     making (Reclaim anchors source written) (OfAnchors a) at = at
 
     kept : (p : Product) → KeepsProduct p areas → KeepsProduct p (record areas { status = status })
     kept (OfRun r) at = at
-    kept (OfFloor floor) at = at
+    kept (OfFloor scope floor) at = at
     kept (OfAnchors a) at = at
 
     by-stage : (s : JobStage) → turn_in s ≡ None → IsAtJob header layout j.work has.product s areas → IsAtJob header layout j.work has.product s (record areas { status = status })
@@ -216,13 +226,13 @@ job-moves header layout layout' reading reading' h h' reserved (Some j) areas no
 abbrev pub floors_with : Product → (ℕ → ℕ) → ℕ → ℕ
 floors_with (OfRun run) floors = floors
 floors_with (OfAnchors a) floors = floors
-floors_with (OfFloor floor) floors = raised None floor floors
+floors_with (OfFloor scope floor) floors = raised scope floor floors
 
 -- Where its gate may be open, a stop may leave it: a floor is the one that the machine has in the making, and so is its gate.
 abbrev pub MayStand : Product → Machine Value → Type 0
 MayStand (OfRun run) m = Unit {0}
 MayStand (OfAnchors a) m = Unit {0}
-MayStand (OfFloor floor) m = (m.raising ≡ Some (record { scope = None; floor = floor })) × (m.gate ≡ MayBeOpen OfFloor)
+MayStand (OfFloor scope floor) m = (m.raising ≡ Some (record { scope = scope; floor = floor })) × (m.gate ≡ MayBeOpen OfFloor)
 
 -- its extents are in no live chain, and each is in it once
 abbrev pub IsFree : Layout → Product → Type 0
@@ -243,7 +253,7 @@ module _ (header : Header) (m : Machine Value) (layout : Layout) (reading : Read
   slots-after : (q : Product) → (laid_with layout q).slots ≡ layout.slots ++ slot_naming (length layout.slots) q ∷ []
   slots-after (OfRun run) = refl
   slots-after (OfAnchors a) = refl
-  slots-after (OfFloor floor) = refl
+  slots-after (OfFloor scope floor) = refl
 
   pub adds : Adds header layout slot after
   adds = record { slots_are = slots-after p; room = room }
@@ -254,7 +264,7 @@ module _ (header : Header) (m : Machine Value) (layout : Layout) (reading : Read
       let order : reclaimed_upto reading ≤ archived_upto reading = let later = may.later in omega (arith, later) in
       subst (λ (n : ℕ). IsLayoutOf header (reclaimed layout (slot_naming (length layout.slots) (OfAnchors a)) n a.extents) (with_anchors reading a.olds)) (sym may.upto)
       (reclaim_laid header layout reading (slot_naming (length layout.slots) (OfAnchors a)) a.entry a.extents a.olds laid refl may.upto order may.chain apart)
-  laid-by (OfFloor floor) may apart = floor_laid header layout reading (slot_naming (length layout.slots) (OfFloor floor)) None floor laid refl
+  laid-by (OfFloor scope floor) may apart = floor_laid header layout reading (slot_naming (length layout.slots) (OfFloor scope floor)) scope floor laid refl
 
   pub laid-after : IsLayoutOf header after reading-after
   laid-after = laid-by p next free
@@ -266,8 +276,8 @@ module _ (header : Header) (m : Machine Value) (layout : Layout) (reading : Read
   stands-by (OfRun run) may =
       archive-stands_for reading m.published m.floors stands run.entry.upto run.records may.plan (may.later, omega (arith, may.by_last, last-is reading m.published m.floors stands)) reading-room
   stands-by (OfAnchors a) may = reclaim-stands_for reading m.published m.floors stands a.olds may.plan may.later reading-room
-  stands-by (OfFloor floor) may =
-      floor-stands_for reading m.published m.floors stands None floor (may.scope, omega (arith, may.by_last, last-is reading m.published m.floors stands), λ relation covered. may.rises relation) reading-room
+  stands-by (OfFloor scope floor) may =
+      floor-stands_for reading m.published m.floors stands scope floor (scope_is reading.profile scope may.scope_is, omega (arith, may.by_last, last-is reading m.published m.floors stands), may.rises) reading-room
 
   pub stands-after : StandsFor reading-after m.published (floors_with p m.floors)
   stands-after = stands-by p next
@@ -287,7 +297,7 @@ module _ (header : Header) (m : Machine Value) (layout : Layout) (reading : Read
       by-product : (q : Product) → IsImageOf header image m.published (floors_with q m.floors) → MayStand q m → OnFront (IsImageOf header image) m
       by-product (OfRun run) is may = inl is
       by-product (OfAnchors a) is may = inl is
-      by-product (OfFloor floor) is may =
+      by-product (OfFloor scope floor) is may =
           inr (subst (λ (g : Gate). OnOpened (IsImageOf header image) m g) (sym may.1) (subst (λ (o : Option Raising). OnRaised (IsImageOf header image) m o) (sym may.0) is))
 
   by-stage : (stage : SlotStage) (image : Image) → (MayOpen stage → MayStand p m) → MayAt stage (HoldsLayout header image layout) (HoldsLayout header image after) → OnFront (IsImageOf header image) m

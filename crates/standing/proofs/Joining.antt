@@ -1,12 +1,12 @@
 -- The group that is being written may follow what is published, and what a stop may leave while it is written.
-use Rattle.std.proofs.Common.{◌≡◌, ◌≢◌, ◌⊎◌, ℕ, zero, suc, ◌<◌, ◌≤◌, List, [], ◌∷◌, ◌++◌, length, take, drop, map, Option, Result, Ok, refl, arith, ap, sym, subst, ◌∙◌, inl, inr}
+use Rattle.std.proofs.Common.{◌≡◌, ◌≢◌, ℕ, zero, suc, ◌<◌, ◌≤◌, List, [], ◌∷◌, ◌++◌, length, take, drop, map, Option, Result, Ok, refl, arith, ap, sym, subst, ◌∙◌, inl, inr}
 use Rattle.std.specs.Prelude.{IsTrue}
 use Rattle.std.specs.List.{AllByRecursion, flat_map}
 use Rattle.std.proofs.lemmas.List.Concat.{flat_map-append}
 use mathlib.Core.Path.{fun_ext}
 use Rattle.history.specs.declared.key.Key.{Key}
 use Rattle.history.specs.Histories.{History, MayAllFollow}
-use Rattle.history.specs.Machine.{Machine, Gate, MayBeOpen, OfGroup, IsMachine}
+use Rattle.history.specs.Machine.{Machine, Gate, MayBeOpen, OfGroup}
 use Rattle.history.specs.Fronts.{OnFront, OnOpened}
 use Rattle.history.specs.Steps.{gated}
 use Rattle.history.proofs.Histories.{may_follow-behind, may_follow-front}
@@ -45,7 +45,6 @@ use Rattle.reading.proofs.Groups.{group_holds, group_call_holds, group_call_lead
 use Rattle.reading.proofs.Groups as grouping
 use Rattle.group.specs.Queued.{QueuedValue, numbers_of}
 use Rattle.transactions.specs.Values.{TransactionsValue}
-use Rattle.transactions.specs.Order.{IsInOrder}
 use Rattle.transactions.proofs.Publishing.{out-front}
 use Rattle.store.specs.Values.{StoreValue}
 use Rattle.standing.specs.Standing.{AllWait}

@@ -20,6 +20,7 @@ pub mod Naming
 pub mod Places
 pub mod Usages
 pub mod Working
+pub mod Growing
 pub mod Joining
 pub mod Besides
 pub mod Freshening
@@ -37,5 +38,14 @@ pub mod RunsAhead
 pub mod RunsStep
 pub mod RunsCalls
 pub mod Whole
+pub mod GrowingCalls
+pub mod GrowingPumps
+pub mod GrowingSteps
+pub mod GrowingJobs
+pub mod GrowingPiece
+pub mod GrowingViews
 pub mod Views
 pub mod Asking
+pub mod Leaving
+pub mod JobLeaving
+pub mod Told

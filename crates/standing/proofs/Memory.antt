@@ -5,7 +5,6 @@ use Rattle.std.specs.List.{AllByRecursion, list_all}
 use Rattle.std.proofs.lemmas.Bool.Decides.{nat_tests}
 use Rattle.std.proofs.lemmas.List.Sorted.{IsPermutation-refl, IsPermutation-sym, IsPermutation-cons, IsPermutation-trans, Contains-permutation}
 use Rattle.history.specs.declared.key.Key.{Key}
-use Rattle.history.specs.Histories as histories
 use Rattle.history.specs.Histories.{last, state, HasRisingTimes}
 use Rattle.history.specs.Time.{value_at}
 use Rattle.history.proofs.Histories.{last_after-range}

@@ -1,10 +1,12 @@
 -- A step of a group keeps what the store stands for, in memory and on its disk.
-use Rattle.std.proofs.Common.{◌≡◌, ◌≢◌, cond, slice_get, ℕ, suc, ◌+◌, ◌-◌, ◌<◌, ◌≤◌, ◌==◌, ◌&&◌, min, nat_lt, Bool, true, false, List, [], ◌∷◌, ◌++◌, length, take, drop, map, Option, None, Some, is_some, ◌||◌, Result, Ok, Err, MatchBool, MatchOption, refl, arith, ap, sym, subst, ◌∙◌, inl, inr, length-append, append_assoc}
+use Rattle.std.proofs.Common.{◌≡◌, ◌≢◌, cond, slice_get, ℕ, suc, ◌+◌, ◌<◌, ◌≤◌, ◌==◌, ◌&&◌, min, nat_lt, Bool, true, false, List, [], ◌∷◌, ◌++◌, length, take, drop, map, Option, None, Some, is_some, ◌||◌, Result, Ok, Err, MatchBool, MatchOption, refl, arith, ap, sym, subst, ◌∙◌, inl, inr, length-append, append_assoc}
 use Rattle.std.specs.Prelude.{IsTrue, min}
 use Rattle.std.specs.List.{flat_map}
 use Rattle.std.proofs.lemmas.Bool.{cases_lt}
 use Rattle.std.proofs.lemmas.List.{append-nil, map-append, take-append-drop}
 use Rattle.std.proofs.lemmas.Bool.Decides.{nat_tests}
+use Rattle.history.specs.Floors.{Raising}
+use Rattle.image.specs.Log.{IsScopeOf}
 use Rattle.history.specs.Machine.{Machine, Change, Gate, Shut, Due, MayBeOpen, OfGroup, OfFloor, IsMachine}
 use Rattle.history.specs.Fronts.{OnFront}
 use Rattle.history.specs.Steps as steps
@@ -17,14 +19,14 @@ use Rattle.history.proofs.Runs.{last-later}
 use Rattle.history.proofs.Machines.{run-machine}
 use Rattle.image.specs.Values.{Value, IsValue}
 use Rattle.image.specs.Plans.{HasRoom, with_group}
-use Rattle.image.specs.Reading.{Commits, Member, Reading}
+use Rattle.image.specs.Reading.{Commits, Member}
 use Rattle.image.specs.StandsFor.{archived_upto, reclaimed_upto}
 use Rattle.image.specs.Log.{floor_of}
 use Rattle.image.proofs.Logs.{reclaim_mark-append, floors-append}
 use Rattle.image.proofs.GroupStep.{same_archived, more_facts}
 use Rattle.image.proofs.PlansStay.{archive-plan-stays, reclaim-plan-stays}
 use Rattle.disk.specs.Areas.{AreaState, Areas, Image, AreSound, LeavesImage, loosened, written, synced}
-use Rattle.disk.proofs.Stops.{left_by_write, left_by_sync}
+use Rattle.disk.proofs.Stops.{left_by_write}
 use Rattle.disk.specs.Calls.{Writes, Syncs}
 use Rattle.disk.specs.declared.area.Area.TheVariants.{Status, Heap}
 use Rattle.wire.specs.declared.slot.Body.{Body}
@@ -40,8 +42,7 @@ use Rattle.extents.specs.Usages.{IsOut, AreOut}
 use Rattle.extents.specs.declared.usage.Usage.TheVariants.{Kept}
 use Rattle.deltas.specs.Extents.{Extent, extent_start, extent_bytes}
 use Rattle.status.specs.declared.header.Header.{Header}
-use Rattle.status.specs.Header.{total}
-use Rattle.status.specs.Rules.{is_built, runs_of, row_end}
+use Rattle.status.specs.Rules.{row_end}
 use Rattle.status.specs.SlotCalls.{SlotStage, IsSlotCall}
 use Rattle.status.specs.SlotCalls as slots
 use Rattle.status.specs.TurnState.{TurnState, LogState}
@@ -50,7 +51,6 @@ use Rattle.reading.specs.Extents.{IsExtent, AreDistinct}
 use Rattle.reading.specs.Layouts.{live, extents_of}
 use Rattle.reading.specs.Turn as turns
 use Rattle.reading.specs.Turn.{Group, laid_out}
-use Rattle.reading.specs.Runs.{StoredRun}
 use Rattle.reading.proofs.Layouts.{live_more, runs_more, has_room, live_extents_are}
 use Rattle.reading.proofs.Lists.{all_of_back, distinct_join}
 use Rattle.reading.proofs.Standing.{rests_hold}
@@ -62,7 +62,7 @@ use Rattle.group.specs.declared.answers.PumpFault.{PumpFault}
 use Rattle.group.specs.declared.answers.PumpFault.TheVariants as pump
 use Rattle.group.specs.declared.queued.StoredExtent.{StoredExtent}
 use Rattle.transactions.specs.Order.{IsInOrder, StageFits}
-use Rattle.transactions.specs.Values.{TransactionsValue, mark_after, is_turning, claimed_by}
+use Rattle.transactions.specs.Values.{TransactionsValue, mark_after, is_turning}
 use Rattle.transactions.specs.Steps as groups
 use Rattle.transactions.specs.Steps.{IsCommitOf}
 use Rattle.transactions.specs.declared.stage.GroupStage.{GroupStage}
@@ -71,17 +71,18 @@ use Rattle.transactions.specs.declared.stage.NextStep.{NextStep}
 use Rattle.transactions.specs.declared.stage.NextStep.TheVariants as next
 use Rattle.transactions.proofs.Kept.{advance-is, keeps-grouped, keeps-wrote, keeps-synced, keeps-begun, keeps-published}
 use Rattle.transactions.proofs.Publishing.{out-beside}
+use Rattle.floors.specs.Floors.{FloorsValue}
 use Rattle.store.specs.Values.{StoreValue, KeepsJob, IsInStep, IsOnItsWay, turn_in, turn_of, lent_to}
 use Rattle.store.specs.declared.job.Job.{Job}
 use Rattle.store.specs.declared.job.JobWork.{JobWork}
-use Rattle.store.specs.declared.job.JobWork.TheVariants.{Archive as ArchiveWork, Reclaim, Floor as FloorWork}
+use Rattle.store.specs.declared.job.JobWork.TheVariants.{Archive as ArchiveWork, Reclaim, Floor as FloorWork, Grow}
 use Rattle.store.specs.declared.job.JobStage.{JobStage}
 use Rattle.store.specs.declared.job.JobStage.TheVariants as job
 use Rattle.store.specs.Pumps.{Pumps, TakesStep, WritesExtent, MayBeginSlot, TurnsSlot, IsTurned, started, freshly, SyncsHeap}
 use Rattle.standing.specs.Standing.{StandsInMemory}
-use Rattle.standing.specs.OnDisk.{IsImageOf, AllPacked, written_before, group_of, IsAtStage, IsTurnOf, Product, OfRun, OfAnchors, OfFloor, IsNextRun, IsNextChain, MayBeNext, IsMadeBy, IsAtJob, HasJob, IsRested, HasTimes, Works, StandsOnDisk}
+use Rattle.standing.specs.OnDisk.{IsImageOf, AllPacked, written_before, group_of, IsAtStage, IsTurnOf, Product, OfRun, OfAnchors, OfFloor, MayBeNext, IsMadeBy, IsAtJob, HasJob, IsRested, Works, StandsOnDisk}
 use Rattle.std.specs.List.{AllByRecursion}
-use Rattle.standing.specs.Stands.{StandsBeside as Stands, HasMarks, KeepsWork, KeepsJobOf, KeepsJobIn, HasGate, gate_at, gate_for, gate_in, job_gate, gate_of, raising_by, raising_of}
+use Rattle.standing.specs.Stands.{StandsBeside as Stands, KeepsWork, KeepsJobOf, HasGate, gate_at, gate_for, gate_in, job_gate, gate_of, raising_by, raising_of, AreOfProfile, RaisesFloor}
 use Rattle.standing.specs.Laws.{begins_in, breaks_in, ends_in}
 use Rattle.standing.proofs.Conflicts.{rising-front, behind-group}
 use Rattle.standing.proofs.Packed.{packed-rest, length-mapped}
@@ -92,9 +93,9 @@ use Rattle.standing.proofs.Working.{Inside, Working, working, group_in, still-sh
 use Rattle.standing.proofs.Joining as joining
 use Rattle.standing.proofs.Joining.{numbers-split}
 use Rattle.standing.proofs.Publishing.{restaged, regated, breaks, publishes, freshens, fresh-marks, begins}
-use Rattle.standing.proofs.Besides.{IsBeside, AreBeside, all-keep, write-beside, torn-beside, sync-beside, beside-none, beside-out, none-number}
+use Rattle.standing.proofs.Besides.{IsBeside, AreBeside, write-beside, torn-beside, sync-beside, beside-none, beside-out, none-number}
 use Rattle.standing.proofs.Freshening.{fresh-entries, fresh-order, fresh-works}
-use Rattle.standing.proofs.Jobs.{IsFree, MayStand, made_extents, resting, rested-now, rested-sound, sound-at, job-beside-heap, job-beside-status, job-moves, product-leaves, rested-write, rested-sync}
+use Rattle.standing.proofs.Jobs.{made-lends, IsFree, MayStand, resting, rested-now, rested-sound, sound-at, job-beside-heap, job-beside-status, job-moves, product-leaves, rested-write, rested-sync}
 
 -- ---- the gate
 
@@ -150,7 +151,8 @@ job-left (Some j) = by-stage j.stage
     by-work : (work : JobWork) (s : SlotStage) → gate_left (gate_for work s) ≡ gate_for work s
     by-work (ArchiveWork run writer) s = refl
     by-work (Reclaim anchors source written) s = refl
-    by-work (FloorWork floor) s = floor-left s
+    by-work (FloorWork scope floor floors) s = floor-left s
+    by-work (Grow growth) s = refl
 
     by-stage : (s : JobStage) → gate_left (gate_in j.work s) ≡ gate_in j.work s
     by-stage job.Writing = refl
@@ -196,23 +198,28 @@ job-free v m c (Reclaim anchors source written) (OfAnchors a) made next =
     let out = reserved-out v.transactions c.inside.order in
     distinct_join (live c.works.log.layout) a.extents c.works.log.laid.heap.apart (joining.distinct-extents a.extents (subst usages.AreDistinct (sym made.1) out.distinct))
     (joining.kept-cross v.transactions.usages (live c.works.log.layout) a.extents c.works.heap.kept (subst (AllByRecursion (IsOut v.transactions.usages)) (sym made.1) out.each))
-job-free v m c (ArchiveWork run writer) (OfFloor floor) made next = absurd made
-job-free v m c (Reclaim anchors source written) (OfFloor floor) made next = absurd made
-job-free v m c (FloorWork floor) (OfRun r) made next = absurd made
-job-free v m c (FloorWork floor) (OfAnchors a) made next = absurd made
-job-free v m c (FloorWork floor) (OfFloor to) made next = subst AreDistinct (sym (append-nil (live c.works.log.layout))) c.works.log.laid.heap.apart
+job-free v m c (ArchiveWork run writer) (OfFloor scope floor) made next = absurd made
+job-free v m c (Reclaim anchors source written) (OfFloor scope floor) made next = absurd made
+job-free v m c (FloorWork scope floor floors) (OfRun r) made next = absurd made
+job-free v m c (FloorWork scope floor floors) (OfAnchors a) made next = absurd made
+job-free v m c (FloorWork scope floor floors) (OfFloor only to) made next = subst AreDistinct (sym (append-nil (live c.works.log.layout))) c.works.log.laid.heap.apart
+job-free v m c (Grow growth) p made next = absurd made
+
+raising-is : (only scope : Option ℕ) (to floor : ℕ) → (only ≡ scope) × (to ≡ floor) → Path (Option Raising) (Some (record { scope = scope; floor = floor })) (Some (record { scope = only; floor = to }))
+raising-is only scope to floor made = λ i. Some (record { scope = sym made.0 i; floor = sym made.1 i })
 
 -- the floor that a job makes is the one in the making, and the machine's gate is its gate
-pub may-stand : (m : Machine Value) (reserved : List ℕ) (work : JobWork) (p : Product) → IsMadeBy reserved work p → m.raising ≡ raising_by work → (change_is : (floor : ℕ) → work ≡ FloorWork floor → m.gate ≡ MayBeOpen OfFloor) → MayStand p m
+pub may-stand : (m : Machine Value) (reserved : List ℕ) (work : JobWork) (p : Product) → IsMadeBy reserved work p → m.raising ≡ raising_by work → (change_is : (scope : Option ℕ) (floor : ℕ) (floors : FloorsValue) → work ≡ FloorWork scope floor floors → m.gate ≡ MayBeOpen OfFloor) → MayStand p m
 may-stand m reserved (ArchiveWork run writer) (OfRun r) made raises opens = tt
 may-stand m reserved (ArchiveWork run writer) (OfAnchors a) made raises opens = absurd made
-may-stand m reserved (ArchiveWork run writer) (OfFloor to) made raises opens = absurd made
+may-stand m reserved (ArchiveWork run writer) (OfFloor only to) made raises opens = absurd made
 may-stand m reserved (Reclaim anchors source written) (OfRun r) made raises opens = absurd made
 may-stand m reserved (Reclaim anchors source written) (OfAnchors a) made raises opens = tt
-may-stand m reserved (Reclaim anchors source written) (OfFloor to) made raises opens = absurd made
-may-stand m reserved (FloorWork floor) (OfRun r) made raises opens = absurd made
-may-stand m reserved (FloorWork floor) (OfAnchors a) made raises opens = absurd made
-may-stand m reserved (FloorWork floor) (OfFloor to) made raises opens = (raises ∙ ap (λ (f : ℕ). Some (record { scope = None; floor = f })) (sym made), opens floor refl)
+may-stand m reserved (Reclaim anchors source written) (OfFloor only to) made raises opens = absurd made
+may-stand m reserved (FloorWork scope floor floors) (OfRun r) made raises opens = absurd made
+may-stand m reserved (FloorWork scope floor floors) (OfAnchors a) made raises opens = absurd made
+may-stand m reserved (FloorWork scope floor floors) (OfFloor only to) made raises opens = (raises ∙ raising-is only scope to floor made, opens scope floor floors refl)
+may-stand m reserved (Grow growth) p made raises opens = absurd made
 
 -- no slot of a group is in the writing beside one of a job
 pub no-group-turn : (v : StoreValue) (o : Option TurnState) (t : TurnState) → o ≡ Some t → MatchOption o (Unit {0}) (λ u. (u.number ≡ v.log.used) × IsOnItsWay u.stage × (v.turn ≡ None)) → v.turn ≡ None
@@ -235,14 +242,14 @@ by-job v m c areas image (Some j) is has left other = by-stage j.stage refl has.
         let turns = c.inside.in_step.turns (c.inside.memory.failed ∙ c.on) in
         let alone = no-group-turn v (turn_of v.job) t (ap turn_of is ∙ turning) turns.job in
         let gate = gate-in-turn v m j t c.inside.gate c.on alone is at in
-        may-stand m v.transactions.reserved j.work has.product has.made (c.inside.raises ∙ ap raising_of is)
-        (λ floor of. gate ∙ ap (λ (work : JobWork). gate_for work t.stage) of ∙ open-is OfFloor t.stage may)
+        may-stand m v.transactions.reserved j.work has.product has.made (c.inside.raises.is ∙ ap raising_of is)
+        (λ scope floor floors of. gate ∙ ap (λ (work : JobWork). gate_for work t.stage) of ∙ open-is OfFloor t.stage may)
 
     by-stage : (s : JobStage) → j.stage ≡ s → IsAtJob c.header c.works.log.layout j.work has.product s areas → OnFront (IsImageOf c.header image) m
     by-stage job.Writing at _ = other (ap turn_of is ∙ ap turn_in at)
     by-stage job.Stored at _ = other (ap turn_of is ∙ ap turn_in at)
     by-stage (job.Turning t) at turn =
-        product-leaves c.header m c.works.log.layout c.works.log.reading c.works.log.laid c.works.log.stands c.profile_built c.works.log.built (job-room v m c (ap lent_to is)) has.product has.next
+        product-leaves c.header m c.works.log.layout c.works.log.reading c.works.log.laid c.works.log.stands c.profile_built c.works.log.built (job-room v m c (ap lent_to is ∙ made-lends v.transactions.reserved j.work has.product has.made)) has.product has.next
         (job-free v m c j.work has.product has.made has.next) t.stage areas image (λ may. stood t at may) turn.at left
 
 pub works-leave : (v : StoreValue) (m : Machine Value) (c : Working v m) (image : Image) → LeavesImage v.disk.areas image → OnFront (IsImageOf c.header image) m
@@ -251,10 +258,18 @@ works-leave v m c image left =
 
 -- ---- what is said of a store after a call
 
+-- floors are of the store's profile still, where no floor is raised
+pub raises-so : (v v' : StoreValue) (m m' : Machine Value) → RaisesFloor v m → v'.log.profile ≡ v.log.profile → m'.floors ≡ m.floors → m'.raising ≡ m.raising → m'.raising ≡ raising_of v'.job → RaisesFloor v' m'
+raises-so v v' m m' raises profile floors raising is = record {
+  is = is;
+  scope = subst (λ (n : ℕ). MatchOption m'.raising (Unit {0}) (λ r. IsScopeOf n r.scope)) (sym profile) (subst (λ (o : Option Raising). MatchOption o (Unit {0}) (λ r. IsScopeOf v.log.profile r.scope)) (sym raising) raises.scope);
+  of_profile = subst (λ (n : ℕ). AreOfProfile n m'.floors) (sym profile) (subst (AreOfProfile v.log.profile) (sym floors) raises.of_profile);
+}
+
 -- one that goes on working, of a store that worked
-pub goes-on-working : (tells : Bool) (v v' : StoreValue) (m m' : Machine Value) (stands : Stands tells v m) → m.failed ≡ false → Inside v' m' → m'.failed ≡ false → v'.log.profile ≡ v.log.profile → v'.log.slots ≡ v.log.slots
+pub goes-on-working : (tells : Bool) (v v' : StoreValue) (m m' : Machine Value) (stands : Stands tells v m) → m.failed ≡ false → Inside v' m' → m'.failed ≡ false → v'.log.profile ≡ v.log.profile → v'.log.slots ≡ v.log.slots → v'.log.pieces ≡ v.log.pieces
     → ((told : IsTrue tells) → Works (stands.disk told).header v' m') → Stands tells v' m'
-goes-on-working tells v v' m m' stands on now on' profile many works = record {
+goes-on-working tells v v' m m' stands on now on' profile many pieces works = record {
   memory = now.memory;
   machine = now.machine;
   order = now.order;
@@ -265,14 +280,14 @@ goes-on-working tells v v' m m' stands on now on' profile many works = record {
   job = now.job;
   disk = λ told.
       let d = stands.disk told in
-      let c : Working v' m' = record { header = d.header; inside = now; on = on'; profile = profile ∙ d.profile; slots = many ∙ d.slots; profile_built = d.profile_built; works = works told } in
-      record { header = d.header; profile = c.profile; slots = c.slots; profile_built = d.profile_built; leaves = works-leave v' m' c; works = λ _. works told };
+      let c : Working v' m' = record { header = d.header; inside = now; on = on'; profile = profile ∙ d.profile; slots = many ∙ d.slots; pieces = pieces ∙ d.pieces; profile_built = d.profile_built; works = works told } in
+      record { header = d.header; profile = c.profile; slots = c.slots; pieces = c.pieces; profile_built = d.profile_built; leaves = works-leave v' m' c; works = λ _. works told };
 }
 
 -- and one that has failed
-pub goes-on-failed : (tells : Bool) (v v' : StoreValue) (m m' : Machine Value) (stands : Stands tells v m) → Inside v' m' → m'.failed ≡ true → v'.log.profile ≡ v.log.profile → v'.log.slots ≡ v.log.slots
+pub goes-on-failed : (tells : Bool) (v v' : StoreValue) (m m' : Machine Value) (stands : Stands tells v m) → Inside v' m' → m'.failed ≡ true → v'.log.profile ≡ v.log.profile → v'.log.slots ≡ v.log.slots → v'.log.pieces ≡ v.log.pieces
     → ((told : IsTrue tells) (image : Image) → LeavesImage v'.disk.areas image → OnFront (IsImageOf (stands.disk told).header image) m') → Stands tells v' m'
-goes-on-failed tells v v' m m' stands now failed profile many leaves = record {
+goes-on-failed tells v v' m m' stands now failed profile many pieces leaves = record {
   memory = now.memory;
   machine = now.machine;
   order = now.order;
@@ -286,6 +301,7 @@ goes-on-failed tells v v' m m' stands now failed profile many leaves = record {
         header = d.header;
         profile = profile ∙ d.profile;
         slots = many ∙ d.slots;
+        pieces = pieces ∙ d.pieces;
         profile_built = d.profile_built;
         leaves = leaves told;
         works = λ on. (let no : true ≡ false = sym failed ∙ on in absurd cc);
@@ -371,7 +387,7 @@ all-numbered us (n ∷ ns) out = (let low = (out.0).low in omega (arith, low), a
 
 -- ---- a device call of the group
 
-commit-is : (es : List Entry) (body : Body) → IsCommitOf es body → body ≡ CommitBody (record { items = es })
+pub commit-is : (es : List Entry) (body : Body) → IsCommitOf es body → body ≡ CommitBody (record { items = es })
 commit-is es (CommitBody members) is = λ i. CommitBody (record { items = is i })
 commit-is es (Archived run) is = absurd is
 commit-is es (Reclaimed anchors) is = absurd is
@@ -683,10 +699,10 @@ module _ (v new : StoreValue) (m : Machine Value) (c : Working v m) where
         behind = next.behind ∙ ap (row_end 0) (sym (runs_more header w.log.layout w.log.reading m.published (take v.transactions.group m.queue) m.floors group w.log.laid w.log.stands joins));
         in_range = next.in_range;
       }
-      next-by joins space grown same mark (OfFloor floor) next = record {
-        scope = next.scope;
-        rises = λ relation. (let same : floor_of (with_group w.log.reading (turns.members_of group)).log relation ≡ floor_of w.log.reading.log relation = ap (λ (f : ℕ → ℕ). f relation) (floors-append (λ q. 0) w.log.reading.log (Commits (map (λ (x : Member). x.head) (turns.members_of group)) ∷ [])) in
-            let above = next.rises relation in omega (arith, same, above));
+      next-by joins space grown same mark (OfFloor scope floor) next = record {
+        scope_is = next.scope_is;
+        rises = λ relation covered. (let same : floor_of (with_group w.log.reading (turns.members_of group)).log relation ≡ floor_of w.log.reading.log relation = ap (λ (f : ℕ → ℕ). f relation) (floors-append (λ q. 0) w.log.reading.log (Commits (map (λ (x : Member). x.head) (turns.members_of group)) ∷ [])) in
+            let above = next.rises relation covered in omega (arith, same, above));
         by_last = omega (arith, grown, next.by_last);
         in_range = next.in_range;
       }
@@ -779,9 +795,9 @@ broken-machine m gate machine = record {
 }
 
 -- a refused call, which leaves the gate so
-fails-parts : (tells : Bool) (v new : StoreValue) (m : Machine Value) → (stands : Stands tells v m) → (works : m.failed ≡ false) → (gate : Gate) (log : LogState) (turn : Option TurnState) → log.profile ≡ v.log.profile → log.slots ≡ v.log.slots → log.used ≡ v.log.used
+fails-parts : (tells : Bool) (v new : StoreValue) (m : Machine Value) → (stands : Stands tells v m) → (works : m.failed ≡ false) → (gate : Gate) (log : LogState) (turn : Option TurnState) → log.profile ≡ v.log.profile → log.slots ≡ v.log.slots → log.pieces ≡ v.log.pieces → log.used ≡ v.log.used
     → ((told : IsTrue tells) (image : Image) → LeavesImage new.disk.areas image → OnFront (IsImageOf (stands.disk told).header image) (steps.gated m gate)) → Stands tells (with_parts v new (groups.broken v.transactions) log turn) (steps.broken (steps.gated m gate))
-fails-parts tells v new m stands works gate log turn same many used leaves =
+fails-parts tells v new m stands works gate log turn same many pieces used leaves =
     let after : Machine Value = steps.broken (steps.gated m gate) in
     goes-on-failed tells v (with_parts v new (groups.broken v.transactions) log turn) m after stands (record {
       memory = breaks v.transactions (steps.gated m gate) (regated v.transactions m gate stands.memory);
@@ -789,18 +805,18 @@ fails-parts tells v new m stands works gate log turn same many used leaves =
       order = broken-order v.transactions stands.order;
       in_step = record { slots = many ∙ stands.in_step.slots; used = used ∙ stands.in_step.used; turns = λ no. absurd cc };
       gate = λ no. absurd cc;
-      raises = stands.raises;
+      raises = raises-so v (with_parts v new (groups.broken v.transactions) log turn) m after stands.raises same refl refl stands.raises.is;
       marks = stands.marks;
       job = stands.job;
-    }) refl same many leaves
+    }) refl same many pieces leaves
 
-fails-step : (tells : Bool) (v new : StoreValue) (m : Machine Value) (why : PumpFault) → why ≡ pump.Failed → KeepsJob v new → (stands : Stands tells v m) → (works : m.failed ≡ false) → (log : LogState) (turn : Option TurnState) → log.profile ≡ v.log.profile → log.slots ≡ v.log.slots → log.used ≡ v.log.used
+fails-step : (tells : Bool) (v new : StoreValue) (m : Machine Value) (why : PumpFault) → why ≡ pump.Failed → KeepsJob v new → (stands : Stands tells v m) → (works : m.failed ≡ false) → (log : LogState) (turn : Option TurnState) → log.profile ≡ v.log.profile → log.slots ≡ v.log.slots → log.pieces ≡ v.log.pieces → log.used ≡ v.log.used
     → new.transactions ≡ groups.broken v.transactions → new.log ≡ log → new.turn ≡ turn
     → ((told : IsTrue tells) (image : Image) → LeavesImage new.disk.areas image → OnFront (IsImageOf (stands.disk told).header image) (steps.gated m (gate_left m.gate))) → Ends tells m (Err why) new
-fails-step tells v new m why is keeps stands works log turn same many used a b c leaves =
+fails-step tells v new m why is keeps stands works log turn same many pieces used a b c leaves =
     let after : Machine Value = steps.broken (steps.gated m (gate_left m.gate)) in
     subst (λ (e : PumpFault). Ends tells m (Err e) new) (sym is)
-    (after, breaks-run m works m.gate refl, subst (λ (x : StoreValue). Stands tells x after) (same-store v new (groups.broken v.transactions) log turn keeps a b c) (fails-parts tells v new m stands works (gate_left m.gate) log turn same many used leaves))
+    (after, breaks-run m works m.gate refl, subst (λ (x : StoreValue). Stands tells x after) (same-store v new (groups.broken v.transactions) log turn keeps a b c) (fails-parts tells v new m stands works (gate_left m.gate) log turn same many pieces used leaves))
 
 -- where a refused call leaves the gate so
 left-so : (P : Machine Value → Type 0) (m : Machine Value) → gate_left m.gate ≡ m.gate → P m → P (steps.gated m (gate_left m.gate))
@@ -855,7 +871,7 @@ wrote-step tells v new answer m stands works asks sound (Some stored) found take
   where
     by-answer : (answer : Result Did PumpFault) (at : IsStoring v.transactions.stage v.transactions.group) → groups.extent_at (slice_get v.transactions.queue at.member) at.extent ≡ Some stored → WritesExtent tells stored v answer new → Ends tells m answer new
     by-answer (Err why) at there takes =
-        fails-step tells v new m why takes.steps.answer.0 takes.steps.job stands works v.log v.turn refl refl refl takes.steps.answer.1 takes.steps.log takes.steps.turn
+        fails-step tells v new m why takes.steps.answer.0 takes.steps.job stands works v.log v.turn refl refl refl refl takes.steps.answer.1 takes.steps.log takes.steps.turn
         (λ told image left. let c = working tells v m stands works told in
         left-so (λ (x : Machine Value). OnFront (IsImageOf c.header image) x) m (gate-stays v m stands.in_step stands.memory.failed stands.gate works (ap is_turning at.is))
         (wrote-leaves v new m c at.member at.extent at.is at.low stored there (takes.call.areas told) image left))
@@ -872,7 +888,7 @@ wrote-step tells v new answer m stands works asks sound (Some stored) found take
         } in
         stays-step tells v new m said did.WroteExtent takes.steps.job refl takes.steps.answer.0 (groups.wrote_extent v.transactions) v.log v.turn takes.steps.answer.1 takes.steps.log takes.steps.turn
         (goes-on-working tells v (with_parts v new (groups.wrote_extent v.transactions) v.log v.turn) m m stands works
-        (record { memory = memory; machine = stands.machine; order = order; in_step = in_step; gate = stands.gate; raises = stands.raises; marks = stands.marks; job = stands.job }) works refl refl (λ told.
+        (record { memory = memory; machine = stands.machine; order = order; in_step = in_step; gate = stands.gate; raises = stands.raises; marks = stands.marks; job = stands.job }) works refl refl refl (λ told.
         let c = working tells v m stands works told in
         let w = c.works in
         let base = resting-areas v m c in
@@ -909,7 +925,7 @@ synced-step tells v new answer m stands works asks sound takes =
   where
     by-answer : (answer : Result Did PumpFault) → IsAllStored v.transactions.stage v.transactions.group → SyncsHeap tells v answer new → Ends tells m answer new
     by-answer (Err why) at takes =
-        fails-step tells v new m why takes.steps.answer.0 takes.steps.job stands works v.log v.turn refl refl refl takes.steps.answer.1 takes.steps.log takes.steps.turn
+        fails-step tells v new m why takes.steps.answer.0 takes.steps.job stands works v.log v.turn refl refl refl refl takes.steps.answer.1 takes.steps.log takes.steps.turn
         (λ told image left. let c = working tells v m stands works told in
         left-so (λ (x : Machine Value). OnFront (IsImageOf c.header image) x) m (gate-stays v m stands.in_step stands.memory.failed stands.gate works (ap is_turning at.is))
         (same-leaves v new m c (takes.call.areas told).same image left))
@@ -923,7 +939,7 @@ synced-step tells v new answer m stands works asks sound takes =
         } in
         stays-step tells v new m said did.HeapSynced takes.steps.job refl takes.steps.answer.0 (groups.at_stage Stored v.transactions) v.log v.turn takes.steps.answer.1 takes.steps.log takes.steps.turn
         (goes-on-working tells v (with_parts v new (groups.at_stage Stored v.transactions) v.log v.turn) m m stands works
-        (record { memory = memory; machine = stands.machine; order = order; in_step = in_step; gate = stands.gate; raises = stands.raises; marks = stands.marks; job = stands.job }) works refl refl (λ told.
+        (record { memory = memory; machine = stands.machine; order = order; in_step = in_step; gate = stands.gate; raises = stands.raises; marks = stands.marks; job = stands.job }) works refl refl refl (λ told.
         let c = working tells v m stands works told in
         let w = c.works in
         let base = resting-areas v m c in
@@ -941,14 +957,15 @@ published-later m machine =
     omega (arith, up, last_after-append 0 m.published (take m.group m.queue))
 
 -- a job whose slot is not in the writing
-pub job-later : (o : Option Job) (archived early late : ℕ) (opened : List (Option ℕ)) (pending : Option (List KeyWrites)) (versions versions' : List KeyWrites) → turn_of o ≡ None → early ≤ late
-    → KeepsJobOf o archived early opened pending versions → KeepsJobOf o archived late opened pending versions'
-job-later None archived early late opened pending versions versions' still grown keeps = tt
-job-later (Some j) archived early late opened pending versions versions' still grown keeps = by-work j.work keeps
+pub job-later : (o : Option Job) (archived early late : ℕ) (opened : List (Option ℕ)) (pending : Option (List KeyWrites)) (versions versions' : List KeyWrites) (standing : FloorsValue) → turn_of o ≡ None → early ≤ late
+    → KeepsJobOf o archived early opened pending versions standing → KeepsJobOf o archived late opened pending versions' standing
+job-later None archived early late opened pending versions versions' standing still grown keeps = tt
+job-later (Some j) archived early late opened pending versions versions' standing still grown keeps = by-work j.work keeps
   where
-    by-work : (work : JobWork) → KeepsWork work j.stage archived early opened pending versions → KeepsWork work j.stage archived late opened pending versions'
+    by-work : (work : JobWork) → KeepsWork work j.stage archived early opened pending versions standing → KeepsWork work j.stage archived late opened pending versions' standing
     by-work (ArchiveWork run writer) keeps = (keeps.0, (let upto = keeps.1 in omega (arith, upto, grown)))
-    by-work (FloorWork floor) keeps = tt
+    by-work (FloorWork scope floor floors) keeps = keeps
+    by-work (Grow growth) keeps = absurd keeps
     by-work (Reclaim anchors source written) keeps = record { is = keeps.is; recent = keeps.recent; made = λ turning. (let none : is_some (turn_in j.stage) ≡ false = ap (λ (o : Option TurnState). is_some o) still in let no : true ≡ false = sym turning ∙ none in absurd cc) }
 
 -- ---- the slot
@@ -1000,7 +1017,7 @@ module _ (tells : Bool) (v new : StoreValue) (m : Machine Value) (t : TurnState)
         turns = λ on. record { turning = ap is_turning turning; writing = writing; turn = (number, way); job = no-other v.log.used after };
       } in
       let then = goes-on-working tells v (with_parts v new v.transactions v.log after) m to stands works
-      (record { memory = memory; machine = machine'; order = stands.order; in_step = in_step; gate = λ on. refl; raises = stands.raises; marks = stands.marks; job = stands.job }) works refl refl (λ told.
+      (record { memory = memory; machine = machine'; order = stands.order; in_step = in_step; gate = λ on. refl; raises = stands.raises; marks = stands.marks; job = stands.job }) works refl refl refl (λ told.
       let c = working tells v m stands works told in
       let w = c.works in
       let mine = own told in
@@ -1045,8 +1062,8 @@ module _ (tells : Bool) (v new : StoreValue) (m : Machine Value) (t : TurnState)
         gate = λ on. sym (still-shut v.job still);
         raises = stands.raises;
         marks = (stands.marks.0, (let archived = stands.marks.1 in omega (arith, archived, grown)));
-        job = job-later v.job v.archived (last m.published) (last (steps.group_published m).published) v.transactions.opened v.transactions.pending v.transactions.versions (groups.published v.transactions).versions still grown stands.job;
-      }) works refl refl (λ told.
+        job = job-later v.job v.archived (last m.published) (last (steps.group_published m).published) v.transactions.opened v.transactions.pending v.transactions.versions (groups.published v.transactions).versions v.transactions.floors still grown stands.job;
+      }) works refl refl refl (λ told.
       published-works v new m (working tells v m stands works told) group-some (ap is_turning turning) still t.number (own told).number (sound told) new.disk.areas.status
       (slot-alone t.stage t.number t.body v.disk.areas new.disk.areas (call told)) (led slots.GateWritten is call told)) in
       subst (λ (e : Did). Ends tells m (Ok e) new) (sym same)
@@ -1064,7 +1081,7 @@ module _ (tells : Bool) (v new : StoreValue) (m : Machine Value) (t : TurnState)
   slot-step : groups.due v.transactions ≡ next.AdvanceSlot → (answer : Result Did PumpFault) → TurnsSlot tells t v answer new → Ends tells m answer new
   slot-step asks (Ok what) turns = turned t.stage refl turns.call.areas asks what turns.answer
   slot-step asks (Err why) turns =
-      fails-step tells v new m why turns.answer.fault keeps stands works v.log None refl refl refl turns.answer.transactions turns.answer.log turns.answer.turn
+      fails-step tells v new m why turns.answer.fault keeps stands works v.log None refl refl refl refl turns.answer.transactions turns.answer.log turns.answer.turn
       (λ told. let c = working tells v m stands works told in
       goes-leaves v new m c (gate_left m.gate) (record {}) v.disk.areas new.disk.areas
       (slot-goes v new m c (Err (record {})) t (own told) group-some (turns.call.areas told))
@@ -1072,7 +1089,7 @@ module _ (tells : Bool) (v new : StoreValue) (m : Machine Value) (t : TurnState)
 
 -- ---- the slot is begun
 
-begin-is : (s : GroupStage) (group : ℕ) → groups.step_of s group ≡ next.BeginSlot → s ≡ Stored
+pub begin-is : (s : GroupStage) (group : ℕ) → groups.step_of s group ≡ next.BeginSlot → s ≡ Stored
 begin-is NoGroup group asks = absurd cc
 begin-is Stored group asks = refl
 begin-is Turning group asks = absurd cc
@@ -1126,7 +1143,7 @@ module _ (tells : Bool) (v new : StoreValue) (m : Machine Value) (stands : Stand
       } in
       stays-step tells v new m what did.BodyWritten keeps refl to.answer.0 (groups.at_stage Turning v.transactions) log after to.answer.1 to.answer.2 to.answer.3
       (goes-on-working tells v (with_parts v new (groups.at_stage Turning v.transactions) log after) m m stands works
-      (record { memory = memory; machine = stands.machine; order = order; in_step = in_step; gate = λ on. shut; raises = stands.raises; marks = stands.marks; job = stands.job }) works refl refl (λ told.
+      (record { memory = memory; machine = stands.machine; order = order; in_step = in_step; gate = λ on. shut; raises = stands.raises; marks = stands.marks; job = stands.job }) works refl refl refl (λ told.
       let c = working tells v m stands works told in
       let w = c.works in
       let mine = first-turn told in
@@ -1139,7 +1156,7 @@ module _ (tells : Bool) (v new : StoreValue) (m : Machine Value) (stands : Stand
       let log : LogState = record v.log { writing = true } in
       let after : Machine Value = steps.broken (steps.gated m (gate_left m.gate)) in
       let stands' : Stands tells (with_parts v new (groups.broken v.transactions) log None) after =
-      fails-parts tells v new m stands works (gate_left m.gate) log None refl refl refl
+      fails-parts tells v new m stands works (gate_left m.gate) log None refl refl refl refl
       (λ told. let c = working tells v m stands works told in
       goes-leaves v new m c (gate_left m.gate) (record {}) v.disk.areas new.disk.areas (first-goes (Err (record {})) told (to.call.areas told))
       (λ no. absurd no)) in
@@ -1157,7 +1174,7 @@ module _ (tells : Bool) (v new : StoreValue) (m : Machine Value) (stands : Stand
               marks = stands'.marks;
               job = stands'.job;
               disk = λ told.
-                  let d = stands'.disk told in record { header = d.header; profile = d.profile; slots = d.slots; profile_built = d.profile_built; leaves = d.leaves; works = λ no. absurd cc };
+                  let d = stands'.disk told in record { header = d.header; profile = d.profile; slots = d.slots; pieces = d.pieces; profile_built = d.profile_built; leaves = d.leaves; works = λ no. absurd cc };
             }),
       )
 
@@ -1180,7 +1197,7 @@ fresh-parts tells v m stands works stored some =
       raises = stands.raises;
       marks = stands.marks;
       job = stands.job;
-    }) works refl refl (λ told. let c = working tells v m stands works told in fresh-works c.header v m stored c.works)
+    }) works refl refl refl (λ told. let c = working tells v m stands works told in fresh-works c.header v m stored c.works)
 
 -- while a group's slot is in the writing no job's is
 no-job-turn : (o turn : Option TurnState) (t : TurnState) → turn ≡ Some t → (n : ℕ) → MatchOption o (Unit {0}) (λ u. (u.number ≡ n) × IsOnItsWay u.stage × (turn ≡ None)) → o ≡ None
@@ -1248,8 +1265,8 @@ started-parts tells v m size stands works memory machine =
       gate = stands.gate;
       raises = stands.raises;
       marks = (grouped-has (λ (t : TransactionsValue). t.reclaimed ≤ v.archived) v.transactions stands.marks.0 stands.marks.0, stands.marks.1);
-      job = grouped-has (λ (t : TransactionsValue). KeepsJobOf v.job v.archived (last m.published) t.opened t.pending t.versions) v.transactions stands.job stands.job;
-    }) works refl refl (λ told. let c = working tells v m stands works told in begun-works c.header v m size stands.order c.works memory)
+      job = grouped-has (λ (t : TransactionsValue). KeepsJobOf v.job v.archived (last m.published) t.opened t.pending t.versions t.floors) v.transactions stands.job stands.job;
+    }) works refl refl refl (λ told. let c = working tells v m stands works told in begun-works c.header v m size stands.order c.works memory)
 
 pub pump-stands : (tells : Bool) (old new : StoreValue) (answer : Result Did PumpFault) (m : Machine Value) → Stands tells old m → (IsTrue tells → AreSound new.disk.areas) → Pumps tells old answer new
     → MatchBool m.failed ((answer ≡ Err pump.Failed) × Stands tells new m) ((after : Machine Value) × Run IsValue m (begins_in m ++ ends_in m.gate answer) after × Stands tells new after)

@@ -38,6 +38,7 @@ use Rattle.store.proofs.ReclaimStarts.{too-full}
 use Rattle.standing.specs.Standing.{StandsInMemory, Reclaims, snapshots_of}
 use Rattle.standing.specs.OnDisk.{OfAnchors, IsNextChain, IsRested, Works}
 use Rattle.standing.specs.Stands.{HasMarks, job_gate, raising_of, StandsBeside as Stands}
+use Rattle.standing.proofs.Pumping.{raises-so}
 use Rattle.standing.proofs.Working.{gate-beside}
 use Rattle.standing.proofs.Retired.{reserved-live}
 use Rattle.standing.proofs.Chains.{begun, begun-named, begun-filling, begun-chain, begun-range}
@@ -256,7 +257,7 @@ reclaim-start-stands tells old new answer m stands starts = by-refusal (reclaim_
           order = begun-order old.transactions ns may.room is.1.least stands.order;
           in_step = in_step;
           gate = λ on. stands.gate on ∙ gate-beside old.turn old.job _ (ap job_gate may.free) refl;
-          raises = stands.raises ∙ ap raising_of may.free;
+          raises = raises-so old (with_reclaim old ns) m m stands.raises refl refl refl (stands.raises.is ∙ ap raising_of may.free);
           marks = stands.marks;
           job = job;
           disk = λ told.
@@ -264,6 +265,7 @@ reclaim-start-stands tells old new answer m stands starts = by-refusal (reclaim_
                 header = d.header;
                 profile = d.profile;
                 slots = d.slots;
+                pieces = d.pieces;
                 profile_built = d.profile_built;
                 leaves = d.leaves;
                 works = λ works. begun-works d.header old m stands.memory stands.order stands.marks (d.works works) none ns is.1.least is.1.many is.0;

@@ -1,8 +1,7 @@
 -- What stands of the run that a job makes.
-use Rattle.std.proofs.Common.{◌≡◌, ℕ, ◌+◌, ◌<◌, ◌≤◌, ◌^◌, ◌&&◌, max, nat_le, nat_lt, Bool, true, IsTrue, List, [], ◌∷◌, ◌++◌, length, filter, Option, Some, refl, arith, ap, sym, subst, ◌∙◌}
+use Rattle.std.proofs.Common.{◌≡◌, ℕ, ◌<◌, ◌≤◌, ◌&&◌, max, List, [], ◌∷◌, ◌++◌, length, filter, Option, Some, arith, ap, sym, subst, ◌∙◌}
 use Rattle.std.specs.List.{AllByRecursion}
 use Rattle.std.proofs.lemmas.Bool.Decides.{nat_tests}
-use Rattle.std.proofs.lemmas.List.{append-nil}
 use Rattle.std.proofs.lemmas.List.Elements.{filter-append}
 use Rattle.disk.specs.Parts.{HoldsPart}
 use Rattle.disk.specs.declared.area.Area.TheVariants as areas
@@ -10,7 +9,7 @@ use Rattle.disk.proofs.Parts.{read_part}
 use Rattle.history.specs.declared.key.Key.{Key}
 use Rattle.history.specs.declared.time.Version.{Version}
 use Rattle.history.specs.Versions.{ends_after, ends_by, FollowOneAnotherFrom}
-use Rattle.history.specs.Histories.{History, last, versions_of, writes_of}
+use Rattle.history.specs.Histories.{last, versions_of, writes_of}
 use Rattle.history.specs.Machine.{Machine}
 use Rattle.history.proofs.Appending.{ends_by-then-after}
 use Rattle.history.proofs.Filters.{filter-filter, filter-swap, filter-both}
@@ -101,7 +100,7 @@ module _ (header : Header) (v : StoreValue) (m : Machine Value) (w : Works heade
           → OwnRun (λ stored. IsAtJob header w.log.layout (Archive run writer) (OfRun stored) stage v.disk.areas)
       by-product (OfRun stored) made next at = record { stored = stored; entry = made; next = next; at = at }
       by-product (OfAnchors a) made next at = absurd made
-      by-product (OfFloor floor) made next at = absurd made
+      by-product (OfFloor scope floor) made next at = absurd made
 
   -- a piece goes behind the runs
   pub piece-behind : v.job ≡ Some (record { work = Archive run writer; stage = stages.Writing }) → v.runs_end ≤ writer.at

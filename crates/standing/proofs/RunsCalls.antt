@@ -1,17 +1,20 @@
 -- What each call keeps of the runs of a store.
-use Rattle.std.proofs.Common.{◌≡◌, ℕ, ◌+◌, ◌<◌, ◌≤◌, ◌==◌, ◌&&◌, nat_lt, min, Bool, true, false, cond, IsTrue, List, [], ◌∷◌, ◌++◌, length, is_some, Option, None, Some, Result, Ok, Err, MatchBool, MatchOption, MatchResult, slice_get, refl, arith, ap, sym, subst, ◌∙◌, inl, inr}
+use Rattle.std.proofs.Common.{◌≡◌, ℕ, ◌≤◌, ◌==◌, ◌&&◌, nat_lt, min, Bool, true, false, cond, IsTrue, List, [], ◌∷◌, length, is_some, Option, None, Some, Result, Ok, Err, MatchBool, MatchOption, MatchResult, slice_get, refl, arith, ap, sym, subst, ◌∙◌, inl, inr}
 use Rattle.std.proofs.lemmas.List.{append-nil}
-use Rattle.disk.specs.declared.area.Area.{Area}
-use Rattle.disk.specs.declared.area.Area.TheVariants as areas
-use Rattle.history.specs.Histories.{History, HasRisingTimes}
+use Rattle.history.specs.Histories.{HasRisingTimes}
 use Rattle.history.specs.Machine.{Machine, IsMachine}
 use Rattle.image.specs.Values.{Value, IsValue}
 use Rattle.archive.specs.Pieces.{InWriting}
 use Rattle.archive.specs.Searches.{archive_of}
-use Rattle.archive.specs.declared.run.RunEntry.{RunEntry}
 use Rattle.vacuum.specs.Anchors.{Sourced}
 use Rattle.wire.specs.declared.slot.Anchors.{Anchors}
 use Rattle.wire.specs.declared.slot.Run.{Run}
+use Rattle.disk.specs.Areas.{Areas}
+use Rattle.status.specs.Growth.{grew_at, growth_after}
+use Rattle.status.specs.GrowthState.{GrowthState}
+use Rattle.status.specs.declared.growth.Grew.{Grew}
+use Rattle.status.specs.declared.growth.Grew.TheVariants as grew
+use Rattle.reading.proofs.Growing.{growth-alone}
 use Rattle.status.specs.SlotCalls.{SlotStage}
 use Rattle.status.specs.SlotCalls as slots
 use Rattle.status.specs.TurnState.{LogState, TurnState}
@@ -20,23 +23,23 @@ use Rattle.group.specs.declared.answers.PumpFault.{PumpFault}
 use Rattle.group.specs.declared.answers.PumpFault.TheVariants as fault
 use Rattle.group.specs.declared.queued.StoredExtent.{StoredExtent}
 use Rattle.transactions.specs.Values.{TransactionsValue}
-use Rattle.transactions.specs.Steps.{next_step, next_extent, grouped, wrote_extent, at_stage, published, broken, freshened}
+use Rattle.transactions.specs.Steps.{next_step, next_extent, grouped, published, broken}
 use Rattle.transactions.specs.declared.stage.GroupStage.TheVariants as stage
 use Rattle.transactions.specs.declared.stage.NextStep.{NextStep}
 use Rattle.transactions.specs.declared.stage.NextStep.TheVariants as step
 use Rattle.store.specs.Values.{ArchiveValue, StoreValue, KeepsJob, turn_of}
-use Rattle.store.specs.Pumps.{Pumps, TakesStep, WritesExtent, SyncsHeap, Steps, MayBeginSlot, TurnsSlot, IsTurned, TurnFails, started, freshly, taken, disk_answer}
-use Rattle.store.specs.Jobs.{PumpsJob, TakesJobStep, Stores, WritesOrSyncs, WritesRun, AnchorsOrSync, SyncsStored, BeginsJobSlot, TurnsJob, IsJobTurned, JobTurnFails, JobMoves, with_job, job_fails, work_done, slot_opened, slot_taken, made_ready, first_turn, piece_of}
+use Rattle.store.specs.Pumps.{Pumps, TakesStep, WritesExtent, Steps, MayBeginSlot, TurnsSlot, IsTurned, started, freshly, taken, disk_answer}
+use Rattle.store.specs.Jobs.{PumpsJob, TakesJobStep, Stores, WritesOrSyncs, AnchorsOrSync, BeginsJobSlot, TurnsJob, IsJobTurned, JobMoves, job_fails, work_done, slot_opened, slot_taken, made_ready, first_turn, piece_of, growing, grown_store, HasGrown}
 use Rattle.store.specs.declared.job.Job.{Job}
 use Rattle.store.specs.declared.job.JobStage.{JobStage}
 use Rattle.store.specs.declared.job.JobStage.TheVariants as stages
 use Rattle.store.specs.declared.job.JobWork.{JobWork}
-use Rattle.store.specs.declared.job.JobWork.TheVariants.{Archive, Reclaim, Floor}
+use Rattle.store.specs.declared.job.JobWork.TheVariants.{Archive, Reclaim, Floor, Grow}
 use Rattle.store.specs.declared.job.JobDid.{JobDid}
 use Rattle.store.specs.declared.job.JobDid.TheVariants as did
 use Rattle.standing.specs.Homes.{HasPlace, JobHasPlace, RunsStand, KeepsUpTo, GoesOn}
-use Rattle.standing.proofs.RunsKept.{machine-rises, up_to-same, up_to-is, up_to-in_part, heap-written, heap-synced, archive-synced, slot-called, IsLater, last-rises}
-use Rattle.standing.proofs.RunsStep.{KeepsArchive, runs-move, goes-same, place-move, job-place-move, place-same, runs-done}
+use Rattle.standing.proofs.RunsKept.{machine-rises, up_to-is, up_to-in_part, heap-written, heap-synced, archive-synced, slot-called, IsLater}
+use Rattle.standing.proofs.RunsStep.{KeepsArchive, runs-move, goes-same, place-move, place-same, runs-done}
 use Rattle.standing.proofs.RunsAhead.{RunReady}
 
 -- what a call leaves of the runs
@@ -213,9 +216,34 @@ module _ (tells : Bool) (v : StoreValue) (m after : Machine Value) (up : HasRisi
   reclaim-steps (Some number) anchors source written result new has does =
       moves did.WroteExtent (record { work = Reclaim anchors source written; stage = stages.Writing }) _ _ result new has has (from-same new (λ told. heap-written _ does.image _ v.disk.areas new.disk.areas (does.call.areas told))) does.moves
 
+  -- a piece is made in the status area
+  grown-so : (growth : GrowthState) (new : StoreValue) → (IsTrue tells → archive_of new.disk ≡ archive_of v.disk) → Leaves tells v (grown_store growth v new) after
+  grown-so growth new same =
+      let whole : StoreValue = grown_store growth v new in
+      let keeps : KeepsArchive v whole = record { runs = refl; kept = refl; archived = refl; runs_end = refl; mark = refl } in
+      record {
+        place = tt;
+        runs = λ told. runs-move v whole m after up later keeps (let marks = (runs told).marks in omega arith) (from-same new same told) (runs told);
+        goes = goes-same tells v whole keeps (from-same new same);
+      }
+
+  has-grown : (what : Grew) (growth : GrowthState) (said : JobDid) (new : StoreValue) → (IsTrue tells → archive_of new.disk ≡ archive_of v.disk) → HasGrown what growth v said new → Leaves tells v new after
+  has-grown grew.WroteZeros growth said new same done = subst (λ (x : StoreValue). Leaves tells v x after) (sym done.1) (moved v.transactions v.log v.turn (growing (growth_after growth)) new refl refl tt (from-same new same))
+  has-grown grew.ZerosSynced growth said new same done = subst (λ (x : StoreValue). Leaves tells v x after) (sym done.1) (moved v.transactions v.log v.turn (growing (growth_after growth)) new refl refl tt (from-same new same))
+  has-grown grew.GateWritten growth said new same done = subst (λ (x : StoreValue). Leaves tells v x after) (sym done.1) (moved v.transactions v.log v.turn (growing (growth_after growth)) new refl refl tt (from-same new same))
+  has-grown grew.Grown growth said new same done = subst (λ (x : StoreValue). Leaves tells v x after) (sym done.2) (grown-so growth new same)
+
+  growth-steps : (growth : GrowthState) (result : Result JobDid PumpFault) (new : StoreValue) → (IsTrue tells → archive_of new.disk ≡ archive_of v.disk)
+      → MatchResult result (λ what. HasGrown (grew_at growth.stage) growth v what new) (λ why. Path PumpFault why fault.Failed × (new ≡ job_fails v (growing (growth_after growth)) new)) → Leaves tells v new after
+  growth-steps growth (Ok said) new same done = has-grown (grew_at growth.stage) growth said new same done
+  growth-steps growth (Err why) new same done = subst (λ (x : StoreValue). Leaves tells v x after) (sym done.1) (moved (broken v.transactions) v.log v.turn (growing (growth_after growth)) new refl refl tt (from-same new same))
+
   stores : (work : JobWork) (result : Result JobDid PumpFault) (new : StoreValue) → v.job ≡ Some (record { work = work; stage = stages.Writing }) → HasPlace work v m → Stores tells work (record { work = work; stage = stages.Writing }) v result new → Leaves tells v new after
   stores (Archive run writer) result new is has does = archive-steps writer.left run writer result new is has does
-  stores (Floor floor) result new is has does = absurd does
+  stores (Floor scope floor floors) result new is has does = absurd does
+  stores (Grow growth) result new is has does =
+      growth-steps growth result new
+      (λ told. ap (λ (a : Areas). a.archive.bytes) (growth-alone growth.stage growth.slots growth.piece (disk_answer result) v.disk.areas new.disk.areas (does.call.areas told))) does.answer
   stores (Reclaim anchors source written) result new is has does = reclaim-steps (slice_get v.transactions.reserved written) anchors source written result new has does
 
   -- once the slot is open
@@ -241,8 +269,16 @@ module _ (tells : Bool) (v : StoreValue) (m after : Machine Value) (up : HasRisi
         runs = λ told. runs-move v whole m after up later keeps has (from-same new same told) (runs told);
         goes = goes-same tells v whole keeps (from-same new same);
       }
-  done (Floor floor) t new is has same =
-      let whole : StoreValue = slot_opened (work_done (Floor floor) v) t new in
+  done (Floor scope floor floors) t new is has same =
+      let whole : StoreValue = slot_opened (work_done (Floor scope floor floors) v) t new in
+      let keeps : KeepsArchive v whole = record { runs = refl; kept = refl; archived = refl; runs_end = refl; mark = refl } in
+      record {
+        place = tt;
+        runs = λ told. runs-move v whole m after up later keeps (let marks = (runs told).marks in omega arith) (from-same new same told) (runs told);
+        goes = goes-same tells v whole keeps (from-same new same);
+      }
+  done (Grow growth) t new is has same =
+      let whole : StoreValue = slot_opened (work_done (Grow growth) v) t new in
       let keeps : KeepsArchive v whole = record { runs = refl; kept = refl; archived = refl; runs_end = refl; mark = refl } in
       record {
         place = tt;
@@ -279,7 +315,8 @@ module _ (tells : Bool) (v : StoreValue) (m after : Machine Value) (up : HasRisi
   by-work : (work : JobWork) (job : Job) (result : Result JobDid PumpFault) (new : StoreValue) → HasPlace job.work v m → TurnsJob tells job (first_turn v job) (slot_taken (made_ready work v)) result new → Leaves tells v new after
   by-work (Archive run writer) job result new has takes = first-turned job (first_turn v job) v.transactions result new refl refl refl has takes
   by-work (Reclaim anchors source written) job result new has takes = first-turned job (first_turn v job) _ result new refl refl refl has takes
-  by-work (Floor floor) job result new has takes = first-turned job (first_turn v job) v.transactions result new refl refl refl has takes
+  by-work (Floor scope floor floors) job result new has takes = first-turned job (first_turn v job) v.transactions result new refl refl refl has takes
+  by-work (Grow growth) job result new has takes = first-turned job (first_turn v job) v.transactions result new refl refl refl has takes
 
   stored : (b : Bool) (job : Job) (result : Result JobDid PumpFault) (new : StoreValue) → JobHasPlace v m → HasPlace job.work v m → MatchBool b (Path (Result JobDid PumpFault) result (Err fault.Busy) × (new ≡ v)) (BeginsJobSlot tells job v result new) → Leaves tells v new after
   stored true job result new place has takes = unchanged new place takes.1

@@ -1,19 +1,13 @@
 -- The runs of a store go on standing in the archive's bytes, whatever the store does.
-use Rattle.std.proofs.Common.{◌≡◌, ℕ, zero, suc, ◌+◌, ◌<◌, ◌≤◌, ◌^◌, max, min, nat_le, nat_lt, Bool, true, false, IsTrue, List, [], ◌∷◌, ◌++◌, length, filter, Option, None, Some, Result, Ok, Err, MatchOption, refl, arith, ap, sym, subst, ◌∙◌, inl, inr, ⊎_elim, append_assoc}
-use Rattle.std.specs.Prelude.{◌⊎◌, slice_get, slice_index, Contains}
-use Rattle.std.specs.List.{flat_map, AllByRecursion}
-use Rattle.std.proofs.lemmas.Bool.{cases_lt}
+use Rattle.std.proofs.Common.{◌≡◌, ℕ, zero, suc, ◌<◌, ◌≤◌, ◌^◌, List, [], ◌∷◌, ◌++◌, length, filter, Result, Ok, Err, refl, arith, ap, sym, subst, ◌∙◌, inl, ⊎_elim}
 use Rattle.std.proofs.lemmas.Bool.Decides.{nat_tests}
 use Rattle.std.proofs.lemmas.List.{append-nil}
-use Rattle.std.proofs.lemmas.List.Elements.{filter-append}
-use Rattle.std.proofs.lemmas.Grind.{flat_map-append}
-use Rattle.disk.specs.Areas.{Areas, AreaState, area_of, with_area, loosened}
-use Rattle.disk.specs.Calls.{DiskState, IsTorn, Tears, MadeInPart, Writes, Syncs}
+use Rattle.disk.specs.Areas.{Areas}
+use Rattle.disk.specs.Calls.{IsTorn, Tears, MadeInPart, Writes, Syncs}
 use Rattle.disk.specs.Parts.{HoldsPart}
 use Rattle.disk.specs.declared.area.Area.TheVariants.{Status, Heap, Archive}
 use Rattle.disk.specs.declared.area.DeviceFault.{DeviceFault}
 use Rattle.disk.proofs.Parts.{held_again}
-use Rattle.history.specs.declared.key.Key.{Key}
 use Rattle.history.specs.declared.time.Version.{Version}
 use Rattle.history.specs.Versions.{ends_after, ends_by, versions}
 use Rattle.history.specs.Histories.{History, last, versions_of, writes_of, HasRisingTimes}
@@ -32,7 +26,7 @@ use Rattle.status.specs.SlotCalls.{SlotStage, IsSlotCall}
 use Rattle.status.specs.SlotCalls as slots
 use Rattle.archive.specs.declared.run.RunEntry.{RunEntry}
 use Rattle.archive.specs.Answers.{versions_in}
-use Rattle.archive.specs.Parts.{IsPart, IsRight, EndBy}
+use Rattle.archive.specs.Parts.{IsRight, EndBy}
 use Rattle.archive.specs.Runs.{HoldsRun, HoldRuns, RunsEndBy, run_bytes, run_end}
 use Rattle.standing.specs.Homes.{AreArchived, KeepsUpTo}
 

@@ -1,24 +1,19 @@
 -- The runs of a store, and what its views need of them, are kept by each call.
-use Rattle.std.proofs.Common.{◌≡◌, ℕ, zero, suc, ◌+◌, ◌<◌, ◌≤◌, ◌^◌, ◌==◌, ◌&&◌, Bool, true, false, IsTrue, List, [], ◌∷◌, ◌++◌, length, filter, is_some, Option, None, Some, Result, Ok, Err, MatchBool, MatchOption, MatchResult, slice_get, refl, arith, ap, sym, subst, ◌∙◌, inl, inr, ⊎_elim}
+use Rattle.std.proofs.Common.{◌≡◌, ℕ, zero, suc, ◌+◌, ◌≤◌, ◌==◌, ◌&&◌, Bool, true, false, IsTrue, List, [], ◌∷◌, ◌++◌, filter, Option, None, Some, MatchOption, slice_get, refl, arith, ap, sym, subst, ◌∙◌}
 use Rattle.std.specs.Prelude.{Contains}
-use Rattle.std.specs.List.{AllByRecursion}
 use Rattle.std.proofs.lemmas.Bool.Decides.{nat_tests}
 use Rattle.std.proofs.lemmas.List.{append-nil}
 use Rattle.std.proofs.lemmas.List.Elements.{filter-append}
 use Rattle.std.proofs.lemmas.Grind.{flat_map-append}
-use Rattle.disk.specs.Calls.{DiskState}
 use Rattle.disk.specs.Parts.{HoldsPart}
-use Rattle.disk.specs.declared.area.Area.{Area}
-use Rattle.disk.specs.declared.area.Area.TheVariants as areas
 use Rattle.history.specs.declared.key.Key.{Key}
 use Rattle.history.specs.declared.time.Version.{Version}
 use Rattle.history.specs.Versions.{ends_after, ends_by}
-use Rattle.history.specs.Histories.{History, last, versions_of, HasRisingTimes}
+use Rattle.history.specs.Histories.{History, versions_of, HasRisingTimes}
 use Rattle.history.specs.Machine.{Machine}
 use Rattle.image.specs.Values.{Value}
-use Rattle.image.specs.Reading.{ArchiveRecord}
 use Rattle.image.specs.Facts.{run_versions}
-use Rattle.image.specs.StandsFor.{IsRun, IsArchived}
+use Rattle.image.specs.StandsFor.{IsArchived}
 use Rattle.reading.proofs.Lists.{weaker}
 use Rattle.wire.specs.declared.slot.Run.{Run}
 use Rattle.archive.specs.declared.run.RunEntry.{RunEntry}
@@ -26,16 +21,16 @@ use Rattle.archive.specs.Answers.{versions_in}
 use Rattle.archive.specs.Parts.{IsRight, EndBy}
 use Rattle.archive.specs.Runs.{HoldsRun, HoldRuns, RunsEndBy, run_bytes, run_end}
 use Rattle.archive.specs.Searches.{archive_of}
-use Rattle.status.specs.TurnState.{LogState}
 use Rattle.timequery.specs.View.{mark_of, mark_after}
-use Rattle.transactions.specs.Values.{TransactionsValue}
+use Rattle.floors.specs.Floors.{floor_at}
+use Rattle.floors.proofs.Owns.{same-floors}
 use Rattle.store.specs.Calls.{same_run, is_front}
-use Rattle.store.specs.Values.{ArchiveValue, StoreValue}
+use Rattle.store.specs.Values.{StoreValue}
 use Rattle.store.specs.declared.job.Job.{Job}
 use Rattle.store.specs.declared.job.JobWork.{JobWork}
-use Rattle.store.specs.declared.job.JobWork.TheVariants.{Archive, Reclaim, Floor}
+use Rattle.store.specs.declared.job.JobWork.TheVariants.{Archive, Reclaim, Floor, Grow}
 use Rattle.standing.specs.Homes.{AreArchived, HasPlace, JobHasPlace, RunsStand, KeepsUpTo, GoesOn}
-use Rattle.standing.proofs.RunsKept.{runs-held, runs-more, ends-later, ends-more, right-kept, archived-later, IsLater, last-rises, up_to-same}
+use Rattle.standing.proofs.RunsKept.{runs-held, runs-more, ends-later, ends-more, right-kept, archived-later, IsLater, last-rises}
 use Rattle.standing.proofs.RunsAhead.{RunReady}
 
 -- ---- where no run is added
@@ -85,7 +80,8 @@ pub place-move : (work : JobWork) (old new : StoreValue) (m after : Machine Valu
 place-move (Archive run writer) old new m after higher runs next archived has =
     (has.0, has.1, has.2 ∙ sym archived, (λ relation. let low = has.3 relation in let high = higher relation in omega arith), next ∙ has.4 ∙ ap (λ (rs : List RunEntry). rs ++ has.0 ∷ []) (sym runs))
 place-move (Reclaim anchors source written) old new m after higher runs next archived has = let low : anchors.upto ≤ old.archived = has in omega arith
-place-move (Floor floor) old new m after higher runs next archived has = tt
+place-move (Floor scope floor floors) old new m after higher runs next archived has = tt
+place-move (Grow growth) old new m after higher runs next archived has = tt
 
 pub job-place-move : (o : Option Job) (old new : StoreValue) (m after : Machine Value) → ((relation : ℕ) → m.floors relation ≤ after.floors relation) → new.archive.runs ≡ old.archive.runs → new.archive.next ≡ old.archive.next → new.archived ≡ old.archived
     → MatchOption o (Unit {0}) (λ job. HasPlace job.work old m) → MatchOption o (Unit {0}) (λ job. HasPlace job.work new after)
@@ -103,7 +99,7 @@ mark-more mark [] run = refl
 mark-more mark (r ∷ rs) run = mark-more r.slot.upto rs run
 
 pub runs-done : (old new : StoreValue) (m after : Machine Value) (run : Run) (entry : RunEntry) → HasRisingTimes 0 m.published → IsLater m after → RunsStand old m → RunReady old m run
-    → entry.slot ≡ run → entry.mark ≡ old.archived → ((relation : ℕ) → entry.floor ≤ m.floors relation)
+    → entry.slot ≡ run → entry.mark ≡ old.archived → ((relation : ℕ) → floor_at entry.floors relation ≤ m.floors relation)
     → new.archive.runs ≡ old.archive.runs ++ entry ∷ [] → new.archive.kept ≡ old.archive.kept → new.archived ≡ run.upto → new.runs_end ≡ run.start + run.len → new.transactions.reclaimed ≡ old.transactions.reclaimed
     → archive_of new.disk ≡ archive_of old.disk → RunsStand new after
 runs-done old new m after run entry up later stand ready slot mark floor runs kept archived end reclaimed same =
@@ -138,7 +134,7 @@ runs-done old new m after run entry up later stand ready slot mark floor runs ke
       records_are = ready.many ∙ ap (λ (r : Run). r.records) (sym slot);
       each = ready.each;
       rules = record {
-        each = weaker (IsArchived old.archived m.floors run.upto) (IsArchived entry.mark (λ relation. entry.floor) entry.slot.upto) ready.records
+        each = weaker (IsArchived old.archived m.floors run.upto) (IsArchived entry.mark (floor_at entry.floors) entry.slot.upto) ready.records
             (λ r is.
             let low = floor r.key.relation in
             let after = is.after_floor in
@@ -160,8 +156,11 @@ runs-done old new m after run entry up later stand ready slot mark floor runs ke
 
 -- ---- fronts
 
+equal : (n : ℕ) → (n == n) ≡ true
+equal n = grind (arith, nat_tests)
+
 same-self : (run : RunEntry) → same_run run run ≡ true
-same-self run = grind (arith, nat_tests)
+same-self run = rw (equal run.slot.upto) (rw (equal run.slot.start) (rw (equal run.slot.len) (rw (equal run.slot.records) (rw (equal run.mark) (same-floors run.floors)))))
 
 pub front-self : (runs : List RunEntry) → is_front runs runs ≡ true
 front-self [] = refl

@@ -1,36 +1,31 @@
 -- A view of what is published, and what a query of it leaves.
-use Rattle.std.proofs.Common.{◌≡◌, ℕ, ◌+◌, ◌<◌, ◌≤◌, ◌==◌, ◌&&◌, Bool, true, false, IsTrue, List, [], ◌∷◌, ◌++◌, filter, Option, None, Some, Result, Ok, Err, Vec, MatchBool, MatchOption, slice_get, refl, arith, ap, sym, subst, ◌∙◌, inl, inr, ⊎_elim}
+use Rattle.std.proofs.Common.{◌≡◌, ℕ, ◌≤◌, ◌==◌, ◌&&◌, Bool, true, false, IsTrue, List, [], filter, Option, Result, Err, Vec, MatchBool, refl, arith, ap, sym, subst, ◌∙◌, inl, inr, ⊎_elim}
 use Rattle.std.specs.declared.alloc.Global.{Global}
 use Rattle.std.proofs.lemmas.Bool.Decides.{nat_tests}
-use Rattle.std.proofs.lemmas.List.{append-nil}
-use Rattle.disk.specs.Calls.{DiskState}
 use Rattle.history.specs.declared.key.Key.{Key}
 use Rattle.history.specs.declared.time.Version.{Version}
-use Rattle.history.specs.Histories.{History, last}
+use Rattle.history.specs.Histories.{History}
 use Rattle.history.specs.Machine.{Machine}
 use Rattle.history.specs.Answers as answers
 use Rattle.history.specs.Versions.{ends_after}
 use Rattle.history.proofs.Histories.{may_follow-front}
 use Rattle.image.specs.Values.{Value, IsValue}
-use Rattle.archive.specs.declared.run.RunEntry.{RunEntry}
-use Rattle.archive.specs.Runs.{RunsEndBy, run_end}
 use Rattle.archive.specs.Searches.{archive_of}
-use Rattle.timequery.specs.Faults.{after_query}
 use Rattle.timequery.specs.Homes.{ReadsHistory}
-use Rattle.timequery.specs.View.{ViewValue, mark_of}
+use Rattle.timequery.specs.View.{ViewValue}
 use Rattle.timequery.specs.declared.fault.QueryFault.{QueryFault}
 use Rattle.timequery.specs.declared.fault.QueryFault.TheVariants as query
+use Rattle.floors.specs.Floors.{floor_at}
 use Rattle.store.specs.Calls as stores
 use Rattle.store.specs.Calls.{Asks, OrStranger, is_own, is_front, same_run}
 use Rattle.store.specs.Values.{StoreValue}
-use Rattle.standing.specs.Homes.{AreArchived, ViewStands, ViewReads, RunsOfView, RunsStand, GoesOn, IsSure}
+use Rattle.standing.specs.Homes.{AreArchived, ViewStands, ViewReads, GoesOn, IsSure}
 use Rattle.standing.specs.Laws.{SaysAt, SaysScanAt, SaysBetween, SaysScanBetween}
-use Rattle.standing.specs.OnDisk.{StandsOnDisk, Works}
 use Rattle.standing.specs.Stands.{Stands}
 use Rattle.standing.proofs.Memory.{last-is}
 use Rattle.standing.proofs.Queries.{Knows, at-found, scan_at-found, between-found, scan_between-found}
-use Rattle.standing.proofs.RunsKept.{runs-held, ends-later, up_to-same}
-use Rattle.standing.proofs.RunsStep.{front-self, front-more, job-place-move}
+use Rattle.standing.proofs.RunsKept.{runs-held, ends-later}
+use Rattle.standing.proofs.RunsStep.{front-self, front-more}
 
 -- ---- a view that is taken
 
@@ -93,8 +88,8 @@ reads-history tells v m view h floors stands of reads told =
         newest_is = of.last_is;
         homes = record {
           marks = r.marks;
-          in_heap = λ key. floor-moved view.floor (floors key.relation) _ _ (of.floor_is key.relation) (of.memory.at_home key);
-          in_archive = λ key. floor-moved view.floor (floors key.relation) _ _ (of.floor_is key.relation) (r.archived key);
+          in_heap = λ key. floor-moved (floor_at view.floors key.relation) (floors key.relation) _ _ (of.floor_is key.relation) (of.memory.at_home key);
+          in_archive = λ key. floor-moved (floor_at view.floors key.relation) (floors key.relation) _ _ (of.floor_is key.relation) (r.archived key);
         };
       };
     }

@@ -1,16 +1,11 @@
 -- The calls of a store keep its runs too, and go on.
-use Rattle.std.proofs.Common.{◌≡◌, ℕ, ◌+◌, ◌<◌, ◌≤◌, ◌^◌, ◌++◌, Bool, true, false, IsTrue, List, [], ◌∷◌, Option, None, Some, Result, Ok, Err, MatchBool, MatchOption, refl, arith, ap, sym, subst, ◌∙◌, append-nil}
+use Rattle.std.proofs.Common.{◌≡◌, ℕ, ◌++◌, Bool, true, false, IsTrue, List, [], Option, None, Some, Result, Ok, Err, MatchBool, MatchOption, refl, arith, ap, sym, subst, ◌∙◌, append-nil}
 use Rattle.disk.specs.Areas.{AreSound}
-use Rattle.disk.specs.Calls.{DiskState}
-use Rattle.history.specs.Histories.{HasRisingTimes}
 use Rattle.history.specs.Floors.{Raising}
 use Rattle.history.specs.Machine.{Machine}
 use Rattle.history.specs.Steps.{Run, floor_started}
 use Rattle.image.specs.Values.{Value, IsValue}
-use Rattle.archive.specs.declared.run.RunEntry.{RunEntry}
-use Rattle.archive.specs.Runs.{RunsEndBy}
 use Rattle.archive.specs.Searches.{archive_of}
-use Rattle.wire.specs.declared.slot.Run.{Run as WireRun}
 use Rattle.group.specs.declared.answers.Did.{Did}
 use Rattle.group.specs.declared.answers.PumpFault.{PumpFault}
 use Rattle.group.specs.declared.answers.PumpFault.TheVariants as pump
@@ -19,17 +14,18 @@ use Rattle.store.specs.Pumps.{Pumps}
 use Rattle.store.specs.Archives.{refusal_now, BeginsRun, IsArchiveBegun, StartsArchive, with_archive}
 use Rattle.store.specs.Jobs.{PumpsJob}
 use Rattle.store.specs.Reclaims.{reclaim_refusal, with_reclaim, BeginsReclaim, StartsReclaim}
-use Rattle.store.specs.Floors.{floor_refusal, with_floor, StartsFloor}
+use Rattle.floors.specs.Floors.{FloorsValue, floor_at}
+use Rattle.store.specs.Floors.{floor_refusal, with_floor, BeginsFloor, StartsFloor}
 use Rattle.store.specs.declared.job.JobDid.{JobDid}
 use Rattle.store.specs.declared.job.StartFault.{StartFault}
 use Rattle.store.specs.declared.job.StartFault.TheVariants as start
-use Rattle.standing.specs.Homes.{JobHasPlace, RunsStand, GoesOn}
+use Rattle.standing.specs.Homes.{GoesOn}
 use Rattle.standing.specs.Laws.{begins_in, ends_in, job_ends_in}
-use Rattle.standing.specs.Stands.{Stands, StandsBeside}
-use Rattle.standing.specs.Calls.{raising_to, StartsOn}
+use Rattle.standing.specs.Stands.{StandsStill as Stands, StandsBeside}
+use Rattle.standing.specs.Calls.{raising_to, StartsTo}
 use Rattle.standing.proofs.RunsKept.{IsLater, run-later, same-later, machine-rises, up_to-same, up_to-is}
 use Rattle.standing.proofs.RunsStep.{KeepsArchive, runs-move, goes-same}
-use Rattle.standing.proofs.RunsCalls.{Leaves, StaysBeside, KnowsRun, beside-leaves, pump-stays, job_pump-leaves}
+use Rattle.standing.proofs.RunsCalls.{Leaves, KnowsRun, beside-leaves, pump-stays, job_pump-leaves}
 use Rattle.standing.proofs.RunsAhead.{piece-behind, run-ready}
 use Rattle.standing.proofs.Archiving as archiving
 use Rattle.standing.proofs.Reclaiming as reclaiming
@@ -91,7 +87,7 @@ begun-left tells old new upto m stands begun =
     let made : StoreValue = with_archive old upto begun.entry in
     let keeps : KeepsArchive old made = record { runs = refl; kept = refl; archived = refl; runs_end = refl; mark = refl } in
     subst (λ (x : StoreValue). Leaves tells old x m) (sym begun.new_is) (record {
-      place = (begun.entry, begun.slot, begun.mark, (λ relation. let same = stands.memory.floors relation in let is = begun.floor_is in omega arith), refl);
+      place = (begun.entry, begun.slot, begun.mark, (λ relation. let same = stands.memory.floors relation in let is = ap (λ (f : FloorsValue). floor_at f relation) begun.floors_are in omega (arith, same, is)), refl);
       runs = λ told. runs-move old made m m (machine-rises m stands.machine) (same-later m) keeps (stands.runs told).marks (up_to-same old.runs_end (archive_of old.disk)) (stands.runs told);
       goes = goes-same tells old made keeps (λ told. up_to-same old.runs_end (archive_of old.disk));
     })
@@ -156,9 +152,9 @@ archive-start-goes tells old new upto answer m stands starts = (start-left tells
 
 -- ---- the beginning of a floor
 
-floor-begun-left : (tells : Bool) (old new : StoreValue) (floor : ℕ) (m after : Machine Value) → Stands tells old m → after.published ≡ m.published → after.floors ≡ m.floors → new ≡ with_floor old floor → Leaves tells old new after
-floor-begun-left tells old new floor m after stands published floors is =
-    let made : StoreValue = with_floor old floor in
+floor-begun-left : (tells : Bool) (old new : StoreValue) (scope : Option ℕ) (floor : ℕ) (m after : Machine Value) → Stands tells old m → after.published ≡ m.published → after.floors ≡ m.floors → new ≡ with_floor old scope floor → Leaves tells old new after
+floor-begun-left tells old new scope floor m after stands published floors is =
+    let made : StoreValue = with_floor old scope floor in
     let keeps : KeepsArchive old made = record { runs = refl; kept = refl; archived = refl; runs_end = refl; mark = refl } in
     let later : IsLater m after = record { more = []; published = published ∙ sym (append-nil m.published); rising = tt; floors = λ relation. (let same = ap (λ (f : ℕ → ℕ). f relation) floors in omega arith) } in
     subst (λ (x : StoreValue). Leaves tells old x after) (sym is) (record {
@@ -167,39 +163,48 @@ floor-begun-left tells old new floor m after stands published floors is =
       goes = goes-same tells old made keeps (λ told. up_to-same old.runs_end (archive_of old.disk));
     })
 
-pub floor-start-stands : (tells : Bool) (old new : StoreValue) (floor : ℕ) (answer : Result (Unit {0}) StartFault) (m : Machine Value) → Stands tells old m → StartsFloor old floor answer new → StartsOn tells m (raising_to floor) answer new
-floor-start-stands tells old new floor answer m stands starts = by-refusal (floor_refusal old floor) refl starts
+pub floor-start-stands : (tells : Bool) (old new : StoreValue) (scope : Option ℕ) (floor : ℕ) (answer : Result (Unit {0}) StartFault) (m : Machine Value) → Stands tells old m → StartsFloor old scope floor answer new → StartsTo (Stands tells) m (raising_to scope floor) answer new
+floor-start-stands tells old new scope floor answer m stands starts = by-refusal (floor_refusal old scope floor) refl starts
   where
     r : Raising
-    r = raising_to floor
+    r = raising_to scope floor
 
     kept : new ≡ old → Stands tells new m
     kept is = subst (λ (x : StoreValue). Stands tells x m) (sym is) stands
 
-    refused : (why : StartFault) → Refuses m r why → Stands tells new m → StartsOn tells m r (Err why) new
+    refused : (why : StartFault) → Refuses m r why → Stands tells new m → StartsTo (Stands tells) m r (Err why) new
     refused start.NothingToDo is same = (is, same)
     refused (start.NotYet time) is same = (is, same)
     refused (start.InUse snapshot) is same = (is, same)
     refused start.Failed is same = (is, same)
+    refused start.WrongProfile is same = same
     refused start.JobBusy is same = same
     refused start.StatusFull is same = same
     refused start.ArchiveFull is same = absurd is
     refused start.HeapFull is same = absurd is
     refused start.NoMemory is same = absurd is
+    refused start.NotGrowable is same = absurd is
 
-    by-refusal : (o : Option StartFault) → floor_refusal old floor ≡ o → MatchOption o ((answer ≡ Ok tt) × (new ≡ with_floor old floor)) (λ why. (answer ≡ Err why) × (new ≡ old)) → StartsOn tells m r answer new
-    by-refusal None none is =
-        let begun = floors.begins tells old floor m (beside tells old m stands) none in
-        subst (λ (a : Result (Unit {0}) StartFault). StartsOn tells m r a new) (sym is.0)
-        (begun.0, whole tells old new (floor_started m r) (subst (λ (x : StoreValue). StandsBeside tells x (floor_started m r)) (sym is.1) begun.1) (floor-begun-left tells old new floor m (floor_started m r) stands refl refl is.1))
+    begun : floor_refusal old scope floor ≡ None → (said : Result (Unit {0}) StartFault) → BeginsFloor old scope floor said new → StartsTo (Stands tells) m r said new
+    begun none (Ok done) is =
+        let starts = floors.begins tells old scope floor m (beside tells old m stands) none is.0 in
+        (starts.0, whole tells old new (floor_started m r) (subst (λ (x : StoreValue). StandsBeside tells x (floor_started m r)) (sym is.1) starts.1) (floor-begun-left tells old new scope floor m (floor_started m r) stands refl refl is.1))
+    begun none (Err why) is = subst (λ (e : StartFault). StartsTo (Stands tells) m r (Err e) new) (sym is.0) (is.1, kept is.2)
+
+    by-refusal : (o : Option StartFault) → floor_refusal old scope floor ≡ o → MatchOption o (BeginsFloor old scope floor answer new) (λ why. (answer ≡ Err why) × (new ≡ old)) → StartsTo (Stands tells) m r answer new
+    by-refusal None none is = begun none answer is
     by-refusal (Some why) some is =
-        subst (λ (a : Result (Unit {0}) StartFault). StartsOn tells m r a new) (sym is.0) (refused why (floors.refuses tells old floor m (beside tells old m stands) why some) (kept is.1))
+        subst (λ (a : Result (Unit {0}) StartFault). StartsTo (Stands tells) m r a new) (sym is.0) (refused why (floors.refuses tells old scope floor m (beside tells old m stands) why some) (kept is.1))
 
-pub floor-start-goes : (tells : Bool) (old new : StoreValue) (floor : ℕ) (answer : Result (Unit {0}) StartFault) (m : Machine Value) → Stands tells old m → StartsFloor old floor answer new → GoesOn tells old new
-floor-start-goes tells old new floor answer m stands starts = by-refusal (floor_refusal old floor) starts
+pub floor-start-goes : (tells : Bool) (old new : StoreValue) (scope : Option ℕ) (floor : ℕ) (answer : Result (Unit {0}) StartFault) (m : Machine Value) → Stands tells old m → StartsFloor old scope floor answer new → GoesOn tells old new
+floor-start-goes tells old new scope floor answer m stands starts = by-refusal (floor_refusal old scope floor) starts
   where
-    by-refusal : (o : Option StartFault) → MatchOption o ((answer ≡ Ok tt) × (new ≡ with_floor old floor)) (λ why. (answer ≡ Err why) × (new ≡ old)) → GoesOn tells old new
-    by-refusal None is = (floor-begun-left tells old new floor m m stands refl refl is.1).goes
+    begun : (said : Result (Unit {0}) StartFault) → BeginsFloor old scope floor said new → GoesOn tells old new
+    begun (Ok done) is = (floor-begun-left tells old new scope floor m m stands refl refl is.1).goes
+    begun (Err why) is = (left-same tells old new m stands is.2).goes
+
+    by-refusal : (o : Option StartFault) → MatchOption o (BeginsFloor old scope floor answer new) (λ why. (answer ≡ Err why) × (new ≡ old)) → GoesOn tells old new
+    by-refusal None is = begun answer is
     by-refusal (Some why) is = (left-same tells old new m stands is.1).goes
 
 -- ---- calls that change the transactions alone

@@ -1,5 +1,5 @@
 -- A store that works: what is said of it in memory and of its disk, in one place.
-use Rattle.std.proofs.Common.{◌≡◌, ℕ, ◌<◌, ◌≤◌, false, IsTrue, Bool, List, length, Option, None, Some, refl, arith, sym, ◌∙◌}
+use Rattle.std.proofs.Common.{◌≡◌, ℕ, ◌<◌, ◌≤◌, false, IsTrue, Bool, length, Option, None, Some, refl, arith, sym, ◌∙◌}
 use Rattle.history.specs.Machine.{Machine, Shut, IsMachine}
 use Rattle.image.specs.Values.{Value, IsValue}
 use Rattle.status.specs.declared.header.Header.{Header}
@@ -37,6 +37,7 @@ pub record Working (v : StoreValue) (m : Machine Value) : Type 0 where
   pub on : m.failed ≡ false
   pub profile : v.log.profile ≡ header.profile
   pub slots : v.log.slots ≡ total header
+  pub pieces : v.log.pieces ≡ header.pieces
   pub profile_built : IsTrue (is_built header.profile 1)
   pub works : Works header v m
 
@@ -50,6 +51,7 @@ working tells v m s on told = record {
   on = on;
   profile = (s.disk told).profile;
   slots = (s.disk told).slots;
+  pieces = (s.disk told).pieces;
   profile_built = (s.disk told).profile_built;
   works = (s.disk told).works on;
 }
@@ -77,7 +79,7 @@ gate-beside (Some t) before after shut still = refl
 
 -- ---- room in the log
 
-claims-some : (s : GroupStage) (group waiting : ℕ) → 0 < group → group ≤ waiting → 0 < claimed_by s group waiting
+pub claims-some : (s : GroupStage) (group waiting : ℕ) → 0 < group → group ≤ waiting → 0 < claimed_by s group waiting
 claims-some NoGroup group waiting some within = omega (arith, some, within)
 claims-some (Storing member extent) group waiting some within = omega (arith, some, within)
 claims-some Stored group waiting some within = omega (arith, some, within)

@@ -1,5 +1,5 @@
 -- The runs of a store's archive, what views need of them, and what stays of them while the store goes on.
-use Rattle.std.specs.Prelude.{ℕ, ◌≡◌, ◌+◌, ◌≤◌, ◌⊎◌, ◌++◌, ◌∷◌, [], Bool, true, IsTrue, List, length, filter, Option, MatchOption}
+use Rattle.std.specs.Prelude.{ℕ, ◌≡◌, ◌+◌, ◌≤◌, ◌⊎◌, ◌++◌, ◌∷◌, [], Bool, true, IsTrue, List, length, filter, MatchOption}
 use Rattle.disk.specs.Parts.{HoldsPart}
 use Rattle.history.specs.declared.key.Key.{Key}
 use Rattle.history.specs.Versions.{ends_after, ends_by}
@@ -7,6 +7,7 @@ use Rattle.history.specs.Histories.{History, last, versions_of, IsHistory}
 use Rattle.history.specs.Machine.{Machine}
 use Rattle.image.specs.Values.{Value, IsValue}
 use Rattle.image.specs.Reading.{ArchiveRecord}
+use Rattle.floors.specs.Floors.{floor_at}
 use Rattle.archive.specs.declared.run.RunEntry.{RunEntry}
 use Rattle.archive.specs.Answers.{versions_in}
 use Rattle.archive.specs.Parts.{IsRight, EndBy}
@@ -15,9 +16,8 @@ use Rattle.archive.specs.Searches.{archive_of}
 use Rattle.timequery.specs.View.{ViewValue, mark_of}
 use Rattle.store.specs.Calls.{is_front}
 use Rattle.store.specs.Values.{StoreValue}
-use Rattle.store.specs.declared.job.Job.{Job}
 use Rattle.store.specs.declared.job.JobWork.{JobWork}
-use Rattle.store.specs.declared.job.JobWork.TheVariants.{Archive, Reclaim, Floor}
+use Rattle.store.specs.declared.job.JobWork.TheVariants.{Archive, Reclaim, Floor, Grow}
 use Rattle.standing.specs.Standing.{HasWrites}
 
 -- ---- the store's runs
@@ -30,9 +30,10 @@ AreArchived h floors mark lists =
 -- The run that a job makes has its place behind the others. A reclaim goes no further than the archive does.
 abbrev pub HasPlace : JobWork → StoreValue → Machine Value → Type 0
 HasPlace (Archive run writer) v m =
-    (entry : RunEntry) × (entry.slot ≡ run) × (entry.mark ≡ v.archived) × ((relation : ℕ) → entry.floor ≤ m.floors relation) × (v.archive.next ≡ v.archive.runs ++ entry ∷ [])
+    (entry : RunEntry) × (entry.slot ≡ run) × (entry.mark ≡ v.archived) × ((relation : ℕ) → floor_at entry.floors relation ≤ m.floors relation) × (v.archive.next ≡ v.archive.runs ++ entry ∷ [])
 HasPlace (Reclaim anchors source written) v m = anchors.upto ≤ v.archived
-HasPlace (Floor floor) v m = Unit {0}
+HasPlace (Floor scope floor floors) v m = Unit {0}
+HasPlace (Grow growth) v m = Unit {0}
 
 abbrev pub JobHasPlace : StoreValue → Machine Value → Type 0
 JobHasPlace v m = MatchOption v.job (Unit {0}) (λ job. HasPlace job.work v m)
@@ -54,7 +55,7 @@ pub record RunsStand (v : StoreValue) (m : Machine Value) : Type 0 where
 -- What a view has of a history by itself: its memory has what the history says, from its reclaim mark on.
 pub record ViewStands (view : ViewValue) (h : History Value) (floors : ℕ → ℕ) : Type 0 where
   pub last_is : view.last ≡ last h
-  pub floor_is : (relation : ℕ) → view.floor ≡ floors relation
+  pub floor_is : (relation : ℕ) → floor_at view.floors relation ≡ floors relation
   pub history : IsHistory IsValue h
   pub memory : HasWrites floors view.reclaimed view.state h
 

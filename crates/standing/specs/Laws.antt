@@ -1,11 +1,10 @@
 -- The calls of a store are steps of the machine.
-use Rattle.std.specs.Prelude.{ℕ, ◌≡◌, ◌≤◌, ◌==◌, ◌&&◌, nat_lt, List, [], ◌∷◌, length, Option, None, Some, Result, Ok, Err, MatchBool, if◌then◌else◌}
+use Rattle.std.specs.Prelude.{ℕ, ◌≡◌, ◌≤◌, ◌==◌, ◌&&◌, nat_lt, List, [], ◌∷◌, length, Option, None, Some, Result, Ok, Err, if◌then◌else◌}
 use Rattle.std.specs.declared.alloc.Global.{Global}
 use Rattle.std.specs.declared.vec.Vec.{Vec}
 use Rattle.history.specs.Floors.{Raising}
 use Rattle.history.specs.declared.key.Key.{Key}
 use Rattle.history.specs.declared.time.Version.{Version}
-use Rattle.history.specs.Histories as histories
 use Rattle.history.specs.Histories.{History, HasRisingTimes, last}
 use Rattle.history.specs.Machine.{Machine, Gate, Shut, Due, MayBeOpen, OfGroup, OfFloor}
 use Rattle.history.specs.Answers as answers
@@ -14,17 +13,15 @@ use Rattle.history.specs.Submissions.{Submission, Decision, commit_made}
 use Rattle.history.specs.Steps.{Event, Step, Run, Began, BeginRefused, Aborted, Decided, Refused, GroupBegan, Published, FloorPublished, GateDue, GateWritten, Broke, begun}
 use Rattle.history.specs.Steps as steps
 use Rattle.image.specs.Values.{Value, IsValue}
-use Rattle.chains.specs.KeyWrites.{KeyWrites, writes_of, IsOrdered, forgotten}
+use Rattle.chains.specs.KeyWrites.{KeyWrites, forgotten}
 use Rattle.snapshot.specs.Txn.{TxnValue}
 use Rattle.group.specs.declared.answers.BeginFault.{BeginFault}
 use Rattle.group.specs.declared.answers.BeginFault.TheVariants as fault
 use Rattle.group.specs.CommitOrder as orders
 use Rattle.group.specs.declared.answers.Redeemed.{Redeemed}
 use Rattle.group.specs.declared.answers.Redeemed.TheVariants as redeemed
-use Rattle.timequery.specs.View.{ViewValue}
 use Rattle.timequery.specs.declared.fault.QueryFault.{QueryFault}
 use Rattle.timequery.specs.declared.fault.QueryFault.TheVariants as query
-use Rattle.store.specs.Calls as stores
 use Rattle.store.specs.declared.job.JobDid.{JobDid}
 use Rattle.store.specs.declared.job.JobDid.TheVariants as job_did
 use Rattle.group.specs.declared.answers.Submitted.{Submitted}
@@ -37,7 +34,6 @@ use Rattle.group.specs.declared.answers.Did.{Did}
 use Rattle.group.specs.declared.answers.Did.TheVariants as did
 use Rattle.group.specs.declared.answers.PumpFault.{PumpFault}
 use Rattle.group.specs.declared.answers.PumpFault.TheVariants as pump
-use Rattle.store.specs.Values.{StoreValue}
 use Rattle.standing.specs.Standing.{HasWrites, StandsInMemory}
 
 -- what the machine does in a begin, by its answer
@@ -99,6 +95,8 @@ floor_ends_in job_did.WroteRun r = []
 floor_ends_in job_did.RunSynced r = []
 floor_ends_in job_did.WroteExtent r = []
 floor_ends_in job_did.HeapSynced r = []
+floor_ends_in job_did.WroteZeros r = []
+floor_ends_in job_did.ZerosSynced r = []
 floor_ends_in job_did.BodyWritten r = []
 floor_ends_in job_did.BodySynced r = GateDue OfFloor ∷ []
 floor_ends_in job_did.GateWritten r = GateWritten OfFloor ∷ []

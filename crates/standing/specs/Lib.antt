@@ -5,3 +5,4 @@ pub mod Stands
 pub mod Calls
 pub mod Homes
 pub mod Views
+pub mod Leaving

@@ -3,12 +3,13 @@ use Rattle.std.specs.Prelude.{ℕ, ◌≡◌, ◌<◌, ◌≤◌, ◌+◌, ◌^�
 use Rattle.std.specs.List.{AllByRecursion, flat_map}
 use Rattle.disk.specs.Areas.{AreaState, Areas, Image, AreSound, IsSound, LeavesImage}
 use Rattle.disk.specs.Parts.{HoldsPart}
-use Rattle.wire.specs.Spelling.{IsSpelled, IsRun, AreAnchors}
+use Rattle.wire.specs.Spelling.{IsSpelled, IsRun, AreAnchors, IsRelationOf}
 use Rattle.wire.specs.declared.slot.Anchors.{Anchors}
 use Rattle.wire.specs.declared.slot.Body.{Body}
 use Rattle.wire.specs.declared.slot.Body.TheVariants.{Commit as CommitBody, Archived as ArchivedBody, Reclaimed as ReclaimedBody, Floor as FloorBody}
 use Rattle.wire.specs.declared.slot.Slot.{Slot}
 use Rattle.history.specs.declared.key.Key.{Key}
+use Rattle.history.specs.Floors.{covers}
 use Rattle.history.specs.Histories as histories
 use Rattle.history.specs.Histories.{Commit, History}
 use Rattle.history.specs.Fronts.{OnFront}
@@ -16,7 +17,7 @@ use Rattle.history.specs.Machine.{Machine}
 use Rattle.image.specs.Values.{Value}
 use Rattle.image.specs.Reading.{OldRecord, Reading}
 use Rattle.image.specs.Facts.{latest, heap_facts}
-use Rattle.image.specs.Log.{IsScopeOf, floor_of}
+use Rattle.image.specs.Log.{floor_of}
 use Rattle.image.specs.Plans.{stored_record, stored_member, IsArchivePlan, IsReclaimPlan, with_run, with_anchors, with_floor}
 use Rattle.image.specs.StandsFor.{StandsFor, archived_upto, reclaimed_upto}
 use Rattle.chains.specs.KeyWrites.{KeyWrites, writes_of}
@@ -49,7 +50,7 @@ use Rattle.archive.specs.Pieces.{InWriting}
 use Rattle.vacuum.specs.Anchors.{Sourced}
 use Rattle.store.specs.declared.job.Job.{Job}
 use Rattle.store.specs.declared.job.JobWork.{JobWork}
-use Rattle.store.specs.declared.job.JobWork.TheVariants.{Archive, Reclaim, Floor}
+use Rattle.store.specs.declared.job.JobWork.TheVariants.{Archive, Reclaim, Floor, Grow}
 use Rattle.store.specs.declared.job.JobStage.{JobStage}
 use Rattle.store.specs.declared.job.JobStage.TheVariants as job
 use Rattle.store.specs.Values.{StoreValue, turn_of}
@@ -144,13 +145,13 @@ pub record StoredAnchors : Type 0 where
 pub data Product : Type 0 where
   OfRun : StoredRun → Product
   OfAnchors : StoredAnchors → Product
-  OfFloor : ℕ → Product
+  OfFloor : Option ℕ → ℕ → Product
 
 -- the slot that names it
 abbrev pub body_of : Product → Body
 body_of (OfRun run) = ArchivedBody run.entry
 body_of (OfAnchors a) = ReclaimedBody a.entry
-body_of (OfFloor floor) = FloorBody None floor
+body_of (OfFloor scope floor) = FloorBody scope floor
 
 abbrev pub slot_naming : ℕ → Product → Slot
 slot_naming number p = record { number = number; body = body_of p }
@@ -159,12 +160,12 @@ slot_naming number p = record { number = number; body = body_of p }
 abbrev pub laid_with : Layout → Product → Layout
 laid_with layout (OfRun run) = archived layout (slot_naming (length layout.slots) (OfRun run)) run
 laid_with layout (OfAnchors a) = reclaimed layout (slot_naming (length layout.slots) (OfAnchors a)) a.entry.upto a.extents
-laid_with layout (OfFloor floor) = floored layout (slot_naming (length layout.slots) (OfFloor floor))
+laid_with layout (OfFloor scope floor) = floored layout (slot_naming (length layout.slots) (OfFloor scope floor))
 
 abbrev pub read_with : Reading → Product → Reading
 read_with reading (OfRun run) = with_run reading run.entry.upto run.records
 read_with reading (OfAnchors a) = with_anchors reading a.olds
-read_with reading (OfFloor floor) = with_floor reading None floor
+read_with reading (OfFloor scope floor) = with_floor reading scope floor
 
 -- The run may come next: it is the plan of an archive, stands behind the other runs, and its numbers are in range.
 pub record IsNextRun (layout : Layout) (reading : Reading) (h : History Value) (run : StoredRun) : Type 0 where
@@ -183,17 +184,17 @@ pub record IsNextChain (reading : Reading) (a : StoredAnchors) : Type 0 where
   pub chain : IsAnchorChain a.entry a.extents a.olds
   pub in_range : AreAnchors a.entry
 
--- The floor of every relation may come next: it is above each that stands, and no later than the last commit.
-pub record IsNextFloor (reading : Reading) (h : History Value) (floor : ℕ) : Type 0 where
-  pub scope : IsScopeOf reading.profile None
-  pub rises : (relation : ℕ) → floor_of reading.log relation < floor
+-- The floor may come next: it is one of the profile's, above each that stands and that it covers, and no later than the last commit.
+pub record IsNextFloor (reading : Reading) (h : History Value) (scope : Option ℕ) (floor : ℕ) : Type 0 where
+  pub scope_is : IsRelationOf reading.profile scope
+  pub rises : (relation : ℕ) → IsTrue (covers scope relation) → floor_of reading.log relation < floor
   pub by_last : floor ≤ histories.last h
   pub in_range : floor < 2 ^ 63
 
 abbrev pub MayBeNext : Layout → Reading → History Value → Product → Type 0
 MayBeNext layout reading h (OfRun run) = IsNextRun layout reading h run
 MayBeNext layout reading h (OfAnchors a) = IsNextChain reading a
-MayBeNext layout reading h (OfFloor floor) = IsNextFloor reading h floor
+MayBeNext layout reading h (OfFloor scope floor) = IsNextFloor reading h scope floor
 
 -- ---- the job that makes it
 
@@ -201,13 +202,15 @@ MayBeNext layout reading h (OfFloor floor) = IsNextFloor reading h floor
 abbrev pub IsMadeBy : List ℕ → JobWork → Product → Type 0
 IsMadeBy reserved (Archive run writer) (OfRun r) = r.entry ≡ run
 IsMadeBy reserved (Archive run writer) (OfAnchors a) = ⊥
-IsMadeBy reserved (Archive run writer) (OfFloor floor) = ⊥
+IsMadeBy reserved (Archive run writer) (OfFloor scope floor) = ⊥
 IsMadeBy reserved (Reclaim anchors source written) (OfRun r) = ⊥
 IsMadeBy reserved (Reclaim anchors source written) (OfAnchors a) = (a.entry ≡ anchors) × (map (λ (e : Extent). e.number) a.extents ≡ reserved)
-IsMadeBy reserved (Reclaim anchors source written) (OfFloor floor) = ⊥
-IsMadeBy reserved (Floor floor) (OfRun r) = ⊥
-IsMadeBy reserved (Floor floor) (OfAnchors a) = ⊥
-IsMadeBy reserved (Floor floor) (OfFloor made) = made ≡ floor
+IsMadeBy reserved (Reclaim anchors source written) (OfFloor scope floor) = ⊥
+IsMadeBy reserved (Floor scope floor floors) (OfRun r) = ⊥
+IsMadeBy reserved (Floor scope floor floors) (OfAnchors a) = ⊥
+IsMadeBy reserved (Floor scope floor floors) (OfFloor of made) = (of ≡ scope) × (made ≡ floor)
+-- of a growth a slot says nothing: a store that grows is told of without it
+IsMadeBy reserved (Grow growth) p = ⊥
 
 -- the front of the run is written, and this is left of it
 pub record IsWritten (run : StoredRun) (writer : InWriting) (a : AreaState) : Type 0 where
@@ -224,17 +227,18 @@ pub record IsFilling (a : StoredAnchors) (source : Sourced) (written : ℕ) (hea
 abbrev pub IsMaking : JobWork → Product → Areas → Type 0
 IsMaking (Archive run writer) (OfRun r) areas = IsWritten r writer areas.archive
 IsMaking (Archive run writer) (OfAnchors a) areas = ⊥
-IsMaking (Archive run writer) (OfFloor floor) areas = ⊥
+IsMaking (Archive run writer) (OfFloor scope floor) areas = ⊥
 IsMaking (Reclaim anchors source written) (OfRun r) areas = ⊥
 IsMaking (Reclaim anchors source written) (OfAnchors a) areas = IsFilling a source written areas.heap
-IsMaking (Reclaim anchors source written) (OfFloor floor) areas = ⊥
-IsMaking (Floor floor) p areas = ⊥
+IsMaking (Reclaim anchors source written) (OfFloor scope floor) areas = ⊥
+IsMaking (Floor scope floor floors) p areas = ⊥
+IsMaking (Grow growth) p areas = ⊥
 
 -- whatever a stop may leave holds it
 abbrev pub KeepsProduct : Product → Areas → Type 0
 KeepsProduct (OfRun run) areas = KeepsRun areas.archive run
 KeepsProduct (OfAnchors a) areas = KeepsExtents a.extents areas.heap
-KeepsProduct (OfFloor floor) areas = Unit {0}
+KeepsProduct (OfFloor scope floor) areas = Unit {0}
 
 -- the slot in the writing is the one that names it
 abbrev pub IsTurnFor : Header → Layout → Product → TurnState → Areas → Type 0
@@ -307,6 +311,7 @@ pub record StandsOnDisk (v : StoreValue) (m : Machine Value) : Type 0 where
   pub header : Header
   pub profile : v.log.profile ≡ header.profile
   pub slots : v.log.slots ≡ total header
+  pub pieces : v.log.pieces ≡ header.pieces
   pub profile_built : IsTrue (is_built header.profile 1)
   pub leaves : (image : Image) → LeavesImage v.disk.areas image → OnFront (IsImageOf header image) m
   pub works : m.failed ≡ false → Works header v m

@@ -1,5 +1,5 @@
 -- What a store holds in memory, and the state of the machine that it stands for.
-use Rattle.std.specs.Prelude.{ℕ, ◌≡◌, ◌<◌, ◌≤◌, Bool, true, List, [], ◌∷◌, ◌++◌, length, map, take, filter, filter_map, Option, Some, None, IsPermutation, Contains}
+use Rattle.std.specs.Prelude.{ℕ, ◌≡◌, ◌<◌, ◌≤◌, Bool, true, List, [], ◌∷◌, ◌++◌, length, map, take, filter, filter_map, Option, Some, IsPermutation, Contains}
 use Rattle.history.specs.declared.key.Key.{Key}
 use Rattle.history.specs.Time.{IsRisingAfter as IsRisingWrites, writes_after}
 use Rattle.history.specs.Versions.{versions as versions_in, ends_after}
@@ -7,6 +7,7 @@ use Rattle.history.specs.Histories as histories
 use Rattle.history.specs.Histories.{Commit, History}
 use Rattle.history.specs.Machine.{Machine, commit_order}
 use Rattle.image.specs.Values.{Value}
+use Rattle.floors.specs.Floors.{floor_at}
 use Rattle.chains.specs.Writes.{Write, last_time, kept_after, written}
 use Rattle.chains.specs.KeyWrites.{KeyWrites, writes_of, forgotten, IsOrdered}
 use Rattle.group.specs.CommitOrder.{IsRisingAfter}
@@ -88,7 +89,7 @@ pub record StandsInMemory (v : TransactionsValue) (m : Machine Value) : Type 0 w
   -- where something is done of a group, one stands
   pub staged : IsStaged v.stage → 0 < v.group
   pub snapshots : IsPermutation m.snapshots (snapshots_of v.opened)
-  pub floors : (relation : ℕ) → v.floor ≡ m.floors relation
+  pub floors : (relation : ℕ) → floor_at v.floors relation ≡ m.floors relation
   pub failed : v.failed ≡ m.failed
 
 -- A reclaim up to the archive mark is being made: no open transaction reads what is to be forgotten, and while its slot is in the writing, what memory is to be once it is done is made.

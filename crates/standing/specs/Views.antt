@@ -1,5 +1,5 @@
 -- Views answer by the history of their moment, and go on to.
-use Rattle.std.specs.Prelude.{ℕ, ◌≡◌, ◌<◌, ◌≤◌, Bool, true, Option, Result, Ok, Err, MatchBool, MatchResult}
+use Rattle.std.specs.Prelude.{ℕ, ◌≡◌, ◌<◌, ◌≤◌, Bool, Option, Result, Ok, Err, MatchBool, MatchResult}
 use Rattle.std.specs.declared.alloc.Global.{Global}
 use Rattle.std.specs.declared.vec.Vec.{Vec}
 use Rattle.history.specs.declared.key.Key.{Key}
@@ -20,6 +20,7 @@ use Rattle.store.specs.Archives.{StartsArchive}
 use Rattle.store.specs.Jobs.{PumpsJob}
 use Rattle.store.specs.Reclaims.{StartsReclaim}
 use Rattle.store.specs.Floors.{StartsFloor}
+use Rattle.store.specs.Growths.{StartsGrowth}
 use Rattle.store.specs.Pumps.{Pumps}
 use Rattle.store.specs.declared.job.JobDid.{JobDid}
 use Rattle.store.specs.declared.job.StartFault.{StartFault}
@@ -87,7 +88,7 @@ SaysRecent view time said (Err query.Stranger) = ⊥
 
 abbrev pub RecentIsAnswered : Type 0
 RecentIsAnswered = (view : ViewValue) (h : History Value) (floors : ℕ → ℕ) (key : Key) (time : ℕ) (answer : Result (Option Value) QueryFault) → ViewStands view h floors
-    → MatchResult answer (λ o. (view.reclaimed ≤ time) × AnswersAt view time o (value_at (writes_of view.state key) time)) (RefusesRecent view time) → SaysRecent view time (answers.at_answer h floors key time) answer
+    → MatchResult answer (λ o. (view.reclaimed ≤ time) × AnswersAt view key.relation time o (value_at (writes_of view.state key) time)) (RefusesRecent view key.relation time) → SaysRecent view time (answers.at_answer h floors key time) answer
 
 -- ---- what a query leaves
 
@@ -119,7 +120,10 @@ abbrev pub ReclaimStartGoesOn : Type 0
 ReclaimStartGoesOn = (tells : Bool) (old new : StoreValue) (answer : Result (Unit {0}) StartFault) (m : Machine Value) → Stands tells old m → StartsReclaim old answer new → GoesOn tells old new
 
 abbrev pub FloorStartGoesOn : Type 0
-FloorStartGoesOn = (tells : Bool) (old new : StoreValue) (floor : ℕ) (answer : Result (Unit {0}) StartFault) (m : Machine Value) → Stands tells old m → StartsFloor old floor answer new → GoesOn tells old new
+FloorStartGoesOn = (tells : Bool) (old new : StoreValue) (scope : Option ℕ) (floor : ℕ) (answer : Result (Unit {0}) StartFault) (m : Machine Value) → Stands tells old m → StartsFloor old scope floor answer new → GoesOn tells old new
+
+abbrev pub GrowStartGoesOn : Type 0
+GrowStartGoesOn = (tells : Bool) (old new : StoreValue) (answer : Result (Unit {0}) StartFault) (m : Machine Value) → Stands tells old m → StartsGrowth old answer new → GoesOn tells old new
 
 -- a call that changes the transactions alone
 abbrev pub RestGoesOn : Type 0

@@ -3,8 +3,9 @@
 #![tactic(auto)]
 
 ghost use Rattle.standing.specs.Laws.{TimesAreOfLabel, ForgottenHolds};
-ghost use Rattle.standing.specs.Views.{ViewIsOfHistory, ViewGoesOn, AtIsAnswered, ScanAtIsAnswered, BetweenIsAnswered, ScanBetweenIsAnswered, RecentIsAnswered, AtIsAnsweredRecently, ScanAtIsAnsweredRecently, BetweenIsAnsweredRecently, ScanBetweenIsAnsweredRecently, AtStands, ScanAtStands, BetweenStands, ScanBetweenStands, PumpGoesOn, JobPumpGoesOn, ArchiveStartGoesOn, ReclaimStartGoesOn, FloorStartGoesOn, RestGoesOn};
-ghost use Rattle.standing.specs.Calls.{BeginStands, AbortStands, SubmitStands, PumpStands, RedeemStands, ArchiveStartStands, ReclaimStartStands, FloorStartStands, JobPumpStands};
+ghost use Rattle.standing.specs.Views.{ViewIsOfHistory, ViewGoesOn, AtIsAnswered, ScanAtIsAnswered, BetweenIsAnswered, ScanBetweenIsAnswered, RecentIsAnswered, AtIsAnsweredRecently, ScanAtIsAnsweredRecently, BetweenIsAnsweredRecently, ScanBetweenIsAnsweredRecently, AtStands, ScanAtStands, BetweenStands, ScanBetweenStands, PumpGoesOn, JobPumpGoesOn, ArchiveStartGoesOn, ReclaimStartGoesOn, FloorStartGoesOn, GrowStartGoesOn, RestGoesOn};
+ghost use Rattle.standing.specs.Leaving.{PumpLeaves, ArchiveStartLeaves, ReclaimStartLeaves, FloorStartLeaves, GrowStartLeaves, JobPumpLeaves, SubmitLeaves, TicketTells, RedeemLeaves, PumpPublishes};
+ghost use Rattle.standing.specs.Calls.{BeginStands, AbortStands, SubmitStands, PumpStands, RedeemStands, ArchiveStartStands, ReclaimStartStands, FloorStartStands, GrowStartStands, JobPumpStands};
 
 /// A begin takes the last published time as its snapshot.
 pub fn begin_stands()
@@ -29,20 +30,44 @@ pub fn pump_stands()
     ensures { PumpStands }
 {}
 
-/// An archive or a reclaim that begins, and each step of either, changes nothing of the machine's; a
-/// floor that begins is one in the making, and its last step raises it. Before each step and after it,
+/// An archive, a reclaim or a growth that begins, and each step of these, changes nothing of the machine's;
+/// a floor that begins is one in the making, and its last step raises it. Before each step and after it,
 /// made or refused, whatever a stop may leave stands for what is published, with the floors that stand
-/// or, once a floor's gate may be open, with that floor.
+/// or, once a floor's gate may be open, with that floor; and it has the slots that there are or, once a
+/// piece's gate may be open, 256 more.
 pub fn jobs_stand()
     ensures archive { ArchiveStartStands }
     ensures reclaim { ReclaimStartStands }
     ensures floor { FloorStartStands }
+    ensures grow { GrowStartStands }
     ensures step { JobPumpStands }
 {}
 
 /// A ticket is answered as the machine says.
 pub fn redeem_stands()
     ensures { RedeemStands }
+{}
+
+/// No step of a group or of a job, and no beginning of a job, changes the store's mark, its open
+/// transactions or the heads of its commit order.
+pub fn steps_leave()
+    ensures pump { PumpLeaves }
+    ensures archive { ArchiveStartLeaves }
+    ensures reclaim { ReclaimStartLeaves }
+    ensures floor { FloorStartLeaves }
+    ensures grow { GrowStartLeaves }
+    ensures job_pump { JobPumpLeaves }
+{}
+
+/// A ticket has the store's mark and the time of the machine's commit, and what only reads tells its
+/// snapshot. Done is of the ticket's own head, which is published and is awaited no more. A step of a
+/// group publishes the first commits of the queue, as many as it says, and changes nothing else that is
+/// read.
+pub fn answers_tell()
+    ensures submit { SubmitLeaves }
+    ensures ticket { TicketTells }
+    ensures redeem { RedeemLeaves }
+    ensures pump { PumpPublishes }
 {}
 
 /// The times of a label are those of the published history.
@@ -72,6 +97,7 @@ pub fn views_go_on()
     ensures archive { ArchiveStartGoesOn }
     ensures reclaim { ReclaimStartGoesOn }
     ensures floor { FloorStartGoesOn }
+    ensures grow { GrowStartGoesOn }
     ensures rest { RestGoesOn }
 {}
 

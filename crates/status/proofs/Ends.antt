@@ -1,6 +1,6 @@
 -- Where a log with one slot more ends.
-use Rattle.std.proofs.Common.{◌≡◌, ℕ, ◌+◌, List, [], ◌∷◌, ◌++◌, Option, refl, sym, ap, subst, ◌∙◌}
-use Rattle.std.specs.Prelude.{map, IsNone, None, Some}
+use Rattle.std.proofs.Common.{◌≡◌, ℕ, ◌+◌, List, [], ◌∷◌, ◌++◌, Option, refl, sym, ap, ◌∙◌}
+use Rattle.std.specs.Prelude.{map}
 use Rattle.std.proofs.lemmas.List.{map-append, append-nil}
 use Rattle.std.proofs.lemmas.Grind.{flat_map-append}
 use Rattle.wire.specs.declared.slot.Member.{Member}
@@ -9,11 +9,13 @@ use Rattle.wire.specs.declared.slot.Anchors.{Anchors}
 use Rattle.wire.specs.declared.slot.Body.{Body}
 use Rattle.wire.specs.declared.slot.Body.TheVariants.{Commit, Archived, Reclaimed, Floor}
 use Rattle.wire.specs.declared.slot.Slot.{Slot}
-use Rattle.history.specs.Floors.{raised}
-use Rattle.image.specs.Log.{heads_of, last_time, last_time_after, archive_mark, archive_mark_after, reclaim_mark, reclaim_mark_after, floor_of, floors_after}
+use Rattle.floors.specs.Floors.{FloorsValue, no_floors}
+use Rattle.image.specs.Log.{heads_of, last_time, last_time_after, archive_mark, archive_mark_after, reclaim_mark, reclaim_mark_after}
 use Rattle.image.specs.Reading as readings
-use Rattle.image.proofs.Logs.{heads_of-append, last_time_after-append, archive_mark-append, reclaim_mark-append, floors-append}
-use Rattle.status.specs.Rules.{head_of, log_of, slot_of, CoversAll, runs_in, runs_of, row_end}
+use Rattle.image.proofs.Logs.{heads_of-append, last_time_after-append, archive_mark-append, reclaim_mark-append}
+use Rattle.status.specs.Rules.{head_of, log_of, slot_of, runs_in, runs_of, row_end}
+use Rattle.status.specs.Kept.{kept_after, kept_of}
+use Rattle.status.proofs.Kept.{kept-append}
 use Rattle.status.specs.declared.log_end.LogEnd.{LogEnd}
 use Rattle.status.specs.Walking.{EndsAt}
 
@@ -34,7 +36,7 @@ end-push before s = ap (row_end 0) (runs-push before s) ∙ row_end-append 0 (ru
 last_more : (log : List readings.Slot) (slot : readings.Slot) → last_time (log ++ slot ∷ []) ≡ last_time_after (last_time log) (heads_of (slot ∷ []))
 last_more log slot = ap (last_time_after 0) (heads_of-append log (slot ∷ [])) ∙ last_time_after-append 0 (heads_of log) (heads_of (slot ∷ []))
 
--- what each body makes of the four numbers and of the floors
+-- what each body makes of the three times
 last_in : ℕ → Body → ℕ
 last_in last body = last_time_after last (heads_of (slot_of body ∷ []))
 
@@ -44,76 +46,58 @@ archived_in archived body = archive_mark_after archived (slot_of body ∷ [])
 reclaimed_in : ℕ → Body → ℕ
 reclaimed_in reclaimed body = reclaim_mark_after reclaimed (slot_of body ∷ [])
 
-floors_in : (ℕ → ℕ) → Body → ℕ → ℕ
-floors_in floors body relation = floors_after floors (slot_of body ∷ []) relation
-
 ends_more : (before : List Slot) (s : Slot) (end now : LogEnd) → EndsAt before end
     → now.last ≡ last_in end.last s.body → now.archived ≡ archived_in end.archived s.body → now.reclaimed ≡ reclaimed_in end.reclaimed s.body
-    → ((relation : ℕ) → now.floor ≡ floors_in (floor_of (log_of before)) s.body relation) → now.runs_end ≡ row_end end.runs_end (runs_in s.body) → EndsAt (before ++ s ∷ []) now
-unfolding last_in archived_in reclaimed_in floors_in
-ends_more before s end now ends last archived reclaimed floor runs_end = record {
+    → now.floors ≡ kept_after end.floors (slot_of s.body ∷ []) → now.runs_end ≡ row_end end.runs_end (runs_in s.body) → EndsAt (before ++ s ∷ []) now
+unfolding last_in archived_in reclaimed_in
+ends_more before s end now ends last archived reclaimed floors runs_end = record {
   last_is = last ∙ ap (λ (t : ℕ). last_time_after t (heads_of (slot_of s.body ∷ []))) ends.last_is ∙ sym (ap last_time (log-push before s) ∙ last_more (log_of before) (slot_of s.body));
   archived_is = archived ∙ ap (λ (t : ℕ). archive_mark_after t (slot_of s.body ∷ [])) ends.archived_is ∙ sym (ap archive_mark (log-push before s) ∙ archive_mark-append 0 (log_of before) (slot_of s.body ∷ []));
   reclaimed_is = reclaimed ∙ ap (λ (t : ℕ). reclaim_mark_after t (slot_of s.body ∷ [])) ends.reclaimed_is ∙ sym (ap reclaim_mark (log-push before s) ∙ reclaim_mark-append 0 (log_of before) (slot_of s.body ∷ []));
-  floor_is = λ relation.
-      floor relation
-      ∙ sym (ap (λ (log : List readings.Slot). floor_of log relation) (log-push before s) ∙ ap (λ (floors : ℕ → ℕ). floors relation) (floors-append (λ r. 0) (log_of before) (slot_of s.body ∷ [])));
+  floors_are = floors ∙ ap (λ (f : FloorsValue). kept_after f (slot_of s.body ∷ [])) ends.floors_are ∙ sym (ap kept_of (log-push before s) ∙ kept-append no_floors (log_of before) (slot_of s.body ∷ []));
   runs_end_is = runs_end ∙ ap (λ (t : ℕ). row_end t (runs_in s.body)) ends.runs_end_is ∙ sym (end-push before s);
 }
 
--- a slot without a floor moves none
-floors_stay : (before : List Slot) (s : Slot) (end now : LogEnd) (body : Body) → s.body ≡ body → ((relation : ℕ) → floors_in (floor_of (log_of before)) body relation ≡ floor_of (log_of before) relation)
-    → EndsAt before end → now.floor ≡ end.floor → (relation : ℕ) → now.floor ≡ floors_in (floor_of (log_of before)) s.body relation
-floors_stay before s end now body is stays ends floor relation =
-    floor ∙ ends.floor_is relation ∙ sym (stays relation) ∙ sym (ap (λ (b : Body). floors_in (floor_of (log_of before)) b relation) is)
-
-raised_all : (relation : Option ℕ) (floor : ℕ) (floors : ℕ → ℕ) (other : ℕ) → IsNone relation → raised relation floor floors other ≡ floor
-raised_all None floor floors other all = refl
-raised_all (Some only) floor floors other all = absurd cc
-
 pub commits_end : (before : List Slot) (s : Slot) (end now : LogEnd) (members : List Member) → s.body ≡ Commit (record { items = members }) → EndsAt before end
-    → now.last ≡ last_time_after end.last (map head_of members) → now.archived ≡ end.archived → now.reclaimed ≡ end.reclaimed → now.floor ≡ end.floor → now.runs_end ≡ end.runs_end → EndsAt (before ++ s ∷ []) now
-unfolding last_in archived_in reclaimed_in floors_in
-commits_end before s end now members is ends last archived reclaimed floor runs_end =
+    → now.last ≡ last_time_after end.last (map head_of members) → now.archived ≡ end.archived → now.reclaimed ≡ end.reclaimed → now.floors ≡ kept_after end.floors (slot_of s.body ∷ []) → now.runs_end ≡ end.runs_end → EndsAt (before ++ s ∷ []) now
+unfolding last_in archived_in reclaimed_in
+commits_end before s end now members is ends last archived reclaimed floors runs_end =
     ends_more before s end now ends
     (last ∙ sym (ap (last_in end.last) is ∙ ap (λ (heads : List readings.Head). last_time_after end.last heads) (append-nil (map head_of members))))
     (archived ∙ sym (ap (archived_in end.archived) is))
     (reclaimed ∙ sym (ap (reclaimed_in end.reclaimed) is))
-    (floors_stay before s end now (Commit (record { items = members })) is (λ relation. refl) ends floor)
+    floors
     (runs_end ∙ sym (ap (λ (body : Body). row_end end.runs_end (runs_in body)) is))
 
 pub run_ends : (before : List Slot) (s : Slot) (end now : LogEnd) (run : Run) → s.body ≡ Archived run → EndsAt before end
-    → now.last ≡ end.last → now.archived ≡ run.upto → now.reclaimed ≡ end.reclaimed → now.floor ≡ end.floor → now.runs_end ≡ run.start + run.len → EndsAt (before ++ s ∷ []) now
-unfolding last_in archived_in reclaimed_in floors_in
-run_ends before s end now run is ends last archived reclaimed floor runs_end =
+    → now.last ≡ end.last → now.archived ≡ run.upto → now.reclaimed ≡ end.reclaimed → now.floors ≡ kept_after end.floors (slot_of s.body ∷ []) → now.runs_end ≡ run.start + run.len → EndsAt (before ++ s ∷ []) now
+unfolding last_in archived_in reclaimed_in
+run_ends before s end now run is ends last archived reclaimed floors runs_end =
     ends_more before s end now ends
     (last ∙ sym (ap (last_in end.last) is))
     (archived ∙ sym (ap (archived_in end.archived) is))
     (reclaimed ∙ sym (ap (reclaimed_in end.reclaimed) is))
-    (floors_stay before s end now (Archived run) is (λ relation. refl) ends floor)
+    floors
     (runs_end ∙ sym (ap (λ (body : Body). row_end end.runs_end (runs_in body)) is))
 
 pub reclaim_ends : (before : List Slot) (s : Slot) (end now : LogEnd) (anchors : Anchors) → s.body ≡ Reclaimed anchors → EndsAt before end
-    → now.last ≡ end.last → now.archived ≡ end.archived → now.reclaimed ≡ anchors.upto → now.floor ≡ end.floor → now.runs_end ≡ end.runs_end → EndsAt (before ++ s ∷ []) now
-unfolding last_in archived_in reclaimed_in floors_in
-reclaim_ends before s end now anchors is ends last archived reclaimed floor runs_end =
+    → now.last ≡ end.last → now.archived ≡ end.archived → now.reclaimed ≡ anchors.upto → now.floors ≡ kept_after end.floors (slot_of s.body ∷ []) → now.runs_end ≡ end.runs_end → EndsAt (before ++ s ∷ []) now
+unfolding last_in archived_in reclaimed_in
+reclaim_ends before s end now anchors is ends last archived reclaimed floors runs_end =
     ends_more before s end now ends
     (last ∙ sym (ap (last_in end.last) is))
     (archived ∙ sym (ap (archived_in end.archived) is))
     (reclaimed ∙ sym (ap (reclaimed_in end.reclaimed) is))
-    (floors_stay before s end now (Reclaimed anchors) is (λ relation. refl) ends floor)
+    floors
     (runs_end ∙ sym (ap (λ (body : Body). row_end end.runs_end (runs_in body)) is))
 
-pub floor_ends : (before : List Slot) (s : Slot) (end now : LogEnd) (relation : Option ℕ) (floor : ℕ) → s.body ≡ Floor relation floor → CoversAll s.body → EndsAt before end
-    → now.last ≡ end.last → now.archived ≡ end.archived → now.reclaimed ≡ end.reclaimed → now.floor ≡ floor → now.runs_end ≡ end.runs_end → EndsAt (before ++ s ∷ []) now
-unfolding last_in archived_in reclaimed_in floors_in
-floor_ends before s end now relation floor is all ends last archived reclaimed raised_is runs_end =
+pub floor_ends : (before : List Slot) (s : Slot) (end now : LogEnd) (relation : Option ℕ) (floor : ℕ) → s.body ≡ Floor relation floor → EndsAt before end
+    → now.last ≡ end.last → now.archived ≡ end.archived → now.reclaimed ≡ end.reclaimed → now.floors ≡ kept_after end.floors (slot_of s.body ∷ []) → now.runs_end ≡ end.runs_end → EndsAt (before ++ s ∷ []) now
+unfolding last_in archived_in reclaimed_in
+floor_ends before s end now relation floor is ends last archived reclaimed floors runs_end =
     ends_more before s end now ends
     (last ∙ sym (ap (last_in end.last) is))
     (archived ∙ sym (ap (archived_in end.archived) is))
     (reclaimed ∙ sym (ap (reclaimed_in end.reclaimed) is))
-    (λ other.
-    raised_is
-    ∙ sym (raised_all relation floor (floor_of (log_of before)) other (subst CoversAll is all))
-    ∙ sym (ap (λ (body : Body). floors_in (floor_of (log_of before)) body other) is))
+    floors
     (runs_end ∙ sym (ap (λ (body : Body). row_end end.runs_end (runs_in body)) is))

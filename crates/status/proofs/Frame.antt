@@ -7,7 +7,7 @@ use Rattle.wire.specs.declared.slot.Slot.{Slot}
 use Rattle.status.specs.declared.header.Header.{Header}
 use Rattle.status.specs.Log.{slot_start, body_at, IsLog, HasLogOf}
 
-same_bytes : (at n : ℕ) (old new : List ℕ) → at + n ≤ length old → at + n ≤ length new
+pub same_bytes : (at n : ℕ) (old new : List ℕ) → at + n ≤ length old → at + n ≤ length new
     → ((k : ℕ) → at ≤ k → k < at + n → get_or new k 0 ≡ get_or old k 0) → take n (drop at new) ≡ take n (drop at old)
 same_bytes at n old new in_old in_new same =
     let long_old : length (take n (drop at old)) ≡ n = omega (arith, length-take n (drop at old), length-drop at old) in

@@ -1,7 +1,6 @@
 -- Which commits may follow a log.
 use Rattle.std.proofs.Common.{◌≡◌, ◌↔◌, ℕ, zero, suc, ◌+◌, ◌<◌, ◌≤◌, List, [], ◌∷◌, length, get_or, take, add-one, Bool, true, false, Option, None, Some, arith, rules, refl, sym, ap, ◌∙◌, subst}
-use Rattle.std.specs.Prelude.{IsTrue, map, nat_lt, slice_get, ◌==◌, ◌&&◌}
-use Rattle.std.specs.List.{AllByRecursion}
+use Rattle.std.specs.Prelude.{IsTrue, map, nat_lt, ◌==◌}
 use Rattle.std.proofs.lemmas.List.{length-map}
 use Rattle.wire.specs.declared.slot.Member.{Member}
 use Rattle.wire.specs.declared.slot.Run.{Run}
@@ -9,26 +8,17 @@ use Rattle.wire.specs.declared.slot.Anchors.{Anchors}
 use Rattle.wire.specs.declared.slot.Body.{Body}
 use Rattle.wire.specs.declared.slot.Body.TheVariants.{Commit, Archived, Reclaimed, Floor}
 use Rattle.wire.specs.declared.slot.Slot.{Slot}
-use Rattle.wire.specs.Spelling.{Rises, AreMembers, InRange, kind_of}
-use Rattle.image.specs.Reading as readings
-use Rattle.image.specs.Log.{last_time_after, AreRisingAfter, IsScopeOf, MayCome}
-use Rattle.status.specs.Rules.{is_built, head_of, slot_of, log_of, CoversAll, MayFollow, KeepsRules}
+use Rattle.wire.specs.Spelling.{Rises, AreMembers, IsRelationOf, InRange, kind_of}
+use Rattle.floors.specs.Floors.{FloorsValue, floor_at}
+use Rattle.image.specs.Log.{last_time_after, floor_of, AreRisingAfter, IsScopeOf}
+use Rattle.status.specs.Rules.{is_built, head_of, log_of, MayFollow}
 use Rattle.status.specs.declared.log_end.LogEnd.{LogEnd}
 use Rattle.status.specs.Walking.{StartsAfter, IsNextRun, AreNextAnchors, IsNextFloor, EndsAt}
+use Rattle.status.proofs.Kept.{kept-of}
+use Rattle.std.proofs.lemmas.Bool.Decides.{nat_tests}
 
 is_below : (a b : ℕ) → (IsTrue (nat_lt a b) ↔ (a < b))
 is_below a b = search rules
-
-is_equal : (a b : ℕ) → (IsTrue (a == b) ↔ (a ≡ b))
-is_equal a b = search rules
-
-first_of : (a b : Bool) → IsTrue (a && b) → IsTrue a
-first_of true b both = search rules
-first_of false b both = both
-
--- slots are built in the first profile alone
-pub profile_is_one : (profile kind : ℕ) → IsTrue (is_built profile kind) → profile ≡ 1
-profile_is_one profile kind built = (is_equal profile 1).0 (first_of (profile == 1) _ built)
 
 -- the first commit
 pub first_member : (time : ℕ) (members : List Member) (d : Member) → 1 ≤ length members → (IsTrue (nat_lt time (get_or members 0 d).time) ↔ StartsAfter time members)
@@ -90,27 +80,29 @@ anchors_follow profile before end number anchors next built ends test = (
   }),
 )
 
+-- a floor in range is of a scope of its profile
+pub scope_is : (profile : ℕ) (relation : Option ℕ) → IsRelationOf profile relation → IsScopeOf profile relation
+scope_is profile None other = let no : (profile == 3) ≡ false = grind (arith, nat_tests, other) in rw no refl
+scope_is profile (Some relation) three = rw three.0 (search rules)
+
 floor_follows : (profile : ℕ) (before : List Slot) (end : LogEnd) (number : ℕ) (relation : Option ℕ) (floor : ℕ) (next : Bool) → IsTrue (is_built profile 4) → InRange profile (Floor relation floor) → EndsAt before end
-    → (IsTrue next ↔ IsNextFloor end floor) → (IsTrue next ↔ MayFollow profile before (record { number = number; body = Floor relation floor }))
-floor_follows profile before end number None floor next built in_range ends test = (
-  λ yes. record {
-    built = built;
-    may_come = (
-      subst (λ (p : ℕ). IsScopeOf p None) (sym (profile_is_one profile 4 built)) refl,
-      subst (λ (t : ℕ). floor ≤ t) ends.last_is (test.0 yes).upto_last,
-      λ other covered. subst (λ (t : ℕ). t < floor) (ends.floor_is other) (test.0 yes).later,
-    );
-    in_row = tt;
-  },
-  λ may. test.1 (record {
-    later = subst (λ (t : ℕ). t < floor) (sym (ends.floor_is 0)) (may.may_come.2 0 (search rules));
-    upto_last = subst (λ (t : ℕ). floor ≤ t) (sym ends.last_is) may.may_come.1;
-  }),
-)
-floor_follows profile before end number (Some only) floor next built in_range ends test =
-    let one : profile ≡ 1 = profile_is_one profile 4 built in
-    let three : profile ≡ 3 = in_range.2.0 in
-    absurd (omega arith)
+    → (IsTrue next ↔ IsNextFloor end relation floor) → (IsTrue next ↔ MayFollow profile before (record { number = number; body = Floor relation floor }))
+floor_follows profile before end number relation floor next built in_range ends test =
+    let is : (other : ℕ) → floor_at end.floors other ≡ floor_of (log_of before) other = λ other. ap (λ (f : FloorsValue). floor_at f other) ends.floors_are ∙ kept-of (log_of before) other in (
+      λ yes. record {
+        built = built;
+        may_come = (
+          scope_is profile relation in_range.2,
+          subst (λ (t : ℕ). floor ≤ t) ends.last_is (test.0 yes).upto_last,
+          λ other covered. subst (λ (t : ℕ). t < floor) (is other) ((test.0 yes).later other covered),
+        );
+        in_row = tt;
+      },
+      λ may. test.1 (record {
+        later = λ other covered. subst (λ (t : ℕ). t < floor) (sym (is other)) (may.may_come.2 other covered);
+        upto_last = subst (λ (t : ℕ). floor ≤ t) (sym ends.last_is) may.may_come.1;
+      }),
+    )
 
 is_true : (b : Bool) → b ≡ true → IsTrue b
 is_true b is = let yes : IsTrue true = search rules in subst IsTrue (sym is) yes
@@ -142,31 +134,10 @@ reclaims_follow profile before slot end anchors next body_is built ends test =
 -- a floor may follow where it is built and is the next one
 pub floors_follow : (profile : ℕ) (before : List Slot) (slot : Slot) (end : LogEnd) (relation : Option ℕ) (floor : ℕ) (next : Bool)
     → slot.body ≡ Floor relation floor → is_built profile (kind_of slot.body) ≡ true → InRange profile slot.body → EndsAt before end
-    → (IsTrue next ↔ IsNextFloor end floor) → (IsTrue next ↔ MayFollow profile before slot)
+    → (IsTrue next ↔ IsNextFloor end relation floor) → (IsTrue next ↔ MayFollow profile before slot)
 floors_follow profile before slot end relation floor next body_is built in_range ends test =
     subst (λ (body : Body). IsTrue next ↔ MayFollow profile before (record { number = slot.number; body = body })) (sym body_is)
     (floor_follows profile before end slot.number relation floor next (is_true _ (sym (ap (λ (body : Body). is_built profile (kind_of body)) body_is) ∙ built)) (subst (λ (body : Body). InRange profile body) body_is in_range) ends test)
-
--- ---- floors of every relation
-
-may_cover : (profile : ℕ) (before : List readings.Slot) (body : Body) → IsTrue (is_built profile (kind_of body)) → MayCome profile before (slot_of body) → CoversAll body
-may_cover profile before (Commit members) built may = tt
-may_cover profile before (Archived run) built may = tt
-may_cover profile before (Reclaimed anchors) built may = tt
-may_cover profile before (Floor None floor) built may = refl
-may_cover profile before (Floor (Some only) floor) built may = subst (λ (p : ℕ). IsScopeOf p (Some only)) (profile_is_one profile 4 built) may.0
-
--- a floor that is built and may follow is that of every relation
-pub follows_cover : (profile : ℕ) (before : List Slot) (slot : Slot) → MayFollow profile before slot → CoversAll slot.body
-follows_cover profile before slot may = may_cover profile (log_of before) slot.body may.built may.may_come
-
-all_cover : (slots : List Slot) → ((n : ℕ) (slot : Slot) → slice_get slots n ≡ Some slot → CoversAll slot.body) → AllByRecursion (λ s. CoversAll s.body) slots
-all_cover [] each = tt
-all_cover (s ∷ slots) each = (each zero s refl, all_cover slots (λ n slot is. each (suc n) slot is))
-
--- so are those of a log that keeps the rules
-pub rules_cover : (profile : ℕ) (slots : List Slot) → KeepsRules profile slots → AllByRecursion (λ s. CoversAll s.body) slots
-rules_cover profile slots rules = all_cover slots (λ n slot is. follows_cover profile (take n slots) slot (rules n slot is))
 
 -- ---- the last time
 

@@ -1,5 +1,5 @@
 -- The log's own rules: which slot may follow others.
-use Rattle.std.specs.Prelude.{◌≡◌, ℕ, ◌+◌, ◌==◌, ◌&&◌, ◌||◌, Bool, IsTrue, IsNone, List, [], ◌∷◌, map, flat_map, take, slice_get, Some}
+use Rattle.std.specs.Prelude.{◌≡◌, ℕ, ◌+◌, ◌==◌, ◌&&◌, ◌||◌, Bool, IsTrue, List, [], ◌∷◌, map, flat_map, take, slice_get, Some}
 use Rattle.wire.specs.Spelling.{kind_of}
 use Rattle.wire.specs.declared.slot.Member.{Member as Entry}
 use Rattle.wire.specs.declared.slot.Run.{Run}
@@ -11,7 +11,7 @@ use Rattle.image.specs.Log.{MayCome}
 
 -- Which kinds of slot are built, in which profiles. A store of a profile is read once its commits are built.
 abbrev pub is_built : ℕ → ℕ → Bool
-is_built profile kind = (profile == 1) && ((kind == 1) || ((kind == 2) || ((kind == 3) || (kind == 4))))
+is_built profile kind = ((profile == 1) || ((profile == 2) || (profile == 3))) && ((kind == 1) || ((kind == 2) || ((kind == 3) || (kind == 4))))
 
 -- ---- a slot as the rules see it
 
@@ -27,13 +27,6 @@ slot_of (Floor relation floor) = readings.Floor relation floor
 
 abbrev pub log_of : List Slot → List readings.Slot
 log_of slots = map (λ s. slot_of s.body) slots
-
--- a floor, where the slot raises one, is that of every relation
-abbrev pub CoversAll : Body → Type 0
-CoversAll (Commit members) = Unit {0}
-CoversAll (Archived run) = Unit {0}
-CoversAll (Reclaimed anchors) = Unit {0}
-CoversAll (Floor relation floor) = IsNone relation
 
 -- ---- runs
 

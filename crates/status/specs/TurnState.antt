@@ -11,5 +11,7 @@ pub record TurnState : Type 0 where
 pub record LogState : Type 0 where
   pub profile : ℕ
   pub slots : ℕ
+  -- the pieces of 256 slots that are open, whose slots are among these
+  pub pieces : ℕ
   pub used : ℕ
   pub writing : Bool

@@ -1,11 +1,12 @@
 -- The reading of slots, one after the other.
-use Rattle.std.specs.Prelude.{◌≡◌, ◌≢◌, ◌<◌, ◌≤◌, ℕ, Bool, true, false, List, [], ◌∷◌, ◌++◌, length, drop, slice_index, Result, Ok, Err}
+use Rattle.std.specs.Prelude.{◌≡◌, ◌≢◌, ◌<◌, ◌≤◌, ℕ, Bool, true, false, List, [], ◌∷◌, ◌++◌, length, drop, slice_index, Option, Result, Ok, Err}
 use Rattle.wire.specs.Spelling.{IsSpelled}
 use Rattle.wire.specs.declared.slot.Member.{Member}
 use Rattle.wire.specs.declared.slot.Run.{Run}
 use Rattle.wire.specs.declared.slot.Anchors.{Anchors}
 use Rattle.wire.specs.declared.slot.Slot.{Slot}
-use Rattle.image.specs.Log.{last_time, archive_mark, reclaim_mark, floor_of}
+use Rattle.floors.specs.Floors.{AreBelow}
+use Rattle.image.specs.Log.{last_time, archive_mark, reclaim_mark}
 use Rattle.status.specs.declared.header.Header.{Header}
 use Rattle.status.specs.declared.fault.LogFault.{LogFault}
 use Rattle.status.specs.declared.fault.LogFault.TheVariants.{NotAStore, Damaged, Device, NoMemory}
@@ -13,6 +14,7 @@ use Rattle.status.specs.Header.{total}
 use Rattle.status.specs.declared.log_end.LogEnd.{LogEnd}
 use Rattle.status.specs.Log.{IsOpen, OpensWith}
 use Rattle.status.specs.Rules.{log_of, runs_of, row_end, MayFollow}
+use Rattle.status.specs.Kept.{kept_of}
 use Rattle.status.specs.Reading.{AreSlots, IsLogFault}
 
 -- the first of these commits is later than a time
@@ -20,12 +22,12 @@ abbrev pub StartsAfter : ℕ → List Member → Type 0
 StartsAfter time [] = ⊥
 StartsAfter time (m ∷ ms) = time < m.time
 
--- the log of these slots ends here: the time of its last commit, its marks, its floor, which is that of every relation, and the end of its last run
+-- the log of these slots ends here: the time of its last commit, its marks, its floors and the end of its last run
 pub record EndsAt (slots : List Slot) (end : LogEnd) : Type 0 where
   pub last_is : end.last ≡ last_time (log_of slots)
   pub archived_is : end.archived ≡ archive_mark (log_of slots)
   pub reclaimed_is : end.reclaimed ≡ reclaim_mark (log_of slots)
-  pub floor_is : (relation : ℕ) → end.floor ≡ floor_of (log_of slots) relation
+  pub floors_are : end.floors ≡ kept_of (log_of slots)
   pub runs_end_is : end.runs_end ≡ row_end 0 (runs_of slots)
 
 -- the run goes further than the archive mark, no further than the last commit, and starts where the last run ends
@@ -39,9 +41,9 @@ pub record AreNextAnchors (end : LogEnd) (anchors : Anchors) : Type 0 where
   pub upto_mark : anchors.upto ≡ end.archived
   pub later : end.reclaimed < anchors.upto
 
--- the floor is greater than the one before it, and no later than the last commit
-pub record IsNextFloor (end : LogEnd) (floor : ℕ) : Type 0 where
-  pub later : end.floor < floor
+-- the floor is greater than those before it that it covers, and no later than the last commit
+pub record IsNextFloor (end : LogEnd) (scope : Option ℕ) (floor : ℕ) : Type 0 where
+  pub later : AreBelow end.floors scope floor
   pub upto_last : floor ≤ end.last
 
 -- these slots were read, and their log ends here

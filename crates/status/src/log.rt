@@ -11,7 +11,7 @@ ghost use Rattle.status.specs.Walking.{IsWalk, Takes, IsTakeFault, IsWalkFault, 
 
 use crate::fault::LogFault;
 use crate::header::Header;
-use crate::log_end::LogEnd;
+use crate::log_end::{LogEnd, floors_behind};
 use crate::turn::{OPEN, slot_place};
 use disk::{Area, DeviceFault, Disk};
 use std::alloc::Global;
@@ -62,7 +62,8 @@ impl Walk {
         if !self.end.may_be_followed(self.profile, &slot) {
             return Err(LogFault::Damaged(number));
         }
-        let end = self.end.with(&slot);
+        let floors = floors_behind(*self.slots.allocator(), &self.end.floors, &slot.body)?;
+        let end = self.end.with(&slot, floors);
         self.slots.push(slot)?;
         self.end = end;
         Ok(true)

@@ -1,17 +1,20 @@
 //! Where a log ends, and which slot may follow.
-ghost use Rattle.std.specs.Prelude.{◌≡◌, ◌↔◌, ◌+◌, ◌<◌, ◌≤◌, ◌^◌, List, [], ◌∷◌, ◌++◌, map, ℕ, IsTrue};
+ghost use Rattle.std.specs.Prelude.{◌≡◌, ◌↔◌, ◌+◌, ◌<◌, ◌≤◌, ◌^◌, List, [], ◌∷◌, ◌++◌, map, ℕ, IsTrue, IfOk};
 ghost use Rattle.wire.specs.Spelling.{InRange, kind_of};
 ghost use Rattle.wire.specs.declared.slot.Slot.{Slot};
 ghost use Rattle.image.specs.Log.{last_time_after};
-ghost use Rattle.status.specs.Rules.{head_of, CoversAll, MayFollow};
+ghost use Rattle.status.specs.Rules.{head_of, slot_of, MayFollow};
+ghost use Rattle.status.specs.Kept.{kept_after};
 ghost use Rattle.status.specs.Walking.{StartsAfter, IsNextRun, AreNextAnchors, IsNextFloor, EndsAt};
 
 use crate::reading::is_built;
 use arrayvec::ArrayVec;
+use floors::Floors;
+use std::alloc::{AllocError, Global};
 use wire::{Anchors, Body, Member, Run, Slot};
 
 /// Where a log ends. Times are microseconds since 1970.
-#[derive(Clone, Copy)]
+#[derive(Drop)]
 pub struct LogEnd {
     /// The time of the last commit, 0 for none.
     pub last: u64,
@@ -19,8 +22,7 @@ pub struct LogEnd {
     pub archived: u64,
     /// The reclaim mark, 0 for none.
     pub reclaimed: u64,
-    /// The floor of every relation, 0 for none.
-    pub floor: u64,
+    pub floors: Floors,
     /// The byte of the archive at which the last run ends, 0 for none.
     pub runs_end: u64,
 }
@@ -57,6 +59,16 @@ fn last_after(before: u64, members: &[Member]) -> u64
     last
 }
 
+/// The floors once this slot follows those of which these are the floors.
+pub fn floors_behind(alloc: Global, floors: &Floors, body: &Body) -> Result<Floors, AllocError>
+    ensures { IfOk result (λ f. f ≡ kept_after floors.now (slot_of body.now ∷ [])) }
+{
+    match body {
+        Body::Floor { relation, floor } => floors.raised(alloc, *relation, *floor),
+        Body::Commit(_) | Body::Archived(_) | Body::Reclaimed(_) => floors.share(),
+    }
+}
+
 impl LogEnd {
     /// That of a log without slots.
     pub fn start() -> LogEnd
@@ -66,7 +78,7 @@ impl LogEnd {
             last: 0,
             archived: 0,
             reclaimed: 0,
-            floor: 0,
+            floors: Floors::none(),
             runs_end: 0,
         }
     }
@@ -85,11 +97,11 @@ impl LogEnd {
         anchors.upto == self.archived && self.reclaimed < anchors.upto
     }
 
-    // Whether the floor is greater than the one before it, and no later than the last commit.
-    fn takes_floor(&self, floor: u64) -> bool
-        ensures { IsTrue result ↔ IsNextFloor self.now floor }
+    // Whether the floor is greater than those before it that it covers, and no later than the last commit.
+    fn takes_floor(&self, relation: Option<u16>, floor: u64) -> bool
+        ensures { IsTrue result ↔ IsNextFloor self.now relation floor }
     {
-        self.floor < floor && floor <= self.last
+        self.floors.are_below(relation, floor) && floor <= self.last
     }
 
     /// Whether this slot may follow in a store of this profile.
@@ -103,32 +115,44 @@ impl LogEnd {
             Body::Commit(members) => starts_after(self.last, members.as_slice()),
             Body::Archived(run) => self.takes_run(run),
             Body::Reclaimed(anchors) => self.takes_anchors(anchors),
-            Body::Floor { floor, .. } => self.takes_floor(*floor),
+            Body::Floor { relation, floor } => self.takes_floor(*relation, *floor),
         }
     }
 
-    /// Where the log ends once this slot follows. Its floor is that of every relation.
-    pub fn with(&self, slot: &Slot) -> LogEnd
+    /// Where the log ends once this slot follows, and its floors are these.
+    pub fn with(&self, slot: &Slot, floors: Floors) -> LogEnd
         requires in_range { (profile : ℕ) × InRange profile slot.now.body }
-        ensures { CoversAll slot.now.body → (before : List Slot) → EndsAt before self.now → EndsAt (before ++ slot.now ∷ []) result }
+        requires floors { floors ≡ kept_after self.now.floors (slot_of slot.now.body ∷ []) }
+        ensures { (before : List Slot) → EndsAt before self.now → EndsAt (before ++ slot.now ∷ []) result }
     {
         match &slot.body {
             Body::Commit(members) => LogEnd {
                 last: last_after(self.last, members.as_slice()),
-                ..*self
+                archived: self.archived,
+                reclaimed: self.reclaimed,
+                floors,
+                runs_end: self.runs_end,
             },
             Body::Archived(run) => LogEnd {
+                last: self.last,
                 archived: run.upto,
+                reclaimed: self.reclaimed,
+                floors,
                 runs_end: run.start + run.len,
-                ..*self
             },
             Body::Reclaimed(anchors) => LogEnd {
+                last: self.last,
+                archived: self.archived,
                 reclaimed: anchors.upto,
-                ..*self
+                floors,
+                runs_end: self.runs_end,
             },
-            Body::Floor { floor, .. } => LogEnd {
-                floor: *floor,
-                ..*self
+            Body::Floor { .. } => LogEnd {
+                last: self.last,
+                archived: self.archived,
+                reclaimed: self.reclaimed,
+                floors,
+                runs_end: self.runs_end,
             },
         }
     }

@@ -24,7 +24,8 @@ const FLOOR: u8 = 4;
 pub fn is_built(profile: u32, kind: u8) -> bool
     ensures { result ≡ is_built profile kind }
 {
-    profile == 1 && (kind == COMMIT || kind == ARCHIVED || kind == RECLAIMED || kind == FLOOR)
+    (profile == 1 || profile == 2 || profile == 3)
+        && (kind == COMMIT || kind == ARCHIVED || kind == RECLAIMED || kind == FLOOR)
 }
 
 // The header at the front of an area of this length.

@@ -5,7 +5,9 @@ ghost use Rattle.wire.specs.Spelling.{spelling, InRange, IsSpelled};
 ghost use Rattle.status.specs.Header.{total};
 ghost use Rattle.status.specs.SlotCalls.{Begun, IsSlotCall, answer_of};
 ghost use Rattle.status.specs.Turn.{IsStepOf, moved};
+ghost use Rattle.status.specs.Growth.{next_piece, IsGrowthCall, growth_after, grew_at, grown_by};
 
+use crate::growth::{Grew, Growth, advance_growth};
 use crate::header::Header;
 use crate::turn::{SlotTurn, Step, advance};
 use disk::{DeviceFault, Disk};
@@ -27,32 +29,43 @@ pub enum SlotFault {
 pub struct StatusLog {
     profile: u32,
     slots: u32,
+    // The pieces that are open, whose slots are among these.
+    pieces: u32,
     used: u32,
     is_writing: bool,
 }
 
 impl Model for StatusLog {
-    ghost use Rattle.std.specs.Prelude.{◌≤◌};
+    ghost use Rattle.std.specs.Prelude.{◌≤◌, ◌*◌};
     ghost use Rattle.status.specs.TurnState.{LogState};
 
     ghost Value = { LogState };
 
-    ghost view = { λ l. record { profile = l.profile; slots = l.slots; used = l.used; writing = l.is_writing } };
+    ghost view = { λ l. record { profile = l.profile; slots = l.slots; pieces = l.pieces; used = l.used; writing = l.is_writing } };
 
-    ghost invariant = { λ l. l.slots ≤ 65536 };
+    ghost invariant = { λ l. (l.slots ≤ 65536) × (256 * l.pieces ≤ l.slots) };
 }
 
 impl StatusLog {
-    /// The log of an area with this header, of which so many slots are used; it has at most 65,536.
+    /// The log of an area with this header, of which so many slots are used; it has at most 65,536, and
+    /// at most 256 pieces.
     pub fn new(header: &Header, used: u32) -> StatusLog
-        ensures { result ≡ record { profile = header.now.profile; slots = min (total header.now) 65536; used = used; writing = false } }
+        ensures { result ≡ record { profile = header.now.profile; slots = min (total header.now) 65536; pieces = min header.now.pieces 256; used = used; writing = false } }
     {
         StatusLog {
             profile: header.profile,
             slots: header.total().min(65_536) as u32,
+            pieces: header.pieces.min(256),
             used,
             is_writing: false,
         }
+    }
+
+    /// The profile of the store's layout.
+    pub fn profile(&self) -> u32
+        ensures { result ≡ self.now.profile }
+    {
+        self.profile
     }
 
     pub fn slots(&self) -> u32
@@ -116,5 +129,41 @@ impl StatusLog {
                 Ok(Step::Open(number))
             }
         }
+    }
+
+    /// Begins to make a piece of 256 slots more, with no device call. None where the profile has no
+    /// pieces, or where the store would have more than 65,536 slots.
+    pub fn next_piece(&self) -> Option<Growth>
+        ensures { result ≡ next_piece self.now }
+    {
+        if self.profile == 1 || 65_536 < self.slots + 256 {
+            None
+        } else {
+            Some(Growth::begin(self.slots, self.pieces))
+        }
+    }
+
+    /// The next device call of a piece, which stands behind it whatever the device answers. Once the
+    /// piece is open its slots are the log's.
+    pub fn grow<D: Disk>(&mut self, growth: &mut Growth, disk: &mut D) -> Result<Grew, DeviceFault>
+        ensures call { IsTrue D.tells → IsGrowthCall growth.old.stage growth.old.slots growth.old.piece (answer_of result) (D.state disk.old).areas (D.state disk.new).areas }
+        ensures counts { Counts result (D.state disk.old) (D.state disk.new) }
+        ensures moves { growth.new ≡ growth_after growth.old }
+        ensures did { IfOk result (λ did. did ≡ grew_at growth.old.stage) }
+        ensures log { IfOk result (λ did. self.new ≡ grown_by did growth.old self.old) }
+        ensures err { OnErr result (self.new ≡ self.old) }
+    {
+        let did = advance_growth(growth, disk)?;
+        match did {
+            Grew::WroteZeros | Grew::ZerosSynced | Grew::GateWritten => {}
+            Grew::Grown => {
+                *self = StatusLog {
+                    slots: growth.slots + 256,
+                    pieces: growth.piece + 1,
+                    ..*self
+                };
+            }
+        }
+        Ok(did)
     }
 }

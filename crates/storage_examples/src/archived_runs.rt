@@ -1,19 +1,14 @@
 //! Runs of old versions: as they are searched, damaged, and written.
 use crate::area_bytes::{bytes_of, put};
 use crate::list_walk::ListWalk;
-use crate::worked_bytes::{KEY, RUN, RUN_BYTES};
+use crate::worked_bytes::{KEY, RUN_BYTES, two_records};
 use archive::{ArchiveFault, ArchiveReader, Head, RecordWalk, RunEntry, RunWriter};
 use disk::{Area, DeviceFault, Disk, Fault, FaultDisk, MemDisk};
+use floors::Floors;
 use history::Key;
 use std::alloc::{AllocError, Global};
 use std::test::Fail;
 use wire::{Run, Value};
-
-const TWO_RECORDS: RunEntry = RunEntry {
-    slot: RUN,
-    mark: 0,
-    floor: 0,
-};
 
 /// What is asked of the key, or of its relation.
 #[derive(Clone, Copy)]
@@ -133,7 +128,7 @@ fn a_run_answers_by_its_times(rt: HostRuntime) -> Result<(), Fail> {
         (Query::Scan(105, 121), Found::Scan(2, 7)),
         (Query::Scan(120, 121), Found::Nothing),
     ];
-    let runs = [TWO_RECORDS];
+    let runs = [two_records()];
     assert_eq!(rt; first_wrong(&mut reader, &mut disk, &runs, &table)?, None);
     let heads = reader.heads();
     let after = [(Query::Find(120), Found::Nothing)];
@@ -254,7 +249,7 @@ fn ask_changed(
     ask(
         &mut reader,
         &mut disk_of(alloc, bytes),
-        &[TWO_RECORDS],
+        &[two_records()],
         query,
     )
 }
@@ -283,7 +278,7 @@ fn damage_is_told_where_it_is_read(rt: HostRuntime) -> Result<(), Fail> {
 fn a_run_past_the_end_is_damaged(rt: HostRuntime) -> Result<(), Fail> {
     let mut disk = disk_of(rt.alloc(), RUN_BYTES[..73].to_vec(rt.alloc())?);
     let mut reader = ArchiveReader::new(rt.alloc())?;
-    let found = ask(&mut reader, &mut disk, &[TWO_RECORDS], Query::Find(109));
+    let found = ask(&mut reader, &mut disk, &[two_records()], Query::Find(109));
     assert!(rt; found == DAMAGED);
     Ok(())
 }
@@ -308,38 +303,44 @@ fn many(alloc: Global, count: u64) -> Result<Vec<u8>, AllocError> {
 }
 
 /// A run of a thousand records of 29 bytes, in 10 blocks.
-const THOUSAND: RunEntry = RunEntry {
-    slot: Run {
-        upto: 120,
-        start: 0,
-        len: 37_000,
-        records: 1000,
-    },
-    mark: 0,
-    floor: 0,
-};
+fn thousand() -> RunEntry {
+    RunEntry {
+        slot: Run {
+            upto: 120,
+            start: 0,
+            len: 37_000,
+            records: 1000,
+        },
+        mark: 0,
+        floors: Floors::none(),
+    }
+}
 
-const MORE: RunEntry = RunEntry {
-    slot: Run {
-        upto: 120,
-        start: 0,
-        len: 37_888,
-        records: 1024,
-    },
-    mark: 0,
-    floor: 0,
-};
+fn more() -> RunEntry {
+    RunEntry {
+        slot: Run {
+            upto: 120,
+            start: 0,
+            len: 37_888,
+            records: 1024,
+        },
+        mark: 0,
+        floors: Floors::none(),
+    }
+}
 
-const NO_RECORD: RunEntry = RunEntry {
-    slot: Run {
-        upto: 120,
-        start: 0,
-        len: 0,
-        records: 0,
-    },
-    mark: 0,
-    floor: 0,
-};
+fn no_record() -> RunEntry {
+    RunEntry {
+        slot: Run {
+            upto: 120,
+            start: 0,
+            len: 0,
+            records: 0,
+        },
+        mark: 0,
+        floors: Floors::none(),
+    }
+}
 
 fn key_of(record: u64) -> Key {
     Key {
@@ -362,12 +363,12 @@ fn heads_read(alloc: Global, run: RunEntry, record: u64) -> Result<Option<u64>, 
 #[test]
 fn few_heads_are_read_of_many(rt: HostRuntime) -> Result<(), Fail> {
     for hundred in 0..10u64 {
-        let heads = heads_read(rt.alloc(), THOUSAND, 111 * hundred)?;
+        let heads = heads_read(rt.alloc(), thousand(), 111 * hundred)?;
         assert!(rt; matches!(heads, Some(n) if n <= 11), "in hundred {hundred}");
     }
-    let heads = heads_read(rt.alloc(), MORE, 1023)?;
+    let heads = heads_read(rt.alloc(), more(), 1023)?;
     assert!(rt; matches!(heads, Some(n) if n <= 12));
-    assert_eq!(rt; heads_read(rt.alloc(), NO_RECORD, 7)?, None);
+    assert_eq!(rt; heads_read(rt.alloc(), no_record(), 7)?, None);
     Ok(())
 }
 
@@ -375,14 +376,14 @@ fn few_heads_are_read_of_many(rt: HostRuntime) -> Result<(), Fail> {
 /// has found it there.
 fn finds_again(alloc: Global, mut reader: ArchiveReader) -> Result<bool, ArchiveFault> {
     let mut disk = disk_of(alloc, many(alloc, 1000)?);
-    reader.find(&mut disk, &[THOUSAND], &key_of(700), 105)?;
+    reader.find(&mut disk, &[thousand()], &key_of(700), 105)?;
     let fault = Fault {
         calls_before: 0,
         write_reaches: false,
         stops: true,
     };
     let mut silent = FaultDisk::new(disk, fault);
-    match reader.find(&mut silent, &[THOUSAND], &key_of(700), 105) {
+    match reader.find(&mut silent, &[thousand()], &key_of(700), 105) {
         Ok(found) => Ok(found.is_some()),
         Err(_) => Ok(false),
     }
@@ -402,7 +403,7 @@ fn finds_beside_damage(alloc: Global, record: u64) -> Result<bool, ArchiveFault>
     put(&mut bytes, 2 * 29 + 18, &[100]);
     let mut disk = disk_of(alloc, bytes);
     let mut reader = ArchiveReader::new(alloc)?;
-    let found = reader.find(&mut disk, &[THOUSAND], &key_of(record), 105)?;
+    let found = reader.find(&mut disk, &[thousand()], &key_of(record), 105)?;
     Ok(found.is_some())
 }
 
@@ -491,16 +492,18 @@ fn a_long_run_is_written_in_two_pieces(rt: HostRuntime) -> Result<(), Fail> {
 }
 
 /// A run behind that of two records, of one record of a lesser key.
-const LATER: RunEntry = RunEntry {
-    slot: Run {
-        upto: 130,
-        start: 74,
-        len: 37,
-        records: 1,
-    },
-    mark: 120,
-    floor: 0,
-};
+fn later() -> RunEntry {
+    RunEntry {
+        slot: Run {
+            upto: 130,
+            start: 74,
+            len: 37,
+            records: 1,
+        },
+        mark: 120,
+        floors: Floors::none(),
+    }
+}
 
 /// A disk with both runs.
 fn two_runs(alloc: Global) -> Result<MemDisk, Fail> {
@@ -523,7 +526,7 @@ fn scans_of_several_runs_are_merged(rt: HostRuntime) -> Result<(), Fail> {
         (Query::Scan(100, 200), Found::Scan(3, 3)),
         (Query::Scan(120, 200), Found::Scan(1, 3)),
     ];
-    let runs = [TWO_RECORDS, LATER];
+    let runs = [two_records(), later()];
     assert_eq!(rt; first_wrong(&mut reader, &mut disk, &runs, &table)?, None);
     Ok(())
 }

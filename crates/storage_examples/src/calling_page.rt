@@ -2,6 +2,7 @@
 use crate::list_walk::ListWalk;
 use archive::{ArchiveReader, Head, RunEntry, RunWriter};
 use disk::{Area, Disk, MemDisk};
+use floors::Floors;
 use history::Key;
 use std::test::Fail;
 use wire::{Run, Value};
@@ -23,8 +24,9 @@ fn a_run_is_written_and_searched(rt: HostRuntime) -> Result<(), Fail> {
             records: 1,
         },
         mark: 0,
-        floor: 0,
+        floors: Floors::none(),
     };
+    let runs = [run];
     let head = Head {
         key,
         from: 100,
@@ -40,13 +42,11 @@ fn a_run_is_written_and_searched(rt: HostRuntime) -> Result<(), Fail> {
     disk.sync(Area::Archive)?;
 
     let mut reader = ArchiveReader::new(alloc)?;
-    let found = reader
-        .find(&mut disk, &[run], &key, 109)?
-        .ok_or("no value")?;
+    let found = reader.find(&mut disk, &runs, &key, 109)?.ok_or("no value")?;
     assert!(rt; found.field(0) == Some(b"red"));
     // It ended at 110, and no run that ended by then is read.
     let heads = reader.heads();
-    assert!(rt; reader.find(&mut disk, &[run], &key, 110)?.is_none());
+    assert!(rt; reader.find(&mut disk, &runs, &key, 110)?.is_none());
     assert_eq!(rt; reader.heads(), heads);
     Ok(())
 }

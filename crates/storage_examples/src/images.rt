@@ -1,8 +1,10 @@
 //! Whole images: as they are formatted, read, and damaged.
 use crate::area_bytes::{begin_with, bytes_of, put, zeros};
-use crate::worked_bytes::{ANCHOR, COMMIT_SLOT, EXTENT_FRONT, HEADER, KEY, RUN, RUN_BYTES};
-use archive::RunEntry;
+use crate::worked_bytes::{
+    ANCHOR, COMMIT_SLOT, EXTENT_FRONT, HEADER, KEY, NEW_HEADER, RUN, RUN_BYTES,
+};
 use disk::{Area, DeviceFault, Disk, MemDisk};
+use floors::Floors;
 use recovery::{FormatFault, OpenFault, Recovered, format, read_image};
 use std::alloc::{AllocError, Global};
 use std::test::Fail;
@@ -29,7 +31,7 @@ fn a_new_store_is_a_header_and_closed_slots(rt: HostRuntime) -> Result<(), Fail>
         assert_eq!(rt; lens(&mut disk)?, (len, 0), "{slots} slots");
     }
     let status = bytes_of(rt.alloc(), &mut disk, Area::Status)?;
-    assert!(rt; begin_with(&status, &HEADER));
+    assert!(rt; begin_with(&status, &NEW_HEADER));
     Ok(())
 }
 
@@ -261,13 +263,13 @@ fn an_archived_slot_is_read(rt: HostRuntime) -> Result<(), Fail> {
     let mut disk = one_run(rt.alloc(), 74)?;
     let found = read_image(rt.alloc(), &mut disk)?;
     assert_eq!(rt; (found.used, found.last), (5, 130));
-    assert_eq!(rt; (found.archived, found.reclaimed, found.floor), (120, 0, 0));
-    let run = RunEntry {
-        slot: RUN,
-        mark: 0,
-        floor: 0,
+    assert_eq!(rt; (found.archived, found.reclaimed), (120, 0));
+    assert!(rt; found.floors.is(&Floors::none()));
+    let [run] = found.runs.as_slice() else {
+        return Err("one run".into());
     };
-    assert_eq!(rt; found.runs.as_slice(), [run].as_slice());
+    assert_eq!(rt; (run.slot, run.mark), (RUN, 0));
+    assert!(rt; run.floors.is(&Floors::none()));
     assert_eq!(rt;
         (fields_at(&found, 115), fields_at(&found, 125)),
         (Some(1), None)

@@ -3,6 +3,7 @@ use crate::area_bytes::{put, zeros};
 use crate::worked_bytes::{HEADER, KEY};
 use disk::{Area, MemDisk};
 use extents::Usage;
+use floors::Floors;
 use history::Key;
 use recovery::{OpenFault, Recovered, read_image};
 use std::alloc::{AllocError, Global};
@@ -97,10 +98,8 @@ fn anchors_and_the_commits_behind_them_are_read(rt: HostRuntime) -> Result<(), F
     let mut disk = MemDisk::with_bytes(status, heap, Vec::new(alloc));
     let found = read_image(alloc, &mut disk)?;
     assert_eq!(rt; (found.used, found.last), (5, 110));
-    assert_eq!(rt;
-        (found.archived, found.reclaimed, found.floor),
-        (105, 105, 0)
-    );
+    assert_eq!(rt; (found.archived, found.reclaimed), (105, 105));
+    assert!(rt; found.floors.is(&Floors::none()));
     assert_eq!(rt; (found.commits.len(), found.live.len()), (3, 1));
     let rows = [
         (KEY, 99, None),

@@ -19,8 +19,13 @@ const SIXTEEN: Header = Header {
 /// A disk whose status area has so many bytes, the header of 16 slots and zeros, as far as it
 /// reaches.
 fn new_disk(alloc: Global, len: usize) -> Result<MemDisk, Fail> {
+    disk_of(alloc, 1, len)
+}
+
+/// The same of another profile.
+fn disk_of(alloc: Global, profile: u32, len: usize) -> Result<MemDisk, Fail> {
     let mut status = zeros(alloc, len)?;
-    put(&mut status, 0, &encode_header(1, 16));
+    put(&mut status, 0, &encode_header(profile, 16));
     Ok(MemDisk::with_bytes(status, Vec::new(alloc), Vec::new(alloc)))
 }
 
@@ -334,12 +339,81 @@ fn floors_keep_their_rules(rt: HostRuntime) -> Result<(), Fail> {
     Ok(())
 }
 
+/// Floors of relations behind a commit at 100, and what is read.
+#[derive(Clone, Copy)]
+struct OwnFloors {
+    what: &'static str,
+    floors: &'static [(u16, u64)],
+    want: Result<usize, LogFault>,
+}
+
+const OWN_FLOORS: [OwnFloors; 6] = [
+    OwnFloors {
+        what: "a lower floor of another relation",
+        floors: &[(1, 60), (2, 50)],
+        want: Ok(3),
+    },
+    OwnFloors {
+        what: "the floor of a relation goes back",
+        floors: &[(1, 60), (2, 50), (1, 59)],
+        want: Err(LogFault::Damaged(3)),
+    },
+    OwnFloors {
+        what: "the floor of a relation does not rise",
+        floors: &[(1, 60), (1, 60)],
+        want: Err(LogFault::Damaged(2)),
+    },
+    OwnFloors {
+        what: "the least and the last relation",
+        floors: &[(0, 60), (65_535, 60), (0, 61)],
+        want: Ok(4),
+    },
+    OwnFloors {
+        what: "the floor is past the last commit",
+        floors: &[(1, 101)],
+        want: Err(LogFault::Damaged(1)),
+    },
+    OwnFloors {
+        what: "no floor is 0",
+        floors: &[(1, 0)],
+        want: Err(LogFault::Damaged(1)),
+    },
+];
+
 #[test]
-fn all_slots_are_built_in_profile_1(rt: HostRuntime) {
-    for kind in 1..5 {
-        assert!(rt; is_built(1, kind), "kind {kind}");
+fn floors_of_relations_keep_their_rules(rt: HostRuntime) -> Result<(), Fail> {
+    let alloc = rt.alloc();
+    let header = Header {
+        profile: 3,
+        slots: 16,
+        pieces: 0,
+    };
+    for row in OWN_FLOORS {
+        let mut disk = disk_of(alloc, 3, 8704)?;
+        let mut log = StatusLog::new(&header, 0);
+        write_slot(&mut log, one_commit(), &mut disk)?;
+        for (relation, floor) in row.floors {
+            let body = Body::Floor {
+                relation: Some(*relation),
+                floor: *floor,
+            };
+            write_slot(&mut log, body, &mut disk)?;
+        }
+        let read = read_log(alloc, &mut disk, &header);
+        assert_eq!(rt; read.map(|slots| slots.len()), row.want, "{}", row.what);
     }
-    assert!(rt; !is_built(1, 0));
-    assert!(rt; !is_built(1, 5));
-    assert!(rt; !is_built(2, 1));
+    Ok(())
+}
+
+#[test]
+fn all_slots_are_built_in_three_profiles(rt: HostRuntime) {
+    for profile in 1..4 {
+        for kind in 1..5 {
+            assert!(rt; is_built(profile, kind), "{kind} of {profile}");
+        }
+        assert!(rt; !is_built(profile, 0));
+        assert!(rt; !is_built(profile, 5));
+    }
+    assert!(rt; !is_built(0, 1));
+    assert!(rt; !is_built(4, 1));
 }

@@ -1,19 +1,14 @@
 //! Queries of a view whose versions are in memory, in the archive, or in both.
 use crate::version_walks::one_key;
-use crate::worked_bytes::{KEY, RUN, RUN_BYTES};
-use archive::{ArchiveReader, RunEntry};
+use crate::worked_bytes::{KEY, RUN_BYTES, two_records};
+use archive::ArchiveReader;
 use chains::SharedValue;
 use disk::MemDisk;
+use floors::Floors;
 use history::Version;
 use std::alloc::Global;
 use std::test::Fail;
 use timequery::{QueryFault, Runs, View};
-
-const TWO_RECORDS: RunEntry = RunEntry {
-    slot: RUN,
-    mark: 0,
-    floor: 0,
-};
 
 /// The versions of record 7: from when on each stands, up to when, and the byte of its one field.
 const VERSIONS: [(u64, u64, u8); 3] = [(100, 110, b'a'), (110, 120, b'b'), (130, 131, b'c')];
@@ -80,10 +75,10 @@ fn are_key_rows(rows: &[Version<SharedValue>], parts: &[(u64, u64, u8)]) -> bool
 /// A view over the run of two records, of a store that has reclaimed up to this mark.
 fn reclaimed(alloc: Global, mark: u64) -> Result<View, Fail> {
     let mut runs = Vec::new(alloc);
-    runs.push(TWO_RECORDS)?;
+    runs.push(two_records())?;
     let runs = Runs::from_vec(alloc, runs)?;
     let state = one_key(alloc)?.forget(alloc, mark)?;
-    Ok(View::new(3, 130, 0, state).with_archive(mark, runs))
+    Ok(View::new(3, 130, Floors::none(), state).with_archive(mark, runs))
 }
 
 fn disk_of(alloc: Global) -> Result<MemDisk, Fail> {

@@ -8,10 +8,11 @@ use archive::RecordWalk;
 use chains::{Frozen, SharedValue};
 use deltas::{ContentRef, EXTENT_LEN, ExtentCount, RecordSource, count_extents, fill_extent};
 use disk::{Area, MemDisk};
+use floors::Floors;
 use history::{Key, KeyWrite};
 use std::alloc::{AllocError, Global};
 use std::test::Fail;
-use vacuum::{AnchorSource, ArchiveWalk, archive_run, laws};
+use vacuum::{AnchorSource, ArchiveWalk, Since, archive_run, laws};
 use wire::{Run, Value};
 
 /// The value of one field, or none, in the record of this number.
@@ -94,6 +95,14 @@ fn versions_of(alloc: Global, which: Versions) -> Result<Frozen, AllocError> {
     }
 }
 
+/// What ended by the mark, or by the floor of all relations, is left out.
+fn since(mark: u64, floor: u64) -> Since {
+    Since {
+        mark,
+        floors: Floors::of_every(floor),
+    }
+}
+
 /// Whether the walk goes over these versions and then ends: record, from and to of each.
 fn walks_over(walk: &mut ArchiveWalk, versions: &[(u64, u64, u64)]) -> bool {
     for version in versions {
@@ -142,7 +151,7 @@ const WALKS: [Walk; 3] = [
 fn a_walk_goes_over_what_ended_in_its_time(rt: HostRuntime) -> Result<(), Fail> {
     for row in WALKS {
         let versions = versions_of(rt.alloc(), row.versions)?;
-        let mut walk = ArchiveWalk::new(versions, row.mark, row.upto);
+        let mut walk = ArchiveWalk::new(versions, since(row.mark, 0), row.upto);
         assert!(rt; walks_over(&mut walk, row.want), "up to {}", row.upto);
         walk.restart();
         assert!(rt; walks_over(&mut walk, row.want), "again up to {}", row.upto);
@@ -152,7 +161,7 @@ fn a_walk_goes_over_what_ended_in_its_time(rt: HostRuntime) -> Result<(), Fail> 
 
 /// The run as its slot names it, where it is written in one piece with these bytes.
 fn named_run(alloc: Global, disk: &mut MemDisk) -> Result<Run, Fail> {
-    let Some((run, mut writer)) = archive_run(one_key(alloc)?, 0, 0, 120, 0) else {
+    let Some((run, mut writer)) = archive_run(one_key(alloc)?, since(0, 0), 120, 0) else {
         return Err("no run".into());
     };
     writer.write_piece(disk)?;
@@ -176,8 +185,8 @@ fn a_run_is_made_of_versions(rt: HostRuntime) -> Result<(), Fail> {
 #[test]
 fn no_run_ends_past_the_last_place(rt: HostRuntime) -> Result<(), Fail> {
     let end = 1 << 63;
-    assert!(rt; archive_run(one_key(rt.alloc())?, 0, 0, 120, end - 74).is_none());
-    assert!(rt; archive_run(one_key(rt.alloc())?, 0, 0, 120, end - 75).is_some());
+    assert!(rt; archive_run(one_key(rt.alloc())?, since(0, 0), 120, end - 74).is_none());
+    assert!(rt; archive_run(one_key(rt.alloc())?, since(0, 0), 120, end - 75).is_some());
     Ok(())
 }
 
@@ -215,10 +224,26 @@ fn marks_bound_a_run(rt: HostRuntime) -> Result<(), Fail> {
     ];
     for row in table {
         let versions = versions_of(rt.alloc(), row.versions)?;
-        let Some((run, _)) = archive_run(versions, row.mark, row.floor, row.upto, 0) else {
+        let Some((run, _)) = archive_run(versions, since(row.mark, row.floor), row.upto, 0) else {
             return Err("no run".into());
         };
         assert!(rt; run.records == row.want, "{} up to {}", row.mark, row.upto);
+    }
+    Ok(())
+}
+
+#[test]
+fn a_floor_of_another_relation_leaves_a_run_alone(rt: HostRuntime) -> Result<(), Fail> {
+    let alloc = rt.alloc();
+    for (relation, want) in [(1, 1), (2, 2)] {
+        let since = Since {
+            mark: 0,
+            floors: Floors::none().raised(alloc, Some(relation), 110)?,
+        };
+        let Some((run, _)) = archive_run(one_key(alloc)?, since, 120, 0) else {
+            return Err("no run".into());
+        };
+        assert!(rt; run.records == want, "of {relation}");
     }
     Ok(())
 }

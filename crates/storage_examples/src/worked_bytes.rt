@@ -1,5 +1,7 @@
 //! What several examples share, byte for byte.
+use archive::RunEntry;
 use arrayvec::ArrayVec;
+use floors::Floors;
 use history::Key;
 use wire::{Body, Member, Run};
 
@@ -8,9 +10,14 @@ pub const KEY: Key = Key {
     record: 7,
 };
 
-/// The front of a header of 16 slots. Zeros follow.
+/// The front of a header of 16 slots, of profile 1. Zeros follow.
 pub const HEADER: [u8; 16] = [
     0x4e, 0x4f, 0x4f, 0x56, 0x45, 0x52, 0x30, 0x31, 0x01, 0, 0, 0, 0x10, 0, 0, 0,
+];
+
+/// The same of profile 3, which a format writes.
+pub const NEW_HEADER: [u8; 16] = [
+    0x4e, 0x4f, 0x4f, 0x56, 0x45, 0x52, 0x30, 0x31, 0x03, 0, 0, 0, 0x10, 0, 0, 0,
 ];
 
 /// A commit of one record in extent 1.
@@ -55,3 +62,12 @@ pub const RUN: Run = Run {
     len: 74,
     records: 2,
 };
+
+/// That run, with no mark and no floors before its slot.
+pub fn two_records() -> RunEntry {
+    RunEntry {
+        slot: RUN,
+        mark: 0,
+        floors: Floors::none(),
+    }
+}

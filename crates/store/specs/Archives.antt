@@ -1,12 +1,13 @@
 -- The beginning of an archive.
-use Rattle.std.specs.Prelude.{ℕ, ◌≡◌, ◌+◌, ◌^◌, ◌<◌, ◌≤◌, ◌==◌, max, nat_le, nat_lt, is_some, List, [], ◌∷◌, ◌++◌, length, Option, Some, None, Result, Ok, Err, MatchOption, if◌then◌else◌}
+use Rattle.std.specs.Prelude.{ℕ, ◌≡◌, ◌+◌, ◌^◌, ◌<◌, ◌≤◌, ◌==◌, nat_le, nat_lt, is_some, List, [], ◌∷◌, ◌++◌, length, Option, Some, None, Result, Ok, Err, MatchOption, if◌then◌else◌}
 use Rattle.image.specs.Reading.{ArchiveRecord}
 use Rattle.wire.specs.Spelling.{IsRun}
 use Rattle.archive.specs.Runs.{run_bytes}
 use Rattle.archive.specs.declared.run.RunEntry.{RunEntry}
 use Rattle.vacuum.specs.Archives.{records_of, run_of, unwritten}
+use Rattle.vacuum.specs.declared.archive_walk.Since.{Since}
 use Rattle.transactions.specs.Values.{spare, with_slot_lent}
-use Rattle.store.specs.Calls.{last, floor}
+use Rattle.store.specs.Calls.{last, floors}
 use Rattle.store.specs.Values.{StoreValue}
 use Rattle.wire.specs.declared.slot.Run.{Run}
 use Rattle.archive.specs.Pieces.{InWriting}
@@ -36,9 +37,13 @@ refusal_now v upto =
     else (if nat_lt (last v) upto then Some (fault.NotYet (last v))
     else (if spare v.transactions == 0 then Some fault.StatusFull else None))))
 
--- the records of the run: the versions that ended after the mark and the floor, and by the new mark
+-- what no run takes: what ended by the mark or by the floor of its relation
+abbrev pub since_now : StoreValue → Since
+since_now v = record { mark = v.archived; floors = floors v }
+
+-- the records of the run: the versions that ended after the mark and the floor of their relation, and by the new mark
 abbrev pub archive_of : StoreValue → ℕ → List ArchiveRecord
-archive_of v upto = records_of (max v.archived (floor v)) upto v.transactions.versions
+archive_of v upto = records_of (since_now v) upto v.transactions.versions
 
 -- the run would end past the greatest place
 abbrev pub IsPastEnd : StoreValue → ℕ → Type 0
@@ -52,24 +57,26 @@ with_archive v upto entry = record v {
   archive = record v.archive { next = v.archive.runs ++ entry ∷ [] };
 }
 
--- so it has, where queries will know the run by its slot and the marks before that
+-- so it has, where queries will know the run by its slot and by the mark and the floors before that
 pub record IsArchiveBegun (v : StoreValue) (upto : ℕ) (new : StoreValue) : Type 0 where
   pub entry : RunEntry
   pub slot : entry.slot ≡ run_of upto v.runs_end (archive_of v upto)
   pub mark : entry.mark ≡ v.archived
-  pub floor_is : entry.floor ≡ floor v
+  pub floors_are : entry.floors ≡ floors v
   pub new_is : new ≡ with_archive v upto entry
 
 abbrev pub IsRunRefusal : StoreValue → ℕ → StartFault → Type 0
 IsRunRefusal v upto fault.ArchiveFull = IsPastEnd v upto
 IsRunRefusal v upto fault.NoMemory = Unit {0}
 IsRunRefusal v upto fault.Failed = ⊥
+IsRunRefusal v upto fault.WrongProfile = ⊥
 IsRunRefusal v upto fault.JobBusy = ⊥
 IsRunRefusal v upto fault.NothingToDo = ⊥
 IsRunRefusal v upto (fault.NotYet time) = ⊥
 IsRunRefusal v upto (fault.InUse time) = ⊥
 IsRunRefusal v upto fault.StatusFull = ⊥
 IsRunRefusal v upto fault.HeapFull = ⊥
+IsRunRefusal v upto fault.NotGrowable = ⊥
 
 abbrev pub BeginsRun : StoreValue → ℕ → Result (Unit {0}) StartFault → StoreValue → Type 0
 BeginsRun v upto (Ok done) new = (v.runs_end + length (run_bytes (archive_of v upto)) < 2 ^ 63) × (upto < 2 ^ 63 → IsRun (run_of upto v.runs_end (archive_of v upto))) × IsArchiveBegun v upto new

@@ -15,6 +15,7 @@ use Rattle.group.specs.declared.answers.Redeemed.{Redeemed}
 use Rattle.snapshot.specs.Txn.{TxnValue}
 use Rattle.history.specs.Histories.{History}
 use Rattle.history.specs.Answers.{at_answer, between_answer, IsScanAtAnswer, IsScanBetweenAnswer}
+use Rattle.floors.specs.Floors.{FloorsValue, floor_at, same_floors}
 use Rattle.archive.specs.declared.run.RunEntry.{RunEntry}
 use Rattle.archive.specs.Parts.{IsRight, Keeps}
 use Rattle.archive.specs.Runs.{RunsEndBy}
@@ -32,12 +33,12 @@ use Rattle.transactions.specs.Calls as calls
 use Rattle.transactions.specs.Submits as submits
 use Rattle.store.specs.Values.{StoreValue, HasRest}
 
--- the time of the last published commit, and the floor
+-- the time of the last published commit, and the floors
 abbrev pub last : StoreValue → ℕ
 last v = calls.last v.transactions
 
-abbrev pub floor : StoreValue → ℕ
-floor v = v.transactions.floor
+abbrev pub floors : StoreValue → FloorsValue
+floors v = v.transactions.floors
 
 pub record Begins (old : StoreValue) (answer : Result TxnValue BeginFault) (new : StoreValue) : Type 0 where
   pub transactions : calls.Begins old.transactions answer new.transactions
@@ -57,7 +58,7 @@ pub record Submits (old : StoreValue) (txn : TxnValue) (label now : ℕ) (answer
 
 -- a view of what is published now, over the runs of the log
 abbrev pub IsViewOf : StoreValue → ViewValue → Type 0
-IsViewOf v view = view ≡ record { mark = v.transactions.mark; last = last v; floor = floor v; reclaimed = v.transactions.reclaimed; runs = v.archive.runs; state = v.transactions.versions }
+IsViewOf v view = view ≡ record { mark = v.transactions.mark; last = last v; floors = floors v; reclaimed = v.transactions.reclaimed; runs = v.archive.runs; state = v.transactions.versions }
 
 -- the times of the published commits with a label, rising
 abbrev pub IsTimesOf : StoreValue → ℕ → List ℕ → Type 0
@@ -70,7 +71,7 @@ same_run a b =
     (a.slot.upto == b.slot.upto)
     && ((a.slot.start == b.slot.start)
     && ((a.slot.len == b.slot.len)
-    && ((a.slot.records == b.slot.records) && ((a.mark == b.mark) && (a.floor == b.floor)))))
+    && ((a.slot.records == b.slot.records) && ((a.mark == b.mark) && same_floors a.floors b.floors))))
 
 -- the first list is a front of the second
 abbrev pub is_front : List RunEntry → List RunEntry → Bool
@@ -103,9 +104,9 @@ OrStranger v view Is answer new = MatchBool (is_own v view) (Is answer new) ((an
 
 -- the value of a key at a time, as the view's moment knows it
 abbrev pub FindsAt : Bool → StoreValue → ViewValue → Key → ℕ → Result (Option Value) QueryFault → StoreValue → Type 0
-FindsAt tells v view key time = Finds tells v view time (RefusesAt view time)
-    (λ o. AnswersAt view time o (value_at (writes_of view.state key) time))
-    (λ h o. at_answer h (λ _. view.floor) key time ≡ Ok o)
+FindsAt tells v view key time = Finds tells v view time (RefusesAt view key.relation time)
+    (λ o. AnswersAt view key.relation time o (value_at (writes_of view.state key) time))
+    (λ h o. at_answer h (floor_at view.floors) key time ≡ Ok o)
     (λ answer. MatchResult answer (IsValueFound (archive_of v.disk) view key time) (IfDamaged (IsFindDamaged (archive_of v.disk) view.runs key time)))
 
 abbrev pub AnswersAtView : Bool → StoreValue → ViewValue → Key → ℕ → Result (Option Value) QueryFault → StoreValue → Type 0
@@ -113,9 +114,9 @@ AnswersAtView tells v view key time answer new = OrStranger v view (FindsAt tell
 
 -- and the values of a relation
 abbrev pub FindsScanAt : Bool → StoreValue → ViewValue → ℕ → ℕ → Result (Vec (ℕ × Value) Global) QueryFault → StoreValue → Type 0
-FindsScanAt tells v view relation time = Finds tells v view time (RefusesAt view time)
-    (λ found. AnswersAt view time found.items (scanned relation time view.state))
-    (λ h found. IsScanAtAnswer h (λ _. view.floor) relation time (Ok found.items))
+FindsScanAt tells v view relation time = Finds tells v view time (RefusesAt view relation time)
+    (λ found. AnswersAt view relation time found.items (scanned relation time view.state))
+    (λ h found. IsScanAtAnswer h (floor_at view.floors) relation time (Ok found.items))
     (λ answer. MatchResult answer (λ found. AreValuesFound (archive_of v.disk) view relation time found.items)
     (IfDamaged (IsDamagedRun (AreScanRowsOf (archive_of v.disk) relation time (time + 1)) (AreScanRowsBroken (archive_of v.disk) relation time (time + 1)) time view.runs)))
 
@@ -124,9 +125,9 @@ AnswersScanAt tells v view relation time answer new = OrStranger v view (FindsSc
 
 -- the rows of a key from a up to b
 abbrev pub FindsRows : Bool → StoreValue → ViewValue → Key → ℕ → ℕ → Result (Vec (Version Value) Global) QueryFault → StoreValue → Type 0
-FindsRows tells v view key a b = Finds tells v view a (RefusesRows view a b)
-    (λ found. AnswersBetween view a b found.items (rows_in view.state a b key))
-    (λ h found. between_answer h (λ _. view.floor) key a b ≡ Ok found.items)
+FindsRows tells v view key a b = Finds tells v view a (RefusesRows view key.relation a b)
+    (λ found. AnswersBetween view key.relation a b found.items (rows_in view.state a b key))
+    (λ h found. between_answer h (floor_at view.floors) key a b ≡ Ok found.items)
     (λ answer. MatchResult answer (λ found. AreRowsFound (archive_of v.disk) view key a b found.items)
     (IfDamaged (IsDamagedRun (AreRowsOf (archive_of v.disk) key a b) (AreRowsBroken (archive_of v.disk) key a b) a view.runs)))
 
@@ -135,9 +136,9 @@ AnswersRows tells v view key a b answer new = OrStranger v view (FindsRows tells
 
 -- and those of a relation
 abbrev pub FindsScanRows : Bool → StoreValue → ViewValue → ℕ → ℕ → ℕ → Result (Vec (ℕ × Version Value) Global) QueryFault → StoreValue → Type 0
-FindsScanRows tells v view relation a b = Finds tells v view a (RefusesRows view a b)
-    (λ found. AnswersBetween view a b found.items (scanned_rows relation a b view.state))
-    (λ h found. IsScanBetweenAnswer h (λ _. view.floor) relation a b (Ok found.items))
+FindsScanRows tells v view relation a b = Finds tells v view a (RefusesRows view relation a b)
+    (λ found. AnswersBetween view relation a b found.items (scanned_rows relation a b view.state))
+    (λ h found. IsScanBetweenAnswer h (floor_at view.floors) relation a b (Ok found.items))
     (λ answer. MatchResult answer (λ found. AreScanRowsFound (archive_of v.disk) view relation a b found.items)
     (IfDamaged (IsDamagedRun (AreScanRowsOf (archive_of v.disk) relation a b) (AreScanRowsBroken (archive_of v.disk) relation a b) a view.runs)))
 

@@ -1,5 +1,5 @@
 -- The steps of a job to the disk.
-use Rattle.std.specs.Prelude.{◌≡◌, ◌<◌, ◌+◌, ◌⊎◌, ℕ, Bool, true, false, List, [], ◌∷◌, length, take, drop, slice_get, is_some, Option, Some, None, Result, Ok, Err, MatchBool, MatchOption, MatchResult}
+use Rattle.std.specs.Prelude.{◌≡◌, ◌<◌, ◌≤◌, ◌+◌, ◌⊎◌, ℕ, Bool, true, false, List, [], ◌∷◌, length, take, drop, slice_get, is_some, Option, Some, None, Result, Ok, Err, MatchBool, MatchOption, MatchResult}
 use Rattle.disk.specs.Calls.{Writes, Syncs}
 use Rattle.disk.specs.declared.area.Area.{Area}
 use Rattle.disk.specs.declared.area.Area.TheVariants as areas
@@ -14,6 +14,10 @@ use Rattle.deltas.specs.Extents.{extent_start}
 use Rattle.deltas.specs.Filling.{IsFilled}
 use Rattle.deltas.specs.declared.filled_extent.FilledExtent.{FilledExtent}
 use Rattle.vacuum.specs.Anchors.{Sourced}
+use Rattle.status.specs.Growth.{IsGrowthCall, growth_after, grew_at, with_piece}
+use Rattle.status.specs.GrowthState.{GrowthState}
+use Rattle.status.specs.declared.growth.Grew.{Grew}
+use Rattle.status.specs.declared.growth.Grew.TheVariants as grew
 use Rattle.status.specs.SlotCalls.{SlotStage, IsSlotCall}
 use Rattle.status.specs.SlotCalls as slots
 use Rattle.status.specs.TurnState.{TurnState}
@@ -21,12 +25,12 @@ use Rattle.group.specs.declared.answers.PumpFault.{PumpFault}
 use Rattle.group.specs.declared.answers.PumpFault.TheVariants as fault
 use Rattle.transactions.specs.Steps.{broken}
 use Rattle.transactions.specs.Reclaims.{prepared, reclaimed_to}
-use Rattle.transactions.specs.Values.{with_slot_used, raised_to}
+use Rattle.transactions.specs.Values.{with_slot_used, with_more_slots, with_floors}
 use Rattle.store.specs.Values.{ArchiveValue, StoreValue}
 use Rattle.store.specs.Pumps.{Calls}
 use Rattle.store.specs.declared.job.Job.{Job}
 use Rattle.store.specs.declared.job.JobWork.{JobWork}
-use Rattle.store.specs.declared.job.JobWork.TheVariants.{Archive, Reclaim, Floor}
+use Rattle.store.specs.declared.job.JobWork.TheVariants.{Archive, Reclaim, Floor, Grow}
 use Rattle.store.specs.declared.job.JobStage.{JobStage}
 use Rattle.store.specs.declared.job.JobStage.TheVariants as stages
 use Rattle.store.specs.declared.job.JobDid.{JobDid}
@@ -89,30 +93,56 @@ abbrev pub AnchorsOrSync : Bool → Option ℕ → Anchors → Sourced → ℕ �
 AnchorsOrSync tells None anchors source written job old result new = SyncsStored tells areas.Heap did.HeapSynced job old result new
 AnchorsOrSync tells (Some number) anchors source written job old result new = WritesAnchors tells anchors source written number job old result new
 
+-- ---- a piece of slots
+
+-- the job that makes it
+abbrev pub growing : GrowthState → Job
+growing growth = writing (Grow growth)
+
+-- the store once it is open: its slots are the log's, and no job runs
+abbrev pub grown_store : GrowthState → StoreValue → StoreValue → StoreValue
+grown_store growth old new = record old { transactions = with_more_slots 256 old.transactions; log = with_piece growth old.log; job = None; disk = new.disk }
+
+-- what a device call of it leads to, and is said to have done
+abbrev pub HasGrown : Grew → GrowthState → StoreValue → JobDid → StoreValue → Type 0
+HasGrown grew.WroteZeros growth old what new = (what ≡ did.WroteZeros) × (new ≡ with_job old (growing (growth_after growth)) new)
+HasGrown grew.ZerosSynced growth old what new = (what ≡ did.ZerosSynced) × (new ≡ with_job old (growing (growth_after growth)) new)
+HasGrown grew.GateWritten growth old what new = (what ≡ did.GateWritten) × (new ≡ with_job old (growing (growth_after growth)) new)
+HasGrown grew.Grown growth old what new = (what ≡ did.JobDone) × (old.transactions.slots + 256 ≤ 65536) × (new ≡ grown_store growth old new)
+
+-- the next device call of the piece, which stands behind it whatever the device answered
+pub record Grows (tells : Bool) (growth : GrowthState) (old : StoreValue) (result : Result JobDid PumpFault) (new : StoreValue) : Type 0 where
+  pub call : Calls tells (IsGrowthCall growth.stage growth.slots growth.piece) result old.disk new.disk
+  pub answer : MatchResult result (λ what. HasGrown (grew_at growth.stage) growth old what new) (λ why. (why ≡ fault.Failed) × (new ≡ job_fails old (growing (growth_after growth)) new))
+
 -- ---- by its kind
 
--- The next step before its slot. A floor has none.
+-- The next step before its slot. A floor has none, and all of a growth's are such.
 abbrev pub Stores : Bool → JobWork → Job → StoreValue → Result JobDid PumpFault → StoreValue → Type 0
 Stores tells (Archive run writer) job old result new = WritesOrSyncs tells writer.left run writer job old result new
 Stores tells (Reclaim anchors source written) job old result new = AnchorsOrSync tells (slice_get old.transactions.reserved written) anchors source written job old result new
-Stores tells (Floor floor) job old result new = ⊥
+Stores tells (Floor scope floor floors) job old result new = ⊥
+Stores tells (Grow growth) job old result new = Grows tells growth old result new
 
--- what the job's slot says
+-- what the job's slot says; nothing is asked of a growth, which has none
 abbrev pub slot_body : JobWork → Body
 slot_body (Archive run writer) = bodies.Archived run
 slot_body (Reclaim anchors source written) = bodies.Reclaimed anchors
-slot_body (Floor floor) = bodies.Floor None floor
+slot_body (Floor scope floor floors) = bodies.Floor scope floor
+slot_body (Grow growth) = bodies.Floor None 0
 
 -- what is made in memory before the slot is begun, and whether there may be no memory for it
 abbrev pub made_ready : JobWork → StoreValue → StoreValue
 made_ready (Archive run writer) v = v
 made_ready (Reclaim anchors source written) v = record v { transactions = prepared v.transactions anchors.upto }
-made_ready (Floor floor) v = v
+made_ready (Floor scope floor floors) v = v
+made_ready (Grow growth) v = v
 
 abbrev pub TakesMemory : JobWork → Type 0
 TakesMemory (Archive run writer) = ⊥
 TakesMemory (Reclaim anchors source written) = Unit {0}
-TakesMemory (Floor floor) = ⊥
+TakesMemory (Floor scope floor floors) = ⊥
+TakesMemory (Grow growth) = ⊥
 
 -- the run that was made is one of the log's
 abbrev pub with_next_run : ArchiveValue → ArchiveValue
@@ -122,7 +152,8 @@ with_next_run archive = record archive { runs = archive.next; next = [] }
 abbrev pub work_done : JobWork → StoreValue → StoreValue
 work_done (Archive run writer) v = record v { archived = run.upto; runs_end = run.start + run.len; archive = with_next_run v.archive }
 work_done (Reclaim anchors source written) v = record v { transactions = reclaimed_to v.transactions anchors.upto }
-work_done (Floor floor) v = record v { transactions = raised_to v.transactions floor }
+work_done (Floor scope floor floors) v = record v { transactions = with_floors v.transactions floors }
+work_done (Grow growth) v = v
 
 -- ---- the slot
 

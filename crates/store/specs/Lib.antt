@@ -8,3 +8,4 @@ pub mod Jobs
 pub mod Parts
 pub mod Reclaims
 pub mod Floors
+pub mod Growths

@@ -1,5 +1,5 @@
 -- A store by its parts.
-use Rattle.std.specs.Prelude.{◌+◌, ◌<◌, ◌≤◌, ◌^◌, ℕ, Option, MatchOption}
+use Rattle.std.specs.Prelude.{◌≡◌, ◌+◌, ◌<◌, ◌≤◌, ◌^◌, ℕ, Option, MatchOption}
 use Rattle.disk.specs.Calls.{DiskState}
 use Rattle.status.specs.SlotCalls.{SlotStage}
 use Rattle.status.specs.SlotCalls as slots
@@ -8,7 +8,7 @@ use Rattle.transactions.specs.Values.{TransactionsValue}
 use Rattle.store.specs.Values.{ArchiveValue, StoreValue}
 use Rattle.store.specs.declared.job.Job.{Job}
 use Rattle.store.specs.declared.job.JobWork.{JobWork}
-use Rattle.store.specs.declared.job.JobWork.TheVariants.{Archive, Reclaim, Floor}
+use Rattle.store.specs.declared.job.JobWork.TheVariants.{Archive, Reclaim, Floor, Grow}
 use Rattle.store.specs.declared.job.JobStage.{JobStage}
 use Rattle.store.specs.declared.job.JobStage.TheVariants.{Writing, Stored, Turning}
 use Rattle.store.specs.declared.job.JobDid.{JobDid}
@@ -29,18 +29,30 @@ job_did_at slots.Opened = did.JobDone
 abbrev pub IsInPlace : JobWork → Type 0
 IsInPlace (Archive run writer) = run.start + run.len < 2 ^ 63
 IsInPlace (Reclaim anchors source written) = Unit {0}
-IsInPlace (Floor floor) = Unit {0}
+IsInPlace (Floor scope floor floors) = Unit {0}
+IsInPlace (Grow growth) = Unit {0}
 
--- a job may be at this stage: one of a floor has nothing to be written before its slot
+-- a job may be at this stage: one of a floor has nothing to be written before its slot, and a growth has no slot
 abbrev pub IsStageOf : JobWork → JobStage → Type 0
 IsStageOf (Archive run writer) stage = Unit {0}
 IsStageOf (Reclaim anchors source written) stage = Unit {0}
-IsStageOf (Floor floor) Writing = ⊥
-IsStageOf (Floor floor) Stored = Unit {0}
-IsStageOf (Floor floor) (Turning turn) = Unit {0}
+IsStageOf (Floor scope floor floors) Writing = ⊥
+IsStageOf (Floor scope floor floors) Stored = Unit {0}
+IsStageOf (Floor scope floor floors) (Turning turn) = Unit {0}
+IsStageOf (Grow growth) Writing = Unit {0}
+IsStageOf (Grow growth) Stored = ⊥
+IsStageOf (Grow growth) (Turning turn) = ⊥
 
--- The log has at most so many slots. The run of a job ends before the greatest place, and the job is at a stage of its kind.
+-- a piece is made behind the slots and the pieces that the log has, and there is room for it
+abbrev pub GrowsBehind : JobWork → LogState → Type 0
+GrowsBehind (Archive run writer) log = Unit {0}
+GrowsBehind (Reclaim anchors source written) log = Unit {0}
+GrowsBehind (Floor scope floor floors) log = Unit {0}
+GrowsBehind (Grow growth) log = (growth.slots ≡ log.slots) × (growth.piece ≡ log.pieces) × (growth.slots + 256 ≤ 65536)
+
+-- The log has at most so many slots. The run of a job ends before the greatest place, the job is at a stage of its kind, and a piece comes next.
 pub record IsInRange (v : StoreValue) : Type 0 where
   pub slots : v.log.slots ≤ 65536
   pub run : MatchOption v.job (Unit {0}) (λ job. IsInPlace job.work)
   pub stage : MatchOption v.job (Unit {0}) (λ job. IsStageOf job.work job.stage)
+  pub behind : MatchOption v.job (Unit {0}) (λ job. GrowsBehind job.work v.log)

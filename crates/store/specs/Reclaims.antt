@@ -63,12 +63,14 @@ abbrev pub IsAnchorRefusal : StoreValue → StartFault → Type 0
 IsAnchorRefusal v fault.HeapFull = nat_lt (free_count v.transactions) (length (anchor_bodies v)) ≡ true
 IsAnchorRefusal v fault.NoMemory = Unit {0}
 IsAnchorRefusal v fault.Failed = ⊥
+IsAnchorRefusal v fault.WrongProfile = ⊥
 IsAnchorRefusal v fault.JobBusy = ⊥
 IsAnchorRefusal v fault.NothingToDo = ⊥
 IsAnchorRefusal v (fault.NotYet time) = ⊥
 IsAnchorRefusal v (fault.InUse time) = ⊥
 IsAnchorRefusal v fault.StatusFull = ⊥
 IsAnchorRefusal v fault.ArchiveFull = ⊥
+IsAnchorRefusal v fault.NotGrowable = ⊥
 
 abbrev pub BeginsReclaim : StoreValue → Result (Unit {0}) StartFault → StoreValue → Type 0
 BeginsReclaim v (Ok done) new = (length (anchor_bodies v) ≤ free_count v.transactions) × IsReclaimBegun v new

@@ -6,6 +6,8 @@ use Rattle.status.specs.SlotCalls.{SlotStage, Begun, BodyWritten, BodySynced, Ga
 use Rattle.status.specs.TurnState.{TurnState, LogState}
 use Rattle.transactions.specs.Values.{TransactionsValue, is_turning}
 use Rattle.store.specs.declared.job.Job.{Job}
+use Rattle.store.specs.declared.job.JobWork.{JobWork}
+use Rattle.store.specs.declared.job.JobWork.TheVariants.{Archive, Reclaim, Floor, Grow}
 use Rattle.store.specs.declared.job.JobStage.{JobStage}
 use Rattle.store.specs.declared.job.JobStage.TheVariants.{Writing, Stored, Turning}
 
@@ -55,10 +57,16 @@ abbrev pub turn_of : Option Job → Option TurnState
 turn_of None = None
 turn_of (Some job) = turn_in job.stage
 
--- the slots that a job holds for its own
+-- the slots that a job holds for its own; a growth holds none
+abbrev pub lent_by : JobWork → ℕ
+lent_by (Archive run writer) = 1
+lent_by (Reclaim anchors source written) = 1
+lent_by (Floor scope floor floors) = 1
+lent_by (Grow growth) = 0
+
 abbrev pub lent_to : Option Job → ℕ
 lent_to None = 0
-lent_to (Some job) = 1
+lent_to (Some job) = lent_by job.work
 
 -- a device call of the slot is made, and another is to come
 abbrev pub IsOnItsWay : SlotStage → Type 0

@@ -2,14 +2,16 @@
 ghost use Rattle.std.specs.Prelude.{◌≡◌};
 
 use archive::RunWriter;
-use status::SlotTurn;
+use floors::Floors;
+use status::{Growth, SlotTurn};
 use std::mem;
 use vacuum::{AnchorSource, ArchiveWalk};
 use wire::{Anchors, Run};
 
 /// What is done of a job.
 pub enum JobStage {
-    /// What its slot is to name is being written.
+    /// What its slot is to name is being written; a growth, which has no slot, is at this stage till
+    /// its end.
     Writing,
     /// That is written and synced.
     Stored,
@@ -32,26 +34,41 @@ pub enum JobWork {
         source: AnchorSource,
         written: usize,
     },
-    /// Nothing: its slot alone names the floor, in microseconds since 1970.
+    /// Nothing: its slot alone names the floor, in microseconds since 1970, that of one relation or of
+    /// every one. The floors are those that stand once it is open.
     Floor {
+        scope: Option<u16>,
         floor: u64,
+        floors: Floors,
+    },
+    /// A piece of 256 slots more, behind those of the log. It has no slot.
+    Grow {
+        growth: Growth,
     },
 }
 
-/// A job that runs: an archive, a reclaim or a floor.
+/// A job that runs: an archive, a reclaim, a floor or a growth.
 pub struct Job {
     pub(crate) work: JobWork,
     pub(crate) stage: JobStage,
 }
 
 impl Job {
-    /// Gives the job up: what it has of a slot stays in the writing.
-    pub(crate) fn give_up(self) {
-        let Job { work: _, stage } = self;
+    /// What it makes. What it has of a slot is given up: that slot stays in the writing.
+    pub(crate) fn into_work(self) -> JobWork
+        ensures { result ≡ self.work }
+    {
+        let Job { work, stage } = self;
         match stage {
             JobStage::Writing | JobStage::Stored => {}
             JobStage::Turning(turn) => turn.give_up(),
         }
+        work
+    }
+
+    /// Gives the job up: what it has of a slot stays in the writing.
+    pub(crate) fn give_up(self) {
+        let _work = self.into_work();
     }
 }
 
@@ -69,10 +86,12 @@ pub(crate) fn put_job(place: &mut Option<Job>, job: Option<Job>)
 pub enum StartFault {
     /// A write or sync of the device was refused before.
     Failed,
+    /// In a store of this profile floors are those of all relations together, or of one each.
+    WrongProfile,
     /// A job runs.
     JobBusy,
     /// All versions that ended by then are archived, or the heap has nothing that is archived, or the
-    /// floor is as late.
+    /// floor of the relation is as late.
     NothingToDo,
     /// No commit is as late: the time of the last one, in microseconds since 1970.
     NotYet(u64),
@@ -86,6 +105,8 @@ pub enum StartFault {
     /// The anchors need more extents than are free.
     HeapFull,
     NoMemory,
+    /// A store of profile 1 has no pieces, and none has more than 65,536 slots.
+    NotGrowable,
 }
 
 /// What a step of a job did.
@@ -99,9 +120,13 @@ pub enum JobDid {
     /// The next extent of the anchors is written.
     WroteExtent,
     HeapSynced,
+    /// The next 8,192 zeros of a piece are written.
+    WroteZeros,
+    ZerosSynced,
     BodyWritten,
     BodySynced,
+    /// The gate of the job's slot, or of the piece, is written.
     GateWritten,
-    /// The job's slot is open.
+    /// The job's slot is open, or the piece is.
     JobDone,
 }

@@ -3,11 +3,11 @@ ghost use Rattle.std.specs.Prelude.{◌≡◌, ◌+◌, ◌<◌, ◌≤◌, ◌^
 ghost use Rattle.disk.specs.Areas.{AreSound};
 ghost use Rattle.status.specs.TurnState.{LogState, TurnState};
 ghost use Rattle.deltas.specs.Chains.{first_number};
-ghost use Rattle.store.specs.Jobs.{PumpsJob, TakesJobStep, Stores, writing, WritesOrSyncs, WritesRun, WritesAnchors, AnchorsOrSync, SyncsStored, BeginsJobSlot, TurnsJob, slot_body, made_ready, work_done, TakesMemory};
+ghost use Rattle.store.specs.Jobs.{PumpsJob, TakesJobStep, Stores, writing, Grows, growing, WritesOrSyncs, WritesRun, WritesAnchors, AnchorsOrSync, SyncsStored, BeginsJobSlot, TurnsJob, slot_body, made_ready, work_done, TakesMemory};
 ghost use Rattle.disk.specs.Calls.{DiskState};
 ghost use Rattle.transactions.specs.Values.{KeepsSlots};
-ghost use Rattle.store.specs.Parts.{parts_of, job_did_at, IsInPlace, IsStageOf};
-ghost use Rattle.store.specs.Values.{ArchiveValue};
+ghost use Rattle.store.specs.Parts.{parts_of, job_did_at, IsInPlace, IsStageOf, GrowsBehind};
+ghost use Rattle.store.specs.Values.{ArchiveValue, lent_by};
 ghost use Rattle.store.specs.declared.job.Job.{Job};
 
 use crate::job::{Job, JobDid, JobStage, JobWork, put_job};
@@ -19,7 +19,7 @@ use deltas::{EXTENT_LEN, fill_extent};
 use disk::{Area, DeviceFault, Disk};
 use extents::Extent;
 use group::PumpFault;
-use status::{SlotTurn, Stage, StatusLog, Step};
+use status::{Grew, Growth, SlotTurn, Stage, StatusLog, Step};
 use std::alloc::{AllocError, Global};
 use std::mem;
 use transactions::Transactions;
@@ -30,9 +30,9 @@ use wire::{Anchors, Body, Run};
 type Stepped = (Result<JobDid, PumpFault>, Option<Job>);
 
 impl<D: Disk> Store<D> {
-    /// One step of the job that runs: it writes the next 8,192 bytes of its run or of its anchors, syncs
-    /// them, or makes the next device call of its slot; a floor has its slot alone. `Idle` is answered
-    /// where no job runs.
+    /// One step of the job that runs: it writes the next 8,192 bytes of its run, of its anchors or of its
+    /// piece's zeros, syncs them, or makes the next device call of its slot or of the piece's gate; a floor
+    /// has its slot alone, and a growth none. `Idle` is answered where no job runs.
     ///
     /// Answers `Failed` once a write or sync of the device was refused, and `Busy`, with nothing done,
     /// where the job would begin its slot while a group's is in the writing. `NoMemory`, with nothing
@@ -90,13 +90,15 @@ fn step_job<D: Disk>(
     requires end { IsInPlace job.work }
     requires stage { IsStageOf job.work job.stage }
     requires free { is_turning ≡ false → job.stage ≡ JobStage.Stored → log.old.writing ≡ false }
-    requires room { log.old.used < log.old.slots }
+    requires behind { GrowsBehind job.work log.old }
+    requires lent { log.old.slots ≡ transactions.old.slots + lent_by job.work }
+    requires room { job.stage ≡ JobStage.Stored → log.old.used < log.old.slots }
     ensures { (turn : Option TurnState) → is_some turn ≡ is_turning
         → TakesJobStep D.tells job.stage job (parts_of transactions.old log.old turn (Some job) archived.old runs_end.old archive.old (D.state disk.old)) result.0 (parts_of transactions.new log.new turn result.1 archived.new runs_end.new archive.new (D.state disk.new)) }
 {
     let Job { work, stage } = job;
     match stage {
-        JobStage::Writing => store_next(transactions, disk, work),
+        JobStage::Writing => store_next(transactions, log, disk, work),
         JobStage::Stored => {
             let job = Job {
                 work,
@@ -138,11 +140,19 @@ fn step_job<D: Disk>(
 
 // ---- before the slot
 
-// Writes the next piece of what the slot is to name; where all is written it is synced.
-fn store_next<D: Disk>(transactions: &mut Transactions, disk: &mut D, work: JobWork) -> Stepped
-    requires { IsStageOf work JobStage.Writing }
-    ensures { (log : LogState) (turn : Option TurnState) (archived runs_end : ℕ) (archive : ArchiveValue)
-        → Stores D.tells work (writing work) (parts_of transactions.old log turn (Some (writing work)) archived runs_end archive (D.state disk.old)) result.0 (parts_of transactions.new log turn result.1 archived runs_end archive (D.state disk.new)) }
+// Writes the next piece of what the slot is to name; where all is written it is synced. A growth makes
+// its next device call.
+fn store_next<D: Disk>(
+    transactions: &mut Transactions,
+    log: &mut StatusLog,
+    disk: &mut D,
+    work: JobWork,
+) -> Stepped
+    requires stage { IsStageOf work JobStage.Writing }
+    requires behind { GrowsBehind work log.old }
+    requires lent { log.old.slots ≡ transactions.old.slots + lent_by work }
+    ensures { (turn : Option TurnState) (archived runs_end : ℕ) (archive : ArchiveValue)
+        → Stores D.tells work (writing work) (parts_of transactions.old log.old turn (Some (writing work)) archived runs_end archive (D.state disk.old)) result.0 (parts_of transactions.new log.new turn result.1 archived runs_end archive (D.state disk.new)) }
 {
     match work {
         JobWork::Archive { run, writer } => store_run(transactions, disk, run, writer),
@@ -152,6 +162,41 @@ fn store_next<D: Disk>(transactions: &mut Transactions, disk: &mut D, work: JobW
             written,
         } => store_anchors(transactions, disk, anchors, source, written),
         JobWork::Floor { .. } => unreachable!(),
+        JobWork::Grow { growth } => grow(transactions, log, disk, growth),
+    }
+}
+
+// The next device call of a piece of slots. Once its gate is synced its slots are the store's.
+fn grow<D: Disk>(
+    transactions: &mut Transactions,
+    log: &mut StatusLog,
+    disk: &mut D,
+    growth: Growth,
+) -> Stepped
+    requires behind { growth.slots ≡ transactions.old.slots }
+    requires room { growth.slots + 256 ≤ 65536 }
+    ensures { (turn : Option TurnState) (archived runs_end : ℕ) (archive : ArchiveValue)
+        → Grows D.tells growth (parts_of transactions.old log.old turn (Some (growing growth)) archived runs_end archive (D.state disk.old)) result.0 (parts_of transactions.new log.new turn result.1 archived runs_end archive (D.state disk.new)) }
+{
+    let mut growth = growth;
+    let grew = log.grow(&mut growth, disk);
+    let job = Job {
+        work: JobWork::Grow { growth },
+        stage: JobStage::Writing,
+    };
+    match grew {
+        Err(DeviceFault) => {
+            transactions.fail();
+            (Err(PumpFault::Failed), Some(job))
+        }
+        Ok(Grew::WroteZeros) => (Ok(JobDid::WroteZeros), Some(job)),
+        Ok(Grew::ZerosSynced) => (Ok(JobDid::ZerosSynced), Some(job)),
+        Ok(Grew::GateWritten) => (Ok(JobDid::GateWritten), Some(job)),
+        Ok(Grew::Grown) => {
+            job.give_up();
+            transactions.add_slots(256);
+            (Ok(JobDid::JobDone), None)
+        }
     }
 }
 
@@ -303,15 +348,17 @@ fn at_stage(job: Job, stage: JobStage) -> Job
 
 // What the job's slot says.
 fn slot_body(work: &JobWork) -> Body
+    requires { IsStageOf work.now JobStage.Stored }
     ensures { result ≡ slot_body work.now }
 {
     match work {
         JobWork::Archive { run, .. } => Body::Archived(*run),
         JobWork::Reclaim { anchors, .. } => Body::Reclaimed(*anchors),
-        JobWork::Floor { floor } => Body::Floor {
-            relation: None,
+        JobWork::Floor { scope, floor, .. } => Body::Floor {
+            relation: *scope,
             floor: *floor,
         },
+        JobWork::Grow { .. } => unreachable!(),
     }
 }
 
@@ -327,7 +374,7 @@ fn make_ready(
     ensures slots { KeepsSlots transactions.old transactions.new }
 {
     match work {
-        JobWork::Archive { .. } | JobWork::Floor { .. } => Ok(()),
+        JobWork::Archive { .. } | JobWork::Floor { .. } | JobWork::Grow { .. } => Ok(()),
         JobWork::Reclaim { anchors, .. } => transactions.prepare_reclaim(alloc, anchors.upto),
     }
 }
@@ -347,6 +394,7 @@ fn begin_slot<D: Disk>(
     requires slots { transactions.old.slots < 65536 }
     requires end { IsInPlace job.work }
     requires stage { job.stage ≡ JobStage.Stored }
+    requires kind { IsStageOf job.work JobStage.Stored }
     requires free { log.old.writing ≡ false }
     requires room { log.old.used < log.old.slots }
     ensures { (turn : Option TurnState)
@@ -372,18 +420,18 @@ fn begin_slot<D: Disk>(
 }
 
 // What the job made stands: an archive's run is the log's, and raises the archive mark; a reclaim
-// raises the reclaim mark, and a floor the floor.
+// raises the reclaim mark, and a floor puts the floors that then stand into their place.
 fn finish(
     alloc: Global,
     transactions: &mut Transactions,
     archived: &mut u64,
     runs_end: &mut u64,
     archive: &mut StoreArchive,
-    work: &JobWork,
+    work: JobWork,
 )
-    requires { IsInPlace work.now }
+    requires { IsInPlace work }
     ensures is { (log : LogState) (turn : Option TurnState) (job : Option Job) (disk : DiskState)
-        → parts_of transactions.new log turn job archived.new runs_end.new archive.new disk ≡ work_done work.now (parts_of transactions.old log turn job archived.old runs_end.old archive.old disk) }
+        → parts_of transactions.new log turn job archived.new runs_end.new archive.new disk ≡ work_done work (parts_of transactions.old log turn job archived.old runs_end.old archive.old disk) }
     ensures slots { KeepsSlots transactions.old transactions.new }
 {
     match work {
@@ -393,7 +441,8 @@ fn finish(
             archive.put_run();
         }
         JobWork::Reclaim { anchors, .. } => transactions.reclaim(alloc, anchors.upto),
-        JobWork::Floor { floor } => transactions.raise_floor(*floor),
+        JobWork::Floor { floors, .. } => transactions.put_floors(floors),
+        JobWork::Grow { .. } => {}
     }
 }
 
@@ -423,9 +472,9 @@ fn turn_slot<D: Disk>(
             (Err(PumpFault::Failed), Some(job))
         }
         Ok(Step::Open(_)) => {
-            finish(alloc, transactions, archived, runs_end, archive, &job.work);
+            let work = job.into_work();
+            finish(alloc, transactions, archived, runs_end, archive, work);
             transactions.slot_used();
-            job.give_up();
             (Ok(JobDid::JobDone), None)
         }
         Ok(Step::More(next)) => {

@@ -96,7 +96,7 @@ impl<D: Disk> Store<D> {
             header,
             used,
             commits: _,
-            floor,
+            floors,
             archived,
             reclaimed,
             runs,
@@ -117,7 +117,7 @@ impl<D: Disk> Store<D> {
         Ok(Store {
             alloc,
             transactions: Transactions::of_recovered(
-                alloc, mark, heads, chains, extents, times, slots, used, floor, reclaimed,
+                alloc, mark, heads, chains, extents, times, slots, used, floors, reclaimed,
             ),
             log,
             turn: None,

@@ -1,10 +1,12 @@
 //! The beginning of a job.
-ghost use Rattle.std.specs.Prelude.{◌≡◌, ◌<◌, ◌^◌, IfNone};
+ghost use Rattle.std.specs.Prelude.{◌≡◌, ◌<◌, ◌^◌, IfNone, IfOk, None, Some};
 ghost use Rattle.deltas.specs.Chains.{first_number};
 ghost use Rattle.transactions.specs.Reclaims.{oldest};
-ghost use Rattle.store.specs.Archives.{StartsArchive, refusal_now};
+ghost use Rattle.store.specs.Archives.{StartsArchive, refusal_now, since_now};
 ghost use Rattle.store.specs.Reclaims.{StartsReclaim, reclaim_refusal, refusal_for_use, below};
-ghost use Rattle.store.specs.Floors.{StartsFloor, floor_refusal};
+ghost use Rattle.store.specs.Floors.{StartsFloor, IsRelation, floor_refusal, is_wrong_profile};
+ghost use Rattle.store.specs.Growths.{StartsGrowth, refusal_to_grow};
+ghost use Rattle.history.specs.Floors.{covered};
 
 use crate::job::{Job, JobStage, JobWork, StartFault, put_job};
 use crate::store::Store;
@@ -12,8 +14,9 @@ use archive::RunEntry;
 use deltas::count_extents;
 use disk::Disk;
 use extents::Extent;
+use std::alloc::AllocError;
 use transactions::ReserveFault;
-use vacuum::{AnchorSource, archive_run};
+use vacuum::{AnchorSource, Since, archive_run};
 use wire::Anchors;
 
 impl<D: Disk> Store<D> {
@@ -29,14 +32,19 @@ impl<D: Disk> Store<D> {
         let Ok(versions) = self.transactions.versions() else {
             return Err(StartFault::NoMemory);
         };
-        let floor = self.transactions.floor();
-        match archive_run(versions, self.archived, floor, upto, self.runs_end) {
+        let Ok(since) = self.since() else {
+            return Err(StartFault::NoMemory);
+        };
+        let Ok(floors) = self.transactions.floors().share() else {
+            return Err(StartFault::NoMemory);
+        };
+        match archive_run(versions, since, upto, self.runs_end) {
             None => Err(StartFault::ArchiveFull),
             Some((run, writer)) => {
                 let entry = RunEntry {
                     slot: run,
                     mark: self.archived,
-                    floor,
+                    floors,
                 };
                 let Ok(()) = self.archive.make_place(self.alloc, entry) else {
                     return Err(StartFault::NoMemory);
@@ -50,6 +58,16 @@ impl<D: Disk> Store<D> {
                 Ok(())
             }
         }
+    }
+
+    // What no run takes: what ended by the archive mark or by the floor of its relation.
+    fn since(&self) -> Result<Since, AllocError>
+        ensures { IfOk result (λ since. since ≡ since_now self.now) }
+    {
+        Ok(Since {
+            mark: self.archived,
+            floors: self.transactions.floors().share()?,
+        })
     }
 
     // Why no archive up to a time begins, by what is known before its run is counted.
@@ -137,35 +155,62 @@ impl<D: Disk> Store<D> {
         self.refusal_for_use(self.archived)
     }
 
-    /// Begins to raise the floor to a time in microseconds since 1970: before it nothing is promised
-    /// any more. It takes a slot, and `job_pump` writes it. No call of the disk is made, and no memory
-    /// is taken. Where it is refused nothing changes.
+    /// Begins to raise the floor of every relation to a time in microseconds since 1970: before it nothing
+    /// is promised any more. It takes a slot, and `job_pump` writes it. No call of the disk is made, and no
+    /// memory is taken. Where it is refused nothing changes. A store of profile 3 refuses it.
     pub fn floor_start(&mut self, floor: u64) -> Result<(), StartFault>
-        ensures { StartsFloor self.old floor result self.new }
+        ensures { StartsFloor self.old None floor result self.new }
     {
-        if let Some(fault) = self.floor_refusal(floor) {
+        self.start_floor(None, floor)
+    }
+
+    /// Begins to raise the floor of one relation to a time in microseconds since 1970, as `floor_start` does
+    /// that of all. It takes memory for the floor's place among the others. Only a store of profile 3 does it.
+    pub fn floor_of_start(&mut self, relation: u16, floor: u64) -> Result<(), StartFault>
+        ensures { StartsFloor self.old (Some relation) floor result self.new }
+    {
+        self.start_floor(Some(relation), floor)
+    }
+
+    /// Begins to raise the floor of one relation, or of every relation where none is named: `floor_of_start`
+    /// and `floor_start` in one.
+    pub fn start_floor(&mut self, scope: Option<u16>, floor: u64) -> Result<(), StartFault>
+        ensures { StartsFloor self.old scope floor result self.new }
+    {
+        if let Some(fault) = self.floor_refusal(scope, floor) {
             return Err(fault);
         }
+        let Ok(floors) = self.transactions.floors().raised(self.alloc, scope, floor) else {
+            return Err(StartFault::NoMemory);
+        };
         self.transactions.lend_slot();
         let job = Job {
-            work: JobWork::Floor { floor },
+            work: JobWork::Floor {
+                scope,
+                floor,
+                floors,
+            },
             stage: JobStage::Stored,
         };
         put_job(&mut self.job, Some(job));
         Ok(())
     }
 
-    // Why the floor is not raised to a time.
-    fn floor_refusal(&self, floor: u64) -> Option<StartFault>
-        ensures { result ≡ floor_refusal self.now floor }
+    // Why a floor is not raised to a time.
+    fn floor_refusal(&self, scope: Option<u16>, floor: u64) -> Option<StartFault>
+        ensures is { result ≡ floor_refusal self.now scope floor }
+        ensures relation { IsRelation scope }
     {
         if self.transactions.has_failed() {
             return Some(StartFault::Failed);
         }
+        if is_wrong_profile(self.log.profile(), scope) {
+            return Some(StartFault::WrongProfile);
+        }
         if self.job.is_some() {
             return Some(StartFault::JobBusy);
         }
-        if floor <= self.transactions.floor() {
+        if floor <= self.transactions.floors().at(covered(scope)) {
             return Some(StartFault::NothingToDo);
         }
         let last = self.transactions.last();
@@ -173,6 +218,39 @@ impl<D: Disk> Store<D> {
             return Some(StartFault::NotYet(last));
         }
         self.refusal_for_use(floor)
+    }
+
+    /// Begins to make a piece of 256 slots more: `job_pump` writes its zeros, and then opens its gate. It
+    /// takes no slot, and holds up no group. No call of the disk is made, and no memory is taken. Where
+    /// it is refused nothing changes.
+    pub fn grow_start(&mut self) -> Result<(), StartFault>
+        ensures { StartsGrowth self.old result self.new }
+    {
+        if let Some(fault) = self.refusal_to_grow() {
+            return Err(fault);
+        }
+        let Some(growth) = self.log.next_piece() else {
+            return Err(StartFault::NotGrowable);
+        };
+        let job = Job {
+            work: JobWork::Grow { growth },
+            stage: JobStage::Writing,
+        };
+        put_job(&mut self.job, Some(job));
+        Ok(())
+    }
+
+    // Why the store does not grow, whatever its log is.
+    fn refusal_to_grow(&self) -> Option<StartFault>
+        ensures { result ≡ refusal_to_grow self.now }
+    {
+        if self.transactions.has_failed() {
+            return Some(StartFault::Failed);
+        }
+        if self.job.is_some() {
+            return Some(StartFault::JobBusy);
+        }
+        None
     }
 
     // Why no job begins that takes what stood before a time, where nothing else bars it: a transaction
@@ -189,6 +267,26 @@ impl<D: Disk> Store<D> {
             return Some(StartFault::StatusFull);
         }
         None
+    }
+}
+
+// Whether a store of this profile has no floors of this kind: of one relation, or of every relation.
+fn is_wrong_profile(profile: u32, scope: Option<u16>) -> bool
+    ensures { result ≡ is_wrong_profile profile scope }
+{
+    match scope {
+        None => profile == 3,
+        Some(_) => profile != 3,
+    }
+}
+
+// A relation that the floor is of.
+fn covered(scope: Option<u16>) -> u16
+    ensures { result ≡ covered scope }
+{
+    match scope {
+        None => 0,
+        Some(relation) => relation,
     }
 }
 

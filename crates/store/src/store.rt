@@ -1,10 +1,11 @@
 //! The store, and its calls that ask nothing of the disk.
 ghost use Rattle.std.specs.Prelude.{◌≡◌, IfOk};
-ghost use Rattle.store.specs.Calls.{Begins, Aborts, Submits, Redeems, IsViewOf, IsTimesOf, last, floor};
+ghost use Rattle.store.specs.Calls.{Begins, Aborts, Submits, Redeems, IsViewOf, IsTimesOf, last, floors};
 
 use crate::job::Job;
 use crate::store_archive::StoreArchive;
 use disk::Disk;
+use floors::Floors;
 use group::{BeginFault, Redeemed, SubmitFault, Submitted, Ticket};
 use snapshot::Txn;
 use status::{SlotTurn, StatusLog};
@@ -73,11 +74,18 @@ impl<D: Disk> Store<D> {
         self.transactions.last()
     }
 
-    /// The time before which nothing is promised, 0 where all history is kept.
-    pub fn floor(&self) -> u64
-        ensures { result ≡ floor self.now }
+    /// For each relation the time before which nothing is promised.
+    pub fn floors(&self) -> &Floors
+        ensures { result.now ≡ floors self.now }
     {
-        self.transactions.floor()
+        self.transactions.floors()
+    }
+
+    /// The profile of its layout.
+    pub fn profile(&self) -> u32
+        ensures { result ≡ self.now.log.profile }
+    {
+        self.log.profile()
     }
 
     /// A transaction on what is published now.
@@ -118,7 +126,7 @@ impl<D: Disk> Store<D> {
     }
 
     /// A view of what is published now, which later commits do not change, and no job: it shares the
-    /// versions in memory and the runs of the log, and its floor is that of now.
+    /// versions in memory and the runs of the log, and its floors are those of now.
     pub fn view(&self) -> Result<View, AllocError>
         ensures { IfOk result (IsViewOf self.now) }
     {

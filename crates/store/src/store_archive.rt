@@ -36,7 +36,7 @@ fn is_same_run(a: &RunEntry, b: &RunEntry) -> bool
         && a.slot.len == b.slot.len
         && a.slot.records == b.slot.records
         && a.mark == b.mark
-        && a.floor == b.floor
+        && a.floors.is(&b.floors)
 }
 
 /// Whether these runs are the first of the others.

@@ -7,11 +7,10 @@ ghost use Rattle.shared.specs.Seen.{seen_of};
 
 use crate::counted_disk::CountedDisk;
 use crate::noted::{Notes, Step, note, step_of, take_all};
-use crate::written::{is_field, key_of, publish_four, queued};
+use crate::written::{has, has_rows, key_of, publish_four, queued};
 use disk::{Disk, MemDisk};
 use shared::{
-    Change, CommitFault, Committed, Observer, Opened, Opening, SharedStore, SharedView, Vacuumed,
-    fresh_store,
+    Change, CommitFault, Committed, Observer, Opened, Opening, SharedStore, Vacuumed, fresh_store,
 };
 use std::alloc::{AllocError, Global};
 use std::marker::Brand;
@@ -185,20 +184,6 @@ fn commit_beside_pumps<D: Disk + Send, L: Opening + Send + Sync, R: Threads + Wa
     (share, me)
 }
 
-/// A key of the view has this one field at a time.
-fn shows<D: Disk, L: Opening, R: Wait + Abort>(
-    rt: &R,
-    store: &SharedStore<D, L>,
-    view: &mut SharedView<L>,
-    record: u64,
-    wanted: (u64, &str),
-) {
-    match store.at(rt, view, key_of(record), wanted.0) {
-        Ok(Some(value)) => assert!(rt; is_field(&value, wanted.1.as_bytes())),
-        _ => panic!(rt; "no value"),
-    }
-}
-
 /// What the committer of both keys sees next.
 fn ask_view<D: Disk, L: Opening, R: Wait + Abort>(
     rt: &R,
@@ -208,17 +193,11 @@ fn ask_view<D: Disk, L: Opening, R: Wait + Abort>(
     let Ok(mut view) = store.view(rt, me) else {
         panic!(rt; "no view");
     };
-    shows(rt, store, &mut view, 7, (133, "d"));
-    shows(rt, store, &mut view, 7, (132, "c"));
-    shows(rt, store, &mut view, 13, (133, "e"));
-    let Ok(rows) = store.between(rt, &mut view, key_of(7), 132, 134) else {
-        panic!(rt; "no rows");
-    };
-    assert_eq!(rt; rows.len(), 2);
-    assert_eq!(rt; (rows[0].from, rows[0].to), (132, 133));
-    assert!(rt; is_field(&rows[0].value, b"c"));
-    assert_eq!(rt; (rows[1].from, rows[1].to), (133, 134));
-    assert!(rt; is_field(&rows[1].value, b"d"));
+    assert!(rt; has(rt, store, &mut view, 7, (133, "d")));
+    assert!(rt; has(rt, store, &mut view, 7, (132, "c")));
+    assert!(rt; has(rt, store, &mut view, 13, (133, "e")));
+    let rows = [(132, 133, "c"), (133, 134, "d")];
+    assert!(rt; has_rows(rt, store, &mut view, (132, 134), &rows));
     store.end(rt, view);
 }
 

@@ -1,11 +1,13 @@
-//! A floor that is raised through the lock: a view of before it answers as it did, and a later one nothing below it.
+//! The floor of a relation that is raised through the lock: a view of before it answers as it did, and a later one nothing below it.
 ghost use Rattle.std.specs.Prelude.{◌≡◌, [], length, true};
 ghost use Rattle.crossbeam_utils.specs.Seq.{cell_view};
 ghost use Rattle.standing.specs.Stands.{Stands};
 ghost use Rattle.shared.specs.Counts.{told_count};
 ghost use Rattle.shared.specs.Seen.{seen_of};
 
-use crate::written::{begun, is_field, key_of, publish_four, pump_to, queued};
+use crate::written::{
+    begun, has, has_none, is_field, key_of, publish_four, pump_to, queued, refuses,
+};
 use disk::{Disk, MemDisk};
 use shared::{Observer, Opened, Opening, SharedStore, SharedView, fresh_store};
 use std::alloc::{AllocError, Global};
@@ -24,6 +26,22 @@ const STEPS: [JobDid; 4] = [
 ];
 
 /// While a transaction reads before it, or a job runs, no floor begins.
+fn refuse_each<D: Disk, L: Opening, R: Wait + Abort>(rt: &R, store: &SharedStore<D, L>) {
+    assert_eq!(rt;
+        store.floor_of_start(rt, 1, 131),
+        Err(StartFault::InUse(130))
+    );
+    assert_eq!(rt;
+        store.floor_of_start(rt, 1, 141),
+        Err(StartFault::NotYet(140))
+    );
+    assert_eq!(rt; store.archive_start(rt, 110), Ok(()));
+    assert_eq!(rt; store.floor_of_start(rt, 1, 120), Err(StartFault::JobBusy));
+    // Each relation has a floor of its own, and there is none for all.
+    assert_eq!(rt; store.floor_start(rt, 120), Err(StartFault::WrongProfile));
+}
+
+/// A commit is published while a transaction reads before it.
 fn refuse_floors<D: Disk, L: Opening, R: Wait + Abort>(
     rt: &R,
     alloc: Global,
@@ -33,10 +51,7 @@ fn refuse_floors<D: Disk, L: Opening, R: Wait + Abort>(
     let open = begun(rt, store, me);
     queued(rt, alloc, store, me, (8, Some("d")), 140).give_up();
     pump_to(rt, store, Ok(Did::Published(1)));
-    assert_eq!(rt; store.floor_start(rt, 131), Err(StartFault::InUse(130)));
-    assert_eq!(rt; store.floor_start(rt, 141), Err(StartFault::NotYet(140)));
-    assert_eq!(rt; store.archive_start(rt, 110), Ok(()));
-    assert_eq!(rt; store.floor_start(rt, 120), Err(StartFault::JobBusy));
+    refuse_each(rt, store);
     store.abort(rt, open);
 }
 
@@ -47,12 +62,23 @@ fn raise_floor<D: Disk, L: Opening, R: Wait + Abort>(rt: &R, store: &SharedStore
             break;
         }
     }
-    assert_eq!(rt; store.floor_start(rt, 120), Ok(()));
+    assert_eq!(rt; store.floor_of_start(rt, 1, 120), Ok(()));
     for did in STEPS {
         assert_eq!(rt; store.job_pump(rt), Ok(did));
     }
     assert_eq!(rt; store.job_pump(rt), Ok(JobDid::Idle));
-    assert_eq!(rt; store.floor_start(rt, 120), Err(StartFault::NothingToDo));
+    assert_eq!(rt;
+        store.floor_of_start(rt, 1, 120),
+        Err(StartFault::NothingToDo)
+    );
+}
+
+/// Whether memory alone shows b at 119.
+fn recalls_earlier<L: Opening>(view: &SharedView<L>) -> bool {
+    match view.recent(key_of(7), 119) {
+        Ok(Some(value)) => is_field(value, b"b"),
+        _ => false,
+    }
 }
 
 /// The view shows b at 119.
@@ -61,14 +87,16 @@ fn ask_earlier<D: Disk, L: Opening, R: Wait + Abort>(
     store: &SharedStore<D, L>,
     view: &mut SharedView<L>,
 ) {
-    match view.recent(key_of(7), 119) {
-        Ok(Some(value)) => assert!(rt; is_field(value, b"b")),
-        _ => panic!(rt; "no value"),
-    }
-    match store.at(rt, view, key_of(7), 119) {
-        Ok(Some(value)) => assert!(rt; is_field(&value, b"b")),
-        _ => panic!(rt; "no value"),
-    }
+    assert!(rt; recalls_earlier(view));
+    assert!(rt; has(rt, store, view, 7, (119, "b")));
+}
+
+/// Whether memory alone refuses what stood before 120.
+fn bars_earlier<L: Opening>(view: &SharedView<L>) -> bool {
+    matches!(
+        view.recent(key_of(7), 119),
+        Err(QueryFault::BeforeKept(120))
+    )
 }
 
 /// The view shows nothing before 120, and from then on what stood.
@@ -77,23 +105,10 @@ fn ask_later<D: Disk, L: Opening, R: Wait + Abort>(
     store: &SharedStore<D, L>,
     view: &mut SharedView<L>,
 ) {
-    assert!(rt;
-        matches!(
-            view.recent(key_of(7), 119),
-            Err(QueryFault::BeforeKept(120))
-        )
-    );
-    assert!(rt;
-        matches!(
-            store.at(rt, view, key_of(7), 119),
-            Err(QueryFault::BeforeKept(120))
-        )
-    );
-    assert!(rt; matches!(store.at(rt, view, key_of(7), 120), Ok(None)));
-    match store.at(rt, view, key_of(7), 130) {
-        Ok(Some(value)) => assert!(rt; is_field(&value, b"c")),
-        _ => panic!(rt; "no value"),
-    }
+    assert!(rt; bars_earlier(view));
+    assert!(rt; refuses(rt, store, view, 119, QueryFault::BeforeKept(120)));
+    assert!(rt; has_none(rt, store, view, 120));
+    assert!(rt; has(rt, store, view, 7, (130, "c")));
 }
 
 /// The whole example, on a store that was just opened.

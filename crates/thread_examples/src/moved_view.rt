@@ -58,7 +58,7 @@ fn watch<L: Opening, R: Wait + Abort>(
 }
 
 /// A hundred commits of the key, each published before the next, a vacuum of all that ended, and then a
-/// floor at the last one.
+/// floor of their relation at the last one.
 fn change<D: Disk, L: Opening, R: Wait + Abort>(
     rt: &R,
     alloc: Global,
@@ -76,7 +76,7 @@ fn change<D: Disk, L: Opening, R: Wait + Abort>(
     pump_job(rt, store);
     assert_eq!(rt; store.reclaim_start(rt), Ok(()));
     pump_job(rt, store);
-    assert_eq!(rt; store.floor_start(rt, last), Ok(()));
+    assert_eq!(rt; store.floor_of_start(rt, 1, last), Ok(()));
     pump_job(rt, store);
     done.store(true, Ordering::SeqCst);
     me

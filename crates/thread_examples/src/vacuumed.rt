@@ -7,10 +7,11 @@ ghost use Rattle.shared.specs.Seen.{seen_of};
 
 use crate::counted_disk::CountedDisk;
 use crate::noted::{Notes, Step, note, step_of};
-use crate::written::{is_field, key_of, publish_four};
-use chains::SharedValue;
+use crate::written::{
+    are_rows, are_rows_of_seven, has, has_none, has_rows, is_field, is_seven_alone, key_of,
+    publish_four, refuses,
+};
 use disk::{Disk, MemDisk};
-use history::Version;
 use shared::{Observer, Opened, Opening, SharedStore, SharedView, Vacuumed, fresh_store};
 use std::alloc::{AllocError, Global};
 use std::marker::Brand;
@@ -68,49 +69,91 @@ fn vacuum_both<D: Disk, L: Opening, R: Wait + Abort>(
     assert_eq!(rt; notes.count(), BOTH.len());
 }
 
-/// A row has these times and this one field.
-fn is_row(row: &Version<SharedValue>, wanted: (u64, u64, &str)) -> bool {
-    row.from == wanted.0 && row.to == wanted.1 && is_field(&row.value, wanted.2.as_bytes())
+/// Whether memory alone shows this one field at a time.
+fn recalls<L: Opening>(view: &SharedView<L>, time: u64, field: &str) -> bool {
+    match view.recent(key_of(7), time) {
+        Ok(Some(value)) => is_field(value, field.as_bytes()),
+        _ => false,
+    }
+}
+
+/// Whether memory alone finds c at 130.
+fn recalls_scan<L: Opening>(alloc: Global, view: &SharedView<L>) -> bool {
+    match view.recent_scan(alloc, 1, 130) {
+        Ok(found) => is_seven_alone(found.as_slice(), "c"),
+        Err(_) => false,
+    }
+}
+
+/// Whether memory alone has this row of the key.
+fn recalls_row<L: Opening>(alloc: Global, view: &SharedView<L>) -> bool {
+    match view.recent_between(alloc, key_of(7), 130, 131) {
+        Ok(rows) => are_rows(rows.as_slice(), &[(130, 131, "c")]),
+        Err(_) => false,
+    }
+}
+
+/// Whether memory alone has it of the relation.
+fn recalls_scanned_row<L: Opening>(alloc: Global, view: &SharedView<L>) -> bool {
+    match view.recent_scan_between(alloc, 1, 130, 131) {
+        Ok(rows) => are_rows_of_seven(rows.as_slice(), &[(130, 131, "c")]),
+        Err(_) => false,
+    }
+}
+
+/// Whether the disk is needed for what stood at 129.
+fn needs_disk_at<L: Opening>(alloc: Global, view: &SharedView<L>) -> bool {
+    let value = matches!(view.recent(key_of(7), 129), Err(QueryFault::NeedsDisk));
+    let scan = matches!(view.recent_scan(alloc, 1, 129), Err(QueryFault::NeedsDisk));
+    value && scan
+}
+
+/// Whether the disk is needed for what stood from 129 on.
+fn needs_disk_from<L: Opening>(alloc: Global, view: &SharedView<L>) -> bool {
+    let rows = matches!(
+        view.recent_between(alloc, key_of(7), 129, 131),
+        Err(QueryFault::NeedsDisk)
+    );
+    let scan = matches!(
+        view.recent_scan_between(alloc, 1, 129, 131),
+        Err(QueryFault::NeedsDisk)
+    );
+    rows && scan
 }
 
 /// From the reclaim mark on memory alone answers, and before it the disk is needed.
 fn ask_memory<L: Opening>(rt: &impl Abort, alloc: Global, view: &SharedView<L>) {
-    match view.recent(key_of(7), 130) {
-        Ok(Some(value)) => assert!(rt; is_field(value, b"c")),
-        _ => panic!(rt; "no value"),
+    assert!(rt; recalls(view, 130, "c"));
+    assert!(rt; recalls_scan(alloc, view));
+    assert!(rt; recalls_row(alloc, view));
+    assert!(rt; recalls_scanned_row(alloc, view));
+    assert!(rt; needs_disk_at(alloc, view));
+    assert!(rt; needs_disk_from(alloc, view));
+}
+
+/// Whether the relation has b alone at 115.
+fn scans<D: Disk, L: Opening, R: Wait>(
+    rt: &R,
+    store: &SharedStore<D, L>,
+    view: &mut SharedView<L>,
+) -> bool {
+    match store.scan_at(rt, view, 1, 115) {
+        Ok(found) => is_seven_alone(found.as_slice(), "b"),
+        Err(_) => false,
     }
-    assert!(rt; matches!(view.recent(key_of(7), 129), Err(QueryFault::NeedsDisk)));
-    match view.recent_scan(alloc, 1, 130) {
-        Ok(found) => {
-            assert_eq!(rt; found.len(), 1);
-            assert!(rt; found[0].0 == 7 && is_field(&found[0].1, b"c"));
-        }
-        Err(fault) => panic!(rt; "{fault:?}"),
+}
+
+/// Whether the relation has these rows from 105 up to 121.
+fn scans_rows<D: Disk, L: Opening, R: Wait>(
+    rt: &R,
+    store: &SharedStore<D, L>,
+    view: &mut SharedView<L>,
+) -> bool {
+    let wanted = [(105, 110, "a"), (110, 120, "b")];
+    match store.scan_between(rt, view, 1, 105, 121) {
+        Ok(rows) => are_rows_of_seven(rows.as_slice(), &wanted),
+        Err(_) => false,
     }
-    assert!(rt; matches!(view.recent_scan(alloc, 1, 129), Err(QueryFault::NeedsDisk)));
-    match view.recent_between(alloc, key_of(7), 130, 131) {
-        Ok(rows) => assert!(rt; rows.len() == 1 && is_row(&rows[0], (130, 131, "c"))),
-        Err(fault) => panic!(rt; "{fault:?}"),
-    }
-    assert!(rt;
-        matches!(
-            view.recent_between(alloc, key_of(7), 129, 131),
-            Err(QueryFault::NeedsDisk)
-        )
-    );
-    match view.recent_scan_between(alloc, 1, 130, 131) {
-        Ok(rows) => {
-            assert!(rt; rows.len() == 1 && rows[0].0 == 7);
-            assert!(rt; is_row(&rows[0].1, (130, 131, "c")));
-        }
-        Err(fault) => panic!(rt; "{fault:?}"),
-    }
-    assert!(rt;
-        matches!(
-            view.recent_scan_between(alloc, 1, 129, 131),
-            Err(QueryFault::NeedsDisk)
-        )
-    );
 }
 
 /// Through the lock the archive answers for what memory has given up.
@@ -119,49 +162,18 @@ fn ask_store<D: Disk, L: Opening, R: Wait + Abort>(
     store: &SharedStore<D, L>,
     view: &mut SharedView<L>,
 ) {
-    match store.at(rt, view, key_of(7), 105) {
-        Ok(Some(value)) => assert!(rt; is_field(&value, b"a")),
-        _ => panic!(rt; "no value"),
-    }
-    assert!(rt; matches!(store.at(rt, view, key_of(7), 125), Ok(None)));
-    assert!(rt;
-        matches!(
-            store.at(rt, view, key_of(7), 131),
-            Err(QueryFault::NotYet(130))
-        )
-    );
-    match store.scan_at(rt, view, 1, 115) {
-        Ok(found) => {
-            assert_eq!(rt; found.len(), 1);
-            assert!(rt; found[0].0 == 7 && is_field(&found[0].1, b"b"));
-        }
-        Err(fault) => panic!(rt; "{fault:?}"),
-    }
-    match store.between(rt, view, key_of(7), 100, 131) {
-        Ok(rows) => {
-            assert_eq!(rt; rows.len(), 3);
-            assert!(rt; is_row(&rows[0], (100, 110, "a")));
-            assert!(rt; is_row(&rows[1], (110, 120, "b")));
-            assert!(rt; is_row(&rows[2], (130, 131, "c")));
-        }
-        Err(fault) => panic!(rt; "{fault:?}"),
-    }
-    match store.scan_between(rt, view, 1, 105, 121) {
-        Ok(rows) => {
-            assert_eq!(rt; rows.len(), 2);
-            assert!(rt; rows[0].0 == 7 && is_row(&rows[0].1, (105, 110, "a")));
-            assert!(rt; rows[1].0 == 7 && is_row(&rows[1].1, (110, 120, "b")));
-        }
-        Err(fault) => panic!(rt; "{fault:?}"),
-    }
+    assert!(rt; has(rt, store, view, 7, (105, "a")));
+    assert!(rt; has_none(rt, store, view, 125));
+    assert!(rt; refuses(rt, store, view, 131, QueryFault::NotYet(130)));
+    assert!(rt; scans(rt, store, view));
+    let rows = [(100, 110, "a"), (110, 120, "b"), (130, 131, "c")];
+    assert!(rt; has_rows(rt, store, view, (100, 131), &rows));
+    assert!(rt; scans_rows(rt, store, view));
 }
 
 /// A view of before the vacuum has all in memory.
 fn ask_earlier<L: Opening>(rt: &impl Abort, view: &SharedView<L>) {
-    match view.recent(key_of(7), 105) {
-        Ok(Some(value)) => assert!(rt; is_field(value, b"a")),
-        _ => panic!(rt; "no value"),
-    }
+    assert!(rt; recalls(view, 105, "a"));
 }
 
 /// The whole example, on a store that was just opened.

@@ -1,12 +1,12 @@
 //! What the examples write through a shared store, and what they find.
 use chains::SharedValue;
 use disk::Disk;
-use history::Key;
-use shared::{Observer, Opening, SharedStore, SharedTxn};
+use history::{Key, Version};
+use shared::{Observer, Opening, SharedStore, SharedTxn, SharedView};
 use std::alloc::Global;
 use std::process::Abort;
 use std::sync::Wait;
-use store::{Did, PumpFault, Submitted, Ticket};
+use store::{Did, PumpFault, QueryFault, Submitted, Ticket};
 
 /// A key of the examples' relation.
 pub fn key_of(record: u64) -> Key {
@@ -87,4 +87,92 @@ pub fn publish_four<D: Disk, L: Opening, R: Wait + Abort>(
 pub fn is_field(value: &SharedValue, field: &[u8]) -> bool {
     let value = value.value();
     value.len() == 1 && value.field(0) == Some(field)
+}
+
+/// Whether a row has these times and this one field.
+fn is_row(row: &Version<SharedValue>, wanted: (u64, u64, &str)) -> bool {
+    row.from == wanted.0 && row.to == wanted.1 && is_field(&row.value, wanted.2.as_bytes())
+}
+
+/// Whether these are the rows.
+pub fn are_rows(rows: &[Version<SharedValue>], wanted: &[(u64, u64, &str)]) -> bool {
+    for (row, wanted) in rows.iter().zip(wanted) {
+        if !is_row(row, *wanted) {
+            return false;
+        }
+    }
+    rows.len() == wanted.len()
+}
+
+/// Whether these are the rows, all of them of record 7.
+pub fn are_rows_of_seven(
+    rows: &[(u64, Version<SharedValue>)],
+    wanted: &[(u64, u64, &str)],
+) -> bool {
+    for (row, wanted) in rows.iter().zip(wanted) {
+        if row.0 != 7 || !is_row(&row.1, *wanted) {
+            return false;
+        }
+    }
+    rows.len() == wanted.len()
+}
+
+/// Whether record 7 alone was found, with this one field.
+pub fn is_seven_alone(found: &[(u64, SharedValue)], field: &str) -> bool {
+    match found {
+        [one] => one.0 == 7 && is_field(&one.1, field.as_bytes()),
+        _ => false,
+    }
+}
+
+/// Whether a record of the view has this one field at a time.
+pub fn has<D: Disk, L: Opening, R: Wait>(
+    rt: &R,
+    store: &SharedStore<D, L>,
+    view: &mut SharedView<L>,
+    record: u64,
+    wanted: (u64, &str),
+) -> bool {
+    match store.at(rt, view, key_of(record), wanted.0) {
+        Ok(Some(value)) => is_field(&value, wanted.1.as_bytes()),
+        _ => false,
+    }
+}
+
+/// Whether record 7 has nothing at a time.
+pub fn has_none<D: Disk, L: Opening, R: Wait>(
+    rt: &R,
+    store: &SharedStore<D, L>,
+    view: &mut SharedView<L>,
+    time: u64,
+) -> bool {
+    matches!(store.at(rt, view, key_of(7), time), Ok(None))
+}
+
+/// Whether the view refuses to say what record 7 had at a time, for this reason.
+pub fn refuses<D: Disk, L: Opening, R: Wait>(
+    rt: &R,
+    store: &SharedStore<D, L>,
+    view: &mut SharedView<L>,
+    time: u64,
+    why: QueryFault,
+) -> bool {
+    match store.at(rt, view, key_of(7), time) {
+        Err(fault) => fault == why,
+        Ok(_) => false,
+    }
+}
+
+/// Whether these are record 7's rows in an interval.
+pub fn has_rows<D: Disk, L: Opening, R: Wait>(
+    rt: &R,
+    store: &SharedStore<D, L>,
+    view: &mut SharedView<L>,
+    interval: (u64, u64),
+    wanted: &[(u64, u64, &str)],
+) -> bool {
+    match store.between(rt, view, key_of(7), interval.0, interval.1) {
+        Ok(rows) => are_rows(rows.as_slice(), wanted),
+        Err(_) => false,
+    }
 }

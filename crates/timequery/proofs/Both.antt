@@ -7,6 +7,7 @@ use Rattle.history.specs.declared.key.Key.{Key}
 use Rattle.history.specs.Key.{key_of}
 use Rattle.history.specs.Versions.{versions}
 use Rattle.image.specs.Values.{Value}
+use Rattle.floors.specs.Floors.{floor_at}
 use Rattle.archive.specs.declared.run.RunEntry.{RunEntry}
 use Rattle.archive.specs.declared.fault.ArchiveFault.{ArchiveFault}
 use Rattle.archive.specs.declared.fault.ArchiveFault.TheVariants.{Device, NoMemory, Damaged}
@@ -29,15 +30,15 @@ refused-runs time runs NoMemory is = tt
 refused-runs time runs (Damaged start) is = is
 
 -- and so a query below the reclaim mark
-pub refused-at : (v : ViewValue) (time : ℕ) (why : ArchiveFault) → v.floor ≤ time → time ≤ v.last → time < v.reclaimed → IsFaultIn time v.runs why → RefusesAt v time (query_fault why)
-refused-at v time Device from upto below is = (from, upto, below)
-refused-at v time NoMemory from upto below is = (from, upto)
-refused-at v time (Damaged start) from upto below is = (from, upto, below, is)
+pub refused-at : (v : ViewValue) (relation time : ℕ) (why : ArchiveFault) → floor_at v.floors relation ≤ time → time ≤ v.last → time < v.reclaimed → IsFaultIn time v.runs why → RefusesAt v relation time (query_fault why)
+refused-at v relation time Device from upto below is = (from, upto, below)
+refused-at v relation time NoMemory from upto below is = (from, upto)
+refused-at v relation time (Damaged start) from upto below is = (from, upto, below, is)
 
-pub refused-rows : (v : ViewValue) (a b : ℕ) (why : ArchiveFault) → IsInView v a b → a < v.reclaimed → IsFaultIn a v.runs why → RefusesRows v a b (query_fault why)
-refused-rows v a b Device inside below is = (inside, below)
-refused-rows v a b NoMemory inside below is = inside
-refused-rows v a b (Damaged start) inside below is = (inside, below, is)
+pub refused-rows : (v : ViewValue) (relation a b : ℕ) (why : ArchiveFault) → IsInView v relation a b → a < v.reclaimed → IsFaultIn a v.runs why → RefusesRows v relation a b (query_fault why)
+refused-rows v relation a b Device inside below is = (inside, below)
+refused-rows v relation a b NoMemory inside below is = inside
+refused-rows v relation a b (Damaged start) inside below is = (inside, below, is)
 
 -- an answer that is two things is a third
 pub answers-third : {T : Type 0} (result : Result T QueryFault) (P Q R : T → Type 0) → IfOk result P → Answers result Q → ((found : T) → P found → Q found → R found) → Answers result R

@@ -14,6 +14,7 @@ use Rattle.image.specs.Reading.{ArchiveRecord}
 use Rattle.chains.specs.KeyWrites.{writes_of}
 use Rattle.chains.specs.Rows.{rows_in, scanned_rows}
 use Rattle.chains.specs.Scans.{scanned}
+use Rattle.floors.specs.Floors.{floor_at}
 use Rattle.archive.specs.declared.run.RunEntry.{RunEntry}
 use Rattle.archive.specs.declared.fault.ArchiveFault.TheVariants as archive
 use Rattle.archive.specs.Answers.{versions_in, rows_of}
@@ -31,7 +32,7 @@ use Rattle.timequery.specs.declared.fault.QueryFault.TheVariants.{BeforeKept, No
 abbrev pub view_of : ViewValue → List (List ArchiveRecord) → View Value
 view_of v lists = record {
   newest = v.last;
-  floors = λ relation. v.floor;
+  floors = floor_at v.floors;
   archived = mark_of v.runs;
   reclaimed = v.reclaimed;
   heap = λ key. versions (writes_of v.state key);
@@ -83,18 +84,18 @@ RefusesRuns time runs NeedsDisk = ⊥
 RefusesRuns time runs Stranger = ⊥
 
 -- a time is refused with this fault: where it is kept by the disk alone, or by a run, below the reclaim mark, or for want of memory
-abbrev pub RefusesAt : ViewValue → ℕ → QueryFault → Type 0
-RefusesAt v time Device = (v.floor ≤ time) × (time ≤ v.last) × (time < v.reclaimed)
-RefusesAt v time (Damaged start) = (v.floor ≤ time) × (time ≤ v.last) × (time < v.reclaimed) × IsFaultIn time v.runs (archive.Damaged start)
-RefusesAt v time NoMemory = (v.floor ≤ time) × (time ≤ v.last)
-RefusesAt v time fault = RefusesTime v time fault
+abbrev pub RefusesAt : ViewValue → ℕ → ℕ → QueryFault → Type 0
+RefusesAt v relation time Device = (floor_at v.floors relation ≤ time) × (time ≤ v.last) × (time < v.reclaimed)
+RefusesAt v relation time (Damaged start) = (floor_at v.floors relation ≤ time) × (time ≤ v.last) × (time < v.reclaimed) × IsFaultIn time v.runs (archive.Damaged start)
+RefusesAt v relation time NoMemory = (floor_at v.floors relation ≤ time) × (time ≤ v.last)
+RefusesAt v relation time fault = RefusesTime v relation time fault
 
 -- so is an interval
-abbrev pub RefusesRows : ViewValue → ℕ → ℕ → QueryFault → Type 0
-RefusesRows v a b Device = IsInView v a b × (a < v.reclaimed)
-RefusesRows v a b (Damaged start) = IsInView v a b × (a < v.reclaimed) × IsFaultIn a v.runs (archive.Damaged start)
-RefusesRows v a b NoMemory = IsInView v a b
-RefusesRows v a b fault = RefusesBounds v a b fault
+abbrev pub RefusesRows : ViewValue → ℕ → ℕ → ℕ → QueryFault → Type 0
+RefusesRows v relation a b Device = IsInView v relation a b × (a < v.reclaimed)
+RefusesRows v relation a b (Damaged start) = IsInView v relation a b × (a < v.reclaimed) × IsFaultIn a v.runs (archive.Damaged start)
+RefusesRows v relation a b NoMemory = IsInView v relation a b
+RefusesRows v relation a b fault = RefusesBounds v relation a b fault
 
 -- ---- what is found, whatever the archive's bytes are
 

@@ -3,6 +3,7 @@ use Rattle.std.specs.Prelude.{ℕ, ◌≡◌, ◌+◌, ◌<◌, ◌≤◌, min, 
 use Rattle.std.specs.declared.sync.Arc.{Arc}
 use Rattle.std.specs.declared.vec.Vec.{Vec}
 use Rattle.std.specs.declared.alloc.Global.{Global}
+use Rattle.floors.specs.Floors.{FloorsValue, floor_at}
 use Rattle.archive.specs.declared.run.RunEntry.{RunEntry}
 use Rattle.chains.specs.KeyWrites.{KeyWrites}
 use Rattle.timequery.specs.declared.fault.QueryFault.{QueryFault}
@@ -28,29 +29,29 @@ mark_of runs = mark_after 0 runs
 pub record ViewValue : Type 0 where
   -- the mark of the store that gave it
   pub mark : ℕ
-  -- the time of the last commit, and the floor, of its moment
+  -- the time of the last commit, and the floors, of its moment
   pub last : ℕ
-  pub floor : ℕ
+  pub floors : FloorsValue
   -- memory has the versions that end after the reclaim mark, and the runs those that end by their mark
   pub reclaimed : ℕ
   pub runs : List RunEntry
   -- the writes of each key
   pub state : List KeyWrites
 
--- a time is refused with this fault: what is before the floor first
-abbrev pub RefusesTime : ViewValue → ℕ → QueryFault → Type 0
-RefusesTime v time (BeforeKept floor) = (time < v.floor) × (floor ≡ v.floor)
-RefusesTime v time (NotYet last) = (v.floor ≤ time) × (v.last < time) × (last ≡ v.last)
-RefusesTime v time EmptyInterval = ⊥
-RefusesTime v time Device = ⊥
-RefusesTime v time NoMemory = ⊥
-RefusesTime v time (Damaged start) = ⊥
-RefusesTime v time NeedsDisk = ⊥
-RefusesTime v time Stranger = ⊥
+-- a time is refused with this fault: what is before the floor of the relation that is asked for first
+abbrev pub RefusesTime : ViewValue → ℕ → ℕ → QueryFault → Type 0
+RefusesTime v relation time (BeforeKept floor) = (time < floor_at v.floors relation) × (floor ≡ floor_at v.floors relation)
+RefusesTime v relation time (NotYet last) = (floor_at v.floors relation ≤ time) × (v.last < time) × (last ≡ v.last)
+RefusesTime v relation time EmptyInterval = ⊥
+RefusesTime v relation time Device = ⊥
+RefusesTime v relation time NoMemory = ⊥
+RefusesTime v relation time (Damaged start) = ⊥
+RefusesTime v relation time NeedsDisk = ⊥
+RefusesTime v relation time Stranger = ⊥
 
--- the value of a key at a time is answered
-pub record AnswersAt {V : Type 0} (v : ViewValue) (time : ℕ) (answer expected : V) : Type 0 where
-  pub from_floor : v.floor ≤ time
+-- what stood in a relation at a time is answered
+pub record AnswersAt {V : Type 0} (v : ViewValue) (relation time : ℕ) (answer expected : V) : Type 0 where
+  pub from_floor : floor_at v.floors relation ≤ time
   pub upto_last : time ≤ v.last
   pub is : answer ≡ expected
 
@@ -59,51 +60,51 @@ abbrev pub NeedsRuns : ViewValue → ℕ → QueryFault → Type 0
 NeedsRuns v time fault = (fault ≡ NeedsDisk) × (time < v.reclaimed)
 
 -- or memory gave out, where the time lies within the view's bounds
-abbrev pub RefusesScan : ViewValue → ℕ → QueryFault → Type 0
-RefusesScan v time NoMemory = (v.floor ≤ time) × (time ≤ v.last)
-RefusesScan v time fault = RefusesTime v time fault
+abbrev pub RefusesScan : ViewValue → ℕ → ℕ → QueryFault → Type 0
+RefusesScan v relation time NoMemory = (floor_at v.floors relation ≤ time) × (time ≤ v.last)
+RefusesScan v relation time fault = RefusesTime v relation time fault
 
 -- a time that is kept is refused where memory lacks versions
-abbrev pub RefusesRecent : ViewValue → ℕ → QueryFault → Type 0
-RefusesRecent v time NeedsDisk = (v.floor ≤ time) × (time ≤ v.last) × (time < v.reclaimed)
-RefusesRecent v time fault = RefusesTime v time fault
+abbrev pub RefusesRecent : ViewValue → ℕ → ℕ → QueryFault → Type 0
+RefusesRecent v relation time NeedsDisk = (floor_at v.floors relation ≤ time) × (time ≤ v.last) × (time < v.reclaimed)
+RefusesRecent v relation time fault = RefusesTime v relation time fault
 
 -- or room for what is found was refused, where it has them all
-abbrev pub RefusesRecentScan : ViewValue → ℕ → QueryFault → Type 0
-RefusesRecentScan v time NoMemory = (v.floor ≤ time) × (time ≤ v.last) × (v.reclaimed ≤ time)
-RefusesRecentScan v time fault = RefusesRecent v time fault
+abbrev pub RefusesRecentScan : ViewValue → ℕ → ℕ → QueryFault → Type 0
+RefusesRecentScan v relation time NoMemory = (floor_at v.floors relation ≤ time) × (time ≤ v.last) × (v.reclaimed ≤ time)
+RefusesRecentScan v relation time fault = RefusesRecent v relation time fault
 
 -- ---- intervals, from a time a up to a time b that is no longer in it
 
--- all of its times are kept, and there are some
-pub record IsInView (v : ViewValue) (a b : ℕ) : Type 0 where
-  pub from_floor : v.floor ≤ min a b
+-- all of its times are kept of this relation, and there are some
+pub record IsInView (v : ViewValue) (relation a b : ℕ) : Type 0 where
+  pub from_floor : floor_at v.floors relation ≤ min a b
   pub upto_last : b ≤ v.last + 1
   pub not_empty : a < b
 
--- an interval is refused with this fault by its bounds: what is before the floor first, then what is later than the last commit, then an empty one
-abbrev pub RefusesBounds : ViewValue → ℕ → ℕ → QueryFault → Type 0
-RefusesBounds v a b (BeforeKept floor) = (min a b < v.floor) × (floor ≡ v.floor)
-RefusesBounds v a b (NotYet last) = (v.floor ≤ min a b) × (v.last + 1 < b) × (last ≡ v.last)
-RefusesBounds v a b EmptyInterval = (v.floor ≤ min a b) × (b ≤ v.last + 1) × (b ≤ a)
-RefusesBounds v a b Device = ⊥
-RefusesBounds v a b NoMemory = ⊥
-RefusesBounds v a b (Damaged start) = ⊥
-RefusesBounds v a b NeedsDisk = ⊥
-RefusesBounds v a b Stranger = ⊥
+-- an interval is refused with this fault by its bounds: what is before the floor of the relation first, then what is later than the last commit, then an empty one
+abbrev pub RefusesBounds : ViewValue → ℕ → ℕ → ℕ → QueryFault → Type 0
+RefusesBounds v relation a b (BeforeKept floor) = (min a b < floor_at v.floors relation) × (floor ≡ floor_at v.floors relation)
+RefusesBounds v relation a b (NotYet last) = (floor_at v.floors relation ≤ min a b) × (v.last + 1 < b) × (last ≡ v.last)
+RefusesBounds v relation a b EmptyInterval = (floor_at v.floors relation ≤ min a b) × (b ≤ v.last + 1) × (b ≤ a)
+RefusesBounds v relation a b Device = ⊥
+RefusesBounds v relation a b NoMemory = ⊥
+RefusesBounds v relation a b (Damaged start) = ⊥
+RefusesBounds v relation a b NeedsDisk = ⊥
+RefusesBounds v relation a b Stranger = ⊥
 
 -- or memory gave out where nothing of this is
-abbrev pub RefusesInterval : ViewValue → ℕ → ℕ → QueryFault → Type 0
-RefusesInterval v a b NoMemory = IsInView v a b
-RefusesInterval v a b fault = RefusesBounds v a b fault
+abbrev pub RefusesInterval : ViewValue → ℕ → ℕ → ℕ → QueryFault → Type 0
+RefusesInterval v relation a b NoMemory = IsInView v relation a b
+RefusesInterval v relation a b fault = RefusesBounds v relation a b fault
 
 -- what stood in the interval is answered
-pub record AnswersBetween {V : Type 0} (v : ViewValue) (a b : ℕ) (answer expected : V) : Type 0 where
-  pub kept : IsInView v a b
+pub record AnswersBetween {V : Type 0} (v : ViewValue) (relation a b : ℕ) (answer expected : V) : Type 0 where
+  pub kept : IsInView v relation a b
   pub is : answer ≡ expected
 
 -- an interval that is kept is refused where memory lacks versions, or where room for what is found was refused
-abbrev pub RefusesRecentRows : ViewValue → ℕ → ℕ → QueryFault → Type 0
-RefusesRecentRows v a b NeedsDisk = IsInView v a b × (a < v.reclaimed)
-RefusesRecentRows v a b NoMemory = IsInView v a b × (v.reclaimed ≤ a)
-RefusesRecentRows v a b fault = RefusesBounds v a b fault
+abbrev pub RefusesRecentRows : ViewValue → ℕ → ℕ → ℕ → QueryFault → Type 0
+RefusesRecentRows v relation a b NeedsDisk = IsInView v relation a b × (a < v.reclaimed)
+RefusesRecentRows v relation a b NoMemory = IsInView v relation a b × (v.reclaimed ≤ a)
+RefusesRecentRows v relation a b fault = RefusesBounds v relation a b fault

@@ -8,7 +8,7 @@ use std::alloc::{AllocError, AllocFailed};
 /// The faults of a query, in the order in which they are tested; a stranger's view comes first.
 #[derive(Clone, Copy, Debug, PartialEq, Eq)]
 pub enum QueryFault {
-    /// A time before the floor, which is named (microseconds since 1970): history before it may be gone.
+    /// A time before the floor of the relation, which is named (microseconds since 1970): history before it may be gone.
     BeforeKept(u64),
     /// A time later than the last commit of the view, whose time is named: a later commit may still change the answer.
     NotYet(u64),

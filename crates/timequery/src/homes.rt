@@ -6,6 +6,7 @@ ghost use Rattle.archive.specs.Runs.{RunsEndBy};
 ghost use Rattle.archive.specs.Searches.{archive_of, heads_to_find};
 ghost use Rattle.archive.specs.Traces.{IsFindDamaged, IsDamagedRun, AreRowsOf, AreRowsBroken, AreScanRowsOf, AreScanRowsBroken};
 ghost use Rattle.chains.specs.KeyWrites.{writes_of};
+ghost use Rattle.floors.specs.Floors.{floor_at};
 ghost use Rattle.chains.specs.Rows.{rows_in, scanned_rows};
 ghost use Rattle.chains.specs.Scans.{scanned};
 ghost use Rattle.history.specs.Answers.{at_answer, between_answer, IsScanAtAnswer, IsScanBetweenAnswer};
@@ -46,13 +47,13 @@ impl View {
         ensures disk { D.state disk.new ≡ after_query result (D.state disk.old) }
         ensures kept { (limit : ℕ) → RunsEndBy limit self.now.runs → Keeps limit D.tells (archive_of (D.state disk.old)) (kept_of reader.old) (kept_of reader.new) }
         ensures heads { reader.new.heads ≤ reader.old.heads + heads_to_find time self.now.runs }
-        ensures refused { IfErr result (RefusesAt self.now time) }
-        ensures recent { self.now.reclaimed ≤ time → (reader.new ≡ reader.old) × IfOk result (λ o. AnswersAt self.now time o (value_at (writes_of self.now.state key) time)) }
-        ensures only { (h : History values.Value) → ReadsHistory D.tells (kept_of reader.old) (D.state disk.old) self.now h → Answers result (λ o. at_answer h (λ _. self.now.floor) key time ≡ Ok o) }
+        ensures refused { IfErr result (RefusesAt self.now key.relation time) }
+        ensures recent { self.now.reclaimed ≤ time → (reader.new ≡ reader.old) × IfOk result (λ o. AnswersAt self.now key.relation time o (value_at (writes_of self.now.state key) time)) }
+        ensures only { (h : History values.Value) → ReadsHistory D.tells (kept_of reader.old) (D.state disk.old) self.now h → Answers result (λ o. at_answer h (floor_at self.now.floors) key time ≡ Ok o) }
         ensures exact { IsTrue D.tells → IsRight (kept_of reader.old) (archive_of (D.state disk.old))
             → MatchResult result (IsValueFound (archive_of (D.state disk.old)) self.now key time) (IfDamaged (IsFindDamaged (archive_of (D.state disk.old)) self.now.runs key time)) }
     {
-        self.check_time(time)?;
+        self.check_time(key.relation, time)?;
         if let Some(value) = self.state.at(key, time) {
             return Ok(Some(value.share()?));
         }
@@ -88,14 +89,14 @@ impl View {
         ensures disk { D.state disk.new ≡ after_query result (D.state disk.old) }
         ensures kept { (limit : ℕ) → RunsEndBy limit self.now.runs → Keeps limit D.tells (archive_of (D.state disk.old)) (kept_of reader.old) (kept_of reader.new) }
         ensures heads { IfOk result (λ found. reader.new.heads ≤ reader.old.heads + heads_to_find a self.now.runs + length found.items) }
-        ensures refused { IfErr result (RefusesRows self.now a b) }
-        ensures recent { self.now.reclaimed ≤ a → (reader.new ≡ reader.old) × IfOk result (λ found. AnswersBetween self.now a b found.items (rows_in self.now.state a b key)) }
-        ensures only { (h : History values.Value) → ReadsHistory D.tells (kept_of reader.old) (D.state disk.old) self.now h → Answers result (λ found. between_answer h (λ _. self.now.floor) key a b ≡ Ok found.items) }
+        ensures refused { IfErr result (RefusesRows self.now key.relation a b) }
+        ensures recent { self.now.reclaimed ≤ a → (reader.new ≡ reader.old) × IfOk result (λ found. AnswersBetween self.now key.relation a b found.items (rows_in self.now.state a b key)) }
+        ensures only { (h : History values.Value) → ReadsHistory D.tells (kept_of reader.old) (D.state disk.old) self.now h → Answers result (λ found. between_answer h (floor_at self.now.floors) key a b ≡ Ok found.items) }
         ensures exact { IsTrue D.tells → IsRight (kept_of reader.old) (archive_of (D.state disk.old))
             → MatchResult result (λ found. AreRowsFound (archive_of (D.state disk.old)) self.now key a b found.items)
             (IfDamaged (IsDamagedRun (AreRowsOf (archive_of (D.state disk.old)) key a b) (AreRowsBroken (archive_of (D.state disk.old)) key a b) a self.now.runs)) }
     {
-        self.check_interval(a, b)?;
+        self.check_interval(key.relation, a, b)?;
         if self.reclaimed <= a {
             return Ok(self.state.rows(alloc, key, a, b)?);
         }
@@ -149,14 +150,14 @@ impl View {
     ) -> Result<Vec<(u64, SharedValue)>, QueryFault>
         ensures disk { D.state disk.new ≡ after_query result (D.state disk.old) }
         ensures kept { (limit : ℕ) → RunsEndBy limit self.now.runs → Keeps limit D.tells (archive_of (D.state disk.old)) (kept_of reader.old) (kept_of reader.new) }
-        ensures refused { IfErr result (RefusesAt self.now time) }
-        ensures recent { self.now.reclaimed ≤ time → (reader.new ≡ reader.old) × IfOk result (λ found. AnswersAt self.now time found.items (scanned relation time self.now.state)) }
-        ensures only { (h : History values.Value) → ReadsHistory D.tells (kept_of reader.old) (D.state disk.old) self.now h → Answers result (λ found. IsScanAtAnswer h (λ _. self.now.floor) relation time (Ok found.items)) }
+        ensures refused { IfErr result (RefusesAt self.now relation time) }
+        ensures recent { self.now.reclaimed ≤ time → (reader.new ≡ reader.old) × IfOk result (λ found. AnswersAt self.now relation time found.items (scanned relation time self.now.state)) }
+        ensures only { (h : History values.Value) → ReadsHistory D.tells (kept_of reader.old) (D.state disk.old) self.now h → Answers result (λ found. IsScanAtAnswer h (floor_at self.now.floors) relation time (Ok found.items)) }
         ensures exact { IsTrue D.tells → IsRight (kept_of reader.old) (archive_of (D.state disk.old))
             → MatchResult result (λ found. AreValuesFound (archive_of (D.state disk.old)) self.now relation time found.items)
             (IfDamaged (IsDamagedRun (AreScanRowsOf (archive_of (D.state disk.old)) relation time (time + 1)) (AreScanRowsBroken (archive_of (D.state disk.old)) relation time (time + 1)) time self.now.runs)) }
     {
-        self.check_time(time)?;
+        self.check_time(relation, time)?;
         if self.reclaimed <= time {
             return Ok(self.state.scan(alloc, relation, time)?);
         }
@@ -178,14 +179,14 @@ impl View {
     ) -> Result<Vec<(u64, Version<SharedValue>)>, QueryFault>
         ensures disk { D.state disk.new ≡ after_query result (D.state disk.old) }
         ensures kept { (limit : ℕ) → RunsEndBy limit self.now.runs → Keeps limit D.tells (archive_of (D.state disk.old)) (kept_of reader.old) (kept_of reader.new) }
-        ensures refused { IfErr result (RefusesRows self.now a b) }
-        ensures recent { self.now.reclaimed ≤ a → (reader.new ≡ reader.old) × IfOk result (λ found. AnswersBetween self.now a b found.items (scanned_rows relation a b self.now.state)) }
-        ensures only { (h : History values.Value) → ReadsHistory D.tells (kept_of reader.old) (D.state disk.old) self.now h → Answers result (λ found. IsScanBetweenAnswer h (λ _. self.now.floor) relation a b (Ok found.items)) }
+        ensures refused { IfErr result (RefusesRows self.now relation a b) }
+        ensures recent { self.now.reclaimed ≤ a → (reader.new ≡ reader.old) × IfOk result (λ found. AnswersBetween self.now relation a b found.items (scanned_rows relation a b self.now.state)) }
+        ensures only { (h : History values.Value) → ReadsHistory D.tells (kept_of reader.old) (D.state disk.old) self.now h → Answers result (λ found. IsScanBetweenAnswer h (floor_at self.now.floors) relation a b (Ok found.items)) }
         ensures exact { IsTrue D.tells → IsRight (kept_of reader.old) (archive_of (D.state disk.old))
             → MatchResult result (λ found. AreScanRowsFound (archive_of (D.state disk.old)) self.now relation a b found.items)
             (IfDamaged (IsDamagedRun (AreScanRowsOf (archive_of (D.state disk.old)) relation a b) (AreScanRowsBroken (archive_of (D.state disk.old)) relation a b) a self.now.runs)) }
     {
-        self.check_interval(a, b)?;
+        self.check_interval(relation, a, b)?;
         if self.reclaimed <= a {
             return Ok(self.state.scan_rows(alloc, relation, a, b)?);
         }

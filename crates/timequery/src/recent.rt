@@ -23,7 +23,7 @@ impl View {
         let View {
             mark,
             last,
-            floor,
+            floors,
             reclaimed: _,
             runs: _,
             state,
@@ -31,7 +31,7 @@ impl View {
         View {
             mark,
             last,
-            floor,
+            floors,
             reclaimed,
             runs,
             state,
@@ -51,9 +51,9 @@ impl View {
     /// The value of a key at a time in microseconds since 1970, from memory alone: from the reclaim mark
     /// and the floor up to the last commit.
     pub fn recent(&self, key: Key, time: u64) -> Result<Option<&SharedValue>, QueryFault>
-        ensures { MatchResult result (λ o. (self.now.reclaimed ≤ time) × AnswersAt self.now time (option_copied o) (value_at (writes_of self.now.state key) time)) (RefusesRecent self.now time) }
+        ensures { MatchResult result (λ o. (self.now.reclaimed ≤ time) × AnswersAt self.now key.relation time (option_copied o) (value_at (writes_of self.now.state key) time)) (RefusesRecent self.now key.relation time) }
     {
-        self.check_time(time)?;
+        self.check_time(key.relation, time)?;
         self.check_memory(time)?;
         Ok(self.state.at(key, time))
     }
@@ -66,9 +66,9 @@ impl View {
         relation: u16,
         time: u64,
     ) -> Result<Vec<(u64, SharedValue)>, QueryFault>
-        ensures { MatchResult result (λ found. (self.now.reclaimed ≤ time) × AnswersAt self.now time found.items (scanned relation time self.now.state)) (RefusesRecentScan self.now time) }
+        ensures { MatchResult result (λ found. (self.now.reclaimed ≤ time) × AnswersAt self.now relation time found.items (scanned relation time self.now.state)) (RefusesRecentScan self.now relation time) }
     {
-        self.check_time(time)?;
+        self.check_time(relation, time)?;
         self.check_memory(time)?;
         Ok(self.state.scan(alloc, relation, time)?)
     }
@@ -82,9 +82,9 @@ impl View {
         a: u64,
         b: u64,
     ) -> Result<Vec<Version<SharedValue>>, QueryFault>
-        ensures { MatchResult result (λ rows. (self.now.reclaimed ≤ a) × AnswersBetween self.now a b rows.items (rows_in self.now.state a b key)) (RefusesRecentRows self.now a b) }
+        ensures { MatchResult result (λ rows. (self.now.reclaimed ≤ a) × AnswersBetween self.now key.relation a b rows.items (rows_in self.now.state a b key)) (RefusesRecentRows self.now key.relation a b) }
     {
-        self.check_interval(a, b)?;
+        self.check_interval(key.relation, a, b)?;
         self.check_memory(a)?;
         Ok(self.state.rows(alloc, key, a, b)?)
     }
@@ -98,9 +98,9 @@ impl View {
         a: u64,
         b: u64,
     ) -> Result<Vec<(u64, Version<SharedValue>)>, QueryFault>
-        ensures { MatchResult result (λ rows. (self.now.reclaimed ≤ a) × AnswersBetween self.now a b rows.items (scanned_rows relation a b self.now.state)) (RefusesRecentRows self.now a b) }
+        ensures { MatchResult result (λ rows. (self.now.reclaimed ≤ a) × AnswersBetween self.now relation a b rows.items (scanned_rows relation a b self.now.state)) (RefusesRecentRows self.now relation a b) }
     {
-        self.check_interval(a, b)?;
+        self.check_interval(relation, a, b)?;
         self.check_memory(a)?;
         Ok(self.state.scan_rows(alloc, relation, a, b)?)
     }

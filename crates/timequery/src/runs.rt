@@ -24,6 +24,19 @@ impl Model for Runs {
     ghost view = { λ r. runs_in r.shared };
 }
 
+// The same runs once more.
+fn shared(alloc: Global, runs: &[RunEntry]) -> Result<Vec<RunEntry>, AllocError>
+    ensures { IfOk result (λ again. again.items ≡ runs.now) }
+{
+    let mut again = Vec::new(alloc);
+    let mut rest = runs;
+    while let [run, after @ ..] = rest {
+        again.push(run.share()?)?;
+        rest = after;
+    }
+    Ok(again)
+}
+
 impl Runs {
     /// No run.
     pub fn new() -> Self
@@ -78,7 +91,7 @@ impl Runs {
     pub fn with(&self, alloc: Global, run: RunEntry) -> Result<Self, AllocError>
         ensures { IfOk result (λ r. r ≡ self.now ++ run ∷ []) }
     {
-        let mut runs = Vec::from_slice(alloc, self.as_slice())?;
+        let mut runs = shared(alloc, self.as_slice())?;
         runs.push(run)?;
         Self::from_vec(alloc, runs)
     }

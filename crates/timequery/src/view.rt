@@ -1,6 +1,7 @@
 //! Views.
 ghost use Rattle.std.specs.Prelude.{◌≡◌, ◌≤◌, [], MatchResult};
 ghost use Rattle.std.specs.Option.{option_copied};
+ghost use Rattle.floors.specs.Floors.{floor_at};
 ghost use Rattle.history.specs.Time.{value_at};
 ghost use Rattle.chains.specs.KeyWrites.{writes_of};
 ghost use Rattle.chains.specs.Rows.{rows_in, scanned_rows};
@@ -11,6 +12,7 @@ use crate::fault::QueryFault;
 use crate::runs::Runs;
 use archive::RunEntry;
 use chains::{Frozen, SharedValue};
+use floors::Floors;
 use history::{Key, Version};
 use std::alloc::Global;
 use std::marker::Model;
@@ -20,7 +22,7 @@ use std::marker::Model;
 pub struct View {
     pub(crate) mark: u64,
     pub(crate) last: u64,
-    pub(crate) floor: u64,
+    pub(crate) floors: Floors,
     // Memory has the versions that end after the reclaim mark.
     pub(crate) reclaimed: u64,
     pub(crate) runs: Runs,
@@ -33,23 +35,23 @@ impl Model for View {
 
     ghost Value = { ViewValue };
 
-    ghost view = { λ v. record { mark = v.mark; last = v.last; floor = v.floor; reclaimed = v.reclaimed; runs = v.runs; state = v.state } };
+    ghost view = { λ v. record { mark = v.mark; last = v.last; floors = v.floors; reclaimed = v.reclaimed; runs = v.runs; state = v.state } };
 
     ghost invariant = { λ v. IsOrdered v.state × AreRising v.state };
 }
 
 impl View {
-    /// A view of a store with this mark: the time of its last commit, its floor and its versions. Nothing
+    /// A view of a store with this mark: the time of its last commit, its floors and its versions. Nothing
     /// is archived or reclaimed.
-    pub fn new(mark: u64, last: u64, floor: u64, state: Frozen) -> Self
-        ensures { result ≡ record { mark = mark; last = last; floor = floor; reclaimed = 0; runs = []; state = state } }
+    pub fn new(mark: u64, last: u64, floors: Floors, state: Frozen) -> Self
+        ensures { result ≡ record { mark = mark; last = last; floors = floors; reclaimed = 0; runs = []; state = state } }
     {
         // The versions are in the order of their keys, and of each key in that of their times.
         let _none = state.is_empty();
         View {
             mark,
             last,
-            floor,
+            floors,
             reclaimed: 0,
             runs: Runs::new(),
             state,
@@ -75,19 +77,20 @@ impl View {
         let View {
             mark: _,
             last: _,
-            floor: _,
+            floors: _,
             reclaimed: _,
             runs: _,
             state: _,
         } = self;
     }
 
-    /// Whether a time in microseconds since 1970 is kept: from the floor up to the last commit.
-    pub(crate) fn check_time(&self, time: u64) -> Result<(), QueryFault>
-        ensures { MatchResult result (λ _. (self.now.floor ≤ time) × (time ≤ self.now.last)) (RefusesTime self.now time) }
+    /// Whether a time in microseconds since 1970 is kept of a relation: from its floor up to the last commit.
+    pub(crate) fn check_time(&self, relation: u16, time: u64) -> Result<(), QueryFault>
+        ensures { MatchResult result (λ _. (floor_at self.now.floors relation ≤ time) × (time ≤ self.now.last)) (RefusesTime self.now relation time) }
     {
-        if time < self.floor {
-            return Err(QueryFault::BeforeKept(self.floor));
+        let floor = self.floors.at(relation);
+        if time < floor {
+            return Err(QueryFault::BeforeKept(floor));
         }
         if self.last < time {
             return Err(QueryFault::NotYet(self.last));
@@ -95,12 +98,14 @@ impl View {
         Ok(())
     }
 
-    /// Whether all times from `a` up to `b`, itself no longer among them, are kept, and there are some.
-    pub(crate) fn check_interval(&self, a: u64, b: u64) -> Result<(), QueryFault>
-        ensures { MatchResult result (λ _. IsInView self.now a b) (RefusesBounds self.now a b) }
+    /// Whether all times from `a` up to `b`, itself no longer among them, are kept of a relation, and there
+    /// are some.
+    pub(crate) fn check_interval(&self, relation: u16, a: u64, b: u64) -> Result<(), QueryFault>
+        ensures { MatchResult result (λ _. IsInView self.now relation a b) (RefusesBounds self.now relation a b) }
     {
-        if a.min(b) < self.floor {
-            return Err(QueryFault::BeforeKept(self.floor));
+        let kept_from = self.floors.at(relation);
+        if a.min(b) < kept_from {
+            return Err(QueryFault::BeforeKept(kept_from));
         }
         if self.last < b && b - self.last > 1 {
             return Err(QueryFault::NotYet(self.last));
@@ -111,11 +116,12 @@ impl View {
         Ok(())
     }
 
-    /// The value of a key at a time in microseconds since 1970, from the floor up to the last commit.
+    /// The value of a key at a time in microseconds since 1970, from the floor of its relation up to the last
+    /// commit.
     pub fn at(&self, key: Key, time: u64) -> Result<Option<&SharedValue>, QueryFault>
-        ensures { MatchResult result (λ o. AnswersAt self.now time (option_copied o) (value_at (writes_of self.now.state key) time)) (RefusesTime self.now time) }
+        ensures { MatchResult result (λ o. AnswersAt self.now key.relation time (option_copied o) (value_at (writes_of self.now.state key) time)) (RefusesTime self.now key.relation time) }
     {
-        self.check_time(time)?;
+        self.check_time(key.relation, time)?;
         Ok(self.state.at(key, time))
     }
 
@@ -126,9 +132,9 @@ impl View {
         relation: u16,
         time: u64,
     ) -> Result<Vec<(u64, SharedValue)>, QueryFault>
-        ensures { MatchResult result (λ found. AnswersAt self.now time found.items (scanned relation time self.now.state)) (RefusesScan self.now time) }
+        ensures { MatchResult result (λ found. AnswersAt self.now relation time found.items (scanned relation time self.now.state)) (RefusesScan self.now relation time) }
     {
-        self.check_time(time)?;
+        self.check_time(relation, time)?;
         match self.state.scan(alloc, relation, time) {
             Ok(found) => Ok(found),
             Err(_) => Err(QueryFault::NoMemory),
@@ -144,9 +150,9 @@ impl View {
         a: u64,
         b: u64,
     ) -> Result<Vec<Version<SharedValue>>, QueryFault>
-        ensures { MatchResult result (λ rows. AnswersBetween self.now a b rows.items (rows_in self.now.state a b key)) (RefusesInterval self.now a b) }
+        ensures { MatchResult result (λ rows. AnswersBetween self.now key.relation a b rows.items (rows_in self.now.state a b key)) (RefusesInterval self.now key.relation a b) }
     {
-        self.check_interval(a, b)?;
+        self.check_interval(key.relation, a, b)?;
         match self.state.rows(alloc, key, a, b) {
             Ok(rows) => Ok(rows),
             Err(_) => Err(QueryFault::NoMemory),
@@ -162,9 +168,9 @@ impl View {
         a: u64,
         b: u64,
     ) -> Result<Vec<(u64, Version<SharedValue>)>, QueryFault>
-        ensures { MatchResult result (λ rows. AnswersBetween self.now a b rows.items (scanned_rows relation a b self.now.state)) (RefusesInterval self.now a b) }
+        ensures { MatchResult result (λ rows. AnswersBetween self.now relation a b rows.items (scanned_rows relation a b self.now.state)) (RefusesInterval self.now relation a b) }
     {
-        self.check_interval(a, b)?;
+        self.check_interval(relation, a, b)?;
         match self.state.scan_rows(alloc, relation, a, b) {
             Ok(rows) => Ok(rows),
             Err(_) => Err(QueryFault::NoMemory),

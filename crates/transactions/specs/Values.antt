@@ -8,6 +8,7 @@ use Rattle.chains.specs.KeyWrites.{KeyWrites, writes_of}
 use Rattle.extents.specs.declared.usage.Usage.{Usage}
 use Rattle.snapshot.specs.OpenTable.{snapshot_of, with_closed}
 use Rattle.snapshot.specs.Txn.{TxnValue}
+use Rattle.floors.specs.Floors.{FloorsValue}
 use Rattle.group.specs.declared.commit_order.CommitHead.{CommitHead}
 use Rattle.group.specs.Queued.{QueuedValue}
 use Rattle.transactions.specs.declared.stage.GroupStage.{GroupStage}
@@ -37,7 +38,7 @@ pub record TransactionsValue : Type 0 where
   -- how many of the queue the group has, 0 where none stands, and what is done of it
   pub group : ℕ
   pub stage : GroupStage
-  pub floor : ℕ
+  pub floors : FloorsValue
   -- the mark up to which the published versions have forgotten what ended
   pub reclaimed : ℕ
   pub failed : Bool
@@ -82,11 +83,11 @@ is_own v txn = is_own_of v txn.mark txn.number txn.snapshot txn.writes
 abbrev pub over : TransactionsValue → ℕ → TransactionsValue
 over v number = record v { opened = with_closed v.opened number }
 
--- ---- the floor
+-- ---- the floors
 
--- it is raised to a time
-abbrev pub raised_to : TransactionsValue → ℕ → TransactionsValue
-raised_to v floor = record v { floor = floor }
+-- these stand in place of those before
+abbrev pub with_floors : TransactionsValue → FloorsValue → TransactionsValue
+with_floors v floors = record v { floors = floors }
 
 -- ---- room in the log
 
@@ -110,6 +111,10 @@ with_slot_lent v = record v { slots = v.slots - 1 }
 
 abbrev pub with_slot_used : TransactionsValue → TransactionsValue
 with_slot_used v = record v { slots = v.slots + 1; used = v.used + 1 }
+
+-- the log has so many slots more
+abbrev pub with_more_slots : ℕ → TransactionsValue → TransactionsValue
+with_more_slots count v = record v { slots = v.slots + count }
 
 -- ---- what the log's own count is compared with
 

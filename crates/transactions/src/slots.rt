@@ -1,6 +1,6 @@
 //! The room in the log.
-ghost use Rattle.std.specs.Prelude.{◌≡◌, ◌<◌};
-ghost use Rattle.transactions.specs.Values.{spare, with_slot_lent, with_slot_used};
+ghost use Rattle.std.specs.Prelude.{◌≡◌, ◌<◌, ◌≤◌, ◌+◌};
+ghost use Rattle.transactions.specs.Values.{spare, with_slot_lent, with_slot_used, with_more_slots};
 
 use crate::stage::GroupStage;
 use crate::transactions::Transactions;
@@ -33,5 +33,13 @@ impl Transactions {
     {
         self.slots += 1;
         self.used += 1;
+    }
+
+    /// The log has so many slots more.
+    pub fn add_slots(&mut self, count: u32)
+        requires { self.old.slots + count ≤ 65536 }
+        ensures { self.new ≡ with_more_slots count self.old }
+    {
+        self.slots += count;
     }
 }

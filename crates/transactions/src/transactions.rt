@@ -4,13 +4,14 @@ ghost use Rattle.chains.specs.KeyWrites.{latest};
 ghost use Rattle.snapshot.specs.OpenTable.{open_count};
 ghost use Rattle.group.specs.CommitOrder.{IsRisingAfter, last_time, times_of};
 ghost use Rattle.transactions.specs.declared.stage.GroupStage.TheVariants.{NoGroup};
-ghost use Rattle.transactions.specs.Values.{ordered, ordered_mark, over, is_own_of, raised_to, KeepsSlots};
+ghost use Rattle.transactions.specs.Values.{ordered, ordered_mark, over, is_own_of, with_floors, KeepsSlots};
 ghost use Rattle.transactions.specs.Calls.{Begins, Aborts, Redeems, last, order_of};
 
 use crate::stage::GroupStage;
 use crate::submit::gone_is_of_value;
 use chains::Frozen;
 use extents::{ChainTimes, Extent, Extents};
+use floors::Floors;
 use group::{
     BeginFault, CommitHead, CommitOrder, Queued, QueuedParts, Redeemed, Standing, Ticket,
     give_back_all, keep_all,
@@ -40,7 +41,7 @@ pub struct Transactions {
     pub(crate) used: u32,
     pub(crate) group: usize,
     pub(crate) stage: GroupStage,
-    pub(crate) floor: u64,
+    pub(crate) floors: Floors,
     // The versions have forgotten what ended by this mark.
     pub(crate) reclaimed: u64,
     pub(crate) failed: bool,
@@ -52,15 +53,15 @@ impl Model for Transactions {
 
     ghost Value = { TransactionsValue };
 
-    ghost view = { λ t. record { mark = t.mark; opened = t.opened; heads = t.order.heads; published = t.order.published; versions = t.versions; pending = t.pending; queue = t.queue.items; usages = t.extents; times = t.times; reserved = t.reserved.items; slots = t.slots; used = t.used; group = t.group; stage = t.stage; floor = t.floor; reclaimed = t.reclaimed; failed = t.failed } };
+    ghost view = { λ t. record { mark = t.mark; opened = t.opened; heads = t.order.heads; published = t.order.published; versions = t.versions; pending = t.pending; queue = t.queue.items; usages = t.extents; times = t.times; reserved = t.reserved.items; slots = t.slots; used = t.used; group = t.group; stage = t.stage; floors = t.floors; reclaimed = t.reclaimed; failed = t.failed } };
 
-    ghost invariant = { λ t. IsInOrder (record { mark = t.mark; opened = t.opened; heads = t.order.heads; published = t.order.published; versions = t.versions; pending = t.pending; queue = t.queue.items; usages = t.extents; times = t.times; reserved = t.reserved.items; slots = t.slots; used = t.used; group = t.group; stage = t.stage; floor = t.floor; reclaimed = t.reclaimed; failed = t.failed }) };
+    ghost invariant = { λ t. IsInOrder (record { mark = t.mark; opened = t.opened; heads = t.order.heads; published = t.order.published; versions = t.versions; pending = t.pending; queue = t.queue.items; usages = t.extents; times = t.times; reserved = t.reserved.items; slots = t.slots; used = t.used; group = t.group; stage = t.stage; floors = t.floors; reclaimed = t.reclaimed; failed = t.failed }) };
 }
 
 impl Transactions {
     /// Those of a store that was just opened: the published commits, the versions of each key, the
     /// extents in use and the commits whose chains they are in, the slots of the store and of its log,
-    /// the floor and the reclaim mark.
+    /// the floors and the reclaim mark.
     #[allow(clippy::too_many_arguments)]
     pub fn of_recovered(
         alloc: Global,
@@ -71,14 +72,14 @@ impl Transactions {
         times: ChainTimes,
         slots: u32,
         used: u32,
-        floor: u64,
+        floors: Floors,
         reclaimed: u64,
     ) -> Self
         requires rising { IsRisingAfter 0 heads.items }
         requires latest { latest versions ≤ last_time heads.items }
         requires room { used ≤ slots }
         requires slots { slots ≤ 65536 }
-        ensures { result ≡ record { mark = mark; opened = []; heads = heads.items; published = length heads.items; versions = versions; pending = None; queue = []; usages = extents; times = times; reserved = []; slots = slots; used = used; group = 0; stage = NoGroup; floor = floor; reclaimed = reclaimed; failed = false } }
+        ensures { result ≡ record { mark = mark; opened = []; heads = heads.items; published = length heads.items; versions = versions; pending = None; queue = []; usages = extents; times = times; reserved = []; slots = slots; used = used; group = 0; stage = NoGroup; floors = floors; reclaimed = reclaimed; failed = false } }
     {
         Transactions {
             mark,
@@ -94,7 +95,7 @@ impl Transactions {
             used,
             group: 0,
             stage: GroupStage::NoGroup,
-            floor,
+            floors,
             reclaimed,
             failed: false,
         }
@@ -116,7 +117,7 @@ impl Transactions {
             used: _,
             group: _,
             stage: _,
-            floor: _,
+            floors: _,
             reclaimed: _,
             failed: _,
         } = self;
@@ -197,10 +198,11 @@ impl Transactions {
 
     /// A view of what is published now.
     pub fn view(&self) -> Result<View, AllocError>
-        ensures { IfOk result (λ v. v ≡ record { mark = self.now.mark; last = last self.now; floor = self.now.floor; reclaimed = 0; runs = []; state = self.now.versions }) }
+        ensures { IfOk result (λ v. v ≡ record { mark = self.now.mark; last = last self.now; floors = self.now.floors; reclaimed = 0; runs = []; state = self.now.versions }) }
     {
         let state = self.versions.share()?;
-        Ok(View::new(self.mark, self.order.last(), self.floor, state))
+        let floors = self.floors.share()?;
+        Ok(View::new(self.mark, self.order.last(), floors, state))
     }
 
     // Whether a transaction is the store's own; if so, it is over.
@@ -271,19 +273,19 @@ impl Transactions {
         self.order.last()
     }
 
-    /// The time before which nothing is promised, 0 where all history is kept.
-    pub fn floor(&self) -> u64
-        ensures { result ≡ self.now.floor }
+    /// For each relation the time before which nothing is promised.
+    pub fn floors(&self) -> &Floors
+        ensures { result.now ≡ self.now.floors }
     {
-        self.floor
+        &self.floors
     }
 
-    /// Raises the floor to a time in microseconds since 1970. It takes no memory.
-    pub fn raise_floor(&mut self, floor: u64)
-        ensures is { self.new ≡ raised_to self.old floor }
+    /// Puts these floors into the place of those that stand. It takes no memory.
+    pub fn put_floors(&mut self, floors: Floors)
+        ensures is { self.new ≡ with_floors self.old floors }
         ensures slots { KeepsSlots self.old self.new }
     {
-        self.floor = floor;
+        self.floors = floors;
     }
 
     /// The mark up to which the published versions have forgotten what ended, in microseconds since

@@ -25,10 +25,10 @@ was-lt {a} {b} h = grind (arith, nat_tests)
 was-ge : {a b : ℕ} → nat_lt a b ≡ false → b ≤ a
 was-ge {a} {b} h = grind (arith, nat_tests)
 
-was-le : {a b : ℕ} → nat_le a b ≡ true → a ≤ b
+pub was-le : {a b : ℕ} → nat_le a b ≡ true → a ≤ b
 was-le {a} {b} h = grind (arith, nat_tests)
 
-was-gt : {a b : ℕ} → nat_le a b ≡ false → b < a
+pub was-gt : {a b : ℕ} → nat_le a b ≡ false → b < a
 was-gt {a} {b} h = grind (arith, nat_tests)
 
 pub found-after : (t : ℕ) (vs : List (Version Value)) (v : Version Value) → find (ends_after t) vs ≡ Some v → t < v.to
@@ -114,6 +114,25 @@ module _ (t upto : ℕ) (c : KeyWrites) (rising : IsRisingAfter 0 c.writes) wher
             let same : Some r ≡ Some (archive_record c.key v) = first ∙ ap (λ (rs : List ArchiveRecord). slice_get rs 0) next in
             let one : r ≡ archive_record c.key v = cc in
             ap (λ (x : ArchiveRecord). key_records x.version.to upto c) one ∙ sym (ap (λ (rs : List ArchiveRecord). drop 1 rs) next)
+        | false ↦ λ h. absurd (let none : Some r ≡ None = first ∙ ap (λ (rs : List ArchiveRecord). slice_get rs 0) (records-late v e (was-gt h)) in cc)
+      ] in
+      let all : (o : Option (Version Value)) → Goal o = λ o. elim o as Goal [
+        | None ↦ λ e. absurd (let none : Some r ≡ None = first ∙ ap (λ (rs : List ArchiveRecord). slice_get rs 0) (records-none e) in cc)
+        | Some v ↦ λ e. by v e (nat_le v.to upto) refl
+      ] in
+      all (find (ends_after t) (versions c.writes)) refl
+
+  -- its version ended after the time
+  pub first-later : (r : ArchiveRecord) → Some r ≡ slice_get (key_records t upto c) 0 → t < r.version.to
+  first-later r first =
+      let Later : Type 0 = t < r.version.to in
+      let Ends : Bool → Version Value → Type 0 = λ b v. nat_le v.to upto ≡ b → Later in
+      let Goal : Option (Version Value) → Type 0 = λ o. find (ends_after t) (versions c.writes) ≡ o → Later in
+      let by : (v : Version Value) → find (ends_after t) (versions c.writes) ≡ Some v → (b : Bool) → Ends b v = λ v e b. elim b as (λ b. Ends b v) [
+        | true ↦ λ h.
+            let same : Some r ≡ Some (archive_record c.key v) = first ∙ ap (λ (rs : List ArchiveRecord). slice_get rs 0) (records-next v e (was-le h)) in
+            let one : r ≡ archive_record c.key v = cc in
+            subst (λ (x : ArchiveRecord). t < x.version.to) (sym one) (found-after t (versions c.writes) v e)
         | false ↦ λ h. absurd (let none : Some r ≡ None = first ∙ ap (λ (rs : List ArchiveRecord). slice_get rs 0) (records-late v e (was-gt h)) in cc)
       ] in
       let all : (o : Option (Version Value)) → Goal o = λ o. elim o as Goal [

@@ -24,7 +24,9 @@ use Rattle.image.specs.Plans.{IsArchivePlan, IsReclaimPlan}
 use Rattle.image.specs.PlansMade.{archive_record, archive_records, old_record, old_records}
 use Rattle.image.proofs.KeysInOrder.{AreOthers}
 use Rattle.image.proofs.PlansMade.{each-key, map-same, apart-filter, in_order, all-order, one-archived, one-anchor, keep-sorted, keys-above}
-use Rattle.vacuum.specs.Archives.{AreInMemory, records_of}
+use Rattle.floors.specs.Floors.{floor_at}
+use Rattle.vacuum.specs.declared.archive_walk.Since.{Since}
+use Rattle.vacuum.specs.Archives.{AreInMemory, since_of, records_of}
 use Rattle.vacuum.specs.Anchors.{anchors_of}
 use Rattle.vacuum.specs.Laws.{HoldsHeap}
 
@@ -76,29 +78,29 @@ module _ (m : List KeyWrites) (versions_are : AreInMemory m) where
       let first = first_time-later 0 (writes_of m key) (omega arith) rising in
       apart-earlier 1 (first_time (writes_of m key)) (versions (writes_of m key)) (omega (arith, first)) (versions-apart 0 (writes_of m key) rising)
 
-  module _ (low upto : ℕ) where
+  module _ (low : Key → ℕ) (upto : ℕ) where
     abbrev archived : Key → List (Version Value)
-    archived key = filter (ends_by upto) (filter (ends_after low) (versions (writes_of m key)))
+    archived key = filter (ends_by upto) (filter (ends_after (low key)) (versions (writes_of m key)))
 
     archived-apart : (key : Key) → FollowOneAnotherFrom 0 (archived key)
     archived-apart key =
         apart-earlier 0 1 (archived key) (omega arith)
-        (apart-filter 1 (ends_by upto) (filter (ends_after low) (versions (writes_of m key))) (apart-filter 1 (ends_after low) (versions (writes_of m key)) (apart key)))
+        (apart-filter 1 (ends_by upto) (filter (ends_after (low key)) (versions (writes_of m key))) (apart-filter 1 (ends_after (low key)) (versions (writes_of m key)) (apart key)))
 
-    records-are : records_of low upto m ≡ archive_records archived (keys_of m)
-    records-are = by-key (λ key ws. map (archive_record key) (filter (ends_by upto) (filter (ends_after low) (versions ws)))) m versions_are.ordered
-
-    all-archived : (mark : ℕ) (floors : ℕ → ℕ) → mark ≤ low → ((relation : ℕ) → floors relation ≤ low) → (ks : List Key) → AllByRecursion (IsArchived mark floors upto) (archive_records archived ks)
+    all-archived : (mark : ℕ) (floors : ℕ → ℕ) → ((key : Key) → mark ≤ low key) → ((key : Key) → floors key.relation ≤ low key) → (ks : List Key) → AllByRecursion (IsArchived mark floors upto) (archive_records archived ks)
     all-archived mark floors by also [] = tt
     all-archived mark floors by also (k ∷ ks) =
         AllByRecursion-append (IsArchived mark floors upto) (map (archive_record k) (archived k)) (archive_records archived ks)
-        (one-archived mark low upto floors k 1 (versions (writes_of m k)) by (also k.relation) (apart k)) (all-archived mark floors by also ks)
+        (one-archived mark (low k) upto floors k 1 (versions (writes_of m k)) (by k) (also k) (apart k)) (all-archived mark floors by also ks)
 
-    run-is : (mark : ℕ) (floors : ℕ → ℕ) → mark ≤ low → ((relation : ℕ) → floors relation ≤ low) → IsRun mark floors upto (archive_records archived (keys_of m))
+    run-is : (mark : ℕ) (floors : ℕ → ℕ) → ((key : Key) → mark ≤ low key) → ((key : Key) → floors key.relation ≤ low key) → IsRun mark floors upto (archive_records archived (keys_of m))
     run-is mark floors by also = record {
       each = all-archived mark floors by also (keys_of m);
       in_order = in_order (archive_records archived (keys_of m)) (all-order archived (keys_of m) archived-apart (sorted-keys m versions_are.ordered));
     }
+
+  records-are : (since : Since) (upto : ℕ) → records_of since upto m ≡ archive_records (archived (λ key. since_of since key.relation) upto) (keys_of m)
+  records-are since upto = by-key (λ key ws. map (archive_record key) (filter (ends_by upto) (filter (ends_after (since_of since key.relation)) (versions ws)))) m versions_are.ordered
 
   module _ (mark : ℕ) where
     abbrev kept : Key → List (Version Value)
@@ -123,19 +125,19 @@ module _ (m : List KeyWrites) (versions_are : AreInMemory m) where
 -- ---- the plans
 
 module _ (reading : Reading) (m : List KeyWrites) (versions_are : AreInMemory m) (holds : HoldsHeap reading m) where
-  pub archive_plan-is : (mark floor upto : ℕ) → archived_upto reading ≡ mark → ((relation : ℕ) → floor_of reading.log relation ≡ floor) → IsArchivePlan reading upto (records_of (max mark floor) upto m)
-  archive_plan-is mark floor upto mark_is floor_is =
-      let low = max mark floor in
+  pub archive_plan-is : (since : Since) (upto : ℕ) → archived_upto reading ≡ since.mark → ((relation : ℕ) → floor_of reading.log relation ≡ floor_at since.floors relation) → IsArchivePlan reading upto (records_of since upto m)
+  archive_plan-is since upto mark_is floor_is =
+      let low : Key → ℕ = λ key. since_of since key.relation in
       let vs = archived m versions_are low upto in
-      subst (IsArchivePlan reading upto) (sym (records-are m versions_are low upto)) (record {
+      subst (IsArchivePlan reading upto) (sym (records-are m versions_are since upto)) (record {
         each = λ key.
             each-key archive_record version_for (λ (v : Version Value). v)
             (λ k key v same. ap (λ b. cond b (Some v) None) same) (λ k key v other. ap (λ b. cond b (Some v) None) other)
             vs key (keys_of m) (sorted-keys m versions_are.ordered)
-            (λ others. ap (λ ws. filter (ends_by upto) (filter (ends_after low) (versions ws))) (no-writes key m others))
+            (λ others. ap (λ ws. filter (ends_by upto) (filter (ends_after (low key)) (versions ws))) (no-writes key m others))
             ∙ map-same (vs key)
             ∙ sym (λ i. filter (ends_by upto) (filter (ends_after (max (mark_is i) (floor_is key.relation i))) (holds key i)));
-        is_run = run-is m versions_are low upto (archived_upto reading) (floor_of reading.log) (omega (arith, mark_is)) (λ relation. omega (arith, floor_is relation));
+        is_run = run-is m versions_are low upto (archived_upto reading) (floor_of reading.log) (λ key. omega (arith, mark_is)) (λ key. omega (arith, floor_is key.relation));
       })
 
   pub reclaim_plan-is : (mark : ℕ) → archived_upto reading ≡ mark → IsReclaimPlan reading (anchors_of mark m)

@@ -1,3 +1,4 @@
 pub mod Archives
 pub mod Anchors
+pub mod Ahead
 pub mod Laws

@@ -13,6 +13,7 @@ no_slots rows none (action.Run dir) asked = asked
 no_slots rows none (action.At dir key time) asked = asked
 no_slots rows none (action.Between dir key from to) asked = asked
 no_slots rows none (action.Vacuum dir time) asked = asked
+no_slots rows none (action.Grow dir) asked = asked
 no_slots rows none (action.Dump dir) asked = asked
 no_slots rows none (action.Stress writers readers rounds) asked = asked
 
@@ -23,6 +24,7 @@ no_key rows none (action.Run dir) asked = asked
 no_key rows none (action.At dir key time) asked = none key asked.1
 no_key rows none (action.Between dir key from to) asked = asked
 no_key rows none (action.Vacuum dir time) asked = asked
+no_key rows none (action.Grow dir) asked = asked
 no_key rows none (action.Dump dir) asked = asked
 no_key rows none (action.Stress writers readers rounds) asked = asked
 
@@ -33,6 +35,7 @@ no_key_between rows none (action.Run dir) asked = asked
 no_key_between rows none (action.At dir key time) asked = asked
 no_key_between rows none (action.Between dir key from to) asked = none key asked.1
 no_key_between rows none (action.Vacuum dir time) asked = asked
+no_key_between rows none (action.Grow dir) asked = asked
 no_key_between rows none (action.Dump dir) asked = asked
 no_key_between rows none (action.Stress writers readers rounds) asked = asked
 
@@ -43,5 +46,6 @@ no_stress rows none (action.Run dir) asked = asked
 no_stress rows none (action.At dir key time) asked = asked
 no_stress rows none (action.Between dir key from to) asked = asked
 no_stress rows none (action.Vacuum dir time) asked = asked
+no_stress rows none (action.Grow dir) asked = asked
 no_stress rows none (action.Dump dir) asked = asked
 no_stress rows none (action.Stress writers readers rounds) asked = none writers readers rounds asked

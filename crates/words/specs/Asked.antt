@@ -37,6 +37,10 @@ abbrev pub AsksVacuum : List Row → Action → Type 0
 AsksVacuum rows (action.Vacuum dir time) = (first_of (codes "DIR") rows ≡ Some dir.now) × (first_of (codes "TIME") rows ≡ Some time.now)
 AsksVacuum rows _ = ⊥
 
+abbrev pub AsksGrow : List Row → Action → Type 0
+AsksGrow rows (action.Grow dir) = first_of (codes "DIR") rows ≡ Some dir.now
+AsksGrow rows _ = ⊥
+
 abbrev pub AsksDump : List Row → Action → Type 0
 AsksDump rows (action.Dump dir) = first_of (codes "DIR") rows ≡ Some dir.now
 AsksDump rows _ = ⊥
@@ -53,8 +57,9 @@ AsksCommand name rows a = MatchBool (bytes_eq name (codes "format")) (AsksFormat
     (MatchBool (bytes_eq name (codes "at")) (AsksAt rows a)
     (MatchBool (bytes_eq name (codes "between")) (AsksBetween rows a)
     (MatchBool (bytes_eq name (codes "vacuum")) (AsksVacuum rows a)
+    (MatchBool (bytes_eq name (codes "grow")) (AsksGrow rows a)
     (MatchBool (bytes_eq name (codes "dump")) (AsksDump rows a)
-    (MatchBool (bytes_eq name (codes "stress")) (AsksStress rows a) ⊥))))))
+    (MatchBool (bytes_eq name (codes "stress")) (AsksStress rows a) ⊥)))))))
 
 -- without a subcommand the example is asked for
 abbrev pub Asks : Option (Text × List Row) → Action → Type 0

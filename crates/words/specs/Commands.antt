@@ -72,6 +72,9 @@ between = with_rule (with_rule (of_record (codes "between")) from) to
 abbrev pub vacuum : App
 vacuum = with_rule (with_rule (new_app (codes "vacuum")) dir) time
 
+abbrev pub grow : App
+grow = with_rule (new_app (codes "grow")) dir
+
 abbrev pub dump : App
 dump = with_rule (new_app (codes "dump")) dir
 
@@ -86,9 +89,13 @@ making = with_subcommand (with_subcommand (new_app (codes "timestore")) format.t
 abbrev pub asking : App
 asking = with_subcommand (with_subcommand making at.top) between.top
 
--- these, and the commands about all of a store
+-- these, and the commands that do a job
+abbrev pub working : App
+working = with_subcommand (with_subcommand asking vacuum.top) grow.top
+
+-- these, and the command that shows the log
 abbrev pub keeping : App
-keeping = with_subcommand (with_subcommand asking vacuum.top) dump.top
+keeping = with_subcommand working dump.top
 
 abbrev pub timestore : App
 timestore = with_subcommand keeping stress.top

@@ -34,6 +34,10 @@ pub enum Action<'a> {
         dir: &'a str,
         time: &'a str,
     },
+    /// Makes 256 slots more in the store in a folder.
+    Grow {
+        dir: &'a str,
+    },
     /// Shows what the log of the store in a folder says.
     Dump {
         dir: &'a str,

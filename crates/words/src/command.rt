@@ -176,6 +176,14 @@ fn vacuum<'a>(alloc: Global) -> Result<Command<'a>, AllocError>
     with_arg(command, time(alloc))
 }
 
+fn grow<'a>(alloc: Global) -> Result<Command<'a>, AllocError>
+    ensures { IfOk result (λ c. told.IsCommand c told.grow) }
+{
+    let about = "Make 256 slots more in a store";
+    let command = command(alloc, "grow", about, help::GROW);
+    with_arg(Ok(command), dir(alloc))
+}
+
 fn dump<'a>(alloc: Global) -> Result<Command<'a>, AllocError>
     ensures { IfOk result (λ c. told.IsCommand c told.dump) }
 {
@@ -235,12 +243,19 @@ fn asking<'a>(alloc: Global) -> Result<Command<'a>, AllocError>
     with_command(command, between(alloc))
 }
 
-/// These, and the commands about all of a store.
+/// These, and the commands that do a job.
+fn working<'a>(alloc: Global) -> Result<Command<'a>, AllocError>
+    ensures { IfOk result (λ c. told.IsCommand c told.working) }
+{
+    let command = with_command(asking(alloc), vacuum(alloc));
+    with_command(command, grow(alloc))
+}
+
+/// These, and the command that shows the log.
 fn keeping<'a>(alloc: Global) -> Result<Command<'a>, AllocError>
     ensures { IfOk result (λ c. told.IsCommand c told.keeping) }
 {
-    let command = with_command(asking(alloc), vacuum(alloc));
-    with_command(command, dump(alloc))
+    with_command(working(alloc), dump(alloc))
 }
 
 /// The whole command line.

@@ -16,7 +16,7 @@ pub const LIMITS: &str = "Limits:
 
 When a commit or an archive is refused:
   status full   no slot is left. The store still answers every query, and takes
-                no further commit: go on in a new folder, with more slots
+                no further commit until it has more: `grow`
   heap full     too few extents are left for the commit. `vacuum` gives back
                 those of the commits up to its time, and takes two slots
 
@@ -36,7 +36,8 @@ pub const RUN: &str = "A line has one command, words parted by one space:
   begin NAME, put NAME REL REC F.., del NAME REL REC, get NAME REL REC,
   submit NAME LABEL TIME, abort NAME, pump, flush, redeem NAME,
   at REL REC TIME, between REL REC TIME TIME, scan REL TIME, times LABEL,
-  archive TIME, reclaim, floor TIME, job, finish, reopen
+  archive TIME, reclaim, floor TIME, floorof REL TIME, grow, job, finish,
+  reopen
 
 NAME is 1 to 16 of a to z and 0 to 9, at most 64 at once. F is a field of 0 to
 255 bytes in lower-case hexadecimal, `-` if empty, 1 to 16 of them. REL is 0 to
@@ -48,6 +49,7 @@ by `refused: ` and the reason, and the script goes on: its status is 0 at the en
 of the input. A line of no such form ends it with status 1.
   status full   no slot is left for a commit, an archive, a reclaim or a floor
   heap full     no extents of 8 KiB are left for the commit
+  not growable  the store may not have 256 slots more
 The store is this process's alone until it ends.";
 
 /// Of `at` and `between`.
@@ -71,14 +73,23 @@ It stops at the first refusal, after the line of what was done before it:
   status full     no slot is left
   heap full       no extents are left for what is written anew";
 
+/// Of `grow`.
+pub const GROW: &str =
+    "The store has 256 slots more, and the file `status` 131072 bytes more. Every answer
+stays as it was. The line is:
+  slots N   the store has N slots now
+A store of more than 65280 slots is refused by `not growable`, and so is one that a
+timestore before this one made.";
+
 /// Of `dump`.
 pub const DUMP: &str = "The store is not opened, and nothing is written. The lines are:
-  header SLOTS
+  header SLOTS pieces N: the slots that the store was made with, and how often it
+  grew by 256; of a store without pieces the slots alone
   slot N commit, then for each of its 1 to 16 commits
   member LABEL TIME EXTENT EXTENTS RECORDS INSTANT
   slot N archived UPTO START LENGTH RECORDS
   slot N reclaimed UPTO EXTENT EXTENTS RECORDS
-  slot N floor TIME
+  slot N floor TIME, or slot N floor TIME relation REL
   used N of SLOTS: when all are used, commits are refused by `status full`";
 
 /// Of `stress`.

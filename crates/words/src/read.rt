@@ -4,7 +4,7 @@ ghost use Rattle.clap.specs.Words.{first_of, found_of, rows_of, subcommand_of, s
 ghost use Rattle.history.specs.declared.key.Key.{Key as AnyKey};
 ghost use Rattle.words.specs.declared.action.Action.{Action as Asked};
 ghost use Rattle.words.specs.Commands as told;
-ghost use Rattle.words.specs.Asked.{HasKey, HasNumber, Asks, AsksFormat, AsksNothing, AsksRun, AsksAt, AsksBetween, AsksVacuum, AsksDump, AsksStress};
+ghost use Rattle.words.specs.Asked.{HasKey, HasNumber, Asks, AsksFormat, AsksNothing, AsksRun, AsksAt, AsksBetween, AsksVacuum, AsksGrow, AsksDump, AsksStress};
 ghost use Rattle.words.specs.Refused.{IsRefusal};
 
 use crate::action::Action;
@@ -122,6 +122,15 @@ fn vacuum<'a>(matches: &ArgMatches<'a>) -> Option<Action<'a>>
     })
 }
 
+fn grow<'a>(matches: &ArgMatches<'a>) -> Option<Action<'a>>
+    ensures some { IfSome result (AsksGrow (rows_of (found_of matches.now))) }
+    ensures none { IfNone result ((a : Asked) → AsksGrow (rows_of (found_of matches.now)) a → ⊥) }
+{
+    Some(Action::Grow {
+        dir: text(matches, "DIR")?,
+    })
+}
+
 fn dump<'a>(matches: &ArgMatches<'a>) -> Option<Action<'a>>
     ensures some { IfSome result (AsksDump (rows_of (found_of matches.now))) }
     ensures none { IfNone result ((a : Asked) → AsksDump (rows_of (found_of matches.now)) a → ⊥) }
@@ -160,6 +169,8 @@ fn action<'a>(matches: &ArgMatches<'a>) -> Option<Action<'a>>
         between(inner)
     } else if name == "vacuum" {
         vacuum(inner)
+    } else if name == "grow" {
+        grow(inner)
     } else if name == "dump" {
         dump(inner)
     } else if name == "stress" {

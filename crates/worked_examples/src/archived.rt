@@ -34,7 +34,7 @@ begin e | snapshot 130
 put e 1 7 64 | ok
 submit e 5 140 | queued
 flush | idle
-reopen | last 140 floor 0
+reopen | last 140 floors 0
 at 1 7 110 | value 62
 at 1 7 140 | value 64
 ",
@@ -118,7 +118,7 @@ const DAMAGED: &[&[Step]] = &[
     &[
         Changes(Area::Archive, 58, 1),
         Says(
-            "reopen | last 130 floor 0
+            "reopen | last 130 floors 0
 at 1 7 130 | value 63
 between 1 7 100 131 | refused: damaged archive 0
 ",

@@ -126,7 +126,7 @@ job | body synced
 job | gate written
 job | job done
 job | idle
-reopen | last 110 floor 0
+reopen | last 110 floors 0
 at 1 7 105 | value 61
 at 1 8 105 | value 78
 at 1 7 110 | value 62
@@ -169,7 +169,7 @@ job | body written
 job | body synced
 job | gate written
 job | job done
-reopen | last 120 floor 0
+reopen | last 120 floors 0
 at 1 7 105 | valueA
 at 1 7 119 | valueA
 at 1 7 120 | value 63
@@ -224,7 +224,7 @@ pump | body written
 pump | body synced
 pump | gate written
 pump | published 1
-reopen | last 140 floor 0
+reopen | last 140 floors 0
 ",
                 1,
             ),
@@ -257,7 +257,7 @@ pump | body synced
 pump | gate written
 pump | published 1
 redeem e | done 140
-reopen | last 140 floor 0
+reopen | last 140 floors 0
 at 1 7 110 | value 62
 at 1 7 140 | value 64
 archive 120 | refused: nothing to do
@@ -287,7 +287,7 @@ flush | idle
 job | body written
 finish | idle
 redeem e | done 140
-reopen | last 140 floor 0
+reopen | last 140 floors 0
 archive 120 | refused: nothing to do
 at 1 7 110 | value 62
 at 1 7 140 | value 64
@@ -334,7 +334,7 @@ redeem u | done 200
 archive 150 | started
 finish | idle
 archive 200 | refused: status full
-reopen | last 200 floor 0
+reopen | last 200 floors 0
 at 1 60 200 | value 61
 ",
                 1,
@@ -358,7 +358,7 @@ const GIVEN_UP: &[Step] = &[
 job | wrote run
 job | run synced
 job | body written
-reopen | last 130 floor 0
+reopen | last 130 floors 0
 job | idle
 archive 120 | started
 job | wrote run

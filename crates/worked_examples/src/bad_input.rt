@@ -38,9 +38,11 @@ type Change = (Area, u32, u8, u8, &'static str);
 
 const CHANGES: &[Change] = &[
     (Area::Status, 0, 0x4e, 0x4f, "refused: not a store"),
-    (Area::Status, 8, 1, 2, "refused: not a store"),
+    (Area::Status, 8, 2, 4, "refused: not a store"),
     (Area::Status, 12, 16, 15, "refused: not a store"),
     (Area::Status, 12, 16, 17, "refused: not a store"),
+    (Area::Status, 16, 0, 0xC7, "refused: not a store"),
+    (Area::Status, 271, 0, 1, "refused: not a store"),
     (Area::Status, 511, 0, 1, "refused: not a store"),
     (Area::Status, 513, 1, 5, "refused: damaged status 0"),
     (Area::Status, 1023, 0, 1, "refused: damaged status 0"),

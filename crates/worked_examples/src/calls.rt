@@ -86,12 +86,12 @@ fn is_done(rt: &impl Abort, store: &mut Store<MemDisk>, ticket: Ticket, time: u6
 fn a_store_is_opened_written_and_asked(rt: HostRuntime) -> Result<(), Fail> {
     let alloc = rt.alloc();
     let mut store = opened(&rt, alloc, 5)?;
-    assert_eq!(rt; (store.last(), store.floor()), (0, 0));
+    assert_eq!(rt; (store.last(), store.floors().every()), (0, 0));
     let ticket = submitted(&rt, alloc, &mut store, 7, 100);
     assert_eq!(rt; (ticket.mark(), ticket.time()), (5, 100));
     assert_eq!(rt; pumped(&rt, &mut store), 6);
     is_done(&rt, &mut store, ticket, 100);
-    assert_eq!(rt; (store.last(), store.floor()), (100, 0));
+    assert_eq!(rt; (store.last(), store.floors().every()), (100, 0));
     let times = store.times_of(9);
     let mut disk = store.close();
     assert_eq!(rt; times?.as_slice(), [100].as_slice());
@@ -293,7 +293,7 @@ fn a_session_answers_line_by_line(rt: HostRuntime) -> Result<(), Fail> {
     let alloc = rt.alloc();
     let mut session = new_session(&rt, alloc)?;
     answers_all(&rt, alloc, &mut session, LINES);
-    assert_eq!(rt; session.ends(), (100, 0));
+    assert!(rt; matches!(session.opened_reply(), Reply::OpenedByRelation(100, 0)));
     let _disk = session.close();
     Ok(())
 }

@@ -32,7 +32,7 @@ at 1 7 99 | none
 at 1 7 100 | value 61
 at 1 7 101 | refused: not yet 100
 times 9 | times 100
-reopen | last 100 floor 0
+reopen | last 100 floors 0
 at 1 7 99 | none
 at 1 7 100 | value 61
 at 1 7 101 | refused: not yet 100
@@ -94,7 +94,7 @@ begin e | snapshot 9223372036854775807
 submit e 1 0 | readonly 9223372036854775807
 at 1 7 9223372036854775807 | value 61
 at 1 7 9223372036854775808 | refused: not yet 9223372036854775807
-reopen | last 9223372036854775807 floor 0
+reopen | last 9223372036854775807 floors 0
 ",
             1,
         )],

@@ -1,5 +1,6 @@
 //! Scripts with their answers, run on a disk in memory.
-use disk::{Disk, MemDisk};
+use crate::bytes::change;
+use disk::{Area, Disk, MemDisk};
 use history::Key;
 use session::{Answers, Lines};
 use shell::{Action, act};
@@ -15,6 +16,9 @@ pub const KEY: Key = Key {
 
 /// The script of the input, on the store of a folder.
 pub const SCRIPT: Action<'static> = Action::Run { dir: "" };
+
+/// The profile of the stores that `format` makes: byte 8 of their headers.
+const NEWEST_PROFILE: u8 = 3;
 
 /// Four commits of one key: a value, another, none, and a third.
 pub const FOUR_COMMITS: &str = "begin a | snapshot 0
@@ -117,6 +121,13 @@ pub fn new_store(alloc: Global, slots: u32) -> Result<MemDisk, Fail> {
     let action = Action::Format { dir: "", slots };
     let (_, status, disk) = told(alloc, action, MemDisk::new(alloc), "")?;
     is_status(status, 0)?;
+    Ok(disk)
+}
+
+/// A store of this profile, which `format` made at a time when it was the newest one.
+pub fn store_of_profile(alloc: Global, slots: u32, profile: u8) -> Result<MemDisk, Fail> {
+    let mut disk = new_store(alloc, slots)?;
+    change(&mut disk, Area::Status, 8, profile)?;
     Ok(disk)
 }
 
@@ -276,9 +287,10 @@ pub struct Script {
     pub parts: &'static [(&'static str, u32)],
 }
 
-/// The script must be answered as its dialogue says.
-fn holds(alloc: Global, script: &Script) -> Result<(), Fail> {
-    let disk = converses(alloc, new_store(alloc, script.slots)?, script.before)?;
+/// The script must be answered as its dialogue says, on a new store of this profile.
+fn holds(alloc: Global, script: &Script, profile: u8) -> Result<(), Fail> {
+    let new = store_of_profile(alloc, script.slots, profile)?;
+    let disk = converses(alloc, new, script.before)?;
     let dialogue = repeated(alloc, script.parts)?;
     let (lines, answers) = parted(alloc, dialogue.as_str())?;
     let (said, status, _disk) = told(alloc, SCRIPT, disk, lines.as_str())?;
@@ -286,10 +298,15 @@ fn holds(alloc: Global, script: &Script) -> Result<(), Fail> {
     is_status(status, 0)
 }
 
-/// Each script must be answered as its dialogue says.
-pub fn hold(alloc: Global, scripts: &[Script]) -> Result<(), Fail> {
+/// Each script must be answered as its dialogue says, on new stores of this profile.
+pub fn hold_in(alloc: Global, scripts: &[Script], profile: u8) -> Result<(), Fail> {
     for script in scripts {
-        holds(alloc, script)?;
+        holds(alloc, script, profile)?;
     }
     Ok(())
+}
+
+/// The same on stores as `format` makes them.
+pub fn hold(alloc: Global, scripts: &[Script]) -> Result<(), Fail> {
+    hold_in(alloc, scripts, NEWEST_PROFILE)
 }

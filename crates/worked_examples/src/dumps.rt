@@ -1,7 +1,7 @@
 //! Logs as text.
 use crate::dialogue::{FOUR_COMMITS, ONE_COMMIT};
 use crate::floors::RAISED;
-use crate::steps::Step::{Changes, Cuts, Dumps, New, Parts, Says};
+use crate::steps::Step::{Changes, Cuts, Dumps, New, Older, Parts, Says};
 use crate::steps::{Step, each_goes, go};
 use disk::Area;
 use std::test::Fail;
@@ -11,11 +11,11 @@ const ARCHIVED: &str = "archive 120 | started\nfinish | idle\n";
 
 const COMMITS: &[Step] = &[
     New(16),
-    Dumps("header 16\nused 0 of 16\n", 0),
+    Dumps("header 16 pieces 0\nused 0 of 16\n", 0),
     Says(FOUR_COMMITS),
     Says(ARCHIVED),
     Dumps(
-        "header 16
+        "header 16 pieces 0
 slot 0 commit
 member 1 100 1 1 1 1970-01-01T00:00:00Z
 slot 1 commit
@@ -37,7 +37,7 @@ fn commits_a_deletion_and_an_archive(rt: HostRuntime) -> Result<(), Fail> {
 }
 
 /// The log of the four commits, an archive and a reclaim up to 120.
-pub const RECLAIMED_LOG: &str = "header 16
+pub const RECLAIMED_LOG: &str = "header 16 pieces 0
 slot 0 commit
 member 1 100 1 1 1 1970-01-01T00:00:00Z
 slot 1 commit
@@ -69,10 +69,10 @@ fn a_reclaim_behind_an_archive(rt: HostRuntime) -> Result<(), Fail> {
 }
 
 const FLOORED: &[Step] = &[
-    New(16),
+    Older(16, 2),
     Parts(&[(FOUR_COMMITS, 1), (RAISED, 1)]),
     Dumps(
-        "header 16
+        "header 16 pieces 0
 slot 0 commit
 member 1 100 1 1 1 1970-01-01T00:00:00Z
 slot 1 commit
@@ -122,7 +122,7 @@ const LATE: &[Step] = &[
     New(17),
     Parts(&[(LATE_COMMITS, 1)]),
     Dumps(
-        "header 17
+        "header 17 pieces 0
 slot 0 commit
 member 18446744073709551615 1000000000000000 1 2 2 2001-09-09T01:46:40Z
 member 0 1000000000000001 3 1 1 2001-09-09T01:46:40Z
@@ -143,7 +143,14 @@ fn groups_and_instants(rt: HostRuntime) -> Result<(), Fail> {
 }
 
 /// The log of a store with one commit at 100.
-const ONE_MEMBER: &str = "header 16
+const ONE_MEMBER: &str = "header 16 pieces 0
+slot 0 commit
+member 9 100 1 1 1 1970-01-01T00:00:00Z
+used 1 of 16
+";
+
+/// So it is of a store of profile 1.
+const FIRST_PROFILE: &str = "header 16
 slot 0 commit
 member 9 100 1 1 1 1970-01-01T00:00:00Z
 used 1 of 16
@@ -154,7 +161,7 @@ const CHANGED: &[&[Step]] = &[
     &[Cuts(Area::Heap, 0), Dumps(ONE_MEMBER, 0)],
     &[
         Changes(Area::Status, 512, 0x37),
-        Dumps("header 16\nused 0 of 16\n", 0),
+        Dumps("header 16 pieces 0\nused 0 of 16\n", 0),
     ],
     &[
         Changes(Area::Status, 513, 3),
@@ -173,6 +180,9 @@ const CHANGED: &[&[Step]] = &[
         Changes(Area::Status, 8, 9),
         Dumps("refused: not a store\n", 1),
     ],
+    &[Changes(Area::Status, 8, 1), Dumps(FIRST_PROFILE, 0)],
+    &[Changes(Area::Status, 8, 2), Dumps(ONE_MEMBER, 0)],
+    &[Changes(Area::Status, 17, 0xC7), Dumps(ONE_MEMBER, 0)],
 ];
 
 #[test]

@@ -415,7 +415,7 @@ const DOINGS: &[Doing] = &[
         Access::Read,
         Action::Dump { dir: "" },
         "",
-        "header 16
+        "header 16 pieces 0
 slot 0 commit
 member 1 100 1 1 1 1970-01-01T00:00:00Z
 slot 1 commit

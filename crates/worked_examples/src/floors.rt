@@ -1,7 +1,7 @@
 //! Floors: from when on a store answers, what bars one, and what a stop leaves of one.
-use crate::dialogue::{FOUR_COMMITS, SCRIPT, Script, hold};
-use crate::steps::Step::{At, Long, New, Parts, Says, Spells};
-use crate::steps::{Step, go};
+use crate::dialogue::{FOUR_COMMITS, SCRIPT, Script, hold_in};
+use crate::steps::Step::{At, Long, Older, Parts, Says, Spells};
+use crate::steps::{Step, each_goes};
 use crate::trials::{Trial, is_count, left_goes_on, tried};
 use disk::{Area, FaultDisk};
 use std::alloc::Global;
@@ -35,9 +35,14 @@ floor 131 | refused: not yet 130
 /// The slot of the floor, the seventh.
 const SLOT: &str = "c7 04 00 00 06000000 7800000000000000 ..z 496";
 
+/// The steps, on a store of each profile that has one floor for all relations.
+fn each_older_goes(alloc: Global, steps: &[Step]) -> Result<(), Fail> {
+    each_goes(alloc, &[Older(16, 1)], &[steps])?;
+    each_goes(alloc, &[Older(16, 2)], &[steps])
+}
+
 /// A floor, and the store opened again behind it.
 const FLOORED: &[Step] = &[
-    New(16),
     Parts(&[
         (FOUR_COMMITS, 1),
         (RAISED, 1),
@@ -53,7 +58,7 @@ const FLOORED: &[Step] = &[
 
 #[test]
 fn a_floor_bars_what_stood_before_it(rt: HostRuntime) -> Result<(), Fail> {
-    go(rt.alloc(), FLOORED)
+    each_older_goes(rt.alloc(), FLOORED)
 }
 
 /// What is answered of the four commits once the floor is raised to 115.
@@ -71,7 +76,6 @@ const RUN: &str =
 
 /// A floor, and behind it an archive and a reclaim.
 const LEFT_OUT: &[Step] = &[
-    New(16),
     Parts(&[
         (FOUR_COMMITS, 1),
         ("floor 115 | started\nfinish | idle\n", 1),
@@ -88,7 +92,7 @@ const LEFT_OUT: &[Step] = &[
 
 #[test]
 fn an_archive_leaves_out_what_ended_by_the_floor(rt: HostRuntime) -> Result<(), Fail> {
-    go(rt.alloc(), LEFT_OUT)
+    each_older_goes(rt.alloc(), LEFT_OUT)
 }
 
 /// Scripts of floors beside transactions, commits and other jobs.
@@ -299,7 +303,8 @@ at 1 7 110 | value 62
 
 #[test]
 fn floors_beside_other_work_are_answered(rt: HostRuntime) -> Result<(), Fail> {
-    hold(rt.alloc(), SCRIPTS)
+    hold_in(rt.alloc(), SCRIPTS, 1)?;
+    hold_in(rt.alloc(), SCRIPTS, 2)
 }
 
 /// A floor of the four commits, step by step. Its four calls are all that the disk is asked for.
@@ -352,9 +357,9 @@ fn is_failed(said: &str) -> Result<bool, Fail> {
 
 /// Each call is refused in turn, and the machine may stop there. Each of the four calls of the floor is
 /// met once: the store fails and reads on, and the floor is not raised.
-fn refuses_each_call(alloc: Global, write_reaches: bool) -> Result<(), Fail> {
+fn refuses_each_call(alloc: Global, write_reaches: bool, profile: u8) -> Result<(), Fail> {
     let trial = Trial {
-        before: &[New(16), Says(FOUR_COMMITS)],
+        before: &[Older(16, profile), Says(FOUR_COMMITS)],
         action: SCRIPT,
         script: ONE_FLOOR,
         write_reaches,
@@ -374,10 +379,12 @@ fn refuses_each_call(alloc: Global, write_reaches: bool) -> Result<(), Fail> {
 
 #[test]
 fn a_floor_is_raised_whole_or_not_at_all(rt: HostRuntime) -> Result<(), Fail> {
-    refuses_each_call(rt.alloc(), false)
+    refuses_each_call(rt.alloc(), false, 1)?;
+    refuses_each_call(rt.alloc(), false, 2)
 }
 
 #[test]
 fn a_floor_whose_refused_write_was_made_is_raised_or_not(rt: HostRuntime) -> Result<(), Fail> {
-    refuses_each_call(rt.alloc(), true)
+    refuses_each_call(rt.alloc(), true, 1)?;
+    refuses_each_call(rt.alloc(), true, 2)
 }

@@ -72,7 +72,7 @@ const STEPS: u32 = 27;
 /// All that is to be had of the store once so many of the groups are published.
 const FRONTS: &[&[Step]] = &[
     &[Says(
-        "reopen | last 0 floor 0
+        "reopen | last 0 floors 0
 between 1 7 0 1 | rows 0
 between 1 8 0 1 | rows 0
 between 1 9 0 1 | rows 0
@@ -87,7 +87,7 @@ times 6 | times
 ",
     )],
     &[Says(
-        "reopen | last 101 floor 0
+        "reopen | last 101 floors 0
 between 1 7 0 102 | 100 102 61
 | rows 1
 between 1 8 0 102 | 101 102 62
@@ -106,7 +106,7 @@ times 6 | times
 ",
     )],
     &[Says(
-        "reopen | last 110 floor 0
+        "reopen | last 110 floors 0
 between 1 7 0 111 | 100 110 61
 | 110 111 63
 | rows 2
@@ -125,7 +125,7 @@ times 6 | times
 ",
     )],
     &[Says(
-        "reopen | last 122 floor 0
+        "reopen | last 122 floors 0
 between 1 7 0 123 | 100 110 61
 | 110 121 63
 | 121 123 65

@@ -36,7 +36,7 @@ pump | idle
                 1,
             ),
             ("redeem t# | done @\ntimes # | times @\n", 17),
-            ("reopen | last 116 floor 0\n", 1),
+            ("reopen | last 116 floors 0\n", 1),
             ("at 1 # 116 | value 61\n", 17),
             ("at 1 16 115 | none\n", 1),
         ],
@@ -100,7 +100,7 @@ redeem a | done 14
 submit c 1 0 | refused: status full
 begin d | snapshot 14
 submit d 1 0 | readonly 14
-reopen | last 14 floor 0
+reopen | last 14 floors 0
 at 1 7 14 | value 62
 ",
                 1,

@@ -31,7 +31,7 @@ const SCANS: &[Step] = &[
     Says(FIVE_COMMITS),
     Runs(
         "scan 1 115\nscan 1 125\nscan 2 115\nscan 1 99\nscan 1 131\nreopen\nscan 1 130\n",
-        "3 78\n7 62\nrows 2\n3 78\nrows 1\nrows 0\nrows 0\nrefused: not yet 130\nlast 130 floor 0\n3 78\n7 63\nrows 2\n",
+        "3 78\n7 62\nrows 2\n3 78\nrows 1\nrows 0\nrows 0\nrefused: not yet 130\nlast 130 floors 0\n3 78\n7 63\nrows 2\n",
         0,
     ),
 ];

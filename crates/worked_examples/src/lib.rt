@@ -23,6 +23,8 @@ mod files;
 #[cfg(test)]
 mod floors;
 #[cfg(test)]
+mod floors_of_relations;
+#[cfg(test)]
 mod fronts;
 #[cfg(test)]
 mod groups;

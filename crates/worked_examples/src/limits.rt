@@ -20,7 +20,7 @@ pump | wrote extent
 flush | idle
 at 1 8 100 | valueA
 at 1 9 100 | none
-reopen | last 100 floor 0
+reopen | last 100 floors 0
 at 1 8 100 | valueA
 ",
             1,
@@ -47,7 +47,7 @@ pump | body synced
 pump | gate written
 pump | published 1
 pump | idle
-reopen | last 100 floor 0
+reopen | last 100 floors 0
 at 1 0 100 | value 61
 at 1 1023 100 | value 61
 at 1 1024 100 | none

@@ -21,7 +21,7 @@ begin late | snapshot 100
 begin later | refused: name
 abort n0 | ok
 begin later | snapshot 100
-reopen | last 100 floor 0
+reopen | last 100 floors 0
 begin n1 | snapshot 100
 ",
                 1,
@@ -58,7 +58,7 @@ begin t | snapshot 100
 abort t | ok
 abort t | refused: name
 begin t | snapshot 100
-reopen | last 100 floor 0
+reopen | last 100 floors 0
 get t 1 7 | refused: name
 ",
             1,

@@ -12,7 +12,7 @@ const ONE_RECORD: &[Step] = &[
     Spells(
         Area::Status,
         0,
-        "4e4f4f5645523031 01000000 10000000 ..z 496
+        "4e4f4f5645523031 03000000 10000000 ..z 496
         c7 01 01 00 00000000 0900000000000000 6400000000000000 01000000 01000000 01000000 ..z 476
         ..z 7680",
     ),
@@ -71,7 +71,7 @@ begin c | snapshot 110
 put c 1 7 64 63 | ok
 submit c 3 120 | queued
 flush | idle
-reopen | last 120 floor 0
+reopen | last 120 floors 0
 at 1 7 100 | value 61 62
 at 1 7 110 | value 61 63
 at 1 7 120 | value 64 63
@@ -96,7 +96,7 @@ put b 1 7 61 61 61 | ok
 put b 1 8 61 61 61 | ok
 submit b 2 110 | queued
 flush | idle
-reopen | last 110 floor 0
+reopen | last 110 floors 0
 at 1 7 110 | value 61 61 61
 at 1 8 110 | value 61 61 61
 ",
@@ -122,7 +122,7 @@ put b 1 7 62 | ok
 put b 1 8 - | ok
 submit b 2 110 | queued
 flush | idle
-reopen | last 110 floor 0
+reopen | last 110 floors 0
 at 1 7 110 | value 62
 at 1 8 110 | value -
 ",
@@ -146,7 +146,7 @@ begin b | snapshot 100
 put b 1 7 61 62 | ok
 submit b 2 110 | queued
 flush | idle
-reopen | last 110 floor 0
+reopen | last 110 floors 0
 at 1 7 110 | value 61 62
 ",
             1,
@@ -172,7 +172,7 @@ begin c | snapshot 110
 put c 1 7 61 63 | ok
 submit c 3 120 | queued
 flush | idle
-reopen | last 120 floor 0
+reopen | last 120 floors 0
 at 1 7 119 | none
 at 1 7 120 | value 61 63
 ",

@@ -136,7 +136,7 @@ fn a_refused_reopening_ends_the_script(rt: HostRuntime) -> Result<(), Fail> {
     let mut refused: u32 = 0;
     for calls in 0..100 {
         let (said, status, disk) = tried(rt.alloc(), &REOPENED, calls)?;
-        if said.as_str() == "snapshot 0\nok\nqueued\nidle\nlast 100 floor 0\nvalue 61\n" {
+        if said.as_str() == "snapshot 0\nok\nqueued\nidle\nlast 100 floors 0\nvalue 61\n" {
             break;
         }
         if said.contains("idle") {

@@ -49,9 +49,9 @@ idle
 ";
 
 /// What is said behind it, where the commit is kept and where it is not.
-const KEPT: &str = "last 100 floor 0\nvalue 61\n";
+const KEPT: &str = "last 100 floors 0\nvalue 61\n";
 
-const NOT_KEPT: &str = "last 0 floor 0\nrefused: not yet 0\n";
+const NOT_KEPT: &str = "last 0 floors 0\nrefused: not yet 0\n";
 
 /// What is said up to the reopening where a step of the commit is refused.
 const COMMIT_FAILED: &str = "snapshot 0

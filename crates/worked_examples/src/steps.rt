@@ -2,7 +2,7 @@
 use crate::bytes::{change, cut, has_extents, is_long, put, spells, stopped};
 use crate::dialogue::{
     SCRIPT, answers, converses, converses_by_parts, dumps, ends_well, is_refused, new_store, rows,
-    says,
+    says, store_of_profile,
 };
 use disk::{Area, MemDisk};
 use shell::Action;
@@ -14,6 +14,8 @@ use std::test::Fail;
 pub enum Step {
     /// A new store of this many slots takes its place.
     New(u32),
+    /// The same of an older profile.
+    Older(u32, u8),
     /// A script whose lines are answered as the dialogue says.
     Says(&'static str),
     /// The same of a dialogue's parts, as `repeated` has them.
@@ -83,6 +85,7 @@ fn taken(alloc: Global, disk: MemDisk, step: &Step) -> Result<MemDisk, Fail> {
     let mut disk = disk;
     match *step {
         Step::New(slots) => new_store(alloc, slots),
+        Step::Older(slots, profile) => store_of_profile(alloc, slots, profile),
         Step::Says(dialogue) => converses(alloc, disk, dialogue),
         Step::Parts(parts) => converses_by_parts(alloc, disk, parts),
         Step::Ends(script) => ends_well(alloc, disk, script),

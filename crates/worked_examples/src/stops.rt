@@ -102,7 +102,7 @@ pump | gate written
 const WHOLE: &[&[Step]] = &[&[
     Stops(0xC7),
     Says(
-        "reopen | last 102 floor 0
+        "reopen | last 102 floors 0
 at 1 1 100 | value 61
 at 1 2 100 | none
 at 1 2 101 | value 62
@@ -121,7 +121,7 @@ fn a_group_stands_whole(rt: HostRuntime) -> Result<(), Fail> {
 
 /// Nothing is left of the group, and the next commit takes its slot.
 const GONE: Step = Says(
-    "reopen | last 0 floor 0
+    "reopen | last 0 floors 0
 at 1 1 0 | none
 at 1 1 100 | refused: not yet 0
 times 1 | times
@@ -130,7 +130,7 @@ put d 1 7 61 | ok
 submit d 9 100 | queued
 flush | idle
 redeem d | done 100
-reopen | last 100 floor 0
+reopen | last 100 floors 0
 at 1 1 100 | none
 at 1 7 100 | value 61
 ",

@@ -26,7 +26,7 @@ const TALK: [(&str, &str); 10] = [
         "value 61\nrefused: not yet 100\n",
     ),
     ("between 1 7 0 101\n", "100 101 61\nrows 1\n"),
-    ("reopen\nscan 1 100", "last 100 floor 0\n"),
+    ("reopen\nscan 1 100", "last 100 floors 0\n"),
     ("", "7 61\nrows 1\n"),
 ];
 
@@ -229,7 +229,7 @@ const SAID: [(Action<'static>, &str); 4] = [
     ),
     (
         Action::Dump { dir: "" },
-        "header 16\nslot 0 commit\nmember 9 100 1 1 1 1970-01-01T00:00:00Z\nused 1 of 16\n",
+        "header 16 pieces 0\nslot 0 commit\nmember 9 100 1 1 1 1970-01-01T00:00:00Z\nused 1 of 16\n",
     ),
 ];
 

@@ -2,7 +2,7 @@
 use crate::dialogue::{FOUR_COMMITS, is_text};
 use crate::dumps::RECLAIMED_LOG;
 use crate::floors::FROM_115;
-use crate::steps::Step::{At, Dumps, New, Parts, Says, Vacuums};
+use crate::steps::Step::{At, Dumps, New, Older, Parts, Says, Vacuums};
 use crate::steps::{Step, go};
 use crate::trials::{Trial, is_count, left_goes_on, tried};
 use shell::Action;
@@ -32,7 +32,7 @@ fn what_ended_is_archived_and_its_space_reclaimed(rt: HostRuntime) -> Result<(),
 }
 
 const FLOORED: &[Step] = &[
-    New(16),
+    Older(16, 1),
     Says(FOUR_COMMITS),
     Says("floor 115 | started\nfinish | idle\n"),
     Vacuums("120", "archived 1\nreclaimed 0\n", 0),

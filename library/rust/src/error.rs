@@ -104,7 +104,7 @@ refusals! {
     NotAStore = -19,
     /// One slot is in the writing at a time.
     Busy = -20,
-    /// An archive, a reclaim or a floor is being made.
+    /// An archive, a reclaim, a floor or a growth is being made.
     JobBusy = -21,
     /// All versions that ended by then are archived, or all that is archived is reclaimed, or the floor
     /// is as late.
@@ -115,12 +115,16 @@ refusals! {
     BadSlots = -24,
     /// The answer needs the archive.
     NeedsArchive = -26,
+    /// This store has a floor for each relation, or one for all.
+    WrongProfile = -27,
+    /// The store would have more than 65,536 slots, or an earlier timestore made it.
+    NotGrowable = -28,
     /// Another process has the store open.
     Locked = -101,
     /// A store, or something else, stands there.
     Occupied = -102,
     ;
-    /// History before this time may be gone.
+    /// History before this time, the floor of the relation, may be gone.
     BeforeKept = -15,
     /// The last commit is of this time: a later one may still change the answer.
     NotYet = -16,

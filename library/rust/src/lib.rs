@@ -111,6 +111,10 @@ pub enum Step {
     KeptWritten,
     /// Of a reclaim: these were synced.
     KeptSynced,
+    /// Of a growth: zeros were written behind the slots.
+    ZerosWritten,
+    /// Of a growth: these were synced.
+    ZerosSynced,
 }
 
 impl Step {
@@ -124,6 +128,8 @@ impl Step {
             6 => Step::Published(info.b),
             7 => Step::KeptWritten,
             8 => Step::KeptSynced,
+            9 => Step::ZerosWritten,
+            10 => Step::ZerosSynced,
             _ => Step::Idle,
         }
     }
@@ -245,7 +251,20 @@ impl Store {
         Ok(())
     }
 
-    /// Raises the floor to a time: views that are taken then answer `BeforeKept` at an earlier one.
+    /// Raises the floor of a relation to a time: of it views that are taken then answer `BeforeKept` at an
+    /// earlier one.
+    pub fn floor_of(&self, relation: u16, time: u64) -> Result<()> {
+        self.floor_of_start(relation, time)?;
+        self.job()
+    }
+
+    /// Begins that, of which [`Store::job_pump`] takes each step.
+    pub fn floor_of_start(&self, relation: u16, time: u64) -> Result<()> {
+        self.ask(|h, info| unsafe { raw::ts_floor_of(h, relation, time, info) })?;
+        Ok(())
+    }
+
+    /// The same of all relations, in a store that an earlier timestore made.
     pub fn raise_floor(&self, time: u64) -> Result<()> {
         self.floor_start(time)?;
         self.job()
@@ -254,6 +273,18 @@ impl Store {
     /// Begins that, of which [`Store::job_pump`] takes each step.
     pub fn floor_start(&self, time: u64) -> Result<()> {
         self.ask(|h, info| unsafe { raw::ts_floor(h, time, info) })?;
+        Ok(())
+    }
+
+    /// Makes 256 slots more.
+    pub fn grow(&self) -> Result<()> {
+        self.grow_start()?;
+        self.job()
+    }
+
+    /// Begins that, of which [`Store::job_pump`] takes each step.
+    pub fn grow_start(&self) -> Result<()> {
+        self.ask(|h, info| unsafe { raw::ts_grow(h, info) })?;
         Ok(())
     }
 
@@ -272,7 +303,7 @@ impl Store {
         Ok(())
     }
 
-    /// The floor: history before this time may be gone; 0 for none.
+    /// The floor: history before this time may be gone; 0 for none, and where each relation has one of its own.
     pub fn floor(&self) -> Result<u64> {
         Ok(self.ask(|h, info| unsafe { raw::ts_last(h, info) })?.1.b)
     }

@@ -61,16 +61,19 @@ fn a_refused_call_leaves_what_was_published() {
         assert!(matches!(view.recent(1, 7, 9), Err(Error::NeedsArchive)));
         assert_eq!(view.recent(1, 7, 10).unwrap(), Some(vec![b"kept".to_vec()]));
         assert_eq!(view.at(1, 7, 9).unwrap(), None);
-        assert!(matches!(store.raise_floor(11), Err(Error::NotYet(10))));
-        store.raise_floor(10).unwrap();
-        assert_eq!(store.floor().unwrap(), 10);
-        assert!(matches!(store.raise_floor(10), Err(Error::NothingToDo)));
+        assert!(matches!(store.raise_floor(10), Err(Error::WrongProfile)));
+        assert!(matches!(store.floor_of(1, 11), Err(Error::NotYet(10))));
+        store.floor_of(1, 10).unwrap();
+        assert_eq!(store.floor().unwrap(), 0);
+        assert!(matches!(store.floor_of(1, 10), Err(Error::NothingToDo)));
         assert!(matches!(
             store.view().unwrap().at(1, 7, 9),
             Err(Error::BeforeKept(10))
         ));
         assert_eq!(view.at(1, 7, 9).unwrap(), None);
+        assert_eq!(store.view().unwrap().at(2, 7, 9).unwrap(), None);
     }
+    store.grow().unwrap();
     store.refuse(6);
     let mut txn = store.begin().unwrap();
     txn.put(1, 7, &[b"lost"]).unwrap();

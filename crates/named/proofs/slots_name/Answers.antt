@@ -1,4 +1,4 @@
-use Rattle.named.proofs.Publishing.{group_named, run_named, anchors_named, floor_names_no_more}
+use Rattle.named.proofs.Publishing.{group_named, run_named, anchors_named, floor_names_no_more, growth_names_piece}
 use Rattle.named.proofs.slots_name.Goals as goal
 
 pub returns-clause-group : goal.returns-clause-group
@@ -12,3 +12,6 @@ returns-clause-anchors c = anchors_named
 
 pub returns-clause-floor : goal.returns-clause-floor
 returns-clause-floor c = floor_names_no_more
+
+pub returns-clause-growth : goal.returns-clause-growth
+returns-clause-growth c = growth_names_piece

@@ -1,4 +1,4 @@
-use Rattle.standing.proofs.Calling.{abort-stands}
+use Rattle.standing.proofs.GrowingCalls.{abort-stands}
 use Rattle.standing.proofs.abort_stands.Goals as goal
 
 pub returns : goal.returns

@@ -1,4 +1,4 @@
-use Rattle.standing.proofs.Calling.{begin-stands}
+use Rattle.standing.proofs.GrowingCalls.{begin-stands}
 use Rattle.standing.proofs.begin_stands.Goals as goal
 
 pub returns : goal.returns

@@ -1,4 +1,4 @@
-use Rattle.standing.proofs.Whole.{pump-stands}
+use Rattle.standing.proofs.GrowingPumps.{pump-stands}
 use Rattle.standing.proofs.pump_stands.Goals as goal
 
 pub returns : goal.returns

@@ -1,4 +1,4 @@
-use Rattle.standing.proofs.Calling.{redeem-stands}
+use Rattle.standing.proofs.GrowingCalls.{redeem-stands}
 use Rattle.standing.proofs.redeem_stands.Goals as goal
 
 pub returns : goal.returns

@@ -1,4 +1,4 @@
-use Rattle.standing.proofs.Calling.{submit-stands}
+use Rattle.standing.proofs.GrowingCalls.{submit-stands}
 use Rattle.standing.proofs.submit_stands.Goals as goal
 
 pub returns : goal.returns

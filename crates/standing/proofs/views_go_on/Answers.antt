@@ -1,5 +1,5 @@
-use Rattle.standing.proofs.Asking.{query-stands}
-use Rattle.standing.proofs.Whole.{pump-goes, job-pump-goes, archive-start-goes, reclaim-start-goes, floor-start-goes, rest-goes}
+use Rattle.standing.proofs.Whole.{rest-goes}
+use Rattle.standing.proofs.GrowingViews.{query-stands, pump-goes, job-pump-goes, archive-start-goes, reclaim-start-goes, floor-start-goes, grow-start-goes}
 use Rattle.standing.proofs.views_go_on.Goals as goal
 
 pub returns-clause-at : goal.returns-clause-at
@@ -28,6 +28,9 @@ returns-clause-reclaim c = reclaim-start-goes
 
 pub returns-clause-floor : goal.returns-clause-floor
 returns-clause-floor c = floor-start-goes
+
+pub returns-clause-grow : goal.returns-clause-grow
+returns-clause-grow c = grow-start-goes
 
 pub returns-clause-rest : goal.returns-clause-rest
 returns-clause-rest c = rest-goes

@@ -10,9 +10,11 @@ use Rattle.wire.specs.declared.slot.Run.{Run}
 use Rattle.wire.specs.declared.slot.Member.{Member}
 use Rattle.wire.specs.declared.slot.Slot.{Slot}
 use Rattle.image.specs.Reading.{Head}
-use Rattle.image.specs.Log.{AreRisingAfter, last_time_after, archive_mark, floor_of}
-use Rattle.status.specs.Rules.{head_of, log_of, runs_of, CoversAll, AreInRow}
-use Rattle.status.proofs.Rules.{rules_cover}
+use Rattle.image.specs.Log.{AreRisingAfter, last_time_after, archive_mark}
+use Rattle.floors.specs.Floors.{FloorsValue, floor_at}
+use Rattle.status.specs.Kept.{kept_of}
+use Rattle.status.specs.Rules.{head_of, log_of, runs_of, AreInRow}
+use Rattle.status.proofs.Kept.{kept-of}
 use Rattle.reading.specs.Layouts.{entries_of, anchors_after, no_anchors}
 use Rattle.reading.specs.Opening.{EndsWithin}
 use Rattle.recovery.specs.declared.fault.OpenFault.{OpenFault}
@@ -52,20 +54,18 @@ returns-clause-archived g c =
     let last = c.in-Ok.ensures.last ∙ ap (λ (l : List Slot). last_time_after 0 (map head_of (entries_of l))) c.deref-2.ensures.value in
     omega (arith, mark, last, archived_upto_last _ slots c.in_ok-slots.ensures.slots.rules)
 
-pub returns-clause-floor : goal.returns-clause-floor
-returns-clause-floor g c =
+pub returns-clause-floors : goal.returns-clause-floors
+returns-clause-floors g c = λ relation.
     let slots : List Slot = c.in_ok-slots.slots.items in
-    let floor = c.in_ok-read.ensures.floor 0 ∙ ap (λ (l : List Slot). floor_of (log_of l) 0) c.deref-5.ensures.value in
+    let floor =
+    ap (λ (f : FloorsValue). floor_at f relation) (c.in_ok-read.ensures.floors ∙ ap (λ (l : List Slot). kept_of (log_of l)) c.deref-5.ensures.value) ∙ kept-of (log_of slots) relation in
     let last = c.in-Ok.ensures.last ∙ ap (λ (l : List Slot). last_time_after 0 (map head_of (entries_of l))) c.deref-2.ensures.value in
-    omega (arith, floor, last, floor_upto_last _ slots 0 c.in_ok-slots.ensures.slots.rules)
+    omega (arith, floor, last, floor_upto_last _ slots relation c.in_ok-slots.ensures.slots.rules)
 
 pub read_runs-requires : goal.read_runs-requires
 read_runs-requires g c =
     let slots : c.deref-5.result.now ≡ c.in_ok-slots.slots.items = c.deref-5.ensures.value in
-    record {
-      in_range = subst (λ (l : List Slot). AllByRecursion IsRun (runs_of l)) (sym slots) (runs_in_range _ _ c.in_ok-slots.ensures.slots.in_range);
-      floors = subst (λ (l : List Slot). AllByRecursion (λ s. CoversAll s.body) l) (sym slots) (rules_cover _ _ c.in_ok-slots.ensures.slots.rules);
-    }
+    subst (λ (l : List Slot). AllByRecursion IsRun (runs_of l)) (sym slots) (runs_in_range _ _ c.in_ok-slots.ensures.slots.in_range)
 
 pub returns-clause-runs : goal.returns-clause-runs
 returns-clause-runs g c =
@@ -91,7 +91,7 @@ returns-clause-found g c = λ told.
     (record {
       used = omega (arith, c.len.ensures, c.in_ok-slots.slots.ok.0);
       commits = c.in_ok-commits.ensures ∙ ap (λ (l : List Member). map head_of l) entries;
-      floor = λ relation. c.in_ok-read.ensures.floor relation ∙ ap (λ (l : List Slot). floor_of (log_of l) relation) c.deref-5.ensures.value;
+      floors = c.in_ok-read.ensures.floors ∙ ap (λ (l : List Slot). kept_of (log_of l)) c.deref-5.ensures.value;
       archived = c.in_ok-read.ensures.archived ∙ ap (λ (l : List Slot). archive_mark (log_of l)) c.deref-5.ensures.value;
       reclaimed = ap (λ (a : Anchors). a.upto) (c.last_anchors.ensures ∙ ap (λ (l : List Slot). anchors_after no_anchors l) c.deref-7.ensures.value) ∙ sym (mark_is slots);
       runs = listed;

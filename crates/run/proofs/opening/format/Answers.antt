@@ -8,11 +8,11 @@ use Rattle.standing.specs.OnDisk.{IsImageOf}
 use Rattle.opened.proofs.Formatted.{formatted-leaves, formatted-stands}
 use Rattle.run.proofs.opening.format.Goals as goal
 
-by-result : (slots : _) (old new : Areas) (r : Result (Unit {0}) FormatFault) → OnOk r (IsFormatted slots old new) → OnOk r ((image : Image) → LeavesImage new image → IsImageOf (new_header 1 slots) image [] (λ relation. 0))
+by-result : (slots : _) (old new : Areas) (r : Result (Unit {0}) FormatFault) → OnOk r (IsFormatted slots old new) → OnOk r ((image : Image) → LeavesImage new image → IsImageOf (new_header 3 slots) image [] (λ relation. 0))
 by-result slots old new (Ok u) is = λ image left. formatted-leaves slots old new image is left
 by-result slots old new (Err why) is = tt
 
-read-by-result : (slots : _) (old new : Areas) (r : Result (Unit {0}) FormatFault) → OnOk r (IsFormatted slots old new) → OnOk r (IsImageOf (new_header 1 slots) (image_of new) [] (λ relation. 0))
+read-by-result : (slots : _) (old new : Areas) (r : Result (Unit {0}) FormatFault) → OnOk r (IsFormatted slots old new) → OnOk r (IsImageOf (new_header 3 slots) (image_of new) [] (λ relation. 0))
 read-by-result slots old new (Ok u) is = formatted-stands slots old new is
 read-by-result slots old new (Err why) is = tt
 

@@ -4,7 +4,7 @@ use Rattle.run.specs.declared.calls.Call.{Call}
 use Rattle.run.specs.declared.calls.Call.TheVariants.{Begin}
 use Rattle.run.specs.declared.calls.Answer.{Answer}
 use Rattle.run.specs.declared.held.Held.{Held}
-use Rattle.run.specs.Moments.{Moment, IsAtMoment}
+use Rattle.run.specs.Moments.{IsAtMoment}
 use Rattle.run.specs.Promise.{Chain}
 use Rattle.run.proofs.Linking.{chain-push}
 use Rattle.run.proofs.Survival.{moment-leaves}

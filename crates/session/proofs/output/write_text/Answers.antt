@@ -1,4 +1,4 @@
-use Rattle.session.proofs.SayLemmas.{writes-all, writes-front, writes-more, writes-some, writes-start}
+use Rattle.session.proofs.SayLemmas.{writes-front, writes-more, writes-some, writes-start}
 use Rattle.session.proofs.output.write_text.Goals as goal
 
 pub loop-init : goal.loop-init

@@ -8,3 +8,6 @@ returns-in-Between g c = rw c.in-Between.is c.ask_between.ensures
 
 pub returns-in-Vacuum : goal.returns-in-Vacuum
 returns-in-Vacuum g c = rw c.in-Vacuum.is c.vacuum_upto.ensures
+
+pub returns-in-Grow : goal.returns-in-Grow
+returns-in-Grow g c = rw c.in-Grow.is c.grow.ensures

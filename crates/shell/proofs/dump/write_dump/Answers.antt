@@ -8,13 +8,12 @@ use Rattle.shell.proofs.dump.write_dump.Goals as goal
 pub returns : goal.returns
 returns g c =
     let lines = c.in_ok-write_slots.ensures in
-    let front = subst (λ (n : ℕ). Appends (g.W.Write.contents c.args.output.now) (g.W.Write.contents c.writeln.new.self) (header_line n))
-    c.total-all.ensures c.in_ok-writeln.ensures.bytes in
-    let end = subst (λ (n : ℕ). Appends (g.W.Write.contents c.write_slots.new.output) (g.W.Write.contents c.writeln-2.new.self)
-    (used_line (length c.args.slots.now) n)) c.total-all.ensures c.in_ok-writeln-2.ensures.bytes in (
-      header_line (total c.args.header.now) ++ (lines.0 ++ used_line (length c.args.slots.now) (total c.args.header.now)),
+    let front = c.in_ok-write_header.ensures in
+    let end = subst (λ (n : ℕ). Appends (g.W.Write.contents c.write_slots.new.output) (g.W.Write.contents c.writeln.new.self)
+    (used_line (length c.args.slots.now) n)) c.total-all.ensures c.in_ok-writeln.ensures.bytes in (
+      header_line c.args.header.now ++ (lines.0 ++ used_line (length c.args.slots.now) (total c.args.header.now)),
       (lines.0, lines.1, refl),
-      three_written (g.W.Write.contents c.args.output.now) (g.W.Write.contents c.writeln.new.self) (g.W.Write.contents c.write_slots.new.output)
-          (g.W.Write.contents c.writeln-2.new.self) (header_line (total c.args.header.now)) lines.0
+      three_written (g.W.Write.contents c.args.output.now) (g.W.Write.contents c.write_header.new.output) (g.W.Write.contents c.write_slots.new.output)
+          (g.W.Write.contents c.writeln.new.self) (header_line c.args.header.now) lines.0
           (used_line (length c.args.slots.now) (total c.args.header.now)) front lines.2 end,
     )

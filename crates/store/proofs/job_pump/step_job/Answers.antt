@@ -5,7 +5,7 @@ use Rattle.store.proofs.job_pump.step_job.Goals as goal
 pub returns-in-Writing : goal.returns-in-Writing
 returns-in-Writing g c = λ turn same.
     at-writing _ c.args.job.work c.args.job.stage _ c.args.log.now turn c.args.archived.now c.args.runs_end.now c.args.archive.now _ _ _ c.in-Writing.is
-    (c.store_next.ensures c.args.log.now turn c.args.archived.now c.args.runs_end.now c.args.archive.now)
+    (c.store_next.ensures turn c.args.archived.now c.args.runs_end.now c.args.archive.now)
 
 pub returns-else-is_turning : goal.returns-else-is_turning
 returns-else-is_turning g c = λ turn same.

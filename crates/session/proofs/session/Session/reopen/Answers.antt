@@ -1,4 +1,4 @@
-use Rattle.std.proofs.Common.{[], refl, subst}
+use Rattle.std.proofs.Common.{refl, subst}
 use Rattle.session.specs.Session as told
 use Rattle.session.proofs.session.Session.reopen.Goals as goal
 

@@ -1,6 +1,5 @@
 use Rattle.std.proofs.Common.{rules, sym, subst, true}
 use Rattle.std.specs.Prelude.{IsTrue}
-use Rattle.status.proofs.Rules.{follows_cover}
 use Rattle.status.proofs.Walks.{walk_more}
 use Rattle.status.proofs.log.Walk.take_slot.Goals as goal
 
@@ -11,4 +10,4 @@ returns-clause-walk c =
     let may = (c.may_be_followed.ensures c.in-Ok.ensures.found.in_range slots c.requires.walk.ends).0 (subst IsTrue (sym c.if-not-may_be_followed.false) yes) in
     rw c.in_ok-push.ensures.items
     (walk_more c.args.self.now.profile slots c.in-Ok.slot c.args.self.now.end c.with-end.result c.len-number.result _ c.requires.walk (search rules) c.in-Ok.ensures.found
-    may (c.with-end.ensures (follows_cover c.args.self.now.profile slots c.in-Ok.slot may) slots c.requires.walk.ends))
+    may (c.with-end.ensures slots c.requires.walk.ends))

@@ -7,19 +7,19 @@ use Rattle.status.proofs.Ends.{commits_end, run_ends, reclaim_ends, floor_ends}
 use Rattle.status.proofs.log_end.LogEnd.with.Goals as goal
 
 pub returns-in-Commit : goal.returns-in-Commit
-returns-in-Commit c = λ all before ends.
+returns-in-Commit c = λ before ends.
     commits_end before c.args.slot.now c.args.self.now _ c.in-Commit.members.items c.in-Commit.is ends
     (c.last_after.ensures ∙ ap (λ (ms : List Member). last_time_after c.args.self.now.last (map head_of ms)) c.as_slice.ensures.value)
     refl
     refl
-    refl
+    c.requires.floors
     refl
 
 pub returns-in-Archived : goal.returns-in-Archived
-returns-in-Archived c = λ all before ends. run_ends before c.args.slot.now c.args.self.now _ c.in-Archived.run' c.in-Archived.is ends refl refl refl refl refl
+returns-in-Archived c = λ before ends. run_ends before c.args.slot.now c.args.self.now _ c.in-Archived.run' c.in-Archived.is ends refl refl refl c.requires.floors refl
 
 pub returns-in-Reclaimed : goal.returns-in-Reclaimed
-returns-in-Reclaimed c = λ all before ends. reclaim_ends before c.args.slot.now c.args.self.now _ c.in-Reclaimed.anchors c.in-Reclaimed.is ends refl refl refl refl refl
+returns-in-Reclaimed c = λ before ends. reclaim_ends before c.args.slot.now c.args.self.now _ c.in-Reclaimed.anchors c.in-Reclaimed.is ends refl refl refl c.requires.floors refl
 
 pub returns-in-Floor : goal.returns-in-Floor
-returns-in-Floor c = λ all before ends. floor_ends before c.args.slot.now c.args.self.now _ c.in-Floor.relation c.in-Floor.floor c.in-Floor.is all ends refl refl refl refl refl
+returns-in-Floor c = λ before ends. floor_ends before c.args.slot.now c.args.self.now _ _ _ c.in-Floor.is ends refl refl refl c.requires.floors refl

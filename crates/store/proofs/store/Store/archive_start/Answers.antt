@@ -1,8 +1,8 @@
-use Rattle.std.proofs.Common.{◌≡◌, ◌+◌, ◌<◌, ◌^◌, max, length, None, Some, Ok, refl, sym, ◌∙◌, ap, subst, arith}
+use Rattle.std.proofs.Common.{◌≡◌, ◌+◌, ◌<◌, ◌^◌, length, None, Some, Ok, refl, sym, ◌∙◌, ap, subst, arith}
 use Rattle.archive.specs.Pieces.{InWriting}
 use Rattle.archive.specs.Runs.{run_bytes}
 use Rattle.vacuum.specs.Archives.{records_of, run_of, unwritten}
-use Rattle.store.specs.Archives.{StartsArchive, refusal_now, archive_of}
+use Rattle.store.specs.Archives.{StartsArchive, refusal_now, since_now, archive_of}
 use Rattle.store.specs.Parts.{parts_of}
 use Rattle.store.specs.Values.{StoreValue}
 use Rattle.store.specs.declared.job.JobStage.TheVariants.{Writing}
@@ -15,9 +15,10 @@ returns-in-Ok-make_place g c =
     let s = c.self.inside in
     let v : StoreValue = parts_of s.transactions s.log s.turn s.job s.archived s.runs_end s.archive (g.D.Disk.state s.disk) in
     let upto = c.args.upto in
-    let floor_is = c.floor-floor.ensures in
     let versions_are = c.in-Ok.ensures in
-    let records_are : records_of (max s.archived c.floor-floor.result) upto c.in-Ok.versions ≡ archive_of v upto = λ i. records_of (max s.archived (floor_is i)) upto (versions_are i) in
+    let since_are : c.in-Ok-since.since ≡ since_now v = c.in-Ok-since.ensures ∙ ap since_now (sym c.self.view_is) in
+    let floors_are = c.in-Ok-share.ensures ∙ c.floors.ensures in
+    let records_are : records_of c.in-Ok-since.since upto c.in-Ok.versions ≡ archive_of v upto = λ i. records_of (since_are i) upto (versions_are i) in
     let run_is : c.in-Some-archive_run.run' ≡ run_of upto s.runs_end (archive_of v upto) = c.in-Some-archive_run.ensures.is.0 ∙ ap (run_of upto s.runs_end) records_are in
     let writer_is : c.in-Some-archive_run.writer ≡ unwritten s.runs_end (archive_of v upto) = c.in-Some-archive_run.ensures.is.1 ∙ ap (unwritten s.runs_end) records_are in
     let none : refusal_now v upto ≡ None = ap (λ (x : StoreValue). refusal_now x upto) c.self.view_is ∙ sym c.refusal_now.ensures.is ∙ c.in_default.is in
@@ -31,4 +32,4 @@ returns-in-Ok-make_place g c =
     let placed = c.in-Ok-make_place.ensures.ok in
     let in_range = c.in-Some-archive_run.ensures.in_range c.in_default.ensures.in_range.0 c.in_default.ensures.in_range.1 in
     subst (λ (x : StoreValue). StartsArchive x upto (Ok tt) (parts_of c.lend_slot.new.self s.log s.turn c.put_job.new.place s.archived s.runs_end c.make_place.new.self (g.D.Disk.state s.disk))) c.self.view_is
-    (begun v upto c.in-Some-archive_run.run' _ _ none fits in_range run_is refl refl floor_is (λ i. parts_of (lent i) s.log s.turn (job_is i) s.archived s.runs_end (placed i) (g.D.Disk.state s.disk)))
+    (begun v upto c.in-Some-archive_run.run' _ _ none fits in_range run_is refl refl floors_are (λ i. parts_of (lent i) s.log s.turn (job_is i) s.archived s.runs_end (placed i) (g.D.Disk.state s.disk)))

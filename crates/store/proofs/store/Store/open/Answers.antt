@@ -31,7 +31,8 @@ returns-clause-ok g c =
     let r = c.in-Ok.recovered in
     let heads_are : c.in-Ok-heads_of.heads.items ≡ map head_as r.commits.items = c.in-Ok-heads_of.ensures ∙ ap (λ (names : List CommitName). map head_as names) c.deref.ensures.value in
     let all : min (total r.header) 65536 ≡ total r.header = omega (arith, c.in-Ok.ensures.used.1) in
-    let log_is : c.new-log.result ≡ logged r (total r.header) = c.new-log.ensures ∙ ap (λ (n : ℕ). logged r n) all in
+    let few : min r.header.pieces 256 ≡ r.header.pieces = omega (arith, c.in-Ok.ensures.used.1) in
+    let log_is : c.new-log.result ≡ logged r (total r.header) r.header.pieces = c.new-log.ensures ∙ (λ i. logged r (all i) (few i)) in
     let many : length (map head_as r.commits.items) ≡ length r.commits.items = length-map r.commits.items head_as in
     let slots_are : c.slots-slots.result ≡ total r.header = c.slots-slots.ensures ∙ ap (λ (l : LogState). l.slots) log_is in
     let times_are : c.in-Ok-times_of.times ≡ times_of r.live.items = c.in-Ok-times_of.ensures ∙ ap times_of c.deref-2.ensures.value in
@@ -50,5 +51,5 @@ returns-clause-ok g c =
       refused = c.in-Ok.ensures.refused;
     }
   where
-    logged : Recovered → ℕ → LogState
-    logged r n = record { profile = r.header.profile; slots = n; used = r.used; writing = false }
+    logged : Recovered → ℕ → ℕ → LogState
+    logged r n pieces = record { profile = r.header.profile; slots = n; pieces = pieces; used = r.used; writing = false }

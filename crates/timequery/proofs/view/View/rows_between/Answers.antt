@@ -37,7 +37,7 @@ returns-in_err-archived-clause-refused g c =
     let less : c.args.a < c.self.inside.reclaimed = omega (arith, c.if-self-a.false) in
     let below : c.args.a < v.reclaimed = subst (λ (w : ViewValue). c.args.a < w.reclaimed) c.self.view_is less in
     let p = err_from_is_err_and c.from_residual-in_err-archived.result c.from_residual-in_err-archived.ensures.1 in
-    rw (p.1, p.2) (refused-rows v c.args.a c.args.b _ c.in_ok-check_interval.ensures below (subst (λ (rs : List RunEntry). IsFaultIn c.args.a rs c.in_err-archived.field-0.0) runs_are c.in_err-archived.ensures.damaged))
+    rw (p.1, p.2) (refused-rows v c.args.key.relation c.args.a c.args.b _ c.in_ok-check_interval.ensures below (subst (λ (rs : List RunEntry). IsFaultIn c.args.a rs c.in_err-archived.field-0.0) runs_are c.in_err-archived.ensures.damaged))
 
 pub returns-in_err-found-clause-kept : goal.returns-in_err-found-clause-kept
 returns-in_err-found-clause-kept g c = λ limit ends.

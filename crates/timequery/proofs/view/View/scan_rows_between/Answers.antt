@@ -2,6 +2,7 @@ use Rattle.std.proofs.Common.{◌≤◌, ℕ, List, ap, sym, ◌∙◌, subst}
 use Rattle.std.specs.Prelude.{Ok}
 use Rattle.history.specs.declared.time.Version.{Version}
 use Rattle.history.specs.Answers.{IsScanBetweenAnswer}
+use Rattle.floors.specs.Floors.{floor_at}
 use Rattle.image.specs.Values.{Value}
 use Rattle.chains.specs.KeyWrites.{AreRising, IsOrdered}
 use Rattle.chains.specs.Rows.{scanned_rows}
@@ -19,7 +20,7 @@ returns-then-self-a-clause-only g c = λ h reads.
     let rising : AreRising v.state = subst (λ (w : ViewValue). AreRising w.state) c.self.view_is c.self.invariant.1 in
     let recent : v.reclaimed ≤ c.args.a = subst (λ (w : ViewValue). w.reclaimed ≤ c.args.a) c.self.view_is c.if-self-a.true in
     let is = c.in_ok-scan_rows.ensures ∙ ap (λ (w : ViewValue). scanned_rows c.args.relation c.args.a c.args.b w.state) c.self.view_is in
-    subst (λ (found : List (ℕ × Version Value)). IsScanBetweenAnswer h (λ _. v.floor) c.args.relation c.args.a c.args.b (Ok found)) (sym is)
+    subst (λ (found : List (ℕ × Version Value)). IsScanBetweenAnswer h (floor_at v.floors) c.args.relation c.args.a c.args.b (Ok found)) (sym is)
     (scan-recent _ _ _ v h reads rising c.args.relation c.args.a c.args.b ordered inside.from_floor inside.not_empty inside.upto_last recent)
 
 pub returns-clause-only : goal.returns-clause-only

@@ -51,7 +51,7 @@ returns-in_err-find-clause-refused g c =
     let less : c.args.time < c.self.inside.reclaimed = omega (arith, c.if-self-time.false) in
     let below : c.args.time < v.reclaimed = subst (λ (w : ViewValue). c.args.time < w.reclaimed) c.self.view_is less in
     let p = err_from_is_err_and c.from_residual-in_err-find.result c.from_residual-in_err-find.ensures.1 in
-    rw (p.1, p.2) (refused-at v c.args.time _ bounds.0 bounds.1 below (subst (λ (rs : List RunEntry). IsFaultIn c.args.time rs c.in_err-find.field-0.0) runs_are c.in_err-find.ensures.damaged))
+    rw (p.1, p.2) (refused-at v c.args.key.relation c.args.time _ bounds.0 bounds.1 below (subst (λ (rs : List RunEntry). IsFaultIn c.args.time rs c.in_err-find.field-0.0) runs_are c.in_err-find.ensures.damaged))
 
 pub returns-in_err-new-in-Some-2-clause-kept : goal.returns-in_err-new-in-Some-2-clause-kept
 returns-in_err-new-in-Some-2-clause-kept g c = λ limit ends.

@@ -1,6 +1,7 @@
 use Rattle.std.proofs.Common.{◌≤◌, ◌<◌, ℕ, List, ap, sym, ◌∙◌, subst, arith}
 use Rattle.std.specs.Prelude.{Ok}
 use Rattle.history.specs.Answers.{IsScanAtAnswer}
+use Rattle.floors.specs.Floors.{floor_at}
 use Rattle.image.specs.Values.{Value}
 use Rattle.chains.specs.KeyWrites.{AreRising, IsOrdered}
 use Rattle.chains.specs.Scans.{scanned}
@@ -18,7 +19,7 @@ returns-then-self-time-clause-only g c = λ h reads.
     let rising : AreRising v.state = subst (λ (w : ViewValue). AreRising w.state) c.self.view_is c.self.invariant.1 in
     let recent : v.reclaimed ≤ c.args.time = subst (λ (w : ViewValue). w.reclaimed ≤ c.args.time) c.self.view_is c.if-self-time.true in
     let is = c.in_ok-scan.ensures ∙ ap (λ (w : ViewValue). scanned c.args.relation c.args.time w.state) c.self.view_is in
-    subst (λ (found : List (ℕ × Value)). IsScanAtAnswer h (λ _. v.floor) c.args.relation c.args.time (Ok found)) (sym is)
+    subst (λ (found : List (ℕ × Value)). IsScanAtAnswer h (floor_at v.floors) c.args.relation c.args.time (Ok found)) (sym is)
     (values-recent _ _ _ v h reads rising c.args.relation c.args.time ordered bounds.0 bounds.1 recent)
 
 pub returns-clause-only : goal.returns-clause-only
@@ -27,7 +28,7 @@ returns-clause-only g c = λ h reads.
     let bounds = c.in_ok-check_time.ensures in
     let rising : AreRising v.state = subst (λ (w : ViewValue). AreRising w.state) c.self.view_is c.self.invariant.1 in
     let order = in-order c.in_ok-rows.rows.items c.in_ok-rows.ensures.in_order in
-    subst (λ (found : List (ℕ × Value)). IsScanAtAnswer h (λ _. v.floor) c.args.relation c.args.time (Ok found)) (sym c.in_ok-values_of.ensures)
+    subst (λ (found : List (ℕ × Value)). IsScanAtAnswer h (floor_at v.floors) c.args.relation c.args.time (Ok found)) (sym c.in_ok-values_of.ensures)
     (values-of-both _ _ _ v h reads rising c.args.relation c.args.time c.in_ok-rows.rows.items bounds.0 bounds.1 order (c.in_ok-rows.ensures.only reads.lists reads.told reads.right reads.held))
 
 pub returns-clause-exact : goal.returns-clause-exact

@@ -10,7 +10,7 @@ use Rattle.transactions.proofs.transactions.Transactions.freshen.Goals as goal
 pub invariant_of-self : goal.invariant_of-self
 invariant_of-self c =
     let i = c.self.inside in
-    let v : TransactionsValue = record { mark = i.mark; opened = i.opened; heads = i.order.heads; published = i.order.published; versions = i.versions; pending = i.pending; queue = i.queue.items; usages = i.extents; times = i.times; reserved = i.reserved.items; slots = i.slots; used = i.used; group = i.group; stage = i.stage; floor = i.floor; reclaimed = i.reclaimed; failed = i.failed } in
+    let v : TransactionsValue = record { mark = i.mark; opened = i.opened; heads = i.order.heads; published = i.order.published; versions = i.versions; pending = i.pending; queue = i.queue.items; usages = i.extents; times = i.times; reserved = i.reserved.items; slots = i.slots; used = i.used; group = i.group; stage = i.stage; floors = i.floors; reclaimed = i.reclaimed; failed = i.failed } in
     let q = c.in-Some.queued.now in
     let found : slice_get i.queue.items c.saturating_sub-place.result ≡ Some q = sym c.in-Some.ensures in
     let queue_is = c.put_versions.ensures q found in
@@ -20,7 +20,7 @@ invariant_of-self c =
 pub returns-clause-ok : goal.returns-clause-ok
 returns-clause-ok c =
     let i = c.self.inside in
-    let v : TransactionsValue = record { mark = i.mark; opened = i.opened; heads = i.order.heads; published = i.order.published; versions = i.versions; pending = i.pending; queue = i.queue.items; usages = i.extents; times = i.times; reserved = i.reserved.items; slots = i.slots; used = i.used; group = i.group; stage = i.stage; floor = i.floor; reclaimed = i.reclaimed; failed = i.failed } in
+    let v : TransactionsValue = record { mark = i.mark; opened = i.opened; heads = i.order.heads; published = i.order.published; versions = i.versions; pending = i.pending; queue = i.queue.items; usages = i.extents; times = i.times; reserved = i.reserved.items; slots = i.slots; used = i.used; group = i.group; stage = i.stage; floors = i.floors; reclaimed = i.reclaimed; failed = i.failed } in
     let q = c.in-Some.queued.now in
     let place = c.saturating_sub-place.result in
     let found : slice_get i.queue.items place ≡ Some q = sym c.in-Some.ensures in

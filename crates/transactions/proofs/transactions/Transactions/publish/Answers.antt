@@ -13,7 +13,7 @@ use Rattle.transactions.proofs.transactions.Transactions.publish.Goals as goal
 pub invariant_of-self : goal.invariant_of-self
 invariant_of-self c =
     let i = c.self.inside in
-    let v : TransactionsValue = record { mark = i.mark; opened = i.opened; heads = i.order.heads; published = i.order.published; versions = i.versions; pending = i.pending; queue = i.queue.items; usages = i.extents; times = i.times; reserved = i.reserved.items; slots = i.slots; used = i.used; group = i.group; stage = i.stage; floor = i.floor; reclaimed = i.reclaimed; failed = i.failed } in
+    let v : TransactionsValue = record { mark = i.mark; opened = i.opened; heads = i.order.heads; published = i.order.published; versions = i.versions; pending = i.pending; queue = i.queue.items; usages = i.extents; times = i.times; reserved = i.reserved.items; slots = i.slots; used = i.used; group = i.group; stage = i.stage; floors = i.floors; reclaimed = i.reclaimed; failed = i.failed } in
     let first = c.publish_first.ensures in
     let heads_are = ap (λ o. o.heads) c.publish.ensures in
     let published_is = ap (λ o. o.published) c.publish.ensures in

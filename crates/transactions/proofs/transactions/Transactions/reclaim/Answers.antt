@@ -12,7 +12,7 @@ use Rattle.transactions.proofs.transactions.Transactions.reclaim.Goals as goal
 pub invariant_of-self : goal.invariant_of-self
 invariant_of-self c =
     let i = c.self.inside in
-    let v : TransactionsValue = record { mark = i.mark; opened = i.opened; heads = i.order.heads; published = i.order.published; versions = i.versions; pending = i.pending; queue = i.queue.items; usages = i.extents; times = i.times; reserved = i.reserved.items; slots = i.slots; used = i.used; group = i.group; stage = i.stage; floor = i.floor; reclaimed = i.reclaimed; failed = i.failed } in
+    let v : TransactionsValue = record { mark = i.mark; opened = i.opened; heads = i.order.heads; published = i.order.published; versions = i.versions; pending = i.pending; queue = i.queue.items; usages = i.extents; times = i.times; reserved = i.reserved.items; slots = i.slots; used = i.used; group = i.group; stage = i.stage; floors = i.floors; reclaimed = i.reclaimed; failed = i.failed } in
     let mark = c.args.mark in
     let stays : (n : ℕ) → IsOut i.extents n → IsOut (all_retired_by mark i.times i.extents) n = λ n has. subst (λ (us : List Usage). IsOut us n) c.retire_by.ensures.is (c.retire_by.ensures.others Out n (λ e. cc) has) in
     let reserved_is : c.replace-reserved.result.items ≡ i.reserved.items = ap (λ o. o.items) c.replace-reserved.ensures.value in
@@ -28,7 +28,7 @@ invariant_of-self c =
 pub returns-clause-is : goal.returns-clause-is
 returns-clause-is c =
     let i = c.self.inside in
-    let v : TransactionsValue = record { mark = i.mark; opened = i.opened; heads = i.order.heads; published = i.order.published; versions = i.versions; pending = i.pending; queue = i.queue.items; usages = i.extents; times = i.times; reserved = i.reserved.items; slots = i.slots; used = i.used; group = i.group; stage = i.stage; floor = i.floor; reclaimed = i.reclaimed; failed = i.failed } in
+    let v : TransactionsValue = record { mark = i.mark; opened = i.opened; heads = i.order.heads; published = i.order.published; versions = i.versions; pending = i.pending; queue = i.queue.items; usages = i.extents; times = i.times; reserved = i.reserved.items; slots = i.slots; used = i.used; group = i.group; stage = i.stage; floors = i.floors; reclaimed = i.reclaimed; failed = i.failed } in
     let mark = c.args.mark in
     let stays : (n : ℕ) → IsOut i.extents n → IsOut (all_retired_by mark i.times i.extents) n = λ n has. subst (λ (us : List Usage). IsOut us n) c.retire_by.ensures.is (c.retire_by.ensures.others Out n (λ e. cc) has) in
     let reserved_is : c.replace-reserved.result.items ≡ i.reserved.items = ap (λ o. o.items) c.replace-reserved.ensures.value in

@@ -13,7 +13,7 @@ use Rattle.transactions.proofs.transactions.Transactions.reserve.Goals as goal
 pub invariant_of-self-2 : goal.invariant_of-self-2
 invariant_of-self-2 c =
     let i = c.self.inside in
-    let v : TransactionsValue = record { mark = i.mark; opened = i.opened; heads = i.order.heads; published = i.order.published; versions = i.versions; pending = i.pending; queue = i.queue.items; usages = i.extents; times = i.times; reserved = i.reserved.items; slots = i.slots; used = i.used; group = i.group; stage = i.stage; floor = i.floor; reclaimed = i.reclaimed; failed = i.failed } in
+    let v : TransactionsValue = record { mark = i.mark; opened = i.opened; heads = i.order.heads; published = i.order.published; versions = i.versions; pending = i.pending; queue = i.queue.items; usages = i.extents; times = i.times; reserved = i.reserved.items; slots = i.slots; used = i.used; group = i.group; stage = i.stage; floors = i.floors; reclaimed = i.reclaimed; failed = i.failed } in
     let numbers = c.in-Ok.taken.items in
     let took = c.in-Ok.ensures in
     let both = out-reserved i.extents (flat_map numbers_of i.queue.items) i.reserved.items numbers c.self.invariant.out took.1 in
@@ -28,7 +28,7 @@ invariant_of-self-2 c =
 pub returns-clause-is : goal.returns-clause-is
 returns-clause-is c =
     let i = c.self.inside in
-    let v : TransactionsValue = record { mark = i.mark; opened = i.opened; heads = i.order.heads; published = i.order.published; versions = i.versions; pending = i.pending; queue = i.queue.items; usages = i.extents; times = i.times; reserved = i.reserved.items; slots = i.slots; used = i.used; group = i.group; stage = i.stage; floor = i.floor; reclaimed = i.reclaimed; failed = i.failed } in
+    let v : TransactionsValue = record { mark = i.mark; opened = i.opened; heads = i.order.heads; published = i.order.published; versions = i.versions; pending = i.pending; queue = i.queue.items; usages = i.extents; times = i.times; reserved = i.reserved.items; slots = i.slots; used = i.used; group = i.group; stage = i.stage; floors = i.floors; reclaimed = i.reclaimed; failed = i.failed } in
     let numbers = c.in-Ok.taken.items in
     let took = c.in-Ok.ensures in
     let both = out-reserved i.extents (flat_map numbers_of i.queue.items) i.reserved.items numbers c.self.invariant.out took.1 in

@@ -1,0 +1,161 @@
+//! Versions of one key that lie together, for who goes over all of them.
+ghost use Rattle.std.specs.Prelude.{◌≡◌, ◌<◌, ◌≤◌, ℕ, IfOk, IsTrue, None, false, drop, find, length, option_map, slice_get};
+ghost use Rattle.history.specs.Versions.{version_of, ends_after};
+ghost use Rattle.chains.specs.Found.{IsFound};
+ghost use Rattle.chains.specs.Rows.{versions_upto, version_of_loan};
+
+use crate::piece::Piece;
+use crate::shared_value::SharedValue;
+use crate::tree::Share;
+use crate::write::first_time_or;
+use history::{TimedWrite, Version};
+use std::alloc::AllocError;
+use std::marker::Model;
+
+/// Some versions of one key, one after another, oldest first. It is one more holder of their writes,
+/// whatever is made of the chain that they are of.
+#[derive(Drop)]
+pub struct Part {
+    piece: Piece,
+    end: u64,
+    passed: usize,
+}
+
+impl Model for Part {
+    ghost use Rattle.std.specs.Prelude.{◌≤◌, drop, length};
+    ghost use Rattle.chains.specs.Found.{Versions};
+    ghost use Rattle.chains.specs.Rows.{versions_upto};
+
+    ghost Value = { Versions };
+
+    ghost view = { λ p. versions_upto p.end (drop p.passed p.piece) };
+
+    ghost invariant = { λ p. p.passed ≤ length p.piece };
+}
+
+/// Whether a write has a version that ends at `to`, after the time.
+fn is_ending_after(write: &TimedWrite<SharedValue>, to: u64, time: u64) -> bool
+    ensures none { result ≡ false → find (ends_after time) (version_of write.now.time to write.now.write) ≡ None }
+    ensures found { IsTrue result → find (ends_after time) (version_of write.now.time to write.now.write) ≡ slice_get (version_of write.now.time to write.now.write) 0 }
+    ensures some { IsTrue result → 0 < length (version_of write.now.time to write.now.write) }
+{
+    let Some(_) = &write.write else {
+        return false;
+    };
+    time < to
+}
+
+/// How many of these writes stand before the first version that ends after the time; the last version
+/// ends at `end`.
+fn before_ending(writes: &[TimedWrite<SharedValue>], end: u64, time: u64) -> usize
+    ensures within { result ≤ length writes.now }
+    ensures found { slice_get (versions_upto end (drop result writes.now)) 0 ≡ find (ends_after time) (versions_upto end writes.now) }
+{
+    let mut passed = 0;
+    let mut rest = writes;
+    while let [first, after @ ..] = rest {
+        if is_ending_after(first, first_time_or(after, end), time) {
+            return passed;
+        }
+        rest = after;
+        passed += 1;
+    }
+    passed
+}
+
+/// The first version of these writes; the last one ends at `end`.
+fn first_version(writes: &[TimedWrite<SharedValue>], end: u64) -> Option<Version<&SharedValue>>
+    ensures { option_map version_of_loan result ≡ slice_get (versions_upto end writes.now) 0 }
+{
+    let mut rest = writes;
+    while let [first, after @ ..] = rest {
+        if let Some(value) = &first.write {
+            return Some(Version {
+                from: first.time,
+                to: first_time_or(after, end),
+                value,
+            });
+        }
+        rest = after;
+    }
+    None
+}
+
+/// How many of these writes stand up to the first version, with that one's own.
+fn upto_first(writes: &[TimedWrite<SharedValue>]) -> usize
+    ensures within { result ≤ length writes.now }
+    ensures left { (end : ℕ) → versions_upto end (drop result writes.now) ≡ drop 1 (versions_upto end writes.now) }
+{
+    let mut passed = 0;
+    let mut rest = writes;
+    while let [first, after @ ..] = rest {
+        passed += 1;
+        if first.write.is_some() {
+            return passed;
+        }
+        rest = after;
+    }
+    passed
+}
+
+/// 1 where the write has a value, of which it looks at the front and the end, and else 0.
+fn one_if_valued(write: &TimedWrite<SharedValue>) -> usize
+    ensures is { (from to : ℕ) → result ≡ length (version_of from to write.now.write) }
+    ensures most { result ≤ 1 }
+{
+    let Some(shared) = &write.write else {
+        return 0;
+    };
+    let value = shared.value();
+    let front = value.len().min(1) as usize;
+    value.fields().spelled().len().min(front)
+}
+
+/// How many of these writes have a value. It looks at all of each value in turn, with nothing to be done
+/// between, so that a processor fetches many at once; who then goes over them has them near.
+fn version_count(writes: &[TimedWrite<SharedValue>]) -> usize
+    ensures is { (end : ℕ) → result ≡ length (versions_upto end writes.now) }
+{
+    let mut count = 0;
+    let mut rest = writes;
+    while let [first, after @ ..] = rest {
+        count += one_if_valued(first);
+        rest = after;
+    }
+    count
+}
+
+impl Part {
+    /// The versions of a piece from the first one on that ends after the time; the last one ends at
+    /// `end`.
+    pub(crate) fn of(piece: &Piece, end: u64, time: u64) -> Result<Option<Part>, AllocError>
+        ensures { IfOk result (IsFound time (versions_upto end piece.now)) }
+    {
+        let writes = piece.as_slice();
+        let passed = before_ending(writes, end, time);
+        let versions = version_count(&writes[passed..]);
+        if versions == 0 {
+            return Ok(None);
+        }
+        Ok(Some(Part {
+            piece: piece.share()?,
+            end,
+            passed,
+        }))
+    }
+
+    /// The first of the versions.
+    pub fn peek(&self) -> Option<Version<&SharedValue>>
+        ensures { option_map version_of_loan result ≡ slice_get self.now 0 }
+    {
+        first_version(&self.piece.as_slice()[self.passed..], self.end)
+    }
+
+    /// Goes on behind the first of the versions.
+    pub fn advance(&mut self)
+        ensures { self.new ≡ drop 1 self.old }
+    {
+        let passed = upto_first(&self.piece.as_slice()[self.passed..]);
+        self.passed += passed;
+    }
+}

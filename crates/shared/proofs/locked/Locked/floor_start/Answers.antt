@@ -1,8 +1,0 @@
-use Rattle.shared.proofs.Moves.{floor-begins}
-use Rattle.shared.proofs.locked.Locked.floor_start.Goals as goal
-
-pub invariant_of-self : goal.invariant_of-self
-invariant_of-self g c = (floor-begins _ _ _ _ _ _ _ _ _ _ _ c.self.invariant c.floor_start.ensures).0
-
-pub returns : goal.returns
-returns g c = (floor-begins _ _ _ _ _ _ _ _ _ _ _ c.self.invariant c.floor_start.ensures).1

@@ -1,0 +1,9 @@
+-- What a piece in the making is seen as.
+use Rattle.std.specs.Prelude.{ℕ}
+use Rattle.status.specs.declared.growth.GrowthStage.{GrowthStage}
+
+pub record GrowthState : Type 0 where
+  -- the slots before it, and its number
+  pub slots : ℕ
+  pub piece : ℕ
+  pub stage : GrowthStage
