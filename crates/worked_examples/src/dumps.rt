@@ -1,6 +1,6 @@
 //! Logs as text.
 use crate::dialogue::{FOUR_COMMITS, ONE_COMMIT};
-use crate::floors::RAISED;
+use crate::raised_floors::RAISED;
 use crate::steps::Step::{Changes, Cuts, Dumps, New, Older, Parts, Says};
 use crate::steps::{Step, each_goes, go};
 use disk::Area;

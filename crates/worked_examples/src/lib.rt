@@ -21,8 +21,6 @@ mod dumps;
 #[cfg(test)]
 mod files;
 #[cfg(test)]
-mod floors;
-#[cfg(test)]
 mod floors_of_relations;
 #[cfg(test)]
 mod fronts;
@@ -34,6 +32,8 @@ mod intervals;
 mod limits;
 #[cfg(test)]
 mod names;
+#[cfg(test)]
+mod raised_floors;
 #[cfg(test)]
 mod records;
 #[cfg(test)]

@@ -1,7 +1,7 @@
 //! The command `vacuum`: what it archives and reclaims, and where it stops.
 use crate::dialogue::{FOUR_COMMITS, is_text};
 use crate::dumps::RECLAIMED_LOG;
-use crate::floors::FROM_115;
+use crate::raised_floors::FROM_115;
 use crate::steps::Step::{At, Dumps, New, Older, Parts, Says, Vacuums};
 use crate::steps::{Step, go};
 use crate::trials::{Trial, is_count, left_goes_on, tried};
