@@ -2,6 +2,7 @@
 ghost use Rattle.std.specs.Prelude.{◌≡◌, ◌↔◌, ◌+◌, ◌≤◌, IsTrue, MatchResult};
 ghost use Rattle.archive.specs.Searches.{IsPlace};
 
+use crate::head::{HEAD_BYTES, HEAD_LEN, LEAST_RECORD, MOST_RECORD};
 use crate::value::decode_value;
 use crate::{
     ArchiveFault, ArchiveReader, Placed, RunEntry, decode_head, is_in_range, is_place,
@@ -10,6 +11,11 @@ use crate::{
 use byteorder::{ByteOrder, LittleEndian};
 use disk::Disk;
 use wire::Value;
+
+/// The most bytes of a value as it is spelled, and how many of a short one are read by way of a small buffer.
+const MOST_SPELLED: usize = 4097;
+
+const SHORT_SPELLED: usize = 256;
 
 /// The place, if records leave room for it as that of the n-th.
 fn check_place(run: &RunEntry, n: u64, place: u64) -> Result<u64, ArchiveFault>
@@ -26,7 +32,7 @@ fn check_place(run: &RunEntry, n: u64, place: u64) -> Result<u64, ArchiveFault>
 fn is_record_room(place: u64, end: u64) -> bool
     ensures { IsTrue result ↔ (place + 28 ≤ end) × (end ≤ place + 4123) }
 {
-    place <= end && 28 <= end - place && end - place <= 4123
+    place <= end && LEAST_RECORD <= end - place && end - place <= MOST_RECORD
 }
 
 impl ArchiveReader {
@@ -108,7 +114,7 @@ impl ArchiveReader {
             → MatchResult result (λ placed. (placed ≡ placed_at (archive_of (D.state disk.old)) run.now n) × IsHeadSound (archive_of (D.state disk.old)) run.now last.now n) (IfDamaged (λ _. IsHeadBroken (archive_of (D.state disk.old)) run.now last.now n)) }
     {
         let place = self.read_place(disk, run, n)?;
-        let mut bytes = [0; 26];
+        let mut bytes = [0; HEAD_LEN];
         self.heads = self.heads.saturating_add(1);
         self.read_part(disk, run, place, &mut bytes)?;
         let placed = Placed {
@@ -168,8 +174,8 @@ impl ArchiveReader {
         if !is_record_room(placed.place, end) {
             return Err(ArchiveFault::Damaged(run.slot.start));
         }
-        let len = (end - placed.place - 26) as usize;
-        self.read_spelled(disk, run, placed.place + 26, len)
+        let len = (end - placed.place - HEAD_BYTES) as usize;
+        self.read_spelled(disk, run, placed.place + HEAD_BYTES, len)
     }
 
     /// The value that a part of the run of this length spells.
@@ -191,8 +197,8 @@ impl ArchiveReader {
             → MatchResult result (λ value. IsValue value × (slice_range (archive_of (D.state disk.old)) (run.now.slot.start + at) (run.now.slot.start + at + len) ≡ value_bytes value))
             (IfDamaged (λ _. (length (archive_of (D.state disk.old)) < run_end run.now) ⊎ ((value : List (List ℕ)) → IsValue value → slice_range (archive_of (D.state disk.old)) (run.now.slot.start + at) (run.now.slot.start + at + len) ≢ value_bytes value))) }
     {
-        if len <= 256 {
-            let mut bytes = [0; 256];
+        if len <= SHORT_SPELLED {
+            let mut bytes = [0; SHORT_SPELLED];
             return self.read_fields(disk, run, at, &mut bytes[..len]);
         }
         self.read_long(disk, run, at, len)
@@ -219,7 +225,7 @@ impl ArchiveReader {
             → MatchResult result (λ value. IsValue value × (slice_range (archive_of (D.state disk.old)) (run.now.slot.start + at) (run.now.slot.start + at + len) ≡ value_bytes value))
             (IfDamaged (λ _. (length (archive_of (D.state disk.old)) < run_end run.now) ⊎ ((value : List (List ℕ)) → IsValue value → slice_range (archive_of (D.state disk.old)) (run.now.slot.start + at) (run.now.slot.start + at + len) ≢ value_bytes value))) }
     {
-        let mut bytes = [0; 4097];
+        let mut bytes = [0; MOST_SPELLED];
         self.read_fields(disk, run, at, &mut bytes[..len])
     }
 }

@@ -8,7 +8,7 @@ mod call_lists;
 #[cfg(test)]
 mod calling_pages;
 #[cfg(test)]
-mod command_line;
+mod command_words;
 #[cfg(test)]
 mod commit_times;
 #[cfg(test)]

@@ -6,7 +6,7 @@ use chains::Frozen;
 use deltas::{Body, pack};
 use extents::{Extents, Usage};
 use group::{
-    CommitHead, CommitOrder, Queued, QueuedParts, Standing, StoredExtent, Ticket, first_conflict,
+    CommitHead, CommitOrder, Queued, QueuedParts, TicketState, StoredExtent, Ticket, first_conflict,
     give_back_all, keep_all, records_of, seal_all, take_extents,
 };
 use std::alloc::Global;
@@ -32,8 +32,8 @@ fn a_commit_that_waits_is_assigned_and_not_published(rt: HostRuntime) -> Result<
     assert_eq!(rt; last, 0);
     order.push_reserved(head(100, 9, true));
     assert_eq!(rt; (order.last(), order.last_assigned()), (0, 100));
-    assert_eq!(rt; order.redeem(100), Standing::Waiting);
-    assert_eq!(rt; order.redeem(99), Standing::Unknown);
+    assert_eq!(rt; order.redeem(100), TicketState::Waiting);
+    assert_eq!(rt; order.redeem(99), TicketState::Unknown);
     let times = order.times_of(alloc, 9)?;
     assert_eq!(rt; times.len(), 0);
     Ok(())
@@ -45,9 +45,9 @@ fn a_published_commit_is_redeemed_once(rt: HostRuntime) -> Result<(), Fail> {
     let heads = [head(100, 9, false), head(110, 8, true), head(120, 9, false)].to_vec(alloc)?;
     let mut order = CommitOrder::of_published(heads);
     assert_eq!(rt; (order.last(), order.published()), (120, 3));
-    assert_eq!(rt; order.redeem(110), Standing::Published);
-    assert_eq!(rt; order.redeem(110), Standing::Unknown);
-    assert_eq!(rt; order.redeem(100), Standing::Unknown);
+    assert_eq!(rt; order.redeem(110), TicketState::Published);
+    assert_eq!(rt; order.redeem(110), TicketState::Unknown);
+    assert_eq!(rt; order.redeem(100), TicketState::Unknown);
     let times = order.times_of(alloc, 9)?;
     assert_eq!(rt; times.as_slice(), [100, 120].as_slice());
     Ok(())
@@ -61,8 +61,8 @@ fn commits_are_published_in_their_order(rt: HostRuntime) -> Result<(), Fail> {
     order.push_reserved(head(101, 8, true));
     order.publish(1);
     assert_eq!(rt; (order.published(), order.last()), (1, 100));
-    assert_eq!(rt; order.redeem(100), Standing::Published);
-    assert_eq!(rt; order.redeem(101), Standing::Waiting);
+    assert_eq!(rt; order.redeem(100), TicketState::Published);
+    assert_eq!(rt; order.redeem(101), TicketState::Waiting);
     Ok(())
 }
 

@@ -7,7 +7,7 @@ use Rattle.history.specs.Answers.{QueryRefusal, at_answer}
 use Rattle.history.specs.Histories.{History, last, state}
 use Rattle.image.specs.Values.{Value}
 use Rattle.run.specs.Traces.{machine_at}
-use Rattle.standing.specs.Homes.{IsSure}
+use Rattle.refinement.specs.Homes.{IsSure}
 use Rattle.client.specs.Public.{Public}
 use Rattle.client.specs.Views.{ViewAnswersAgain, AnsweredIsSettled}
 use Rattle.client.proofs.Reading.{says-value}

@@ -17,8 +17,8 @@ use Rattle.history.proofs.Orders.{not_lt}
 use Rattle.image.specs.Values.{Value, IsValue}
 use Rattle.timequery.specs.declared.fault.QueryFault.{QueryFault}
 use Rattle.timequery.specs.declared.fault.QueryFault.TheVariants as query
-use Rattle.standing.specs.Homes.{IsSure}
-use Rattle.standing.specs.Laws.{SaysAt}
+use Rattle.refinement.specs.Homes.{IsSure}
+use Rattle.refinement.specs.Laws.{SaysAt}
 use Rattle.run.specs.Moments.{Moment}
 use Rattle.run.specs.Promise.{IsKeptAs, IsKeptWith, Survives}
 use Rattle.run.specs.Laws.{IsKeptTime}

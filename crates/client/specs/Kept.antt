@@ -17,8 +17,8 @@ use Rattle.timequery.specs.declared.fault.QueryFault.{QueryFault}
 use Rattle.timequery.specs.declared.fault.QueryFault.TheVariants as query
 use Rattle.store.specs.Values.{StoreValue}
 use Rattle.store.specs.Calls.{IsViewOf, AnswersAtView}
-use Rattle.standing.specs.Homes.{GoesOn}
-use Rattle.standing.specs.Stands.{Stands}
+use Rattle.refinement.specs.Homes.{GoesOn}
+use Rattle.refinement.specs.Stands.{Stands}
 use Rattle.store.specs.Opens.{Opens, OpenRefuses}
 use Rattle.run.specs.declared.calls.Call.{Call}
 use Rattle.run.specs.declared.calls.Call.TheVariants as call

@@ -7,7 +7,7 @@ use Rattle.history.specs.Machine.{opened}
 use Rattle.image.specs.Values.{Value}
 use Rattle.store.specs.Values.{StoreValue}
 use Rattle.store.specs.Opens.{Opens}
-use Rattle.standing.specs.Stands.{Stands}
+use Rattle.refinement.specs.Stands.{Stands}
 use Rattle.opened.specs.Laws.{AnswersBy}
 use Rattle.run.specs.Promise.{IsKeptAs}
 

@@ -39,26 +39,26 @@ use Rattle.embedded.specs.declared.code.Code.TheVariants as code
 use Rattle.embedded.specs.declared.code.Info.{Info}
 use Rattle.embedded.specs.declared.engine.Engine.{Engine}
 use Rattle.embedded.specs.declared.engine.Published.{Published}
-use Rattle.embedded.specs.declared.engine.Standing.{Standing}
-use Rattle.embedded.specs.declared.engine.Standing.TheVariants.{Settled, Asks, Failed}
+use Rattle.embedded.specs.declared.engine.EngineState.{EngineState}
+use Rattle.embedded.specs.declared.engine.EngineState.TheVariants.{Settled, Asks, Failed}
 use Rattle.embedded.specs.declared.places.Held.TheVariants.{Transaction, Ticket, View}
 use Rattle.embedded.specs.declared.places.Places.{Places}
 
 -- ---- how an engine stands
 
 -- why nothing is asked of the store now: a device call stands out, or one was refused
-abbrev pub stopped_by : Standing → Option Code
+abbrev pub stopped_by : EngineState → Option Code
 stopped_by Settled = None
 stopped_by Asks = Some code.Pending
 stopped_by Failed = Some code.Failed
 
 -- the store is what it was, and so is whether it is asked
 abbrev pub KeepsStore : Engine → Engine → Type 0
-KeepsStore old new = (new.store ≡ old.store) × (new.standing ≡ old.standing) × (new.before ≡ old.before)
+KeepsStore old new = (new.store ≡ old.store) × (new.state ≡ old.state) × (new.before ≡ old.before)
 
 -- and so is what stands under each number
 abbrev pub KeepsNumbers : Engine → Engine → Type 0
-KeepsNumbers old new = (new.places ≡ old.places) × (new.standing ≡ old.standing) × (new.before ≡ old.before)
+KeepsNumbers old new = (new.places ≡ old.places) × (new.state ≡ old.state) × (new.before ≡ old.before)
 
 -- there was no memory, and nothing has changed that a call can tell
 abbrev pub IsOutOfNumbers : Engine → Code → Engine → Type 0
@@ -66,21 +66,21 @@ IsOutOfNumbers old said new = (said ≡ code.NoMemory) × KeepsStore old new × 
 
 -- what is done while no device call stands out and none was refused; else the code says why, and nothing changes
 abbrev pub WhileSettled : Engine → Code → Engine → Type 0 → Type 0
-WhileSettled old said new Does = MatchOption (stopped_by old.standing) Does (λ why. (said ≡ why) × (new ≡ old))
+WhileSettled old said new Does = MatchOption (stopped_by old.state) Does (λ why. (said ≡ why) × (new ≡ old))
 
-abbrev pub asks : Standing → Bool
+abbrev pub asks : EngineState → Bool
 asks Settled = false
 asks Asks = true
 asks Failed = false
 
-abbrev pub is_failed : Standing → Bool
+abbrev pub is_failed : EngineState → Bool
 is_failed Settled = false
 is_failed Asks = false
 is_failed Failed = true
 
 -- what is done while no device call stands out
 abbrev pub UnlessAsked : Engine → Code → Engine → Type 0 → Type 0
-UnlessAsked old said new Does = MatchBool (asks old.standing) ((said ≡ code.Pending) × (new ≡ old)) Does
+UnlessAsked old said new Does = MatchBool (asks old.state) ((said ≡ code.Pending) × (new ≡ old)) Does
 
 -- there is what was named, or else nothing changes
 abbrev pub OfNumber : {T : Type 0} → Option T → Engine → Code → Engine → (T → Type 0) → Type 0
@@ -89,14 +89,14 @@ OfNumber found old said new Does = MatchOption found ((said ≡ code.Unknown) ×
 -- a store that is opened from these bytes, with nothing made yet; the times of its last commit and of its floor are told
 abbrev pub OpensEngine : List ℕ → List ℕ → List ℕ → ℕ → Info → Engine → Type 0
 OpensEngine status heap archive mark info e = (opened : StoreValue) × Opens true (fresh_on (record { status = status; heap = heap; archive = archive })) mark opened
-    × (e.store ≡ record opened { disk = record { areas = opened.disk.areas; made = 0; refused = 0 } }) × (e.standing ≡ Settled) × (info.a ≡ last e.store) × (info.b ≡ (floors e.store).every)
+    × (e.store ≡ record opened { disk = record { areas = opened.disk.areas; made = 0; refused = 0 } }) × (e.state ≡ Settled) × (info.a ≡ last e.store) × (info.b ≡ (floors e.store).every)
 
 -- no store is opened from these bytes, and why is told
 abbrev pub RefusesEngine : List ℕ → List ℕ → List ℕ → Code → Info → Type 0
 RefusesEngine status heap archive said info = (why : OpenFault) × IsImageFault (record { status = status; heap = heap; archive = archive }) why × IsOpenCode why said info
 
 -- the times of the last commit and of the floor; after a refused call those of before it
-abbrev pub TellsTimes : Standing → Engine → Code → Info → Type 0
+abbrev pub TellsTimes : EngineState → Engine → Code → Info → Type 0
 TellsTimes Settled e result info = (result ≡ code.Ok) × (info.a ≡ last e.store) × (info.b ≡ (floors e.store).every)
 TellsTimes Asks e result info = result ≡ code.Pending
 TellsTimes Failed e result info = MatchOption e.before (result ≡ code.Failed) (λ p. (result ≡ code.Ok) × (info.a ≡ p.last) × (info.b ≡ p.floor))
@@ -108,19 +108,19 @@ abbrev pub WasPublished : StoreValue → Published → Type 0
 WasPublished v p = IsViewOf v p.view × (p.last ≡ last v) × (p.floor ≡ (floors v).every)
 
 -- how an engine stands once its store has made a device call, by whether the disk has noted it for the host
-abbrev pub after_call : Bool → Standing
+abbrev pub after_call : Bool → EngineState
 after_call true = Asks
 after_call false = Failed
 
 -- the device call that the store made, if it made one, stands out, or was refused at once; what was published before it is kept
 abbrev pub StandsOut : ℕ → ℕ → Published → Engine → Engine → Type 0
 StandsOut made refused published old new = (new.store ≡ old.store) × (new.places ≡ old.places)
-    × MatchBool (old.store.disk.made == made) (new ≡ old) ((new.standing ≡ after_call (old.store.disk.refused == refused)) × (new.before ≡ Some published))
+    × MatchBool (old.store.disk.made == made) (new ≡ old) ((new.state ≡ after_call (old.store.disk.refused == refused)) × (new.before ≡ Some published))
 
 -- a call that stands out, or was refused at once, has what was published before it beside it
 abbrev pub KeepsPublished : Engine → Engine → Type 0
-KeepsPublished old new = (new.places ≡ old.places) × MatchBool (new.store.disk.made == old.store.disk.made) ((new.standing ≡ old.standing) × (new.before ≡ old.before))
-    ((new.standing ≡ after_call (new.store.disk.refused == old.store.disk.refused)) × MatchOption new.before ⊥ (WasPublished old.store))
+KeepsPublished old new = (new.places ≡ old.places) × MatchBool (new.store.disk.made == old.store.disk.made) ((new.state ≡ old.state) × (new.before ≡ old.before))
+    ((new.state ≡ after_call (new.store.disk.refused == old.store.disk.refused)) × MatchOption new.before ⊥ (WasPublished old.store))
 
 -- the device call as it is told, of a write its place and how many bytes it has
 abbrev pub IsTold : Call → DeviceCall → List ℕ → Type 0
@@ -138,13 +138,13 @@ TellsLastCall e said told out = (call : DeviceCall) × (bytes : List ℕ) × (be
 
 -- the device call that stands out is told, and none where none does
 abbrev pub TellsCall : Engine → Code → Call → List ℕ → Type 0
-TellsCall e said told out = MatchBool (asks e.standing) (TellsNoCall said told ⊎ ∥ TellsLastCall e said told out ∥₁) (TellsNoCall said told)
+TellsCall e said told out = MatchBool (asks e.state) (TellsNoCall said told ⊎ ∥ TellsLastCall e said told out ∥₁) (TellsNoCall said told)
 
 -- a call that stands out was made, and the store goes on, or it was refused, and it goes on no more
 abbrev pub HasCalled : Bool → Engine → Code → Engine → Type 0
-HasCalled made old said new = MatchBool (asks old.standing)
+HasCalled made old said new = MatchBool (asks old.state)
     ((new.store ≡ old.store) × (new.places ≡ old.places)
-    × MatchBool made ((said ≡ code.Ok) × (new.standing ≡ Settled) × (new.before ≡ None)) ((said ≡ code.Failed) × (new.standing ≡ Failed) × (new.before ≡ old.before)))
+    × MatchBool made ((said ≡ code.Ok) × (new.state ≡ Settled) × (new.before ≡ None)) ((said ≡ code.Failed) × (new.state ≡ Failed) × (new.before ≡ old.before)))
     ((said ≡ code.None) × (new ≡ old))
 
 -- ---- transactions
@@ -157,7 +157,7 @@ TellsBegin (Err why) old said info new = (said ≡ begin_code why) × SameNumber
 -- there was no memory for one more number, or a transaction begins
 abbrev pub TakesTransaction : Engine → Code → Info → Engine → Type 0
 TakesTransaction old said info new = IsOutOfNumbers old said new
-    ⊎ ((new.standing ≡ old.standing) × (new.before ≡ old.before) × ((answer : Result TxnValue BeginFault) × Begins old.store answer new.store × TellsBegin answer old.places said info new.places))
+    ⊎ ((new.state ≡ old.state) × (new.before ≡ old.before) × ((answer : Result TxnValue BeginFault) × Begins old.store answer new.store × TellsBegin answer old.places said info new.places))
 
 abbrev pub BeginsEngine : Engine → Code → Info → Engine → Type 0
 BeginsEngine old said info new = WhileSettled old said new (TakesTransaction old said info new)
@@ -175,8 +175,8 @@ TellsSubmit (Err why) old said info new = IsSubmitCode why said info × (new ≡
 
 -- the writes of a transaction that was taken out are queued; after a refused call it is given up
 abbrev pub SubmitsTaken : TxnValue → ℕ → ℕ → Engine → Code → Info → Engine → Type 0
-SubmitsTaken txn label now old said info new = (new.standing ≡ old.standing) × (new.before ≡ old.before)
-    × MatchBool (is_failed old.standing) ((said ≡ code.Failed) × (new.places ≡ old.places) × Aborts old.store txn new.store)
+SubmitsTaken txn label now old said info new = (new.state ≡ old.state) × (new.before ≡ old.before)
+    × MatchBool (is_failed old.state) ((said ≡ code.Failed) × (new.places ≡ old.places) × Aborts old.store txn new.store)
     ((answer : Result Submitted SubmitFault) × Submits old.store txn label now answer new.store × TellsSubmit answer old.places said info new.places)
 
 abbrev pub SubmitsEngine : ℕ → ℕ → ℕ → Engine → Code → Info → Engine → Type 0
@@ -204,7 +204,7 @@ PumpsEngine old said info new = WhileSettled old said new (((said ≡ code.NoMem
     ⊎ ((answer : Result Did PumpFault) × Pumps true old.store answer new.store × KeepsPublished old new × TellsStep answer said info))
 
 -- a commit of this time was published, also where a call was refused since
-abbrev pub was_published : Standing → Option Published → ℕ → Bool
+abbrev pub was_published : EngineState → Option Published → ℕ → Bool
 was_published Settled before time = true
 was_published Asks None time = false
 was_published Asks (Some p) time = nat_le time p.last
@@ -213,20 +213,20 @@ was_published Failed (Some p) time = nat_le time p.last
 
 -- a ticket that waits is kept again; after a refused call it is in doubt
 abbrev pub TellsWaiting : TicketValue → Engine → Code → Info → Places → Type 0
-TellsWaiting ticket old said info new = MatchBool (is_failed old.standing) ((said ≡ code.InDoubt) × (new ≡ old.places)) ((said ≡ code.Waiting) × IsKept (Ticket ticket) info.a old.places new)
+TellsWaiting ticket old said info new = MatchBool (is_failed old.state) ((said ≡ code.InDoubt) × (new ≡ old.places)) ((said ≡ code.Waiting) × IsKept (Ticket ticket) info.a old.places new)
 
 abbrev pub KeepsTicket : TicketValue → Engine → Code → Info → Engine → Type 0
 KeepsTicket ticket old said info new = KeepsStore old new × TellsWaiting ticket old said info new.places
 
 -- what became of a ticket that was taken out is told
 abbrev pub TellsRedeemed : Redeemed → Engine → Code → Info → Places → Type 0
-TellsRedeemed (redeemed.Done time) old said info new = (new ≡ old.places) × MatchBool (was_published old.standing old.before time) ((said ≡ code.Ok) × (info.a ≡ time)) (said ≡ code.InDoubt)
+TellsRedeemed (redeemed.Done time) old said info new = (new ≡ old.places) × MatchBool (was_published old.state old.before time) ((said ≡ code.Ok) × (info.a ≡ time)) (said ≡ code.InDoubt)
 TellsRedeemed (redeemed.Waiting ticket) old said info new = TellsWaiting ticket old said info new
 TellsRedeemed redeemed.InDoubt old said info new = (new ≡ old.places) × (said ≡ code.InDoubt)
 TellsRedeemed redeemed.Stranger old said info new = (new ≡ old.places) × (said ≡ code.Stranger)
 
 abbrev pub RedeemsTaken : TicketValue → Engine → Code → Info → Engine → Type 0
-RedeemsTaken ticket old said info new = (new.standing ≡ old.standing) × (new.before ≡ old.before)
+RedeemsTaken ticket old said info new = (new.state ≡ old.state) × (new.before ≡ old.before)
     × ((answer : Redeemed) × Redeems old.store ticket answer new.store × TellsRedeemed answer old said info new.places)
 
 abbrev pub RedeemsEngine : ℕ → Engine → Code → Info → Engine → Type 0
@@ -238,7 +238,7 @@ abbrev pub GivesUp : ℕ → Engine → Code → Engine → Type 0
 GivesUp number old said new = OfNumber (ticket_under old number) old said new (λ _. (said ≡ code.Ok) × KeepsStore old new × IsTaken number old.places new.places)
 
 -- of these times those that were published, also where a call was refused since
-abbrev pub published_of : Standing → Option Published → List ℕ → List ℕ
+abbrev pub published_of : EngineState → Option Published → List ℕ → List ℕ
 published_of Settled before times = times
 published_of Asks before times = times
 published_of Failed None times = []
@@ -250,8 +250,8 @@ AreTimesTold found said info times = (info.a ≡ length found) × MatchBool (nat
 
 -- the times of the commits with a label; after a refused call of those that were published before it
 abbrev pub TellsLabels : ℕ → Engine → Code → Info → List ℕ → Type 0
-TellsLabels label e said info times = MatchBool (asks e.standing) (said ≡ code.Pending)
-    ((said ≡ code.NoMemory) ⊎ ((found : List ℕ) × IsTimesOf e.store label found × AreTimesTold (published_of e.standing e.before found) said info times))
+TellsLabels label e said info times = MatchBool (asks e.state) (said ≡ code.Pending)
+    ((said ≡ code.NoMemory) ⊎ ((found : List ℕ) × IsTimesOf e.store label found × AreTimesTold (published_of e.state e.before found) said info times))
 
 -- ---- views
 
@@ -261,13 +261,13 @@ TakesView old said info new = IsOutOfNumbers old said new ⊎ ((said ≡ code.Ok
 
 -- the number that is told names a view of what is published or, after a refused call, of what was before it
 abbrev pub GivesView : Engine → Code → Info → Engine → Type 0
-GivesView old said info new = UnlessAsked old said new (MatchBool (is_failed old.standing)
+GivesView old said info new = UnlessAsked old said new (MatchBool (is_failed old.state)
     ((said ≡ code.Ok) × (new ≡ old) × (info.a ≡ 18446744073709551615))
     (TakesView old said info new))
 
 -- a view is given back; that of before a refused call stays
 abbrev pub EndsView : ℕ → Engine → Code → Engine → Type 0
-EndsView number old said new = MatchBool ((number == 18446744073709551615) && is_failed old.standing) ((said ≡ code.Ok) × (new ≡ old))
+EndsView number old said new = MatchBool ((number == 18446744073709551615) && is_failed old.state) ((said ≡ code.Ok) × (new ≡ old))
     (MatchOption (view_in (named old.places number)) ((said ≡ code.Unknown) × (new ≡ old)) (λ _. (said ≡ code.Ok) × KeepsStore old new × IsTaken number old.places new.places))
 
 -- ---- jobs

@@ -14,7 +14,7 @@ use timequery::View;
 
 /// Whether the engine's store is asked now.
 #[derive(Clone, Copy, Debug, PartialEq, Eq)]
-pub enum Standing {
+pub enum EngineState {
     Settled,
     /// The host has not made the last device call.
     Asks,
@@ -46,7 +46,7 @@ pub struct Engine {
     pub(crate) alloc: Global,
     pub(crate) store: Kept,
     pub(crate) places: Places,
-    pub(crate) standing: Standing,
+    pub(crate) state: EngineState,
     // What was published before the call that stands out or was refused.
     pub(crate) before: Option<Published>,
 }
@@ -57,7 +57,7 @@ impl Drop for Engine {
             alloc: _,
             store,
             places,
-            standing: _,
+            state: _,
             before,
         } = self;
         if let Some(published) = before {
@@ -81,40 +81,40 @@ impl Engine {
 
     pub(crate) fn new(alloc: Global, store: Kept) -> Engine
         ensures store { result.store ≡ store }
-        ensures settled { result.standing ≡ Standing.Settled }
+        ensures settled { result.state ≡ EngineState.Settled }
     {
         Engine {
             alloc,
             store,
             places: Places::new(alloc),
-            standing: Standing::Settled,
+            state: EngineState::Settled,
             before: None,
         }
     }
 
     /// Why nothing may be asked of the store now.
     pub(crate) fn stopped(&self) -> Option<Code>
-        ensures { result ≡ stopped_by self.now.standing }
+        ensures { result ≡ stopped_by self.now.state }
     {
-        match self.standing {
-            Standing::Settled => None,
-            Standing::Asks => Some(Code::Pending),
-            Standing::Failed => Some(Code::Failed),
+        match self.state {
+            EngineState::Settled => None,
+            EngineState::Asks => Some(Code::Pending),
+            EngineState::Failed => Some(Code::Failed),
         }
     }
 
     /// The time of the last commit, and the floor of the relations that have none of their own.
     pub fn last(&self, info: &mut Info) -> Code
-        ensures { TellsTimes self.now.standing self.now result info.new }
+        ensures { TellsTimes self.now.state self.now result info.new }
     {
-        match self.standing {
-            Standing::Settled => {
+        match self.state {
+            EngineState::Settled => {
                 info.a = self.store.last();
                 info.b = self.store.floors().every();
                 Code::Ok
             }
-            Standing::Asks => Code::Pending,
-            Standing::Failed => match &self.before {
+            EngineState::Asks => Code::Pending,
+            EngineState::Failed => match &self.before {
                 None => Code::Failed,
                 Some(published) => {
                     info.a = published.last;
@@ -135,7 +135,7 @@ impl Engine {
             at: 0,
             len: 0,
         };
-        if self.standing != Standing::Asks {
+        if self.state != EngineState::Asks {
             return Code::None;
         }
         let disk = self.store.disk();
@@ -171,14 +171,14 @@ impl Engine {
     pub fn called(&mut self, made: bool) -> Code
         ensures { HasCalled made self.old result self.new }
     {
-        match self.standing {
-            Standing::Settled | Standing::Failed => Code::None,
-            Standing::Asks => {
+        match self.state {
+            EngineState::Settled | EngineState::Failed => Code::None,
+            EngineState::Asks => {
                 if !made {
-                    self.standing = Standing::Failed;
+                    self.state = EngineState::Failed;
                     return Code::Failed;
                 }
-                self.standing = Standing::Settled;
+                self.state = EngineState::Settled;
                 put_published(&mut self.before, None);
                 Code::Ok
             }
@@ -208,10 +208,10 @@ impl Engine {
             published.spend();
             return;
         }
-        self.standing = if self.refusals() == refused {
-            Standing::Asks
+        self.state = if self.refusals() == refused {
+            EngineState::Asks
         } else {
-            Standing::Failed
+            EngineState::Failed
         };
         put_published(&mut self.before, Some(published));
     }

@@ -8,7 +8,7 @@ ghost use Rattle.embedded.specs.Queries.{is_none, takes_bytes, TellsRecent, Tell
 use crate::asking::{self, Lent};
 use crate::code::{Code, Info, Row};
 use crate::codes::query_code;
-use crate::engine::{Engine, Published, Standing};
+use crate::engine::{Engine, EngineState, Published};
 use crate::places::{Held, Places};
 use crate::rows::{records_out, rows_out, scan_out, value_out};
 use archive::RunEntry;
@@ -148,13 +148,13 @@ impl Engine {
     pub fn view(&mut self, info: &mut Info) -> Code
         ensures { GivesView self.old result info.new self.new }
     {
-        match self.standing {
-            Standing::Asks => Code::Pending,
-            Standing::Failed => {
+        match self.state {
+            EngineState::Asks => Code::Pending,
+            EngineState::Failed => {
                 info.a = LAST_VIEW;
                 Code::Ok
             }
-            Standing::Settled => self.new_view(info),
+            EngineState::Settled => self.new_view(info),
         }
     }
 
@@ -178,7 +178,7 @@ impl Engine {
     pub fn end(&mut self, view: u64) -> Code
         ensures { EndsView view self.old result self.new }
     {
-        if view == LAST_VIEW && self.standing == Standing::Failed {
+        if view == LAST_VIEW && self.state == EngineState::Failed {
             return Code::Ok;
         }
         match self.places.take_view(view) {
@@ -297,9 +297,9 @@ impl Engine {
 
     // Keeps of these times those that were published, also where a call was refused since. It takes no memory.
     fn keep_published(&self, times: &mut Vec<u64>)
-        ensures { times.new.items ≡ published_of self.now.standing self.now.before times.old.items }
+        ensures { times.new.items ≡ published_of self.now.state self.now.before times.old.items }
     {
-        if self.standing != Standing::Failed {
+        if self.state != EngineState::Failed {
             return;
         }
         match &self.before {
@@ -315,7 +315,7 @@ impl Engine {
     pub fn times_of(&self, label: u64, times: &mut [u64], info: &mut Info) -> Code
         ensures { TellsLabels label self.now result info.new times.new }
     {
-        if self.standing == Standing::Asks {
+        if self.state == EngineState::Asks {
             return Code::Pending;
         }
         let Ok(mut found) = self.store.times_of(label) else {

@@ -4,7 +4,7 @@ ghost use Rattle.embedded.specs.Held.{has_free};
 
 use crate::code::{Code, Info, Row};
 use crate::codes::{begin_code, did_number, pump_code, submit_code, txn_code};
-use crate::engine::{Engine, Standing};
+use crate::engine::{Engine, EngineState};
 use crate::places::Held;
 use crate::rows::{records_out, value_out};
 use group::{Redeemed, Submitted, Ticket};
@@ -104,7 +104,7 @@ impl Engine {
     pub fn submit(&mut self, transaction: u64, label: u64, now: u64, info: &mut Info) -> Code
         ensures { SubmitsEngine transaction label now self.old result info.new self.new }
     {
-        if self.standing == Standing::Asks {
+        if self.state == EngineState::Asks {
             return Code::Pending;
         }
         match self.places.take_transaction(transaction) {
@@ -118,7 +118,7 @@ impl Engine {
         requires { IsTrue (has_free self.old.places) }
         ensures { SubmitsTaken txn label now self.old result info.new self.new }
     {
-        if self.standing == Standing::Failed {
+        if self.state == EngineState::Failed {
             self.end_transaction(txn);
             return Code::Failed;
         }
@@ -175,7 +175,7 @@ impl Engine {
     pub fn redeem(&mut self, ticket: u64, info: &mut Info) -> Code
         ensures { RedeemsEngine ticket self.old result info.new self.new }
     {
-        if self.standing == Standing::Asks {
+        if self.state == EngineState::Asks {
             return Code::Pending;
         }
         match self.places.take_ticket(ticket) {
@@ -208,7 +208,7 @@ impl Engine {
         requires { IsTrue (has_free self.old.places) }
         ensures { KeepsTicket ticket self.old result info.new self.new }
     {
-        if self.standing == Standing::Failed {
+        if self.state == EngineState::Failed {
             ticket.give_up();
             return Code::InDoubt;
         }
@@ -218,9 +218,9 @@ impl Engine {
 
     // Whether a commit of this time was published, also where a device call was refused since.
     fn was_published(&self, time: u64) -> bool
-        ensures { result ≡ was_published self.now.standing self.now.before time }
+        ensures { result ≡ was_published self.now.state self.now.before time }
     {
-        if self.standing == Standing::Settled {
+        if self.state == EngineState::Settled {
             return true;
         }
         match &self.before {

@@ -6,8 +6,8 @@ use Rattle.std.proofs.lemmas.Bool.{cases_lt, cases_eq}
 use Rattle.std.proofs.lemmas.Bool.Decides.{nat_tests}
 use Rattle.std.specs.List.Sorted.{IsPartitionedBy, IsPartitionPoint}
 use Rattle.group.specs.declared.commit_order.CommitHead.{CommitHead}
-use Rattle.group.specs.declared.commit_order.Standing.TheVariants.{Unknown, Waiting, Published}
-use Rattle.group.specs.CommitOrder.{CommitOrderValue, last_time_after, last_time, last_published, IsRisingAfter, AreHeads, HasNone, IsPlaceOf, is_awaited, redeemed, standing_of, after_redeem}
+use Rattle.group.specs.declared.commit_order.TicketState.TheVariants.{Unknown, Waiting, Published}
+use Rattle.group.specs.CommitOrder.{CommitOrderValue, last_time_after, last_time, last_published, IsRisingAfter, AreHeads, HasNone, IsPlaceOf, is_awaited, redeemed, state_of_ticket, after_redeem}
 
 -- the last of the first n + 1
 last_time_after-take : (t : ℕ) (heads : List CommitHead) (n : ℕ) (d : CommitHead) → n < length heads → last_time_after t (take (suc n) heads) ≡ (get_or heads n d).time
@@ -121,13 +121,13 @@ length-redeemed time (x ∷ xs) =
     elim (x.time == time) as (λ b. length (cond b (record x { awaited = false } ∷ xs) (x ∷ redeemed time xs)) ≡ length (x ∷ xs)) [ true ↦ refl | false ↦ ap suc (length-redeemed time xs) ]
 
 -- what a redeem answers and leaves, by what it finds
-pub unknown : (time : ℕ) (v : CommitOrderValue) → is_awaited time v.heads ≡ false → (Unknown ≡ standing_of time v) × (v ≡ after_redeem time v)
+pub unknown : (time : ℕ) (v : CommitOrderValue) → is_awaited time v.heads ≡ false → (Unknown ≡ state_of_ticket time v) × (v ≡ after_redeem time v)
 unknown time v h = (rw h refl, rw h refl)
 
-pub waiting : (time : ℕ) (v : CommitOrderValue) → is_awaited time v.heads ≡ true → last_published v < time → (Waiting ≡ standing_of time v) × (v ≡ after_redeem time v)
+pub waiting : (time : ℕ) (v : CommitOrderValue) → is_awaited time v.heads ≡ true → last_published v < time → (Waiting ≡ state_of_ticket time v) × (v ≡ after_redeem time v)
 waiting time v h late = let later : nat_le time (last_published v) ≡ false = grind (arith, nat_tests) in (rw (h, later) refl, rw (h, later) refl)
 
-pub published : (time : ℕ) (v : CommitOrderValue) → is_awaited time v.heads ≡ true → time ≤ last_published v → (Published ≡ standing_of time v) × (record v { heads = redeemed time v.heads } ≡ after_redeem time v)
+pub published : (time : ℕ) (v : CommitOrderValue) → is_awaited time v.heads ≡ true → time ≤ last_published v → (Published ≡ state_of_ticket time v) × (record v { heads = redeemed time v.heads } ≡ after_redeem time v)
 published time v h early = let upto : nat_le time (last_published v) ≡ true = grind (arith, nat_tests) in (rw (h, upto) refl, rw (h, upto) refl)
 
 -- the same of a head that was read at the place

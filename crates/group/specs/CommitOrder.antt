@@ -1,8 +1,8 @@
 -- The commits in their order: those that are published, and then those that wait.
 use Rattle.std.specs.Prelude.{ℕ, ◌≡◌, ◌<◌, ◌≤◌, ◌^◌, ◌==◌, ◌&&◌, Bool, false, List, [], ◌∷◌, length, map, filter, take, if◌then◌else◌, nat_le, ◌≢◌, slice_index_or}
 use Rattle.group.specs.declared.commit_order.CommitHead.{CommitHead}
-use Rattle.group.specs.declared.commit_order.Standing.{Standing}
-use Rattle.group.specs.declared.commit_order.Standing.TheVariants.{Unknown, Waiting, Published}
+use Rattle.group.specs.declared.commit_order.TicketState.{TicketState}
+use Rattle.group.specs.declared.commit_order.TicketState.TheVariants.{Unknown, Waiting, Published}
 
 pub record CommitOrderValue : Type 0 where
   pub heads : List CommitHead
@@ -61,8 +61,8 @@ redeemed time [] = []
 redeemed time (head ∷ heads) = if head.time == time then record head { awaited = false } ∷ heads else head ∷ redeemed time heads
 
 -- where the commit of a time stands
-abbrev pub standing_of : ℕ → CommitOrderValue → Standing
-standing_of time v = if is_awaited time v.heads then (if nat_le time (last_published v) then Published else Waiting) else Unknown
+abbrev pub state_of_ticket : ℕ → CommitOrderValue → TicketState
+state_of_ticket time v = if is_awaited time v.heads then (if nat_le time (last_published v) then Published else Waiting) else Unknown
 
 -- a published one is awaited no longer
 abbrev pub after_redeem : ℕ → CommitOrderValue → CommitOrderValue

@@ -1,6 +1,6 @@
 //! The commit order: what is published, and then what waits.
 ghost use Rattle.std.specs.Prelude.{◌≡◌, ◌<◌, ◌≤◌, ◌^◌, ◌+◌, ◌-◌, ◌↔◌, ◌∷◌, ◌++◌, [], length, IfOk, OnErr, OnOk, MatchOption, map, filter, ◌==◌};
-ghost use Rattle.group.specs.CommitOrder.{last_published, last_assigned, times_of, standing_of, after_redeem, IsRisingAfter, HasNone, IsPlaceOf, HasRoom};
+ghost use Rattle.group.specs.CommitOrder.{last_published, last_assigned, times_of, state_of_ticket, after_redeem, IsRisingAfter, HasNone, IsPlaceOf, HasRoom};
 
 use std::alloc::{AllocError, Global};
 use std::marker::Model;
@@ -118,22 +118,22 @@ impl CommitOrder {
 
     /// Where the commit of a time stands, of which a ticket was given out. A published one is
     /// awaited no longer.
-    pub fn redeem(&mut self, time: u64) -> Standing
-        ensures is { result ≡ standing_of time self.old }
+    pub fn redeem(&mut self, time: u64) -> TicketState
+        ensures is { result ≡ state_of_ticket time self.old }
         ensures new { self.new ≡ after_redeem time self.old }
     {
         let last = self.last();
         let Some(place) = place_of(&self.heads, time) else {
-            return Standing::Unknown;
+            return TicketState::Unknown;
         };
         if !self.heads[place].awaited {
-            return Standing::Unknown;
+            return TicketState::Unknown;
         }
         if time > last {
-            return Standing::Waiting;
+            return TicketState::Waiting;
         }
         self.heads[place].awaited = false;
-        Standing::Published
+        TicketState::Published
     }
 
     /// The times of the published commits with a label, rising.
@@ -160,7 +160,7 @@ fn published_times(alloc: Global, heads: &[CommitHead], label: u64) -> Result<Ve
 
 /// Where a commit stands of which a ticket was given out.
 #[derive(Clone, Copy, Debug, PartialEq, Eq)]
-pub enum Standing {
+pub enum TicketState {
     /// No ticket of this time is out.
     Unknown,
     Waiting,

@@ -11,7 +11,7 @@ mod taking;
 mod ticket;
 
 pub use answers::{BeginFault, Did, PumpFault, Redeemed, SubmitFault, Submitted};
-pub use commit_order::{CommitHead, CommitOrder, Standing};
+pub use commit_order::{CommitHead, CommitOrder, TicketState};
 pub use conflict::first_conflict;
 pub use queued::{Queued, QueuedParts, StoredExtent};
 pub use records::records_of;

@@ -7,7 +7,7 @@ ghost use Rattle.chains.specs.KeyWrites.{latest};
 
 use crate::table::{Scale, nanoseconds, print_time};
 use chains::{ChainMap, Frozen, Pending, SharedValue};
-use history::{Key, KeyWrite};
+use history::{Key, KeyWrite, LAST_TIME};
 use snapshot::Txn;
 use std::alloc::{AllocError, Global};
 use std::io;
@@ -30,9 +30,6 @@ const FIELDS: [&[u8]; 4] = [
     b"wxyz0123456789ab",
     b"cdefghijklmnopqr",
 ];
-
-/// The last time of a commit, in microseconds since 1970.
-const LAST_TIME: u64 = (1 << 63) - 1;
 
 /// A map of versions, and the time of its last commit.
 #[derive(Drop)]

@@ -15,8 +15,8 @@ use Rattle.history.specs.Histories.{History}
 use Rattle.image.specs.Values.{Value}
 use Rattle.group.specs.CommitOrder as orders
 use Rattle.group.specs.Tickets.{TicketValue}
-use Rattle.group.specs.declared.commit_order.Standing.{Standing}
-use Rattle.group.specs.declared.commit_order.Standing.TheVariants as standing
+use Rattle.group.specs.declared.commit_order.TicketState.{TicketState}
+use Rattle.group.specs.declared.commit_order.TicketState.TheVariants as ticket_state
 use Rattle.group.specs.declared.answers.BeginFault.{BeginFault}
 use Rattle.group.specs.declared.answers.BeginFault.TheVariants as begin
 use Rattle.group.specs.declared.answers.Submitted.{Submitted}
@@ -77,17 +77,17 @@ pub aborted : (tells : Bool) (old new : StoreValue) (txn : TxnValue) → Aborts 
 aborted tells old new txn aborts behind =
     rests tells old new (of_same old.transactions new.transactions (aborts_same old.transactions txn new.transactions aborts.transactions)) aborts.rest behind
 
-ticket_same : (old : TransactionsValue) (ticket : TicketValue) (at : Standing) (answer : Redeemed) (new : TransactionsValue) → calls.AnswersTicket old ticket at answer new → new.usages ≡ old.usages
-ticket_same old ticket standing.Unknown answer new is = ap (λ (t : TransactionsValue). t.usages) is.1
-ticket_same old ticket standing.Published answer new is = ap (λ (t : TransactionsValue). t.usages) is.1
-ticket_same old ticket standing.Waiting answer new is = ap (λ (t : TransactionsValue). t.usages) is.1
+ticket_same : (old : TransactionsValue) (ticket : TicketValue) (at : TicketState) (answer : Redeemed) (new : TransactionsValue) → calls.AnswersTicket old ticket at answer new → new.usages ≡ old.usages
+ticket_same old ticket ticket_state.Unknown answer new is = ap (λ (t : TransactionsValue). t.usages) is.1
+ticket_same old ticket ticket_state.Published answer new is = ap (λ (t : TransactionsValue). t.usages) is.1
+ticket_same old ticket ticket_state.Waiting answer new is = ap (λ (t : TransactionsValue). t.usages) is.1
 
 pub redeemed : (tells : Bool) (old new : StoreValue) (ticket : TicketValue) (answer : Redeemed) → Redeems old ticket answer new → WritesBehind old → LeavesAll tells old new × WritesBehind new
 redeemed tells old new ticket answer redeems behind =
     rests tells old new (of_same old.transactions new.transactions (by_mark (ticket.mark == old.transactions.mark) redeems.transactions)) redeems.rest behind
   where
-    by_mark : (b : Bool) → MatchBool b (calls.AnswersTicket old.transactions ticket (orders.standing_of ticket.time (calls.order_of old.transactions)) answer new.transactions) ((answer ≡ answers.Stranger) × (new.transactions ≡ old.transactions)) → new.transactions.usages ≡ old.transactions.usages
-    by_mark true is = ticket_same old.transactions ticket (orders.standing_of ticket.time (calls.order_of old.transactions)) answer new.transactions is
+    by_mark : (b : Bool) → MatchBool b (calls.AnswersTicket old.transactions ticket (orders.state_of_ticket ticket.time (calls.order_of old.transactions)) answer new.transactions) ((answer ≡ answers.Stranger) × (new.transactions ≡ old.transactions)) → new.transactions.usages ≡ old.transactions.usages
+    by_mark true is = ticket_same old.transactions ticket (orders.state_of_ticket ticket.time (calls.order_of old.transactions)) answer new.transactions is
     by_mark false is = ap (λ (t : TransactionsValue). t.usages) is.1
 
 submit_keeps : (v : TransactionsValue) (txn : TxnValue) (label now : ℕ) (answer : Result Submitted SubmitFault) (new : TransactionsValue) → submits.AnswersSubmit v txn label now answer new → KeepsKept v new

@@ -40,7 +40,7 @@ use Rattle.store.specs.declared.job.JobStage.{JobStage}
 use Rattle.store.specs.declared.job.JobStage.TheVariants as stages
 use Rattle.store.specs.declared.job.JobDid.{JobDid}
 use Rattle.store.specs.declared.job.JobDid.TheVariants as did
-use Rattle.standing.proofs.Retired.{still-kept}
+use Rattle.refinement.proofs.Retired.{still-kept}
 use Rattle.named.specs.Named.{IsInKept, IsNamed, IsLeft, IsGivenUpIn, LeavesNamed, IsBehindRuns, WritesBehind, IsTyped}
 use Rattle.named.proofs.Places.{left_by_write, left_by_sync, left_by_slot, left_by_growth}
 use Rattle.named.proofs.Naming.{kept_same, named_by, slots_named, heap_apart, leaves_named, leaves_itself, behind_by}

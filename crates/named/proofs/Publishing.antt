@@ -40,7 +40,7 @@ use Rattle.store.specs.declared.job.JobDid.{JobDid}
 use Rattle.store.specs.declared.job.JobDid.TheVariants as did
 use Rattle.named.specs.Named.{IsTyped}
 use Rattle.named.specs.Laws.{HasPublished, HasArchived, HasAnchored, NamesNoMore, NamesPiece}
-use Rattle.standing.proofs.Retired.{reserved-kept}
+use Rattle.refinement.proofs.Retired.{reserved-kept}
 use Rattle.named.proofs.Naming.{kept_published, others_of, grouped_usages, grouped_queue}
 
 -- ---- a group

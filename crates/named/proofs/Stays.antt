@@ -11,8 +11,8 @@ use Rattle.extents.specs.Usages.{IsKept}
 use Rattle.image.specs.Reading.{Reading}
 use Rattle.status.specs.declared.header.Header.{Header}
 use Rattle.status.specs.Rules.{row_end}
-use Rattle.reading.specs.Extents.{Extent}
-use Rattle.reading.specs.Layouts.{Layout, live}
+use Rattle.layout.specs.Extents.{Extent}
+use Rattle.layout.specs.Layouts.{Layout, live}
 use Rattle.recovery.specs.HeapReads.{numbers_in}
 use Rattle.recovery.specs.ReadsImage.{IsOpening}
 use Rattle.store.specs.Values.{StoreValue}

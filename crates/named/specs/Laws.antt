@@ -24,7 +24,7 @@ use Rattle.group.specs.declared.answers.PumpFault.{PumpFault}
 use Rattle.status.specs.declared.header.Header.{Header}
 use Rattle.status.specs.GrowthState.{GrowthState}
 use Rattle.status.specs.Rules.{row_end, runs_of}
-use Rattle.reading.specs.Layouts.{Layout, live}
+use Rattle.layout.specs.Layouts.{Layout, live}
 use Rattle.recovery.specs.ReadsImage.{IsOpening}
 use Rattle.store.specs.Values.{StoreValue}
 use Rattle.timequery.specs.View.{ViewValue}

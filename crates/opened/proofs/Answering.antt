@@ -19,11 +19,11 @@ use Rattle.timequery.specs.declared.fault.QueryFault.{QueryFault}
 use Rattle.transactions.specs.Calls.{order_of}
 use Rattle.store.specs.Values.{StoreValue}
 use Rattle.store.specs.Calls.{IsViewOf, AnswersAtView}
-use Rattle.standing.specs.Homes.{GoesOn, IsSure}
-use Rattle.standing.specs.Laws.{SaysAt}
-use Rattle.standing.specs.Stands.{Stands}
-use Rattle.standing.proofs.Answering.{times-of_label}
-use Rattle.standing.proofs.Views.{view-of-history, view-goes-on, at-answered, scan_at-answered, between-answered, scan_between-answered}
+use Rattle.refinement.specs.Homes.{GoesOn, IsSure}
+use Rattle.refinement.specs.Laws.{SaysAt}
+use Rattle.refinement.specs.Stands.{Stands}
+use Rattle.refinement.proofs.Answering.{times-of_label}
+use Rattle.refinement.proofs.Views.{view-of-history, view-goes-on, at-answered, scan_at-answered, between-answered, scan_between-answered}
 use Rattle.opened.specs.Laws.{OpensAgain, IsKeptThen, AnswersBy}
 use Rattle.opened.proofs.Fronts.{front-says, by-change}
 use Rattle.opened.proofs.Reopened.{reopen-stands}

@@ -11,12 +11,12 @@ use Rattle.status.specs.Header.{new_header, total, piece_gate}
 use Rattle.status.specs.Log.{IsOpen, IsLog}
 use Rattle.status.specs.Reading.{ReadsHeader}
 use Rattle.status.specs.Rules.{is_built}
-use Rattle.reading.proofs.Ways.{empty_laid}
+use Rattle.layout.proofs.Ways.{empty_laid}
 use Rattle.recovery.specs.Format.{IsFormatted, LeavesShut}
 use Rattle.store.specs.Values.{StoreValue}
 use Rattle.store.specs.Opens.{Opens}
-use Rattle.standing.specs.OnDisk.{IsImageOf}
-use Rattle.standing.specs.Stands.{Stands}
+use Rattle.refinement.specs.OnDisk.{IsImageOf}
+use Rattle.refinement.specs.Stands.{Stands}
 use Rattle.opened.specs.Laws.{HasNoPieceBehind}
 use Rattle.opened.proofs.Opened.{open-stands}
 

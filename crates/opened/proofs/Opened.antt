@@ -33,16 +33,16 @@ use Rattle.group.specs.CommitOrder as orders
 use Rattle.status.specs.declared.header.Header.{Header}
 use Rattle.status.specs.Header.{total}
 use Rattle.status.specs.Rules.{row_end, log_of, AreInRow}
-use Rattle.reading.specs.Extents.{Extent}
-use Rattle.reading.specs.Layouts.{Layout, live}
-use Rattle.reading.specs.Runs.{StoredRun}
+use Rattle.layout.specs.Extents.{Extent}
+use Rattle.layout.specs.Layouts.{Layout, live}
+use Rattle.layout.specs.Runs.{StoredRun}
 use Rattle.archive.specs.Runs.{HoldRuns, RunsEndBy}
 use Rattle.archive.specs.Searches.{archive_of}
 use Rattle.wire.specs.declared.slot.Run.{Run}
-use Rattle.reading.specs.Keeping.{RestsAs}
-use Rattle.reading.specs.Opening.{unread, unread_layout}
-use Rattle.reading.proofs.OpensAsOne.{opens_once}
-use Rattle.reading.proofs.Ways.{synced_rests}
+use Rattle.layout.specs.Keeping.{RestsAs}
+use Rattle.layout.specs.Opening.{unread, unread_layout}
+use Rattle.layout.proofs.OpensAsOne.{opens_once}
+use Rattle.layout.proofs.Ways.{synced_rests}
 use Rattle.recovery.specs.declared.recovered.Recovered.{Recovered}
 use Rattle.recovery.specs.declared.recovered.CommitName.{CommitName}
 use Rattle.recovery.specs.Names.{head_named}
@@ -57,13 +57,13 @@ use Rattle.store.specs.Opens.{Opens, opened_on, IsUnread}
 use Rattle.recovery.specs.RunEntries.{runs_named, AreEntriesOf}
 use Rattle.archive.specs.declared.run.RunEntry.{RunEntry}
 use Rattle.store.proofs.Opened.{rising-opened, last-opened}
-use Rattle.standing.specs.Standing.{Name, name_of, name_at, HasWrites, HasForgotten, StandsInMemory}
-use Rattle.standing.specs.OnDisk.{IsImageOf, Works, StandsOnDisk}
-use Rattle.standing.specs.Homes.{AreArchived, RunsStand}
-use Rattle.standing.specs.Stands.{AreOfProfile, Stands, StandsStill}
-use Rattle.standing.proofs.Growing.{as-still}
-use Rattle.standing.proofs.HeapForgets.{heap-forgot}
-use Rattle.standing.proofs.Held.{last-held}
+use Rattle.refinement.specs.Standing.{Name, name_of, name_at, HasWrites, HasForgotten, StandsInMemory}
+use Rattle.refinement.specs.OnDisk.{IsImageOf, Works, StandsOnDisk}
+use Rattle.refinement.specs.Homes.{AreArchived, RunsStand}
+use Rattle.refinement.specs.Stands.{AreOfProfile, Stands, StandsStill}
+use Rattle.refinement.proofs.Growing.{as-still}
+use Rattle.refinement.proofs.HeapForgets.{heap-forgot}
+use Rattle.refinement.proofs.Held.{last-held}
 use Rattle.opened.proofs.Runs.{runs-hold, runs-end, marks-are}
 use Rattle.opened.proofs.Times.{opened-times, opened-long}
 use Rattle.opened.proofs.Versions.{latest-upto}

@@ -9,7 +9,7 @@ use Rattle.history.specs.Fronts.{OnFront}
 use Rattle.history.specs.Machine.{Machine, opened}
 use Rattle.image.specs.Values.{Value}
 use Rattle.status.specs.declared.header.Header.{Header}
-use Rattle.reading.specs.Opening.{unread, unread_layout}
+use Rattle.layout.specs.Opening.{unread, unread_layout}
 use Rattle.recovery.specs.Faults.{IsReadFault}
 use Rattle.recovery.specs.Settling.{Settles}
 use Rattle.recovery.specs.declared.fault.OpenFault.{OpenFault}
@@ -17,8 +17,8 @@ use Rattle.recovery.proofs.OneAnswer.{opening_only}
 use Rattle.recovery.proofs.HistoryRead.{stands_opening}
 use Rattle.store.specs.Values.{StoreValue}
 use Rattle.store.specs.Opens.{Opens, OpenRefuses}
-use Rattle.standing.specs.OnDisk.{IsImageOf}
-use Rattle.standing.specs.Stands.{Stands, growth_of, may_have_grown}
+use Rattle.refinement.specs.OnDisk.{IsImageOf}
+use Rattle.refinement.specs.Stands.{Stands, growth_of, may_have_grown}
 use Rattle.opened.specs.Laws.{OpensAgain, LeavesFronts}
 use Rattle.opened.proofs.Fronts.{front-says, front-is}
 use Rattle.opened.proofs.Opened.{open-stands}

@@ -17,15 +17,15 @@ use Rattle.archive.specs.declared.run.RunEntry.{RunEntry}
 use Rattle.archive.specs.Records as kept
 use Rattle.archive.specs.Runs as written
 use Rattle.archive.specs.Runs.{HoldRuns, RunsEndBy, run_end}
-use Rattle.reading.specs.Records.{IsArchiveRecord}
-use Rattle.reading.specs.Runs.{StoredRun, IsStoredRun, HoldsRun}
-use Rattle.reading.proofs.Lists.{weaker}
+use Rattle.layout.specs.Records.{IsArchiveRecord}
+use Rattle.layout.specs.Runs.{StoredRun, IsStoredRun, HoldsRun}
+use Rattle.layout.proofs.Lists.{weaker}
 use Rattle.status.specs.Kept.{kept_of}
 use Rattle.status.proofs.Kept.{kept-of, kept-append}
 use Rattle.status.specs.Rules.{runs_in, runs_of, row_end, AreInRow, slot_of, log_of}
 use Rattle.timequery.specs.View.{mark_after}
 use Rattle.recovery.specs.RunEntries.{runs_named, marks_before, floors_before, AreEntriesOf}
-use Rattle.standing.proofs.Archiving.{run-same}
+use Rattle.refinement.proofs.Archiving.{run-same}
 
 -- ---- they stand in the archive's bytes
 

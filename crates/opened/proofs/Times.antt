@@ -5,21 +5,21 @@ use Rattle.std.proofs.lemmas.List.{length-replicate}
 use Rattle.extents.specs.Usages as usages
 use Rattle.extents.specs.Usages.{IsNoneOf}
 use Rattle.extents.specs.Times.{time_of, with_times}
-use Rattle.reading.specs.Extents.{Extent, IsExtent, AreDistinct}
+use Rattle.layout.specs.Extents.{Extent, IsExtent, AreDistinct}
 use Rattle.image.specs.Reading.{Reading}
 use Rattle.status.specs.declared.header.Header.{Header}
-use Rattle.reading.specs.Layouts.{Layout, StoredMember, IsLayoutOf, extents_of}
-use Rattle.reading.specs.Opening.{unread_layout}
-use Rattle.reading.proofs.Layouts.{live_extents_are}
-use Rattle.reading.proofs.Lists.{weaker, three, all_of_front, all_of_back, distinct_parts}
+use Rattle.layout.specs.Layouts.{Layout, StoredMember, IsLayoutOf, extents_of}
+use Rattle.layout.specs.Opening.{unread_layout}
+use Rattle.layout.proofs.Layouts.{live_extents_are}
+use Rattle.layout.proofs.Lists.{weaker, three, all_of_front, all_of_back, distinct_parts}
 use Rattle.recovery.specs.declared.recovered.LiveChain.{LiveChain}
 use Rattle.recovery.specs.declared.recovered.Recovered.{Recovered}
 use Rattle.recovery.specs.Chains.{live_named}
 use Rattle.recovery.specs.HeapReads.{numbers_in, live_of}
 use Rattle.recovery.specs.ReadsImage.{IsReadAs}
 use Rattle.store.specs.Opens.{with_live, times_of}
-use Rattle.standing.specs.OnDisk.{HasTimes}
-use Rattle.standing.proofs.Retired.{times-now, times-stay, times-long}
+use Rattle.refinement.specs.OnDisk.{HasTimes}
+use Rattle.refinement.proofs.Retired.{times-now, times-stay, times-long}
 
 -- the extents of each member are in the chain of its time
 abbrev with_members : List ℕ → List StoredMember → List ℕ

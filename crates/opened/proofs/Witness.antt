@@ -44,10 +44,10 @@ use Rattle.status.specs.declared.header.Header.{Header}
 use Rattle.status.specs.Kept.{kept_of}
 use Rattle.status.specs.Rules.{runs_in, runs_of}
 use Rattle.wire.specs.declared.slot.Run.{Run}
-use Rattle.reading.specs.Extents.{Extent}
-use Rattle.reading.specs.Layouts.{StoredMember, IsStoredMember, live, entries_of}
-use Rattle.reading.specs.Opening.{unread, unread_layout}
-use Rattle.reading.proofs.Layouts.{live_extents_are}
+use Rattle.layout.specs.Extents.{Extent}
+use Rattle.layout.specs.Layouts.{StoredMember, IsStoredMember, live, entries_of}
+use Rattle.layout.specs.Opening.{unread, unread_layout}
+use Rattle.layout.proofs.Layouts.{live_extents_are}
 use Rattle.recovery.specs.declared.recovered.Recovered.{Recovered}
 use Rattle.recovery.specs.declared.recovered.CommitName.{CommitName}
 use Rattle.recovery.specs.declared.recovered.LiveChain.{LiveChain}
@@ -69,7 +69,7 @@ use Rattle.archive.specs.declared.run.RunEntry.{RunEntry}
 use Rattle.recovery.specs.RunEntries.{runs_named, AreEntriesOf, AreMarkedFrom}
 use Rattle.recovery.proofs.RunEntries.{entries_made, go_on}
 use Rattle.store.specs.Opens.{IsUnread, Opens, opened_on}
-use Rattle.standing.specs.OnDisk.{IsImageOf}
+use Rattle.refinement.specs.OnDisk.{IsImageOf}
 
 -- a list as a Vec
 vec_of : {X : Type 0} → Global → (xs : List X) → length xs < 2 ^ 63 → Vec X Global

@@ -27,10 +27,10 @@ use Rattle.transactions.specs.Calls.{order_of}
 use Rattle.store.specs.Values.{StoreValue}
 use Rattle.store.specs.Calls.{IsViewOf, AnswersAtView, AnswersScanAt, AnswersRows, AnswersScanRows}
 use Rattle.store.specs.Opens.{Opens, OpenRefuses}
-use Rattle.standing.specs.Laws.{SaysAt, SaysScanAt, SaysBetween, SaysScanBetween}
-use Rattle.standing.specs.Homes.{GoesOn, IsSure}
-use Rattle.standing.specs.OnDisk.{IsImageOf}
-use Rattle.standing.specs.Stands.{Stands, LeavesFront}
+use Rattle.refinement.specs.Laws.{SaysAt, SaysScanAt, SaysBetween, SaysScanBetween}
+use Rattle.refinement.specs.Homes.{GoesOn, IsSure}
+use Rattle.refinement.specs.OnDisk.{IsImageOf}
+use Rattle.refinement.specs.Stands.{Stands, LeavesFront}
 
 -- ---- opening
 

@@ -27,10 +27,10 @@ use Rattle.deltas.specs.declared.chain.Kinds.TheVariants.{OfAnchors}
 use Rattle.deltas.specs.Records as deltas
 use Rattle.deltas.specs.Records.{spelling, from_of, value_of, old_record, old_record_of}
 use Rattle.deltas.specs.Chains.{IsPermitted}
-use Rattle.reading.specs.Records.{old_bytes, IsOldRecord}
-use Rattle.reading.specs.Extents.{Extent, IsExtent, IsChain, HoldsExtent, first_of}
-use Rattle.reading.specs.Opening.{HasAnchors}
-use Rattle.reading.proofs.Lists.{both}
+use Rattle.layout.specs.Records.{old_bytes, IsOldRecord}
+use Rattle.layout.specs.Extents.{Extent, IsExtent, IsChain, HoldsExtent, first_of}
+use Rattle.layout.specs.Opening.{HasAnchors}
+use Rattle.layout.proofs.Lists.{both}
 use Rattle.recovery.specs.declared.records.ReadRecords.{ReadRecords}
 use Rattle.recovery.specs.declared.recovered.HeapRead.{HeapRead}
 use Rattle.recovery.specs.Walk.{extent_at, numbers_at, IsThere, claimed, AreClaimable}

@@ -13,8 +13,8 @@ use Rattle.image.specs.Reading.{Head, Slot, Commits, Archived, Reclaimed, Floor}
 use Rattle.image.specs.Log.{heads_of, last_time_after, last_time, archive_mark, reclaim_mark, reclaim_mark_after, floor_of, AreRisingAfter, MayAllCome}
 use Rattle.image.proofs.Logs.{heads_of-append, last_time_after-append, marked-all, marked-none}
 use Rattle.status.specs.Rules.{head_of, slot_of, log_of, KeepsRules}
-use Rattle.reading.specs.Layouts.{entries_in, entries_of, later_than, no_anchors, anchors_in, anchors_after}
-use Rattle.reading.proofs.Rules.{rules_say}
+use Rattle.layout.specs.Layouts.{entries_in, entries_of, later_than, no_anchors, anchors_in, anchors_after}
+use Rattle.layout.proofs.Rules.{rules_say}
 use Rattle.recovery.specs.Names.{head_named, name_of}
 
 rising_join : (t : ℕ) (xs ys : List Head) → AreRisingAfter t xs → AreRisingAfter (last_time_after t xs) ys → AreRisingAfter t (xs ++ ys)

@@ -27,10 +27,10 @@ use Rattle.chains.specs.Writes.{written}
 use Rattle.extents.specs.declared.usage.Usage.{Usage}
 use Rattle.extents.specs.declared.usage.Usage.TheVariants.{Free}
 use Rattle.deltas.specs.declared.«record».Record.{Record}
-use Rattle.reading.specs.Extents.{Extent, AreDistinct}
-use Rattle.reading.specs.Layouts.{StoredMember, extents_of}
-use Rattle.reading.specs.Opening.{HasMember, values_left, AreLive, FailsAt, HasAnchors}
-use Rattle.reading.proofs.Live.{values_behind, live_more, fails_behind, parts_of_live}
+use Rattle.layout.specs.Extents.{Extent, AreDistinct}
+use Rattle.layout.specs.Layouts.{StoredMember, extents_of}
+use Rattle.layout.specs.Opening.{HasMember, values_left, AreLive, FailsAt, HasAnchors}
+use Rattle.layout.proofs.Live.{values_behind, live_more, fails_behind, parts_of_live}
 use Rattle.recovery.specs.declared.recovered.HeapRead.{HeapRead}
 use Rattle.recovery.specs.Resolving.{before_of}
 use Rattle.recovery.specs.Walk.{claimed}

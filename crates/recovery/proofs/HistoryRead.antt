@@ -25,10 +25,10 @@ use Rattle.status.specs.declared.header.Header.{Header}
 use Rattle.floors.specs.Floors.{FloorsValue, floor_at}
 use Rattle.status.specs.Rules.{is_built}
 use Rattle.status.proofs.Kept.{kept-of}
-use Rattle.reading.specs.Layouts.{Layout, IsLayoutOf, HoldsLayout}
-use Rattle.reading.specs.Opening.{AreBuilt, unread, unread_layout}
-use Rattle.reading.proofs.Opening.{held_opens}
-use Rattle.reading.proofs.OpensAsOne.{opens_once}
+use Rattle.layout.specs.Layouts.{Layout, IsLayoutOf, HoldsLayout}
+use Rattle.layout.specs.Opening.{AreBuilt, unread, unread_layout}
+use Rattle.layout.proofs.Opening.{held_opens}
+use Rattle.layout.proofs.OpensAsOne.{opens_once}
 use Rattle.recovery.specs.declared.recovered.Recovered.{Recovered}
 use Rattle.recovery.specs.ReadsImage.{IsOpening, IsReadAs, IsReadFrom}
 use Rattle.recovery.specs.Laws.{IsHistoryRead}

@@ -22,11 +22,11 @@ use Rattle.status.specs.Rules.{MayFollow, runs_of}
 use Rattle.status.specs.Kept.{kept_of}
 use Rattle.status.specs.Reading.{ReadsHeader, HoldsLog, IsDamaged}
 use Rattle.status.proofs.Opening.{only_log, one_log}
-use Rattle.reading.specs.Layouts.{Layout, live}
-use Rattle.reading.specs.Opening.{FailsHeap, FailsRuns}
-use Rattle.reading.proofs.Once.{one_header}
-use Rattle.reading.proofs.Unique.{slot_within}
-use Rattle.reading.proofs.OpensAsOne as one
+use Rattle.layout.specs.Layouts.{Layout, live}
+use Rattle.layout.specs.Opening.{FailsHeap, FailsRuns}
+use Rattle.layout.proofs.Once.{one_header}
+use Rattle.layout.proofs.Unique.{slot_within}
+use Rattle.layout.proofs.OpensAsOne as one
 use Rattle.recovery.specs.declared.recovered.Recovered.{Recovered}
 use Rattle.recovery.specs.declared.fault.OpenFault.{OpenFault}
 use Rattle.recovery.specs.declared.fault.OpenFault.TheVariants.{NotAStore, Damaged, Device, NoMemory}

@@ -18,11 +18,11 @@ use Rattle.extents.specs.Usages.{IsKept, IsNoneOf}
 use Rattle.status.specs.declared.header.Header.{Header}
 use Rattle.status.specs.Kept.{kept_of}
 use Rattle.status.specs.Rules.{head_of, log_of, runs_in, runs_of}
-use Rattle.reading.specs.Extents.{Extent, HoldsExtent}
-use Rattle.reading.specs.Layouts.{StoredMember, IsStoredMember, Layout, extents_of, entries_of, later_than, no_anchors, anchors_after}
-use Rattle.reading.specs.Opening.{EndsWithin, mark_of}
-use Rattle.reading.proofs.Rules.{rules_say}
-use Rattle.reading.proofs.Live.{parts_of_live}
+use Rattle.layout.specs.Extents.{Extent, HoldsExtent}
+use Rattle.layout.specs.Layouts.{StoredMember, IsStoredMember, Layout, extents_of, entries_of, later_than, no_anchors, anchors_after}
+use Rattle.layout.specs.Opening.{EndsWithin, mark_of}
+use Rattle.layout.proofs.Rules.{rules_say}
+use Rattle.layout.proofs.Live.{parts_of_live}
 use Rattle.disk.specs.declared.area.Area.TheVariants.{Status, Heap, Archive}
 use Rattle.recovery.specs.declared.fault.OpenFault.{OpenFault}
 use Rattle.recovery.specs.declared.fault.OpenFault.TheVariants.{NotAStore, Damaged, Device, NoMemory}

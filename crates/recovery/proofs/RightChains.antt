@@ -23,12 +23,12 @@ use Rattle.deltas.specs.Records.{spelling, record_of, content_of, heap_content, 
 use Rattle.deltas.specs.Reading.{next_of}
 use Rattle.deltas.specs.Chains.{IsPermitted}
 use Rattle.deltas.proofs.OneList.{one_packing}
-use Rattle.reading.specs.Records.{record_bytes, IsRecord}
-use Rattle.reading.specs.Extents.{Extent, IsExtent, IsChain, AreLinked, AreDistinct, HoldsExtent, first_of, extent_start, extent_bytes}
-use Rattle.reading.specs.Layouts.{StoredMember}
-use Rattle.reading.specs.Opening.{IsLiveMember, HasMember}
-use Rattle.reading.proofs.Extents.{extent-length}
-use Rattle.reading.proofs.Lists.{weaker, both, distinct_parts, distinct_join, cross_turned}
+use Rattle.layout.specs.Records.{record_bytes, IsRecord}
+use Rattle.layout.specs.Extents.{Extent, IsExtent, IsChain, AreLinked, AreDistinct, HoldsExtent, first_of, extent_start, extent_bytes}
+use Rattle.layout.specs.Layouts.{StoredMember}
+use Rattle.layout.specs.Opening.{IsLiveMember, HasMember}
+use Rattle.layout.proofs.Extents.{extent-length}
+use Rattle.layout.proofs.Lists.{weaker, both, distinct_parts, distinct_join, cross_turned}
 use Rattle.recovery.specs.Walk.{extent_at, numbers_at, IsThere, claimed, AreClaimable}
 use Rattle.recovery.specs.Chains.{numbers_of, chain_name, HasRecords, IsRightChain}
 use Rattle.recovery.specs.HeapReads.{numbers_in}

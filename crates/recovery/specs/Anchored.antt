@@ -8,7 +8,7 @@ use Rattle.deltas.specs.declared.«record».Record.{Record}
 use Rattle.deltas.specs.declared.chain.ChainName.{ChainName}
 use Rattle.deltas.specs.Records.{from_of, value_of}
 use Rattle.extents.specs.declared.usage.Usage.TheVariants.{Free}
-use Rattle.reading.specs.Opening.{HasAnchors}
+use Rattle.layout.specs.Opening.{HasAnchors}
 use Rattle.recovery.specs.declared.recovered.HeapRead.{HeapRead}
 use Rattle.recovery.specs.HeapReads.{numbers_in}
 use Rattle.recovery.specs.Walk.{claimed}

@@ -10,9 +10,9 @@ use Rattle.image.specs.Reading.{OldRecord}
 use Rattle.image.specs.Facts.{commits_from, latest, old_writes}
 use Rattle.chains.specs.KeyWrites as chains
 use Rattle.extents.specs.declared.usage.Usage.TheVariants.{Free}
-use Rattle.reading.specs.Extents.{Extent}
-use Rattle.reading.specs.Layouts.{StoredMember, extents_of}
-use Rattle.reading.specs.Opening.{AreLive, FailsAt, HasAnchors}
+use Rattle.layout.specs.Extents.{Extent}
+use Rattle.layout.specs.Layouts.{StoredMember, extents_of}
+use Rattle.layout.specs.Opening.{AreLive, FailsAt, HasAnchors}
 use Rattle.recovery.specs.declared.recovered.HeapRead.{HeapRead}
 use Rattle.recovery.specs.declared.fault.OpenFault.{OpenFault}
 use Rattle.recovery.specs.declared.fault.OpenFault.TheVariants.{NotAStore, Damaged, Device, NoMemory}

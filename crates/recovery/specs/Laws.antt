@@ -13,8 +13,8 @@ use Rattle.extents.specs.Usages.{IsFree, IsKept}
 use Rattle.floors.specs.Floors.{floor_at}
 use Rattle.status.specs.declared.header.Header.{Header}
 use Rattle.status.specs.Rules.{is_built}
-use Rattle.reading.specs.Layouts.{Layout, IsLayoutOf, HoldsLayout}
-use Rattle.reading.specs.Opening.{AreBuilt}
+use Rattle.layout.specs.Layouts.{Layout, IsLayoutOf, HoldsLayout}
+use Rattle.layout.specs.Opening.{AreBuilt}
 use Rattle.recovery.specs.declared.recovered.Recovered.{Recovered}
 use Rattle.recovery.specs.declared.fault.OpenFault.{OpenFault}
 use Rattle.recovery.specs.Names.{head_named}

@@ -12,8 +12,8 @@ use Rattle.extents.specs.Usages.{IsFree, IsKept, IsNoneOf}
 use Rattle.status.specs.declared.header.Header.{Header}
 use Rattle.status.specs.Rules.{is_built}
 use Rattle.status.specs.Kept.{kept_of}
-use Rattle.reading.specs.Layouts.{Layout, live}
-use Rattle.reading.specs.Opening.{Opens}
+use Rattle.layout.specs.Layouts.{Layout, live}
+use Rattle.layout.specs.Opening.{Opens}
 use Rattle.recovery.specs.declared.recovered.Recovered.{Recovered}
 use Rattle.recovery.specs.Names.{head_named}
 use Rattle.recovery.specs.RunEntries.{AreEntriesOf}

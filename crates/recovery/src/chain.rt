@@ -9,19 +9,19 @@ ghost use Rattle.recovery.specs.Walk.{extent_at, numbers_at, IsThere, claimed, A
 ghost use Rattle.recovery.specs.ReadChains.{IsReadChain};
 
 use crate::fault::OpenFault;
-use deltas::Image;
+use deltas::{EXTENT_LEN, Image};
 use disk::{Area, Disk};
 use extents::{Extents, LAST_EXTENT};
 use std::alloc::{AllocError, Global};
 
-const EXTENT_LEN: usize = 8192;
+const EXTENT_BYTES: u64 = EXTENT_LEN as u64;
 
 // Keeps an extent, if it lies in a heap of this length and is free.
 fn claim(extents: &mut Extents, heap_len: u64, number: u32) -> bool
     ensures claimed { IsTrue result ↔ IsThere heap_len number × IsFree extents.old number }
     ensures kept { extents.new ≡ (if result then with_usage extents.old number Kept else extents.old) }
 {
-    if number < 1 || number > LAST_EXTENT || number as u64 * 8192 > heap_len {
+    if number < 1 || number > LAST_EXTENT || number as u64 * EXTENT_BYTES > heap_len {
         return false;
     }
     extents.claim(number).is_ok()
@@ -43,7 +43,7 @@ fn read_into<D: Disk>(disk: &mut D, number: u32, image: &mut [u8]) -> Result<(),
     ensures fault { IfErr result IsReadFault }
     ensures reads { D.state disk.new ≡ after_reads result (D.state disk.old) }
 {
-    match disk.read(Area::Heap, (number as u64 - 1) * 8192, image) {
+    match disk.read(Area::Heap, (number as u64 - 1) * EXTENT_BYTES, image) {
         Ok(()) => Ok(()),
         Err(_) => Err(OpenFault::Device),
     }

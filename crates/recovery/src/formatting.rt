@@ -8,12 +8,8 @@ ghost use Rattle.recovery.specs.Format.{IsSlotCount, refusals_after, IsZeroed, K
 
 use crate::fault::FormatFault;
 use disk::{Area, DeviceFault, Disk};
-use status::{LogFault, encode_header, read_header};
+use status::{FRONT_LEN, LEAST_SLOTS, LogFault, MOST_SLOTS, SLOT_LEN, encode_header, read_header};
 use std::alloc::{AllocError, Global};
-
-const FRONT_LEN: u64 = 512;
-
-const SLOT_LEN: u64 = 512;
 
 const PROFILE: u32 = 3;
 
@@ -150,7 +146,7 @@ pub fn format<D: Disk>(alloc: Global, disk: &mut D, slots: u32) -> Result<(), Fo
     ensures refuses { IfErr result (λ fault. FormatRefuses D.tells slots (D.state disk.old) fault (D.state disk.new)) }
     ensures refused { (D.state disk.new).refused ≡ refusals_after result (D.state disk.old).refused }
 {
-    if slots < 16 || slots > 65_536 {
+    if slots < LEAST_SLOTS || slots > MOST_SLOTS {
         return Err(FormatFault::BadSlots);
     }
     if is_occupied(disk)? {

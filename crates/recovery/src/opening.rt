@@ -9,8 +9,8 @@ ghost use Rattle.floors.specs.Floors.{floor_at};
 ghost use Rattle.status.specs.Header.{total};
 ghost use Rattle.status.specs.Rules.{head_of, AreInRow, KeepsRules};
 ghost use Rattle.image.specs.Reading.{Reading};
-ghost use Rattle.reading.specs.Layouts.{Layout, entries_of};
-ghost use Rattle.reading.specs.Opening.{EndsWithin, FailsRuns};
+ghost use Rattle.layout.specs.Layouts.{Layout, entries_of};
+ghost use Rattle.layout.specs.Opening.{EndsWithin, FailsRuns};
 ghost use Rattle.status.specs.declared.header.Header.{Header};
 ghost use Rattle.chains.specs.KeyWrites.{latest};
 ghost use Rattle.status.specs.Reading.{ReadsHeader};
@@ -27,11 +27,11 @@ use crate::recovered::{CommitName, Recovered};
 use crate::runs::read_runs;
 use archive::RunEntry;
 use disk::{Area, DeviceFault, Disk};
-use status::{Header, read_header, read_log};
+use status::{Header, MOST_SLOTS, read_header, read_log};
 use std::alloc::{AllocError, Global};
 use wire::{Body, Member, Slot};
 
-const MOST_SLOTS: u64 = 65_536;
+const MOST_TOTAL: u64 = MOST_SLOTS as u64;
 
 // The commits that the slots name, in order.
 fn entries(alloc: Global, slots: &[Slot]) -> Result<Vec<Member>, AllocError>
@@ -123,7 +123,7 @@ fn find_header<D: Disk>(disk: &mut D) -> Result<Header, OpenFault>
     ensures reads { D.state disk.new ≡ after_reads result (D.state disk.old) }
 {
     let header = read_header(disk)?;
-    if header.total() > MOST_SLOTS {
+    if header.total() > MOST_TOTAL {
         return Err(OpenFault::NotAStore);
     }
     Ok(header)

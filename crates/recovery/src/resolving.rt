@@ -11,19 +11,16 @@ ghost use Rattle.recovery.specs.Resolving.{before_of};
 
 use chains::{Frozen, SharedValue};
 use deltas::{Record, apply_owned};
-use history::{Key, KeyWrite};
+use history::{ENDLESS, Key, KeyWrite};
 use std::alloc::{AllocError, Global};
 use wire::Value;
-
-// Later than every write.
-const END: u64 = 1 << 63;
 
 // The value that a key has after all of its writes.
 fn value_before(chains: &Frozen, key: Key) -> Option<&Value>
     ensures is { option_copied result ≡ before_of chains.now key }
     ensures some { IsSome result ↔ IsSome (before_of chains.now key) }
 {
-    match chains.at(key, END) {
+    match chains.at(key, ENDLESS) {
         None => None,
         Some(shared) => Some(shared.value()),
     }

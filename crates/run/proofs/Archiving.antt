@@ -28,15 +28,15 @@ use Rattle.store.specs.declared.job.JobDid.{JobDid}
 use Rattle.store.specs.declared.job.JobDid.TheVariants as did
 use Rattle.store.specs.declared.job.StartFault.{StartFault}
 use Rattle.store.specs.declared.job.StartFault.TheVariants as start
-use Rattle.standing.specs.Laws.{job_ends_in}
-use Rattle.standing.specs.Stands.{Stands}
-use Rattle.standing.proofs.JobLeaving.{start-leaves, reclaim-leaves, pumped-leaves}
-use Rattle.standing.proofs.GrowingCalls.{archive-start-stands, reclaim-start-stands}
-use Rattle.standing.proofs.GrowingViews.{archive-start-goes, reclaim-start-goes, job-pump-goes}
-use Rattle.standing.proofs.GrowingPiece.{job-pump-stands}
-use Rattle.standing.proofs.Memory.{last-is}
+use Rattle.refinement.specs.Laws.{job_ends_in}
+use Rattle.refinement.specs.Stands.{Stands}
+use Rattle.refinement.proofs.JobLeaving.{start-leaves, reclaim-leaves, pumped-leaves}
+use Rattle.refinement.proofs.GrowingCalls.{archive-start-stands, reclaim-start-stands}
+use Rattle.refinement.proofs.GrowingViews.{archive-start-goes, reclaim-start-goes, job-pump-goes}
+use Rattle.refinement.proofs.GrowingPiece.{job-pump-stands}
+use Rattle.refinement.proofs.Memory.{last-is}
 use Rattle.snapshot.specs.OpenTable.{lesser, least_with, least_open}
-use Rattle.standing.specs.Standing.{snapshots_of}
+use Rattle.refinement.specs.Standing.{snapshots_of}
 use Rattle.run.specs.declared.calls.Call.TheVariants as call
 use Rattle.run.specs.declared.calls.Answer.TheVariants as answer
 use Rattle.run.specs.declared.held.Held.{Held}

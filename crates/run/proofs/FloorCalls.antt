@@ -7,11 +7,11 @@ use Rattle.store.specs.Values.{StoreValue}
 use Rattle.store.specs.Floors.{floor_refusal, BeginsFloor, StartsFloor}
 use Rattle.store.specs.declared.job.StartFault.{StartFault}
 use Rattle.store.specs.declared.job.StartFault.TheVariants as start
-use Rattle.standing.specs.Calls.{raising_to, StartsOn}
-use Rattle.standing.specs.Stands.{Stands}
-use Rattle.standing.proofs.JobLeaving.{floor-leaves}
-use Rattle.standing.proofs.GrowingCalls.{floor-start-stands}
-use Rattle.standing.proofs.GrowingViews.{floor-start-goes}
+use Rattle.refinement.specs.Calls.{raising_to, StartsOn}
+use Rattle.refinement.specs.Stands.{Stands}
+use Rattle.refinement.proofs.JobLeaving.{floor-leaves}
+use Rattle.refinement.proofs.GrowingCalls.{floor-start-stands}
+use Rattle.refinement.proofs.GrowingViews.{floor-start-goes}
 use Rattle.run.specs.declared.calls.Call.TheVariants as call
 use Rattle.run.specs.declared.calls.Answer.TheVariants as answer
 use Rattle.run.specs.declared.held.Held.{Held}

@@ -4,7 +4,7 @@ use Rattle.store.specs.Values.{StoreValue}
 use Rattle.opened.proofs.Opened.{open-stands}
 use Rattle.history.specs.Machine.{Machine, opened}
 use Rattle.image.specs.Values.{Value}
-use Rattle.standing.specs.Stands.{Stands}
+use Rattle.refinement.specs.Stands.{Stands}
 use Rattle.run.specs.declared.calls.Call.{Call}
 use Rattle.run.specs.declared.calls.Answer.{Answer}
 use Rattle.run.specs.declared.held.Held.{Held}

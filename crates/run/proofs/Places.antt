@@ -17,9 +17,9 @@ use Rattle.group.specs.Tickets.{TicketValue}
 use Rattle.group.specs.declared.commit_order.CommitHead.{CommitHead}
 use Rattle.timequery.specs.View.{ViewValue}
 use Rattle.transactions.specs.Values.{TransactionsValue}
-use Rattle.standing.specs.Homes.{ViewStands}
-use Rattle.standing.specs.Homes as homes
-use Rattle.standing.proofs.Views.{view-goes-on}
+use Rattle.refinement.specs.Homes.{ViewStands}
+use Rattle.refinement.specs.Homes as homes
+use Rattle.refinement.proofs.Views.{view-goes-on}
 use Rattle.store.specs.Values.{StoreValue}
 use Rattle.run.specs.declared.held.Held.{Held}
 use Rattle.run.specs.declared.held.Held.TheVariants as held

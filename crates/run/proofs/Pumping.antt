@@ -21,12 +21,12 @@ use Rattle.transactions.specs.declared.stage.NextStep.{NextStep}
 use Rattle.transactions.specs.declared.stage.NextStep.TheVariants as next
 use Rattle.store.specs.Values.{StoreValue, turn_of}
 use Rattle.store.specs.Pumps.{Pumps, TakesStep, WritesExtent, MayBeginSlot, TurnsSlot, started}
-use Rattle.standing.specs.Laws.{begins_in, ends_in}
-use Rattle.standing.specs.Leaving.{Leaves}
-use Rattle.standing.specs.Stands.{Stands}
-use Rattle.standing.proofs.Leaving.{pump-leaves}
-use Rattle.standing.proofs.GrowingPumps.{pump-stands}
-use Rattle.standing.proofs.GrowingViews as lasting
+use Rattle.refinement.specs.Laws.{begins_in, ends_in}
+use Rattle.refinement.specs.Leaving.{Leaves}
+use Rattle.refinement.specs.Stands.{Stands}
+use Rattle.refinement.proofs.Leaving.{pump-leaves}
+use Rattle.refinement.proofs.GrowingPumps.{pump-stands}
+use Rattle.refinement.proofs.GrowingViews as lasting
 use Rattle.run.specs.declared.calls.Call.TheVariants as call
 use Rattle.run.specs.declared.calls.Answer.TheVariants as answer
 use Rattle.run.specs.declared.held.Held.{Held}

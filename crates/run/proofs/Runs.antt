@@ -2,7 +2,7 @@
 use Rattle.std.proofs.Common.{Bool, [], refl}
 use Rattle.history.specs.Machine.{Machine}
 use Rattle.image.specs.Values.{Value}
-use Rattle.standing.specs.Stands.{Stands}
+use Rattle.refinement.specs.Stands.{Stands}
 use Rattle.store.specs.Values.{StoreValue}
 use Rattle.run.specs.Worlds.{IsWorld, started}
 use Rattle.run.specs.Runs.{Follows}

@@ -10,7 +10,7 @@ use Rattle.history.specs.Machine.{Machine, Gate, Shut, Due, MayBeOpen, OfGroup, 
 use Rattle.image.specs.Values.{Value}
 use Rattle.status.specs.declared.header.Header.{Header}
 use Rattle.store.specs.Values.{StoreValue}
-use Rattle.standing.specs.OnDisk.{IsImageOf}
+use Rattle.refinement.specs.OnDisk.{IsImageOf}
 use Rattle.opened.proofs.Opened.{open-stands}
 use Rattle.opened.proofs.Reopened.{open-refuses}
 use Rattle.opened.proofs.Answering.{stands-answers}

@@ -22,8 +22,8 @@ use Rattle.image.specs.Values.{Value, IsValue}
 use Rattle.snapshot.specs.WriteSets.{with_write}
 use Rattle.snapshot.proofs.WriteSetLemmas.{write_in-with_write}
 use Rattle.timequery.specs.declared.fault.QueryFault.{QueryFault}
-use Rattle.standing.specs.Homes.{IsSure}
-use Rattle.standing.specs.Laws.{SaysAt}
+use Rattle.refinement.specs.Homes.{IsSure}
+use Rattle.refinement.specs.Laws.{SaysAt}
 use Rattle.run.specs.declared.calls.Call.{Call}
 use Rattle.run.specs.declared.calls.Call.TheVariants as call
 use Rattle.run.specs.declared.calls.Answer.{Answer}
@@ -39,7 +39,7 @@ use Rattle.run.specs.Laws.{AsManyAnswers, GoesToItsEnd, CallsLink, StopsSurvive,
 use Rattle.run.proofs.Lists.{length-set, place-set_same, place-push_old}
 use Rattle.run.proofs.Survival.{moment-leaves}
 use Rattle.run.proofs.Commits.{commit-one}
-use Rattle.standing.proofs.RunsKept.{run-later}
+use Rattle.refinement.proofs.RunsKept.{run-later}
 use Rattle.run.proofs.Floors.{call-times}
 use Rattle.run.proofs.Passing.{QueuesAt, Gives, IsGiven, WasRunning, passes}
 

@@ -16,11 +16,11 @@ use Rattle.store.specs.Calls as stores
 use Rattle.store.specs.Calls.{Finds, OrStranger, is_own}
 use Rattle.transactions.specs.Values.{TransactionsValue}
 use Rattle.history.specs.Histories.{History}
-use Rattle.standing.specs.Homes.{ViewStands, ViewReads, GoesOn}
-use Rattle.standing.specs.Stands.{Stands}
-use Rattle.standing.proofs.Answering.{times-of_label}
-use Rattle.standing.proofs.GrowingViews.{query-stands}
-use Rattle.standing.proofs.Views.{view-of-history, at-answered, scan_at-answered, between-answered, scan_between-answered}
+use Rattle.refinement.specs.Homes.{ViewStands, ViewReads, GoesOn}
+use Rattle.refinement.specs.Stands.{Stands}
+use Rattle.refinement.proofs.Answering.{times-of_label}
+use Rattle.refinement.proofs.GrowingViews.{query-stands}
+use Rattle.refinement.proofs.Views.{view-of-history, at-answered, scan_at-answered, between-answered, scan_between-answered}
 use Rattle.run.specs.declared.calls.Call.TheVariants as call
 use Rattle.run.specs.declared.calls.Answer.TheVariants as answer
 use Rattle.run.specs.declared.held.Held.{Held}

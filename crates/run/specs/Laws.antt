@@ -14,10 +14,10 @@ use Rattle.snapshot.specs.WriteSets.{with_write}
 use Rattle.status.specs.declared.header.Header.{Header}
 use Rattle.timequery.specs.declared.fault.QueryFault.{QueryFault}
 use Rattle.store.specs.Values.{StoreValue}
-use Rattle.standing.specs.Homes.{IsSure}
-use Rattle.standing.specs.Laws.{SaysAt}
-use Rattle.standing.specs.OnDisk.{IsImageOf}
-use Rattle.standing.specs.Stands.{Stands}
+use Rattle.refinement.specs.Homes.{IsSure}
+use Rattle.refinement.specs.Laws.{SaysAt}
+use Rattle.refinement.specs.OnDisk.{IsImageOf}
+use Rattle.refinement.specs.Stands.{Stands}
 use Rattle.run.specs.declared.calls.Call.{Call}
 use Rattle.run.specs.declared.calls.Call.TheVariants as call
 use Rattle.run.specs.declared.calls.Answer.{Answer}

@@ -17,7 +17,7 @@ use Rattle.group.specs.declared.answers.Submitted.TheVariants as submitted
 use Rattle.group.specs.declared.answers.SubmitFault.{SubmitFault}
 use Rattle.timequery.specs.View.{ViewValue}
 use Rattle.transactions.specs.Values.{TransactionsValue}
-use Rattle.standing.specs.Homes.{ViewStands, ViewReads}
+use Rattle.refinement.specs.Homes.{ViewStands, ViewReads}
 use Rattle.store.specs.Values.{StoreValue}
 use Rattle.run.specs.declared.calls.Answer.{Answer}
 use Rattle.run.specs.declared.calls.Answer.TheVariants as answer

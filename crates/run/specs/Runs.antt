@@ -32,9 +32,9 @@ use Rattle.store.specs.Values.{StoreValue}
 use Rattle.store.specs.declared.job.JobDid.{JobDid}
 use Rattle.store.specs.declared.job.StartFault.{StartFault}
 use Rattle.store.specs.declared.job.StartFault.TheVariants as start
-use Rattle.standing.specs.Homes.{IsSure}
-use Rattle.standing.specs.Calls.{raising_to}
-use Rattle.standing.specs.Laws.{begins_in, ends_in, job_ends_in, SaysAt, SaysScanAt, SaysBetween, SaysScanBetween}
+use Rattle.refinement.specs.Homes.{IsSure}
+use Rattle.refinement.specs.Calls.{raising_to}
+use Rattle.refinement.specs.Laws.{begins_in, ends_in, job_ends_in, SaysAt, SaysScanAt, SaysBetween, SaysScanBetween}
 use Rattle.run.specs.declared.calls.Call.{Call}
 use Rattle.run.specs.declared.calls.Call.TheVariants as call
 use Rattle.run.specs.declared.calls.Answer.{Answer}

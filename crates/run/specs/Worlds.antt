@@ -3,7 +3,7 @@ use Rattle.std.specs.Prelude.{ℕ, Bool, List, [], ◌∷◌, ◌++◌, slice_se
 use Rattle.history.specs.Machine.{Machine}
 use Rattle.image.specs.Values.{Value}
 use Rattle.store.specs.Values.{StoreValue}
-use Rattle.standing.specs.Stands.{Stands}
+use Rattle.refinement.specs.Stands.{Stands}
 use Rattle.run.specs.declared.held.Held.{Held}
 use Rattle.run.specs.Places.{Place, Free, ArePlaces, AreRead}
 

@@ -11,8 +11,8 @@ ghost use Rattle.recovery.specs.Faults.{IsReadFault};
 ghost use Rattle.recovery.specs.Format.{IsSlotCount, IsOccupied, IsTakenAnswer, FormatRefuses};
 ghost use Rattle.recovery.specs.Settling.{Settles, CountsMore, CountsAtMost};
 ghost use Rattle.store.specs.Opens.{Opens, OpenRefuses};
-ghost use Rattle.standing.specs.OnDisk.{IsImageOf};
-ghost use Rattle.standing.specs.Stands.{Stands};
+ghost use Rattle.refinement.specs.OnDisk.{IsImageOf};
+ghost use Rattle.refinement.specs.Stands.{Stands};
 ghost use Rattle.opened.specs.Laws.{LeavesFronts};
 ghost use Rattle.run.specs.Promise.{Promise};
 

@@ -16,8 +16,8 @@ use Rattle.session.specs.Session.{State, AbortsAll, Closes, Reopens, DoesNotReop
 use Rattle.session.specs.declared.names.OpenName.{OpenName}
 use Rattle.session.specs.declared.names.TicketName.{TicketName}
 use Rattle.session.specs.declared.reply.Reply.{Reply}
-use Rattle.standing.specs.OnDisk.{IsImageOf}
-use Rattle.standing.specs.Stands.{Stands}
+use Rattle.refinement.specs.OnDisk.{IsImageOf}
+use Rattle.refinement.specs.Stands.{Stands}
 use Rattle.store.specs.Values.{StoreValue}
 use Rattle.run.specs.declared.calls.Call.TheVariants as call
 use Rattle.run.specs.declared.calls.Answer.TheVariants as answer

@@ -20,7 +20,7 @@ use Rattle.session.specs.declared.names.OpenName.{OpenName}
 use Rattle.session.specs.declared.names.TicketName.{TicketName}
 use Rattle.session.specs.declared.reply.Reply.{Reply}
 use Rattle.session.specs.declared.reply.Reply.TheVariants as reply
-use Rattle.standing.proofs.GrowingCalls.{begin-stands}
+use Rattle.refinement.proofs.GrowingCalls.{begin-stands}
 use Rattle.store.specs.Calls as stores
 use Rattle.run.specs.declared.calls.Call.TheVariants as call
 use Rattle.run.specs.declared.calls.Answer.TheVariants as answer

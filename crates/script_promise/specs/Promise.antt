@@ -17,7 +17,7 @@ use Rattle.session.specs.declared.ending.Ending.TheVariants as ending
 use Rattle.session.specs.declared.reply.Reply.{Reply}
 use Rattle.store.specs.Values.{StoreValue}
 use Rattle.store.specs.Opens.{Opens}
-use Rattle.standing.specs.OnDisk.{IsImageOf}
+use Rattle.refinement.specs.OnDisk.{IsImageOf}
 use Rattle.script_promise.specs.ScriptMoments.{ScriptMoment, first_script_moment}
 use Rattle.script_promise.specs.Keeps.{LineKeeps, Closed, KeepsUnopened}
 

@@ -8,9 +8,9 @@ use Rattle.image.specs.Values.{Value}
 use Rattle.timequery.specs.View.{ViewValue}
 use Rattle.store.specs.Calls.{is_front}
 use Rattle.store.specs.Values.{StoreValue}
-use Rattle.standing.specs.Homes.{KeepsUpTo, ViewReads, GoesOn}
-use Rattle.standing.proofs.RunsKept.{up_to-same, runs-held, ends-later}
-use Rattle.standing.proofs.RunsStep.{front-more}
+use Rattle.refinement.specs.Homes.{KeepsUpTo, ViewReads, GoesOn}
+use Rattle.refinement.proofs.RunsKept.{up_to-same, runs-held, ends-later}
+use Rattle.refinement.proofs.RunsStep.{front-more}
 use Rattle.shared.specs.Archives.{ArchiveSeen, IsArchiveLater, ReadsArchive, archive_seen, no_archive}
 use Rattle.shared.specs.Seen.{Known, IsMore, nothing_known}
 use Rattle.shared.proofs.Fronts.{later-same, later-then, later-nothing}

@@ -11,9 +11,9 @@ use Rattle.timequery.specs.View.{ViewValue}
 use Rattle.timequery.specs.declared.fault.QueryFault.{QueryFault}
 use Rattle.store.specs.Calls as stores
 use Rattle.store.specs.Values.{StoreValue}
-use Rattle.standing.specs.Homes.{IsSure}
-use Rattle.standing.specs.Laws.{SaysAt, SaysScanAt, SaysBetween, SaysScanBetween}
-use Rattle.standing.proofs.Views.{at-answered, scan_at-answered, between-answered, scan_between-answered}
+use Rattle.refinement.specs.Homes.{IsSure}
+use Rattle.refinement.specs.Laws.{SaysAt, SaysScanAt, SaysBetween, SaysScanBetween}
+use Rattle.refinement.proofs.Views.{at-answered, scan_at-answered, between-answered, scan_between-answered}
 use Rattle.shared.specs.Moments.{ViewMoment, OfSeen}
 use Rattle.shared.specs.Seen.{SightValue}
 use Rattle.shared.specs.Shared.{IsShared, Shows}

@@ -14,7 +14,7 @@ use Rattle.snapshot.specs.Txn.{TxnValue, at_snapshot}
 use Rattle.snapshot.specs.WriteSets.{with_write, without}
 use Rattle.group.specs.Tickets.{TicketValue}
 use Rattle.group.specs.declared.answers.Submitted.TheVariants as submitted
-use Rattle.standing.specs.Laws.{submission_of}
+use Rattle.refinement.specs.Laws.{submission_of}
 use Rattle.shared.specs.declared.change.Change.{Change}
 use Rattle.shared.specs.declared.change.Change.TheVariants as change
 use Rattle.shared.specs.declared.committed.Committed.{Committed}

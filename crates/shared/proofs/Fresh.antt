@@ -11,7 +11,7 @@ use Rattle.recovery.specs.declared.recovered.CommitName.{CommitName}
 use Rattle.store.specs.Heads.{head_as}
 use Rattle.store.specs.Opens.{Opens}
 use Rattle.store.specs.Values.{StoreValue}
-use Rattle.standing.specs.Stands.{Stands}
+use Rattle.refinement.specs.Stands.{Stands}
 use Rattle.opened.proofs.Formatted.{formatted-stands}
 use Rattle.opened.proofs.Opened.{open-stands}
 use Rattle.shared.specs.Counts.{told_count}

@@ -12,7 +12,7 @@ use Rattle.snapshot.specs.Txn.{TxnValue, seen_by}
 use Rattle.atomic_table.specs.Seated.{TableId}
 use Rattle.timequery.specs.View.{ViewValue}
 use Rattle.store.specs.Values.{StoreValue}
-use Rattle.standing.specs.Homes.{ViewReads}
+use Rattle.refinement.specs.Homes.{ViewReads}
 use Rattle.shared.specs.Archives.{ArchiveSeen, IsArchiveLater, archive_seen}
 use Rattle.shared.specs.Moments.{TxnMoment, WorksOn, value_for}
 use Rattle.shared.specs.Seen.{Seen, SightValue}

@@ -43,24 +43,24 @@ use Rattle.store.specs.Jobs.{PumpsJob}
 use Rattle.store.specs.declared.job.JobDid.{JobDid}
 use Rattle.store.specs.declared.job.StartFault.{StartFault}
 use Rattle.store.specs.declared.job.StartFault.TheVariants as fault
-use Rattle.standing.specs.Standing.{StandsInMemory}
-use Rattle.standing.specs.Calls.{raising_to, StartsOn}
-use Rattle.standing.specs.Homes.{GoesOn}
-use Rattle.standing.specs.Laws.{submission_of, event_of, begins_in, ends_in, job_ends_in}
-use Rattle.standing.specs.Stands.{Stands, raising_of}
-use Rattle.standing.specs.Leaving.{Leaves, LeftBySubmit, LeftByRedeem, count_in}
-use Rattle.standing.proofs.Leaving.{pump-leaves}
-use Rattle.standing.proofs.JobLeaving.{start-leaves, reclaim-leaves, floor-leaves, pumped-leaves}
-use Rattle.standing.proofs.Told.{left-is, ticket-time, redeeming}
-use Rattle.standing.proofs.Memory.{last-is}
-use Rattle.standing.proofs.Submitting.{order-last}
-use Rattle.standing.proofs.GrowingCalls.{begin-stands, abort-stands, submit-stands, redeem-stands}
-use Rattle.standing.proofs.GrowingPumps.{pump-stands}
-use Rattle.standing.proofs.GrowingViews.{pump-goes, job-pump-goes, archive-start-goes, reclaim-start-goes, floor-start-goes}
-use Rattle.standing.proofs.GrowingPiece.{job-pump-stands}
-use Rattle.standing.proofs.GrowingCalls.{archive-start-stands, reclaim-start-stands, floor-start-stands}
-use Rattle.standing.proofs.Whole.{rest-goes}
-use Rattle.standing.proofs.GrowingViews.{query-stands}
+use Rattle.refinement.specs.Standing.{StandsInMemory}
+use Rattle.refinement.specs.Calls.{raising_to, StartsOn}
+use Rattle.refinement.specs.Homes.{GoesOn}
+use Rattle.refinement.specs.Laws.{submission_of, event_of, begins_in, ends_in, job_ends_in}
+use Rattle.refinement.specs.Stands.{Stands, raising_of}
+use Rattle.refinement.specs.Leaving.{Leaves, LeftBySubmit, LeftByRedeem, count_in}
+use Rattle.refinement.proofs.Leaving.{pump-leaves}
+use Rattle.refinement.proofs.JobLeaving.{start-leaves, reclaim-leaves, floor-leaves, pumped-leaves}
+use Rattle.refinement.proofs.Told.{left-is, ticket-time, redeeming}
+use Rattle.refinement.proofs.Memory.{last-is}
+use Rattle.refinement.proofs.Submitting.{order-last}
+use Rattle.refinement.proofs.GrowingCalls.{begin-stands, abort-stands, submit-stands, redeem-stands}
+use Rattle.refinement.proofs.GrowingPumps.{pump-stands}
+use Rattle.refinement.proofs.GrowingViews.{pump-goes, job-pump-goes, archive-start-goes, reclaim-start-goes, floor-start-goes}
+use Rattle.refinement.proofs.GrowingPiece.{job-pump-stands}
+use Rattle.refinement.proofs.GrowingCalls.{archive-start-stands, reclaim-start-stands, floor-start-stands}
+use Rattle.refinement.proofs.Whole.{rest-goes}
+use Rattle.refinement.proofs.GrowingViews.{query-stands}
 use Rattle.shared.specs.Archives.{ArchiveSeen, IsArchiveLater, archive_seen, no_archive}
 use Rattle.shared.specs.Counts.{told_count, told_after}
 use Rattle.shared.specs.Reached.{Reached, opened, stepped}

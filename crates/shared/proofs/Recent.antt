@@ -24,10 +24,10 @@ use Rattle.floors.specs.Floors.{floor_at}
 use Rattle.timequery.specs.View.{ViewValue, AnswersAt, AnswersBetween, RefusesRecent, RefusesRecentScan, RefusesRecentRows}
 use Rattle.timequery.specs.declared.fault.QueryFault.{QueryFault}
 use Rattle.timequery.specs.declared.fault.QueryFault.TheVariants as query
-use Rattle.standing.specs.Homes.{ViewStands}
-use Rattle.standing.specs.Views.{SaysRecent}
-use Rattle.standing.proofs.Held.{state-held, rows-held}
-use Rattle.standing.proofs.Queries.{recent-answered}
+use Rattle.refinement.specs.Homes.{ViewStands}
+use Rattle.refinement.specs.Views.{SaysRecent}
+use Rattle.refinement.proofs.Held.{state-held, rows-held}
+use Rattle.refinement.proofs.Queries.{recent-answered}
 use Rattle.shared.specs.Archives.{ArchiveSeen}
 use Rattle.shared.specs.Moments.{ViewMoment, OfSeen, answer_copied}
 use Rattle.shared.specs.Recent.{Recalls, RecallsScan, RecallsBetween, RecallsScanBetween}

@@ -20,11 +20,11 @@ use Rattle.store.specs.declared.job.JobWork.{JobWork}
 use Rattle.store.specs.declared.job.JobWork.TheVariants.{Archive, Reclaim, Floor, Grow}
 use Rattle.store.specs.declared.job.JobDid.{JobDid}
 use Rattle.store.specs.declared.job.JobDid.TheVariants as job_did
-use Rattle.standing.specs.Laws.{event_of, begins_in, ends_in, floor_ends_in, floor_ends, job_breaks_in, job_ends_in}
-use Rattle.standing.specs.Calls.{raising_to}
-use Rattle.standing.specs.Leaving.{count_in}
-use Rattle.standing.specs.Stands.{raising_by, raising_of}
-use Rattle.standing.proofs.Told.{pump-publishes}
+use Rattle.refinement.specs.Laws.{event_of, begins_in, ends_in, floor_ends_in, floor_ends, job_breaks_in, job_ends_in}
+use Rattle.refinement.specs.Calls.{raising_to}
+use Rattle.refinement.specs.Leaving.{count_in}
+use Rattle.refinement.specs.Stands.{raising_by, raising_of}
+use Rattle.refinement.proofs.Told.{pump-publishes}
 use Rattle.shared.specs.Reached.{Reached, stepped}
 use Rattle.shared.specs.Seen.{Seen, floors_listed, floor_in, seen_of, order_of, IsFrontOf, IsLater}
 use Rattle.shared.specs.Shared.{published_seen, queued_seen, raised_seen, job_seen, is_done}

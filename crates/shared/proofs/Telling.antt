@@ -21,13 +21,13 @@ use Rattle.timequery.specs.View.{ViewValue}
 use Rattle.transactions.specs.Calls as calls
 use Rattle.store.specs.Values.{StoreValue}
 use Rattle.store.specs.Calls as stores
-use Rattle.standing.specs.Laws.{RedeemsAs}
-use Rattle.standing.specs.Leaving.{LeftByRedeem}
-use Rattle.standing.proofs.Told.{redeeming}
-use Rattle.standing.proofs.Answering.{times-of_label}
-use Rattle.standing.proofs.Views.{view-of-history}
-use Rattle.standing.proofs.Memory.{last-is, begun-sees}
-use Rattle.standing.proofs.GrowingCalls.{begin-stands, redeem-stands}
+use Rattle.refinement.specs.Laws.{RedeemsAs}
+use Rattle.refinement.specs.Leaving.{LeftByRedeem}
+use Rattle.refinement.proofs.Told.{redeeming}
+use Rattle.refinement.proofs.Answering.{times-of_label}
+use Rattle.refinement.proofs.Views.{view-of-history}
+use Rattle.refinement.proofs.Memory.{last-is, begun-sees}
+use Rattle.refinement.proofs.GrowingCalls.{begin-stands, redeem-stands}
 use Rattle.shared.specs.Archives.{ArchiveSeen, ReadsArchive, archive_seen}
 use Rattle.shared.specs.Counts.{told_after, unredeemed}
 use Rattle.shared.specs.Seen.{Seen, SightValue}

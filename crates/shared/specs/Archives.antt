@@ -9,7 +9,7 @@ use Rattle.history.specs.Histories.{History}
 use Rattle.timequery.specs.View.{ViewValue, mark_of}
 use Rattle.store.specs.Calls.{is_front}
 use Rattle.store.specs.Values.{StoreValue}
-use Rattle.standing.specs.Homes.{AreArchived, KeepsUpTo}
+use Rattle.refinement.specs.Homes.{AreArchived, KeepsUpTo}
 
 -- whether the disk tells its bytes, the runs, where the last of them ends, and the bytes
 pub record ArchiveSeen : Type 0 where

@@ -30,10 +30,10 @@ use Rattle.store.specs.declared.job.JobDid.{JobDid}
 use Rattle.store.specs.declared.job.JobDid.TheVariants as job_did
 use Rattle.store.specs.declared.job.StartFault.{StartFault}
 use Rattle.store.specs.declared.job.StartFault.TheVariants as start_fault
-use Rattle.standing.specs.Calls.{raising_to}
-use Rattle.standing.specs.Homes.{ViewStands}
-use Rattle.standing.specs.Laws.{submission_of, event_of, begins_in, ends_in, job_ends_in}
-use Rattle.standing.specs.Stands.{Stands}
+use Rattle.refinement.specs.Calls.{raising_to}
+use Rattle.refinement.specs.Homes.{ViewStands}
+use Rattle.refinement.specs.Laws.{submission_of, event_of, begins_in, ends_in, job_ends_in}
+use Rattle.refinement.specs.Stands.{Stands}
 use Rattle.shared.specs.declared.change.Change.{Change}
 use Rattle.shared.specs.declared.change.Change.TheVariants as change
 use Rattle.shared.specs.declared.committed.Committed.{Committed}

@@ -5,7 +5,7 @@ ghost use Rattle.history.specs.declared.key.KeyWrite.{KeyWrite};
 ghost use Rattle.history.specs.Floors.{Raising};
 ghost use Rattle.history.specs.Histories.{IsHistory, last};
 ghost use Rattle.image.specs.Values.{Value, IsValue};
-ghost use Rattle.standing.specs.Leaving.{count_in};
+ghost use Rattle.refinement.specs.Leaving.{count_in};
 ghost use Rattle.shared.specs.Archives.{IsArchiveLater, archive_seen};
 ghost use Rattle.shared.specs.Seen.{IsLater, order_of};
 ghost use Rattle.shared.specs.Shared.{published_seen, queued_seen, job_seen, is_done, noted, done_in};

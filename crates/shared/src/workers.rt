@@ -3,7 +3,7 @@ ghost use Rattle.std.specs.Prelude.{◌≡◌, ◌+◌, ◌≤◌, ◌<◌, ◌^
 ghost use Rattle.crossbeam_utils.specs.Seq.{cell_view};
 ghost use Rattle.history.specs.Machine.{Machine};
 ghost use Rattle.image.specs.Values.{Value};
-ghost use Rattle.standing.specs.Stands.{Stands};
+ghost use Rattle.refinement.specs.Stands.{Stands};
 ghost use Rattle.shared.specs.Counts.{told_count, unredeemed};
 ghost use Rattle.shared.specs.Reached.{Reached};
 ghost use Rattle.shared.specs.Reading.{ReadSays};

@@ -2,7 +2,7 @@
 ghost use Rattle.std.specs.Prelude.{◌≡◌, ◌*◌, ◌+◌, [], length, IfOk, IfSome, IsTrue};
 ghost use Rattle.history.specs.Machine.{Machine, opened};
 ghost use Rattle.image.specs.Values.{Value};
-ghost use Rattle.standing.specs.Stands.{Stands};
+ghost use Rattle.refinement.specs.Stands.{Stands};
 ghost use Rattle.shared.specs.Counts.{told_count, unredeemed};
 ghost use Rattle.shared.specs.Reached.{Reached};
 

@@ -9,9 +9,9 @@ use Rattle.store.specs.Values.{StoreValue, IsInStep, TurnsOne}
 use Rattle.store.specs.declared.job.Job.{Job}
 use Rattle.store.specs.declared.job.JobWork.{JobWork}
 use Rattle.store.specs.declared.job.JobWork.TheVariants.{Archive, Reclaim, Floor, Grow}
-use Rattle.standing.specs.Homes.{HasPlace}
-use Rattle.standing.specs.Stands.{RaisesFloor, Stands, StandsStill, StandsGrowing, without_growth}
-use Rattle.standing.proofs.Growing.{as-still, as-growing, by-kind}
+use Rattle.refinement.specs.Homes.{HasPlace}
+use Rattle.refinement.specs.Stands.{RaisesFloor, Stands, StandsStill, StandsGrowing, without_growth}
+use Rattle.refinement.proofs.Growing.{as-still, as-growing, by-kind}
 
 turns-over : (v : StoreValue) (disk : DiskState) → TurnsOne v → TurnsOne (record v { disk = disk })
 turns-over v disk t = record { turning = t.turning; writing = t.writing; turn = t.turn; job = t.job }

@@ -1,7 +1,7 @@
 //! Threads that write and read a shared store beside its committer.
 ghost use Rattle.std.specs.Prelude.{◌≡◌, ◌+◌, ◌<◌, [], true, length, IfOk};
 ghost use Rattle.crossbeam_utils.specs.Seq.{cell_view};
-ghost use Rattle.standing.specs.Stands.{Stands};
+ghost use Rattle.refinement.specs.Stands.{Stands};
 ghost use Rattle.shared.specs.Counts.{told_count};
 ghost use Rattle.shared.specs.Seen.{seen_of};
 

@@ -9,7 +9,7 @@ use Rattle.history.specs.Machine as machine
 use Rattle.opened.proofs.Formatted.{formatted-stands}
 use Rattle.status.specs.declared.header.Header.{Header}
 use Rattle.status.specs.Header.{new_header}
-use Rattle.standing.specs.OnDisk.{IsImageOf}
+use Rattle.refinement.specs.OnDisk.{IsImageOf}
 use Rattle.opened.proofs.Opened.{open-stands}
 use Rattle.script.specs.Lines.{time_in}
 use Rattle.script.specs.declared.line.Line.{Line}
@@ -24,8 +24,8 @@ use Rattle.script_promise.proofs.Closing.{close-keeps, first-script}
 use Rattle.script_promise.proofs.Leading.{IsScriptMoment}
 use Rattle.script_promise.proofs.Lines.{archive-line, reclaim-line, grow-line, finish-line}
 use Rattle.script_promise.proofs.Script.{promise}
-use Rattle.words.specs.declared.action.Action.{Action}
-use Rattle.words.specs.declared.action.Action.TheVariants as action
+use Rattle.command_line.specs.declared.action.Action.{Action}
+use Rattle.command_line.specs.declared.action.Action.TheVariants as action
 use Rattle.shell.specs.Acts.{Acts, Grows, GrowsStore, Input, Output, RefusesTime, Runs, RunsNew, RunsOnNew, RunsScript, SaysGrown, SaysSlots, SaysVacuum, Vacuums, VacuumsStore}
 use Rattle.shell.specs.Keeps.{LineLeads, LinesKeep, RunKeeps, NewRunKeeps, KeepsPromise, VacuumKeeps, VacuumOpenedKeeps, VacuumingKeeps, GrowthKeeps, GrowthOpenedKeeps, GrowingKeeps}
 use Rattle.shell.specs.Vacuums.{DoesAll, DoesJob, DoesPart, DoesVacuum, is_refusal}

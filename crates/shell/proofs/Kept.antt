@@ -12,8 +12,8 @@ use Rattle.session.specs.Texts.{Text, text_of}
 use Rattle.session.specs.declared.ending.Ending.{Ending}
 use Rattle.session.specs.declared.ending.Ending.TheVariants.{OutputRefused, Whole}
 use Rattle.session.specs.declared.reply.Reply.{Reply}
-use Rattle.words.specs.declared.action.Action.{Action}
-use Rattle.words.specs.declared.action.Action.TheVariants as action
+use Rattle.command_line.specs.declared.action.Action.{Action}
+use Rattle.command_line.specs.declared.action.Action.TheVariants as action
 use Rattle.shell.specs.Acts.{Acts, Asks, Dumps, DoesNotOpen, GivesOut, Grows, HasNoMemory, HasStatusOf, Input, IsRefused, IsSaid, IsTold, Makes, Output, RefusesTime, RefusesToMake, Runs, RunsNew, RunsScript, SaysAll, SaysArchived, SaysBoth, SaysFront, SaysGrown, SaysSlots, SaysVacuum, Vacuums}
 use Rattle.shell.specs.Vacuums.{is_refusal}
 use Rattle.shell.specs.declared.vacuuming.Vacuumed.{Vacuumed}

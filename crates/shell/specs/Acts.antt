@@ -35,8 +35,8 @@ use Rattle.shell.specs.Dump.{IsDump}
 use Rattle.shell.specs.Vacuums.{DoesJob, DoesVacuum, HasLog, HasNoHeaderFor, LacksLog, archived_line, is_refusal, reclaimed_line}
 use Rattle.shell.specs.declared.vacuuming.Vacuumed.{Vacuumed}
 use Rattle.shell.specs.declared.vacuuming.Vacuumed.TheVariants as vacuumed
-use Rattle.words.specs.declared.action.Action.{Action}
-use Rattle.words.specs.declared.action.Action.TheVariants as action
+use Rattle.command_line.specs.declared.action.Action.{Action}
+use Rattle.command_line.specs.declared.action.Action.TheVariants as action
 
 -- what is known of a script's input: its text, how many lines were read before, and whether it was refused since
 pub record Input : Type 0 where

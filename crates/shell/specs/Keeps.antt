@@ -9,7 +9,7 @@ use Rattle.recovery.specs.Format.{IsFormatted, FormatRefuses}
 use Rattle.recovery.specs.declared.fault.FormatFault.{FormatFault}
 use Rattle.recovery.specs.declared.fault.OpenFault.{OpenFault}
 use Rattle.status.specs.declared.header.Header.{Header}
-use Rattle.standing.specs.OnDisk.{IsImageOf}
+use Rattle.refinement.specs.OnDisk.{IsImageOf}
 use Rattle.store.specs.Values.{StoreValue}
 use Rattle.store.specs.Opens.{Opens, OpenRefuses}
 use Rattle.script.specs.declared.line.Line.{Line}
@@ -22,8 +22,8 @@ use Rattle.script.specs.Lines.{time_in}
 use Rattle.script_promise.specs.Keeps.{Closed, LineKeeps}
 use Rattle.script_promise.specs.ScriptMoments.{ScriptMoment, first_script_moment}
 use Rattle.script_promise.specs.Promise.{ScriptKeeps}
-use Rattle.words.specs.declared.action.Action.{Action}
-use Rattle.words.specs.declared.action.Action.TheVariants as action
+use Rattle.command_line.specs.declared.action.Action.{Action}
+use Rattle.command_line.specs.declared.action.Action.TheVariants as action
 use Rattle.shell.specs.Acts.{Input, Output, SaysAll, SaysGrown, SaysVacuum}
 use Rattle.shell.specs.Vacuums.{DoesJob, DoesVacuum}
 use Rattle.shell.specs.declared.vacuuming.Vacuumed.{Vacuumed}

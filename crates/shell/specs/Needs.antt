@@ -1,8 +1,8 @@
 -- Which folder an action needs.
 use Rattle.std.specs.Prelude.{ℕ, Bool, ◌&&◌, is_some, nat_le, if◌then◌else◌}
 use Rattle.script.specs.Lines.{time_in}
-use Rattle.words.specs.declared.action.Action.{Action}
-use Rattle.words.specs.declared.action.Action.TheVariants as action
+use Rattle.command_line.specs.declared.action.Action.{Action}
+use Rattle.command_line.specs.declared.action.Action.TheVariants as action
 use Rattle.shell.specs.declared.needs.Need.{Need}
 use Rattle.shell.specs.declared.needs.Need.TheVariants as need
 

@@ -13,6 +13,7 @@ ghost use Rattle.shell.specs.Vacuums.{archived_line, reclaimed_line};
 
 use crate::dump::{DumpFault, write_dump};
 use crate::vacuuming::{Job, Vacuumed, do_job, do_jobs, is_refusal, log_of, records_in};
+use command_line::Action;
 use disk::{Area, Disk};
 use history::Key;
 use recovery::{OpenFault, format};
@@ -26,7 +27,6 @@ use std::alloc::Global;
 use std::io::Write;
 use store::Store;
 use wire::Slot;
-use words::Action;
 
 /// The status of what was done and said in full.
 const DONE: u8 = 0;

@@ -7,7 +7,7 @@ mod needs;
 mod vacuuming;
 
 pub use actions::{act, refuse_folder};
+pub use command_line::{Action, WordsFault, read_words};
 pub use dump::{DumpFault, write_dump};
 pub use needs::{Need, folder_need};
 pub use recovery::OpenFault;
-pub use words::{Action, WordsFault, read_words};

@@ -4,13 +4,9 @@ ghost use Rattle.script.specs.Lines.{time_in};
 ghost use Rattle.shell.specs.declared.needs.Need.TheVariants.{Change, Make, Nothing};
 ghost use Rattle.shell.specs.Needs.{is_slot_count, need_of};
 
+use command_line::Action;
 use script::read_time;
-use words::Action;
-
-/// The least and the greatest count of slots of a store.
-const MIN_SLOTS: u32 = 16;
-
-const MAX_SLOTS: u32 = 65_536;
+use status::{LEAST_SLOTS, MOST_SLOTS};
 
 /// What an action needs of the files of a folder.
 #[derive(Clone, Copy, Debug, PartialEq, Eq)]
@@ -28,7 +24,7 @@ pub enum Need<'a> {
 fn is_slot_count(slots: u32) -> bool
     ensures { result ≡ is_slot_count slots }
 {
-    slots >= MIN_SLOTS && slots <= MAX_SLOTS
+    slots >= LEAST_SLOTS && slots <= MOST_SLOTS
 }
 
 fn is_time(text: &str) -> bool

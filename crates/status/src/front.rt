@@ -4,10 +4,16 @@ ghost use Rattle.byteorder.specs.Endian.{little_number, little_bytes};
 ghost use Rattle.status.specs.Header.{zeros_from, HasNumbers, Says, IsFront, header_front, new_header};
 
 use crate::header::Header;
+use crate::sizes::{LEAST_SLOTS, MOST_TOTAL};
 use crate::turn::OPEN;
 use byteorder::{ByteOrder, LittleEndian};
 
 const NAME: [u8; 8] = *b"NOOVER01";
+
+// Where the gates of the pieces stand, 255 of them.
+const GATES: usize = 16;
+
+const GATES_END: usize = 271;
 
 // How many of the gates are open before the first closed one.
 fn open_pieces(gates: &[u8]) -> usize
@@ -30,7 +36,7 @@ fn numbers_of(front: &[u8; 512]) -> Header
     Header {
         profile: LittleEndian::read_u32(&front[8..]),
         slots: LittleEndian::read_u32(&front[12..]),
-        pieces: open_pieces(&front[16..271]) as u32,
+        pieces: open_pieces(&front[GATES..GATES_END]) as u32,
     }
 }
 
@@ -45,18 +51,18 @@ fn is_header(header: &Header) -> bool
 {
     1 <= header.profile
         && header.profile <= 3
-        && 16 <= header.slots
+        && LEAST_SLOTS <= header.slots
         && (header.profile != 1 || header.pieces == 0)
-        && header.total() <= 65_536
+        && header.total() <= MOST_TOTAL
 }
 
 fn zeros_follow(profile: u32, front: &[u8; 512]) -> bool
     ensures { IsTrue result ↔ ((k : ℕ) → zeros_from profile ≤ k → k < 512 → slice_index front.now k ≡ 0) }
 {
     if profile == 1 {
-        are_zeros(&front[16..])
+        are_zeros(&front[GATES..])
     } else {
-        are_zeros(&front[271..])
+        are_zeros(&front[GATES_END..])
     }
 }
 

@@ -15,6 +15,8 @@ const PARTS: u32 = 16;
 /// The zeros that one of them writes: 16 slots.
 const PART_LEN: usize = 8192;
 
+const PART_BYTES: u64 = PART_LEN as u64;
+
 /// The byte of the header at which the gates of the pieces begin.
 const GATES: u64 = 16;
 
@@ -89,7 +91,7 @@ fn write_zeros<D: Disk>(disk: &mut D, slots: u32, parts: u32) -> Result<(), Devi
     let zeros = [0; PART_LEN];
     disk.write_at(
         Area::Status,
-        slot_place(slots) + 8192 * u64::from(parts),
+        slot_place(slots) + PART_BYTES * u64::from(parts),
         &zeros,
     )
 }

@@ -1,6 +1,8 @@
 //! What the front of a status area says.
 ghost use Rattle.std.specs.Prelude.{◌≡◌};
 
+use crate::sizes::PIECE_TOTAL;
+
 /// The layout's profile, the slots that the store was made with, and how many pieces of 256
 /// slots more are open.
 #[derive(Clone, Copy, Debug, PartialEq, Eq)]
@@ -17,6 +19,6 @@ impl Header {
     pub fn total(&self) -> u64
         ensures { result ≡ total self.now }
     {
-        self.slots as u64 + 256 * self.pieces as u64
+        self.slots as u64 + PIECE_TOTAL * self.pieces as u64
     }
 }

@@ -12,12 +12,18 @@ ghost use Rattle.status.specs.Walking.{IsWalk, Takes, IsTakeFault, IsWalkFault, 
 use crate::fault::LogFault;
 use crate::header::Header;
 use crate::log_end::{LogEnd, floors_behind};
+use crate::sizes::{FRONT_LEN, MOST_TOTAL, SLOT_LEN};
 use crate::turn::{OPEN, slot_place};
 use disk::{Area, DeviceFault, Disk};
 use std::alloc::Global;
 use wire::{Slot, decode_slot, one_spelling};
 
+// Slots are read so many at a time, into a buffer of as many bytes.
 const SLOTS_A_READ: u32 = 16;
+
+const BUFFER_LEN: usize = 8192;
+
+const SLOT_BYTES: usize = SLOT_LEN as usize;
 
 // The slots read so far, and where their log ends.
 #[derive(Drop)]
@@ -84,7 +90,7 @@ impl Walk {
             → HoldsPart (slot_start (length self.old.slots.items)) chunk.now bytes → IsReadOn header bytes self.old.slots.items result self.new.slots.items }
     {
         for place in 0..count {
-            if !self.take_slot(&chunk[512 * place..512 * place + 512])? {
+            if !self.take_slot(&chunk[SLOT_BYTES * place..SLOT_BYTES * place + SLOT_BYTES])? {
                 return Ok(false);
             }
         }
@@ -124,7 +130,7 @@ fn read_on<D: Disk>(
 {
     let number = walk.slots.len() as u32;
     let count = SLOTS_A_READ.min(all - number) as usize;
-    let part = &mut buffer[..512 * count];
+    let part = &mut buffer[..SLOT_BYTES * count];
     read_part(disk, number, part)?;
     walk.take_chunk(part, count)
 }
@@ -165,7 +171,7 @@ fn has_room<D: Disk>(disk: &mut D, header: &Header) -> Result<bool, DeviceFault>
 {
     let len = disk.len(Area::Status)?;
     let all = header.total();
-    Ok(all <= 65_536 && 512 + 512 * all <= len)
+    Ok(all <= MOST_TOTAL && FRONT_LEN + SLOT_LEN * all <= len)
 }
 
 fn walk_through<D: Disk>(
@@ -183,7 +189,7 @@ fn walk_through<D: Disk>(
     ensures same { D.state disk.new ≡ read_by result (D.state disk.old) }
 {
     let mut walk = Walk::new(alloc, header.profile);
-    let mut buffer = [0; 8192];
+    let mut buffer = [0; BUFFER_LEN];
     read_slots(disk, header.total() as u32, &mut walk, &mut buffer)?;
     Ok(walk.slots)
 }

@@ -9,6 +9,7 @@ ghost use Rattle.status.specs.Reading.{read_by, ReadsHeader, IsBuiltFront, IsHea
 use crate::fault::LogFault;
 use crate::front::decode_header;
 use crate::header::Header;
+use crate::sizes::{FRONT_LEN, SLOT_LEN};
 use disk::{Area, DeviceFault, Disk};
 
 const COMMIT: u8 = 1;
@@ -34,7 +35,7 @@ fn header_of(front: &[u8; 512], len: u64) -> Option<Header>
     ensures none { IfNone result ((header : Header) → ¬ IsBuiltFront front.now len header) }
 {
     let header = decode_header(front)?;
-    let fits = 512 + 512 * header.total() <= len;
+    let fits = FRONT_LEN + SLOT_LEN * header.total() <= len;
     if fits && is_built(header.profile, COMMIT) {
         Some(header)
     } else {
@@ -49,7 +50,7 @@ fn find_header<D: Disk>(disk: &mut D) -> Result<Option<Header>, DeviceFault>
     ensures same { D.state disk.new ≡ looked result (D.state disk.old) }
 {
     let len = disk.len(Area::Status)?;
-    if len < 512 {
+    if len < FRONT_LEN {
         return Ok(None);
     }
     let mut front = [0; 512];

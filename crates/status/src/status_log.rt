@@ -9,6 +9,7 @@ ghost use Rattle.status.specs.Growth.{next_piece, IsGrowthCall, growth_after, gr
 
 use crate::growth::{Grew, Growth, advance_growth};
 use crate::header::Header;
+use crate::sizes::{MOST_PIECES, MOST_SLOTS, MOST_TOTAL, PIECE_SLOTS};
 use crate::turn::{SlotTurn, Step, advance};
 use disk::{DeviceFault, Disk};
 use std::marker::Model;
@@ -54,8 +55,8 @@ impl StatusLog {
     {
         StatusLog {
             profile: header.profile,
-            slots: header.total().min(65_536) as u32,
-            pieces: header.pieces.min(256),
+            slots: header.total().min(MOST_TOTAL) as u32,
+            pieces: header.pieces.min(MOST_PIECES),
             used,
             is_writing: false,
         }
@@ -136,7 +137,7 @@ impl StatusLog {
     pub fn next_piece(&self) -> Option<Growth>
         ensures { result ≡ next_piece self.now }
     {
-        if self.profile == 1 || 65_536 < self.slots + 256 {
+        if self.profile == 1 || MOST_SLOTS < self.slots + PIECE_SLOTS {
             None
         } else {
             Some(Growth::begin(self.slots, self.pieces))
@@ -158,7 +159,7 @@ impl StatusLog {
             Grew::WroteZeros | Grew::ZerosSynced | Grew::GateWritten => {}
             Grew::Grown => {
                 *self = StatusLog {
-                    slots: growth.slots + 256,
+                    slots: growth.slots + PIECE_SLOTS,
                     pieces: growth.piece + 1,
                     ..*self
                 };

@@ -6,6 +6,7 @@ ghost use Rattle.status.specs.Log.{slot_start};
 ghost use Rattle.status.specs.SlotCalls.{IsSlotCall, answer_of};
 ghost use Rattle.status.specs.Turn.{IsStepOf};
 
+use crate::sizes::{FRONT_LEN, SLOT_LEN};
 use disk::{Area, DeviceFault, Disk};
 use std::marker::Model;
 
@@ -87,7 +88,7 @@ impl SlotTurn {
 pub fn slot_place(number: u32) -> u64
     ensures { result ≡ slot_start number }
 {
-    512 + 512 * number as u64
+    FRONT_LEN + SLOT_LEN * number as u64
 }
 
 fn write_body<D: Disk>(disk: &mut D, number: u32, body: &[u8; 511]) -> Result<(), DeviceFault>

@@ -19,12 +19,15 @@ use deltas::{EXTENT_LEN, fill_extent};
 use disk::{Area, DeviceFault, Disk};
 use extents::Extent;
 use group::PumpFault;
-use status::{Grew, Growth, SlotTurn, Stage, StatusLog, Step};
+use status::{Grew, Growth, PIECE_SLOTS, SlotTurn, Stage, StatusLog, Step};
 use std::alloc::{AllocError, Global};
 use std::mem;
 use transactions::Transactions;
 use vacuum::{AnchorSource, ArchiveWalk};
 use wire::{Anchors, Body, Run};
+
+/// The bytes of an extent.
+pub(crate) const EXTENT_BYTES: u64 = EXTENT_LEN as u64;
 
 /// What a step of a job answers, and the job after it.
 type Stepped = (Result<JobDid, PumpFault>, Option<Job>);
@@ -194,7 +197,7 @@ fn grow<D: Disk>(
         Ok(Grew::GateWritten) => (Ok(JobDid::GateWritten), Some(job)),
         Ok(Grew::Grown) => {
             job.give_up();
-            transactions.add_slots(256);
+            transactions.add_slots(PIECE_SLOTS);
             (Ok(JobDid::JobDone), None)
         }
     }
@@ -279,7 +282,7 @@ fn store_anchors<D: Disk>(
         },
         stage: JobStage::Writing,
     };
-    match disk.write_at(Area::Heap, 8192 * u64::from(number - 1), &image) {
+    match disk.write_at(Area::Heap, EXTENT_BYTES * u64::from(number - 1), &image) {
         Err(DeviceFault) => {
             transactions.fail();
             (Err(PumpFault::Failed), Some(job))

@@ -6,6 +6,7 @@ ghost use Rattle.transactions.specs.Steps.{due, next_extent};
 ghost use Rattle.store.specs.Pumps.{Pumps, TakesStep, SyncsHeap, MayBeginSlot, TakesSlot, TurnsSlot, store_of, did_at};
 
 use crate::job::JobStage;
+use crate::job_pump::EXTENT_BYTES;
 use crate::store::Store;
 use disk::{Area, DeviceFault, Disk};
 use group::{Did, PumpFault};
@@ -13,9 +14,6 @@ use status::{SlotTurn, Stage, StatusLog, Step};
 use std::mem;
 use transactions::{NextStep, Transactions};
 use wire::Body;
-
-/// The bytes of an extent.
-const EXTENT_LEN: u64 = 8192;
 
 impl<D: Disk> Store<D> {
     /// One step of the group of commits that is being written; where none stands, one begins of the
@@ -65,7 +63,7 @@ impl<D: Disk> Store<D> {
         let Some(stored) = self.transactions.next_extent() else {
             unreachable!()
         };
-        let place = EXTENT_LEN * u64::from(stored.extent.number() - 1);
+        let place = EXTENT_BYTES * u64::from(stored.extent.number() - 1);
         match self.disk.write_at(Area::Heap, place, stored.image.bytes()) {
             Err(DeviceFault) => {
                 self.transactions.fail();

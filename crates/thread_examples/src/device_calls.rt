@@ -1,7 +1,7 @@
 //! Each holding of the lock makes at most one call of the device.
 ghost use Rattle.std.specs.Prelude.{◌≡◌, ◌<◌, [], length, true};
 ghost use Rattle.crossbeam_utils.specs.Seq.{cell_view};
-ghost use Rattle.standing.specs.Stands.{Stands};
+ghost use Rattle.refinement.specs.Stands.{Stands};
 ghost use Rattle.shared.specs.Counts.{told_count};
 ghost use Rattle.shared.specs.Seen.{seen_of};
 

@@ -1,7 +1,7 @@
 //! The floor of a relation that is raised through the lock: a view of before it answers as it did, and a later one nothing below it.
 ghost use Rattle.std.specs.Prelude.{◌≡◌, [], length, true};
 ghost use Rattle.crossbeam_utils.specs.Seq.{cell_view};
-ghost use Rattle.standing.specs.Stands.{Stands};
+ghost use Rattle.refinement.specs.Stands.{Stands};
 ghost use Rattle.shared.specs.Counts.{told_count};
 ghost use Rattle.shared.specs.Seen.{seen_of};
 

@@ -4,8 +4,8 @@ use Rattle.snapshot.specs.OpenTable.{snapshot_of, with_opened, least_free}
 use Rattle.snapshot.specs.Txn.{TxnValue}
 use Rattle.group.specs.CommitOrder as orders
 use Rattle.group.specs.Tickets.{TicketValue}
-use Rattle.group.specs.declared.commit_order.Standing.TheVariants as standing
-use Rattle.group.specs.declared.commit_order.Standing.{Standing}
+use Rattle.group.specs.declared.commit_order.TicketState.TheVariants as ticket_state
+use Rattle.group.specs.declared.commit_order.TicketState.{TicketState}
 use Rattle.group.specs.declared.answers.BeginFault.{BeginFault}
 use Rattle.group.specs.declared.answers.BeginFault.TheVariants as begin
 use Rattle.group.specs.declared.answers.Redeemed.{Redeemed}
@@ -42,10 +42,10 @@ abbrev pub Aborts : TransactionsValue → TxnValue → TransactionsValue → Typ
 Aborts old txn new = new ≡ (if is_own old txn then over old txn.number else old)
 
 -- the answer to a ticket whose commit stands so
-abbrev pub AnswersTicket : TransactionsValue → TicketValue → Standing → Redeemed → TransactionsValue → Type 0
-AnswersTicket old ticket standing.Unknown result new = (result ≡ redeemed.Stranger) × (new ≡ old)
-AnswersTicket old ticket standing.Published result new = (result ≡ redeemed.Done ticket.time) × (new ≡ record old { heads = orders.redeemed ticket.time old.heads })
-AnswersTicket old ticket standing.Waiting result new = (result ≡ (if old.failed then redeemed.InDoubt else redeemed.Waiting ticket)) × (new ≡ old)
+abbrev pub AnswersTicket : TransactionsValue → TicketValue → TicketState → Redeemed → TransactionsValue → Type 0
+AnswersTicket old ticket ticket_state.Unknown result new = (result ≡ redeemed.Stranger) × (new ≡ old)
+AnswersTicket old ticket ticket_state.Published result new = (result ≡ redeemed.Done ticket.time) × (new ≡ record old { heads = orders.redeemed ticket.time old.heads })
+AnswersTicket old ticket ticket_state.Waiting result new = (result ≡ (if old.failed then redeemed.InDoubt else redeemed.Waiting ticket)) × (new ≡ old)
 
 abbrev pub Redeems : TransactionsValue → TicketValue → Redeemed → TransactionsValue → Type 0
-Redeems old ticket result new = MatchBool (ticket.mark == old.mark) (AnswersTicket old ticket (orders.standing_of ticket.time (order_of old)) result new) ((result ≡ redeemed.Stranger) × (new ≡ old))
+Redeems old ticket result new = MatchBool (ticket.mark == old.mark) (AnswersTicket old ticket (orders.ticket_state ticket.time (order_of old)) result new) ((result ≡ redeemed.Stranger) × (new ≡ old))

@@ -17,13 +17,10 @@ use group::{
     CommitHead, Queued, StoredExtent, SubmitFault, Submitted, Ticket, first_conflict,
     give_back_all, records_of, seal_all, take_extents,
 };
-use history::KeyWrite;
+use history::{KeyWrite, LAST_TIME};
 use snapshot::Txn;
 use std::alloc::{AllocError, Global};
 use wire::Member;
-
-/// The greatest time of a commit: 2^63 - 1 microseconds.
-const LAST_TIME: u64 = (1 << 63) - 1;
 
 // A commit that may be queued: its time, and the bytes of its records for each extent.
 #[derive(Drop)]

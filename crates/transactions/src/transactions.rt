@@ -13,7 +13,7 @@ use chains::Frozen;
 use extents::{ChainTimes, Extent, Extents};
 use floors::Floors;
 use group::{
-    BeginFault, CommitHead, CommitOrder, Queued, QueuedParts, Redeemed, Standing, Ticket,
+    BeginFault, CommitHead, CommitOrder, Queued, QueuedParts, Redeemed, Ticket, TicketState,
     give_back_all, keep_all,
 };
 use snapshot::{OpenTable, Txn, TxnParts};
@@ -177,15 +177,15 @@ impl Transactions {
         }
         let time = ticket.time();
         match self.order.redeem(time) {
-            Standing::Published => {
+            TicketState::Published => {
                 ticket.give_up();
                 Redeemed::Done(time)
             }
-            Standing::Unknown => {
+            TicketState::Unknown => {
                 ticket.give_up();
                 Redeemed::Stranger
             }
-            Standing::Waiting => {
+            TicketState::Waiting => {
                 if self.failed {
                     ticket.give_up();
                     Redeemed::InDoubt

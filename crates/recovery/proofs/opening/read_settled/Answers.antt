@@ -15,11 +15,11 @@ use Rattle.floors.specs.Floors.{FloorsValue, floor_at}
 use Rattle.status.specs.Kept.{kept_of}
 use Rattle.status.specs.Rules.{head_of, log_of, runs_of, AreInRow}
 use Rattle.status.proofs.Kept.{kept-of}
-use Rattle.reading.specs.Layouts.{entries_of, anchors_after, no_anchors}
-use Rattle.reading.specs.Opening.{EndsWithin}
+use Rattle.layout.specs.Layouts.{entries_of, anchors_after, no_anchors}
+use Rattle.layout.specs.Opening.{EndsWithin}
 use Rattle.recovery.specs.declared.fault.OpenFault.{OpenFault}
 use Rattle.recovery.specs.Faults.{IsRunsFault}
-use Rattle.reading.proofs.Rules.{rules_say}
+use Rattle.layout.proofs.Rules.{rules_say}
 use Rattle.recovery.specs.RunEntries.{runs_named, AreEntriesOf}
 use Rattle.recovery.proofs.RunEntries.{go_on}
 use Rattle.recovery.proofs.Heads.{entries_rise, archived_upto_last, floor_upto_last, mark_is}

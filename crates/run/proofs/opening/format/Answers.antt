@@ -4,7 +4,7 @@ use Rattle.disk.specs.Areas.{Areas, Image, LeavesImage, image_of}
 use Rattle.status.specs.Header.{new_header}
 use Rattle.recovery.specs.Format.{IsFormatted}
 use Rattle.recovery.specs.declared.fault.FormatFault.{FormatFault}
-use Rattle.standing.specs.OnDisk.{IsImageOf}
+use Rattle.refinement.specs.OnDisk.{IsImageOf}
 use Rattle.opened.proofs.Formatted.{formatted-leaves, formatted-stands}
 use Rattle.run.proofs.opening.format.Goals as goal
 

@@ -11,8 +11,8 @@ use Rattle.recovery.specs.declared.fault.OpenFault.{OpenFault}
 use Rattle.recovery.specs.Settling.{Settles, CountsMore, CountsAtMost}
 use Rattle.store.specs.Values.{StoreValue}
 use Rattle.store.specs.Opens.{Opens, OpenRefuses}
-use Rattle.standing.specs.OnDisk.{IsImageOf}
-use Rattle.standing.specs.Stands.{Stands}
+use Rattle.refinement.specs.OnDisk.{IsImageOf}
+use Rattle.refinement.specs.Stands.{Stands}
 use Rattle.opened.proofs.Opened.{open-stands}
 use Rattle.opened.proofs.Reopened.{open-refuses}
 use Rattle.run.proofs.opening.open.Goals as goal

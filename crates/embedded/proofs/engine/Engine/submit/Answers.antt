@@ -5,6 +5,6 @@ use Rattle.embedded.proofs.engine.Engine.submit.Goals as goal
 
 pub returns-in-Some : goal.returns-in-Some
 returns-in-Some c =
-    let answered : asks c.args.self.now.standing ≡ false = search rules in
+    let answered : asks c.args.self.now.state ≡ false = search rules in
     let found : transaction_under c.args.self.now c.args.transaction ≡ Some c.in-Some.txn = c.in-Some.ensures.0 in
     rw (answered, found) (c.take_transaction.new.self, c.in-Some.ensures.1, c.submit_taken.ensures)

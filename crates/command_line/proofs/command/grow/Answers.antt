@@ -1,0 +1,8 @@
+use Rattle.std.proofs.Common.{codes}
+use Rattle.clap.specs.Words.{new_app}
+use Rattle.command_line.specs.Commands.{dir}
+use Rattle.command_line.proofs.command.grow.Goals as goal
+
+pub returns : goal.returns
+returns c =
+    c.with_arg.ensures (new_app (codes "grow")) dir c.command-command.ensures c.dir.ensures

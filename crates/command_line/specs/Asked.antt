@@ -1,0 +1,71 @@
+-- What a parsed command line asks for.
+use Rattle.std.specs.Prelude.{◌≡◌, ℕ, List, Option, Some, None, Ok, codes, MatchBool}
+use Rattle.std.specs.Str.{bytes_eq}
+use Rattle.std.specs.Str.Parse.{ParsesUnsigned}
+use Rattle.clap.specs.Words.{Row, Text, first_of, one_of}
+use Rattle.history.specs.declared.key.Key.{Key}
+use Rattle.command_line.specs.declared.action.Action.{Action}
+use Rattle.command_line.specs.declared.action.Action.TheVariants as action
+
+-- the argument has a text, which spells n in digits, n below 2 ^ bits
+abbrev pub HasNumber : ℕ → Text → List Row → ℕ → Type 0
+HasNumber bits id rows n = (t : Text) × (one_of id rows ≡ Some t) × ParsesUnsigned {E = ℕ} bits 10 t (Ok n)
+
+-- the arguments name this key, by relation and record
+abbrev pub HasKey : List Row → Key → Type 0
+HasKey rows key = HasNumber 16 (codes "REL") rows key.relation × HasNumber 64 (codes "REC") rows key.«record»
+
+abbrev pub AsksFormat : List Row → Action → Type 0
+AsksFormat rows (action.Format dir slots) = (first_of (codes "DIR") rows ≡ Some dir.now) × HasNumber 32 (codes "slots") rows slots
+AsksFormat rows _ = ⊥
+
+abbrev pub AsksRun : List Row → Action → Type 0
+AsksRun rows (action.Run dir) = first_of (codes "DIR") rows ≡ Some dir.now
+AsksRun rows _ = ⊥
+
+abbrev pub AsksAt : List Row → Action → Type 0
+AsksAt rows (action.At dir key time) = (first_of (codes "DIR") rows ≡ Some dir.now)
+    × HasKey rows key × (first_of (codes "TIME") rows ≡ Some time.now)
+AsksAt rows _ = ⊥
+
+abbrev pub AsksBetween : List Row → Action → Type 0
+AsksBetween rows (action.Between dir key from to) = (first_of (codes "DIR") rows ≡ Some dir.now)
+    × HasKey rows key × (first_of (codes "FROM") rows ≡ Some from.now) × (first_of (codes "TO") rows ≡ Some to.now)
+AsksBetween rows _ = ⊥
+
+abbrev pub AsksVacuum : List Row → Action → Type 0
+AsksVacuum rows (action.Vacuum dir time) = (first_of (codes "DIR") rows ≡ Some dir.now) × (first_of (codes "TIME") rows ≡ Some time.now)
+AsksVacuum rows _ = ⊥
+
+abbrev pub AsksGrow : List Row → Action → Type 0
+AsksGrow rows (action.Grow dir) = first_of (codes "DIR") rows ≡ Some dir.now
+AsksGrow rows _ = ⊥
+
+abbrev pub AsksDump : List Row → Action → Type 0
+AsksDump rows (action.Dump dir) = first_of (codes "DIR") rows ≡ Some dir.now
+AsksDump rows _ = ⊥
+
+abbrev pub AsksStress : List Row → Action → Type 0
+AsksStress rows (action.Stress writers readers rounds) = HasNumber 8 (codes "WRITERS") rows writers
+    × HasNumber 8 (codes "READERS") rows readers × HasNumber 16 (codes "ROUNDS") rows rounds
+AsksStress rows _ = ⊥
+
+-- a subcommand's name, and the rows of its arguments
+abbrev pub AsksCommand : Text → List Row → Action → Type 0
+AsksCommand name rows a = MatchBool (bytes_eq name (codes "format")) (AsksFormat rows a)
+    (MatchBool (bytes_eq name (codes "run")) (AsksRun rows a)
+    (MatchBool (bytes_eq name (codes "at")) (AsksAt rows a)
+    (MatchBool (bytes_eq name (codes "between")) (AsksBetween rows a)
+    (MatchBool (bytes_eq name (codes "vacuum")) (AsksVacuum rows a)
+    (MatchBool (bytes_eq name (codes "grow")) (AsksGrow rows a)
+    (MatchBool (bytes_eq name (codes "dump")) (AsksDump rows a)
+    (MatchBool (bytes_eq name (codes "stress")) (AsksStress rows a) ⊥)))))))
+
+-- without a subcommand the example is asked for
+abbrev pub Asks : Option (Text × List Row) → Action → Type 0
+Asks None a = a ≡ action.Example
+Asks (Some p) a = AsksCommand p.0 p.1 a
+
+-- no action is asked for
+abbrev pub AsksNothing : Option (Text × List Row) → Type 0
+AsksNothing met = (a : Action) → Asks met a → ⊥

@@ -1,0 +1,274 @@
+//! The subcommands and their arguments, as `clap` reads them.
+ghost use Rattle.std.specs.Prelude.{◌≡◌, IfOk, codes, false, map};
+ghost use Rattle.clap.specs.Words.{App, Rule, FailsBy, fault_of, subcommand_of, subcommand_rows_of, app_of, rule_of, new_app, with_rule, with_subcommand};
+ghost use Rattle.clap.specs.declared.builder.command.Command.TheViews.{out-Command as fields_of};
+ghost use Rattle.command_line.specs.Commands as told;
+
+use crate::help;
+use clap::builder::ValueParser;
+use clap::{Arg, ArgMatches, Command, Error, value_parser};
+use std::alloc::{AllocError, Global};
+
+/// The folder of a store.
+fn dir<'a>(alloc: Global) -> Arg<'a>
+    ensures { told.IsArg result told.dir }
+{
+    Arg::new(alloc, "DIR")
+        .required(true)
+        .help("The folder of the store's three files")
+}
+
+/// A time, which is read when the command is done.
+fn time<'a>(alloc: Global) -> Arg<'a>
+    ensures { told.IsArg result told.time }
+{
+    Arg::new(alloc, "TIME").required(true).help(
+        "The time, in microseconds since 1970 or as YYYY-MM-DDTHH:MM:SSZ",
+    )
+}
+
+/// Where an interval begins.
+fn from<'a>(alloc: Global) -> Arg<'a>
+    ensures { told.IsArg result told.from }
+{
+    Arg::new(alloc, "FROM")
+        .required(true)
+        .help("Where the interval begins, a time as of `at`")
+}
+
+/// Where an interval ends.
+fn to<'a>(alloc: Global) -> Arg<'a>
+    ensures { told.IsArg result told.to }
+{
+    Arg::new(alloc, "TO")
+        .required(true)
+        .help("Where it ends: this time is no longer in it")
+}
+
+/// A relation's number.
+fn relation<'a>(alloc: Global) -> Arg<'a>
+    ensures { told.IsArg result told.relation }
+{
+    Arg::new(alloc, "REL")
+        .required(true)
+        .value_parser(value_parser!(u16))
+        .help("The relation's number, 0 to 65535")
+}
+
+/// A record's number.
+fn record_number<'a>(alloc: Global) -> Arg<'a>
+    ensures { told.IsArg result told.record_number }
+{
+    Arg::new(alloc, "REC")
+        .required(true)
+        .value_parser(value_parser!(u64))
+        .help("The record's number in its relation")
+}
+
+/// How many slots a store is made with.
+fn slots<'a>(alloc: Global) -> Arg<'a>
+    ensures { told.IsArg result told.slots }
+{
+    Arg::new(alloc, "slots")
+        .long("slots")
+        .value_name("N")
+        .value_parser(value_parser!(u32))
+        .default_value("1024")
+        .help("The slots of the store's log, 16 to 65536")
+}
+
+/// How many threads write.
+fn writers<'a>(alloc: Global) -> Arg<'a>
+    ensures { told.IsArg result told.writers }
+{
+    Arg::new(alloc, "WRITERS")
+        .required(true)
+        .value_parser(ValueParser::Signed(1, 8))
+        .help("The threads that write, 1 to 8")
+}
+
+/// How many threads read.
+fn readers<'a>(alloc: Global) -> Arg<'a>
+    ensures { told.IsArg result told.readers }
+{
+    Arg::new(alloc, "READERS")
+        .required(true)
+        .value_parser(ValueParser::Signed(0, 8))
+        .help("The threads that read, 0 to 8")
+}
+
+/// How often each thread writes or reads.
+fn rounds<'a>(alloc: Global) -> Arg<'a>
+    ensures { told.IsArg result told.rounds }
+{
+    Arg::new(alloc, "ROUNDS")
+        .required(true)
+        .value_parser(ValueParser::Signed(1, 1000))
+        .help("How often each of them does, 1 to 1000")
+}
+
+/// A command with no argument yet. Its help begins with the first text, and ends with the other.
+fn command<'a>(alloc: Global, name: &'a str, about: &'a str, more: &'a str) -> Command<'a>
+    ensures { told.IsCommand result (new_app name.entry.now) }
+{
+    Command::new(alloc, name).about(about).after_help(more)
+}
+
+/// The command with one more argument. Where there is no command, none is made.
+fn with_arg<'a>(
+    command: Result<Command<'a>, AllocError>,
+    arg: Arg<'a>,
+) -> Result<Command<'a>, AllocError>
+    requires { arg.global ≡ false }
+    ensures { (app : App) (rule : Rule) → IfOk command.entry (λ c. told.IsCommand c app) → told.IsArg arg.entry rule → IfOk result (λ c. told.IsCommand c (with_rule app rule)) }
+{
+    command?.arg(arg)
+}
+
+fn format<'a>(alloc: Global) -> Result<Command<'a>, AllocError>
+    ensures { IfOk result (λ c. told.IsCommand c told.format) }
+{
+    let command = command(alloc, "format", "Make an empty store", help::FORMAT);
+    let command = with_arg(Ok(command), dir(alloc));
+    with_arg(command, slots(alloc))
+}
+
+fn run<'a>(alloc: Global) -> Result<Command<'a>, AllocError>
+    ensures { IfOk result (λ c. told.IsCommand c told.run) }
+{
+    let about = "Run the script of standard input on a store";
+    let command = command(alloc, "run", about, help::RUN);
+    with_arg(Ok(command), dir(alloc))
+}
+
+/// A command about one record of a store.
+fn of_record<'a>(alloc: Global, name: &'a str, about: &'a str) -> Result<Command<'a>, AllocError>
+    ensures { IfOk result (λ c. told.IsCommand c (told.of_record name.entry.now)) }
+{
+    let command = command(alloc, name, about, help::TIMES);
+    let command = with_arg(Ok(command), dir(alloc));
+    let command = with_arg(command, relation(alloc));
+    with_arg(command, record_number(alloc))
+}
+
+fn at<'a>(alloc: Global) -> Result<Command<'a>, AllocError>
+    ensures { IfOk result (λ c. told.IsCommand c told.at) }
+{
+    let command = of_record(alloc, "at", "Show the value of a record at a time");
+    with_arg(command, time(alloc))
+}
+
+fn between<'a>(alloc: Global) -> Result<Command<'a>, AllocError>
+    ensures { IfOk result (λ c. told.IsCommand c told.between) }
+{
+    let about = "Show what stood in a record from one time up to another";
+    let command = of_record(alloc, "between", about);
+    let command = with_arg(command, from(alloc));
+    with_arg(command, to(alloc))
+}
+
+fn vacuum<'a>(alloc: Global) -> Result<Command<'a>, AllocError>
+    ensures { IfOk result (λ c. told.IsCommand c told.vacuum) }
+{
+    let about = "Archive what ended by a time, and reclaim its space";
+    let command = command(alloc, "vacuum", about, help::VACUUM);
+    let command = with_arg(Ok(command), dir(alloc));
+    with_arg(command, time(alloc))
+}
+
+fn grow<'a>(alloc: Global) -> Result<Command<'a>, AllocError>
+    ensures { IfOk result (λ c. told.IsCommand c told.grow) }
+{
+    let about = "Make 256 slots more in a store";
+    let command = command(alloc, "grow", about, help::GROW);
+    with_arg(Ok(command), dir(alloc))
+}
+
+fn dump<'a>(alloc: Global) -> Result<Command<'a>, AllocError>
+    ensures { IfOk result (λ c. told.IsCommand c told.dump) }
+{
+    let about = "Show what the log of a store says";
+    let command = command(alloc, "dump", about, help::DUMP);
+    with_arg(Ok(command), dir(alloc))
+}
+
+fn stress<'a>(alloc: Global) -> Result<Command<'a>, AllocError>
+    ensures { IfOk result (λ c. told.IsCommand c told.stress) }
+{
+    let about = "Let threads write and read a new store in memory";
+    let command = command(alloc, "stress", about, help::STRESS);
+    let command = with_arg(Ok(command), writers(alloc));
+    let command = with_arg(command, readers(alloc));
+    with_arg(command, rounds(alloc))
+}
+
+/// The command with one more subcommand. Where either is lacking, none is made.
+fn with_command<'a>(
+    command: Result<Command<'a>, AllocError>,
+    sub: Result<Command<'a>, AllocError>,
+) -> Result<Command<'a>, AllocError>
+    requires { IfOk sub (λ c. (fields_of c).has_globals ≡ false) }
+    ensures { (app below : App) → IfOk command.entry (λ c. told.IsCommand c app) → IfOk sub.entry (λ c. told.IsCommand c below) → IfOk result (λ c. told.IsCommand c (with_subcommand app below.top)) }
+{
+    command?.subcommand(sub?)
+}
+
+/// The command with no subcommand yet, which help calls `timestore` whatever its file is called.
+fn top<'a>(alloc: Global) -> Result<Command<'a>, AllocError>
+    ensures { IfOk result (λ c. told.IsCommand c (new_app (codes "timestore"))) }
+{
+    command(
+        alloc,
+        "timestore",
+        "A store of records that keeps every version. Without a command it runs the script of \
+         standard input on a new store of 16 slots in memory",
+        help::LIMITS,
+    )
+    .bin_name("timestore")
+}
+
+/// The commands that make a store and run scripts.
+fn making<'a>(alloc: Global) -> Result<Command<'a>, AllocError>
+    ensures { IfOk result (λ c. told.IsCommand c told.making) }
+{
+    let command = with_command(top(alloc), format(alloc));
+    with_command(command, run(alloc))
+}
+
+/// These, and the commands that ask about a record.
+fn asking<'a>(alloc: Global) -> Result<Command<'a>, AllocError>
+    ensures { IfOk result (λ c. told.IsCommand c told.asking) }
+{
+    let command = with_command(making(alloc), at(alloc));
+    with_command(command, between(alloc))
+}
+
+/// These, and the commands that do a job.
+fn working<'a>(alloc: Global) -> Result<Command<'a>, AllocError>
+    ensures { IfOk result (λ c. told.IsCommand c told.working) }
+{
+    let command = with_command(asking(alloc), vacuum(alloc));
+    with_command(command, grow(alloc))
+}
+
+/// These, and the command that shows the log.
+fn keeping<'a>(alloc: Global) -> Result<Command<'a>, AllocError>
+    ensures { IfOk result (λ c. told.IsCommand c told.keeping) }
+{
+    with_command(working(alloc), dump(alloc))
+}
+
+/// The whole command line.
+fn timestore<'a>(alloc: Global) -> Result<Command<'a>, AllocError>
+    ensures { IfOk result (λ c. told.IsCommand c told.timestore) }
+{
+    with_command(keeping(alloc), stress(alloc))
+}
+
+/// What the words say, as `clap` reads them.
+pub fn matches<'a>(alloc: Global, words: &'a [&'a str]) -> Result<ArgMatches<'a>, Error>
+    ensures met { IfOk result (λ m. subcommand_rows_of m ≡ subcommand_of told.timestore (map (λ w. w.now) words.entry.now)) }
+    ensures faults { FailsBy (fault_of told.timestore (map (λ w. w.now) words.entry.now)) result }
+{
+    timestore(alloc)?.try_get_matches_from(words)
+}

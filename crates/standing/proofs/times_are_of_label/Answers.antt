@@ -1,5 +1,0 @@
-use Rattle.standing.proofs.Answering.{times-of_label}
-use Rattle.standing.proofs.times_are_of_label.Goals as goal
-
-pub returns : goal.returns
-returns c = times-of_label

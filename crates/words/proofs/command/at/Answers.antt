@@ -1,7 +1,0 @@
-use Rattle.std.proofs.Common.{codes}
-use Rattle.words.specs.Commands.{of_record, time}
-use Rattle.words.proofs.command.at.Goals as goal
-
-pub returns : goal.returns
-returns c =
-    c.with_arg.ensures (of_record (codes "at")) time c.of_record-command.ensures c.time.ensures

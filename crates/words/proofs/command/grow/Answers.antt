@@ -1,8 +1,0 @@
-use Rattle.std.proofs.Common.{codes}
-use Rattle.clap.specs.Words.{new_app}
-use Rattle.words.specs.Commands.{dir}
-use Rattle.words.proofs.command.grow.Goals as goal
-
-pub returns : goal.returns
-returns c =
-    c.with_arg.ensures (new_app (codes "grow")) dir c.command-command.ensures c.dir.ensures

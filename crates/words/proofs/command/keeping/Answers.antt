@@ -1,5 +1,0 @@
-use Rattle.words.specs.Commands.{working, dump}
-use Rattle.words.proofs.command.keeping.Goals as goal
-
-pub returns : goal.returns
-returns c = c.with_command.ensures working dump c.working.ensures c.dump.ensures

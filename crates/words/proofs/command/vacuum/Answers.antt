@@ -1,9 +1,0 @@
-use Rattle.std.proofs.Common.{codes}
-use Rattle.clap.specs.Words.{App, new_app, with_rule}
-use Rattle.words.specs.Commands.{dir, time}
-use Rattle.words.proofs.command.vacuum.Goals as goal
-
-pub returns : goal.returns
-returns c =
-    let name : App = new_app (codes "vacuum") in
-    c.with_arg.ensures (with_rule name dir) time (c.with_arg-command.ensures name dir c.command-command.ensures c.dir.ensures) c.time.ensures

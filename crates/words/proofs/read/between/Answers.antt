@@ -1,6 +1,0 @@
-use Rattle.clap.specs.Words.{found_of, rows_of}
-use Rattle.words.proofs.AskLemmas.{no_key_between}
-use Rattle.words.proofs.read.between.Goals as goal
-
-pub returns-in_err-key-clause-none : goal.returns-in_err-key-clause-none
-returns-in_err-key-clause-none c = rw c.from_residual-in_err-key.ensures (no_key_between (rows_of (found_of c.args.matches.now)) c.in_err-key.ensures.none)
