@@ -1,5 +1,5 @@
 -- What one call of the store leaves under the lock.
-use Rattle.std.proofs.Common.{◌≡◌, ℕ, ◌+◌, ◌<◌, ◌^◌, ◌≤◌, Bool, true, false, cond, List, [], ◌++◌, length, Option, Result, Ok, Err, MatchBool, refl, sym, ap, ◌∙◌, subst, arith}
+use Rattle.std.proofs.Common.{◌≡◌, ℕ, ◌+◌, ◌<◌, ◌^◌, ◌≤◌, Bool, true, false, cond, is_some, List, [], ◌++◌, length, Option, None, Some, Result, Ok, Err, MatchBool, MatchOption, refl, sym, ap, ◌∙◌, subst, arith}
 use Rattle.std.specs.Prelude.{IsTrue}
 use Rattle.std.proofs.lemmas.List.{append-nil}
 use Rattle.atomic_table.specs.Seated.{TableId}
@@ -29,6 +29,8 @@ use Rattle.group.specs.declared.answers.SubmitFault.{SubmitFault}
 use Rattle.group.specs.declared.answers.SubmitFault.TheVariants as refused
 use Rattle.transactions.specs.Values.{TransactionsValue, is_own, over}
 use Rattle.transactions.specs.Submits.{SubmitsOwn}
+use Rattle.status.specs.Growth.{next_piece}
+use Rattle.status.specs.GrowthState.{GrowthState}
 use Rattle.timequery.specs.View.{ViewValue}
 use Rattle.timequery.specs.declared.fault.QueryFault.{QueryFault}
 use Rattle.timequery.specs.declared.fault.QueryFault.TheVariants as query
@@ -39,6 +41,7 @@ use Rattle.store.specs.Pumps.{Pumps}
 use Rattle.store.specs.Archives.{StartsArchive}
 use Rattle.store.specs.Reclaims.{StartsReclaim}
 use Rattle.store.specs.Floors.{StartsFloor}
+use Rattle.store.specs.Growths.{StartsGrowth, BeginsPiece}
 use Rattle.store.specs.Jobs.{PumpsJob}
 use Rattle.store.specs.declared.job.JobDid.{JobDid}
 use Rattle.store.specs.declared.job.StartFault.{StartFault}
@@ -50,13 +53,14 @@ use Rattle.refinement.specs.Laws.{submission_of, event_of, begins_in, ends_in, j
 use Rattle.refinement.specs.Stands.{Stands, raising_of}
 use Rattle.refinement.specs.Leaving.{Leaves, LeftBySubmit, LeftByRedeem, count_in}
 use Rattle.refinement.proofs.Leaving.{pump-leaves}
-use Rattle.refinement.proofs.JobLeaving.{start-leaves, reclaim-leaves, floor-leaves, pumped-leaves}
+use Rattle.refinement.proofs.JobLeaving.{start-leaves, reclaim-leaves, floor-leaves, grow-leaves, pumped-leaves}
 use Rattle.refinement.proofs.Told.{left-is, ticket-time, redeeming}
 use Rattle.refinement.proofs.Memory.{last-is}
 use Rattle.refinement.proofs.Submitting.{order-last}
 use Rattle.refinement.proofs.GrowingCalls.{begin-stands, abort-stands, submit-stands, redeem-stands}
 use Rattle.refinement.proofs.GrowingPumps.{pump-stands}
-use Rattle.refinement.proofs.GrowingViews.{pump-goes, job-pump-goes, archive-start-goes, reclaim-start-goes, floor-start-goes}
+use Rattle.refinement.proofs.GrowingViews.{pump-goes, job-pump-goes, archive-start-goes, reclaim-start-goes, floor-start-goes, grow-start-goes}
+use Rattle.refinement.proofs.GrowingJobs.{grow-start-stands}
 use Rattle.refinement.proofs.GrowingPiece.{job-pump-stands}
 use Rattle.refinement.proofs.GrowingCalls.{archive-start-stands, reclaim-start-stands, floor-start-stands}
 use Rattle.refinement.proofs.Whole.{rest-goes}
@@ -65,7 +69,7 @@ use Rattle.shared.specs.Archives.{ArchiveSeen, IsArchiveLater, archive_seen, no_
 use Rattle.shared.specs.Counts.{told_count, told_after}
 use Rattle.shared.specs.Reached.{Reached, opened, stepped}
 use Rattle.shared.specs.Seen.{Seen, SightValue, seen_of, IsLater}
-use Rattle.shared.specs.Shared.{IsShared, Submits, SubmitSays, SubmitHappens, FloorSays, FloorHappens, queued_seen, job_seen, noted, done_in}
+use Rattle.shared.specs.Shared.{IsShared, Submits, SubmitSays, SubmitHappens, FloorSays, FloorHappens, GrowthSays, GrowthHappens, queued_seen, job_seen, noted, done_in}
 use Rattle.shared.proofs.Archives.{archive-same, archive-then, archive-first, archive-on}
 use Rattle.shared.proofs.Counting.{told-push, after-push, told-redeemed, after-redeemed, after-later, none-after}
 use Rattle.shared.proofs.Fronts.{last-seen, later-same}
@@ -423,6 +427,32 @@ floor-begins tells start brand table old new shares at pass scope floor r h star
     by-answer (Err fault.HeapFull) did = absurd did
     by-answer (Err fault.NoMemory) did = (same did.1, did.0)
     by-answer (Err fault.NotGrowable) did = absurd did
+
+-- what the beginning of a growth answers, by whether the store has failed
+growth-says : (old new : StoreValue) (m : Machine Value) (r : Result (Unit {0}) StartFault) → old.transactions.failed ≡ m.failed → StartsGrowth old r new → GrowthSays m r
+growth-says old new m r same starts = by-tests old.transactions.failed refl (is_some old.job) starts
+  where
+    said : (x : Result (Unit {0}) StartFault) → r ≡ x → GrowthSays m x → GrowthSays m r
+    said x is says = subst (λ (y : Result (Unit {0}) StartFault). GrowthSays m y) (sym is) says
+
+    by-piece : old.transactions.failed ≡ false → (o : Option GrowthState) → BeginsPiece old o r new → GrowthSays m r
+    by-piece works None is = said (Err fault.NotGrowable) is.0 (sym same ∙ works)
+    by-piece works (Some growth) is = said (Ok tt) is.0 (sym same ∙ works)
+
+    by-tests : (failed : Bool) → old.transactions.failed ≡ failed → (busy : Bool)
+        → MatchOption (cond failed (Some fault.Failed) (cond busy (Some fault.JobBusy) None)) (BeginsPiece old (next_piece old.log) r new) (λ why. (r ≡ Err why) × (new ≡ old)) → GrowthSays m r
+    by-tests true failed busy is = said (Err fault.Failed) is.0 (sym same ∙ failed)
+    by-tests false works true is = said (Err fault.JobBusy) is.0 (sym same ∙ works)
+    by-tests false works false is = by-piece works (next_piece old.log) is
+
+-- a growth begins, or is refused
+pub growth-begins : (tells : Bool) (start : Machine Value) (brand : ℕ) (table : TableId) (old new : StoreValue) (shares : ℕ) (at : TableId) (pass : SightValue) (r : Result (Unit {0}) StartFault) → IsShared tells start brand table old shares at pass → StartsGrowth old r new
+    → IsShared tells start brand table new shares at pass × GrowthHappens start r
+growth-begins tells start brand table old new shares at pass r h starts =
+    let left = grow-leaves old new r starts in (
+      quiet tells start brand table old new shares at pass h h.state (grow-start-stands tells old new r h.state h.stands starts) (grow-start-goes tells old new r h.state h.stands starts) h.reached refl left.mark left.heads,
+      (h.state, h.reached, growth-says old new h.state r h.stands.memory.failed starts),
+    )
 
 pub record JobPumped (tells : Bool) (start : Machine Value) (m : Machine Value) (old new : StoreValue) (r : Result JobDid PumpFault) : Type 0 where
   pub after : Machine Value

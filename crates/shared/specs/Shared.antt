@@ -190,6 +190,27 @@ FloorSays m r (Err start_fault.NoMemory) = IsSome r.scope
 abbrev pub FloorHappens : Machine Value → Option ℕ → ℕ → Result (Unit {0}) StartFault → Type 0
 FloorHappens start scope floor result = (m : Machine Value) × Reached start m × FloorSays m (raising_to scope floor) result
 
+-- ---- growths
+
+-- a growth begins where the store works; or it has failed, another job runs, or its log has no piece more
+abbrev pub GrowthSays : Machine Value → Result (Unit {0}) StartFault → Type 0
+GrowthSays m (Ok done) = m.failed ≡ false
+GrowthSays m (Err start_fault.Failed) = m.failed ≡ true
+GrowthSays m (Err start_fault.JobBusy) = m.failed ≡ false
+GrowthSays m (Err start_fault.NotGrowable) = m.failed ≡ false
+GrowthSays m (Err start_fault.WrongProfile) = ⊥
+GrowthSays m (Err start_fault.NothingToDo) = ⊥
+GrowthSays m (Err (start_fault.NotYet time)) = ⊥
+GrowthSays m (Err (start_fault.InUse snapshot)) = ⊥
+GrowthSays m (Err start_fault.StatusFull) = ⊥
+GrowthSays m (Err start_fault.ArchiveFull) = ⊥
+GrowthSays m (Err start_fault.HeapFull) = ⊥
+GrowthSays m (Err start_fault.NoMemory) = ⊥
+
+-- at a state that steps lead to it is so, and nothing of the machine's happens
+abbrev pub GrowthHappens : Machine Value → Result (Unit {0}) StartFault → Type 0
+GrowthHappens start result = (m : Machine Value) × Reached start m × GrowthSays m result
+
 -- ---- tickets
 
 -- how many commits of the caller's an answer tells of for the first time

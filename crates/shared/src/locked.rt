@@ -14,7 +14,7 @@ ghost use Rattle.shared.specs.Counts.{told_count, unredeemed};
 ghost use Rattle.shared.specs.Moments.{OfSeen};
 ghost use Rattle.shared.specs.Reached.{Reached};
 ghost use Rattle.shared.specs.Seen.{IsLater, seen_of};
-ghost use Rattle.shared.specs.Shared.{BeginHappens, SubmitHappens, SeenReached, PumpHappens, JobHappens, FloorHappens, RedeemSays, done_in};
+ghost use Rattle.shared.specs.Shared.{BeginHappens, SubmitHappens, SeenReached, PumpHappens, JobHappens, FloorHappens, GrowthHappens, RedeemSays, done_in};
 
 use crate::cell::{PublishedCell, WriterPass};
 use crate::moment::Moment;
@@ -157,6 +157,12 @@ impl<D: Disk, L: Opening> Locked<D, L> {
         ensures { FloorHappens L.start scope floor result }
     {
         self.store.start_floor(scope, floor)
+    }
+
+    pub(crate) fn grow_start(&mut self) -> Result<(), StartFault>
+        ensures { GrowthHappens L.start result }
+    {
+        self.store.grow_start()
     }
 
     /// One step of the job that runs. Where it raises a floor, the writer's pass has seen it before

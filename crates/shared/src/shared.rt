@@ -12,7 +12,7 @@ ghost use Rattle.shared.specs.Counts.{unredeemed};
 ghost use Rattle.shared.specs.Moments.{OfSeen, begun_txn};
 ghost use Rattle.shared.specs.Reached.{Reached};
 ghost use Rattle.shared.specs.Seen.{IsLater};
-ghost use Rattle.shared.specs.Shared.{BeginHappens, SubmitHappens, SeenReached, PumpHappens, JobHappens, FloorHappens, RedeemSays, WaitSays, CommitHappens, changed, done_in, commits_in};
+ghost use Rattle.shared.specs.Shared.{BeginHappens, SubmitHappens, SeenReached, PumpHappens, JobHappens, FloorHappens, GrowthHappens, RedeemSays, WaitSays, CommitHappens, changed, done_in, commits_in};
 
 use crate::cell::PublishedCell;
 use crate::change::Change;
@@ -209,6 +209,15 @@ impl<D: Disk, L: Opening> SharedStore<D, L> {
         ensures { FloorHappens L.start (Some relation) floor result }
     {
         self.locked.lock(rt).start_floor(Some(relation), floor)
+    }
+
+    /// Begins to make 256 slots more, which the store has once the job is done. It takes no slot and no
+    /// memory, and no commit waits for it. A store of profile 1, or of more than 65,280 slots, answers
+    /// `NotGrowable`.
+    pub fn grow_start<R: Wait>(&self, rt: &R) -> Result<(), StartFault>
+        ensures { GrowthHappens L.start result }
+    {
+        self.locked.lock(rt).grow_start()
     }
 
     /// One step of the job that runs.

@@ -8,6 +8,8 @@ mod device_calls;
 #[cfg(test)]
 mod floored;
 #[cfg(test)]
+mod grown;
+#[cfg(test)]
 mod moved_view;
 #[cfg(test)]
 mod noted;
