@@ -139,16 +139,16 @@ ByView m made c a r said = (made ≡ by_view (length (held_of m.state)) c a) × 
 abbrev pub LacksView : Exchange → Reply → Type 0
 LacksView made r = (why : AllocError) × (made ≡ one_call call.View (answer.View (Err why))) × (r ≡ reply.Refused (fault.Query query.NoMemory))
 
--- a view of now is asked for the value of the key at the time
+-- a view of now is asked for the value of the key at the time, or there is no memory for it
 abbrev pub SaysAt : ScriptMoment → Key → ℕ → Exchange → Reply → Type 0
 SaysAt m key time made r = LacksView made r ⊎ ((said : Result (Option (List Text)) QueryFault) × ByView m made (call.At (length (held_of m.state)) key time) (answer.At said) r (session.found said))
 
--- a view of now is asked for the values of the relation at the time
+-- a view of now is asked for the values of the relation at the time, or there is no memory for it
 abbrev pub SaysScan : ScriptMoment → ℕ → ℕ → Exchange → Reply → Type 0
 SaysScan m relation time made r =
     LacksView made r ⊎ ((said : Result (Vec (ℕ × List Text) Global) QueryFault) × ByView m made (call.ScanAt (length (held_of m.state)) relation time) (answer.ScanAt said) r (session.records_found said))
 
--- a view of now is asked for the rows of the key from a to b
+-- a view of now is asked for the rows of the key from a to b, or there is no memory for it
 abbrev pub SaysBetween : ScriptMoment → Key → ℕ → ℕ → Exchange → Reply → Type 0
 SaysBetween m key a b made r =
     LacksView made r ⊎ ((said : Result (Vec (Version (List Text)) Global) QueryFault) × ByView m made (call.Between (length (held_of m.state)) key a b) (answer.Between said) r (session.rows_found said))

@@ -35,7 +35,7 @@ ticket_of e = held.Ticket e.ticket
 abbrev pub held_of : State → List Held
 held_of s = map transaction_of s.opened ++ map ticket_of s.tickets
 
--- what of the history that stands for; between two lines no view is held
+-- what of a history such a name stands for; no view is held between two lines
 abbrev pub place_of : Held → Place
 place_of held.Nothing = Free
 place_of (held.Transaction txn) = Running txn.snapshot txn.writes
