@@ -3,6 +3,7 @@ use Rattle.history.specs.Laws.{LaterChangesNothing, RunAdds, RunPublishes, Confl
 use Rattle.image.specs.Values.{Value, IsValue}
 use Rattle.run.specs.Laws.{FirstMoment, MomentSurvives, WriteStands, StopsSurvive, MachineRuns, TimesStayKept, DoneNamesItsSubmit, PutIsSubmitted, DeleteIsSubmitted, ViewAnswersByItsMoment}
 
+-- the laws of lists of calls and of histories from which those of this crate follow
 pub record Public : Type 0 where
   pub first : FirstMoment
   pub survives : MomentSurvives

@@ -26,6 +26,7 @@ time_refusal newest floor time = if nat_lt time floor then Some (BeforeKept floo
 abbrev pub interval_refusal : ℕ → ℕ → ℕ → ℕ → Option QueryRefusal
 interval_refusal newest floor a b = if nat_lt (min a b) floor then Some (BeforeKept floor) else if nat_lt (newest + 1) b then Some (NotYet newest) else if nat_le b a then Some EmptyInterval else None
 
+-- the refusal, if there is one, or else this answer
 abbrev pub unless_refused : {X : Type 0} → Option QueryRefusal → X → Result X QueryRefusal
 unless_refused (Some refusal) answer = Err refusal
 unless_refused None answer = Ok answer
@@ -61,6 +62,7 @@ pub data Redeemed : Type 0 where
   -- the store has failed before the commit was published: opened again, it may have it or not
   InDoubt : Redeemed
 
+-- a commit of this time is published
 abbrev pub is_published : {V : Type 0} → Machine V → ℕ → Bool
 is_published m time = list_any (λ c. c.time == time) m.published
 

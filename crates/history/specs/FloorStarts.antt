@@ -23,6 +23,7 @@ abbrev pub in_use_below : List ℕ → ℕ → Option ℕ
 in_use_below [] time = None
 in_use_below (snapshot ∷ snapshots) time = if nat_lt (least snapshot snapshots) time then Some (least snapshot snapshots) else None
 
+-- the refusal for the least open snapshot below the floor, if there is one
 abbrev pub in_use_refusal : Option ℕ → Option FloorRefusal
 in_use_refusal None = None
 in_use_refusal (Some oldest) = Some (InUse oldest)

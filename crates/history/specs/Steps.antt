@@ -15,6 +15,7 @@ pub data Refusal : Type 0 where
   -- the heap or the log has no room for the commit
   NoRoom : Refusal
 
+-- what happens to the machine: a call with its answer, or a step of the store's own
 pub data Event (V : Type 0) : Type 0 where
   -- a transaction begins with this snapshot
   Began : ℕ → Event V
@@ -38,9 +39,11 @@ pub data Event (V : Type 0) : Type 0 where
 
 -- ---- the machine after each
 
+-- one more transaction is open: its snapshot is the time of the last published commit
 abbrev pub begun : {V : Type 0} → Machine V → Machine V
 begun m = record m { snapshots = last m.published ∷ m.snapshots }
 
+-- a submission is decided: a commit that is made of it is the last of the queue
 abbrev pub decided : {V : Type 0} → Machine V → Decision V → Machine V
 decided m Reads = m
 decided m (Conflicts key) = m
@@ -51,18 +54,23 @@ decided m (Queues commit) = record m { queue = m.queue ++ commit ∷ [] }
 abbrev pub grouped : {V : Type 0} → Machine V → Machine V
 grouped m = record m { group = min 16 (length m.queue) }
 
+-- the commits of the group are published, and no group stands
 abbrev pub group_published : {V : Type 0} → Machine V → Machine V
 group_published m = record m { published = m.published ++ take m.group m.queue; queue = drop m.group m.queue; group = 0; gate = Shut }
 
+-- this floor is in the making
 abbrev pub floor_started : {V : Type 0} → Machine V → Raising → Machine V
 floor_started m r = record m { raising = Some r }
 
+-- this floor stands, and none is in the making
 abbrev pub floor_published : {V : Type 0} → Machine V → Raising → Machine V
 floor_published m r = record m { floors = raised r.scope r.floor m.floors; raising = None; gate = Shut }
 
+-- how far the slot in the writing is from then on
 abbrev pub gated : {V : Type 0} → Machine V → Gate → Machine V
 gated m gate = record m { gate = gate }
 
+-- the machine has failed
 abbrev pub broken : {V : Type 0} → Machine V → Machine V
 broken m = record m { failed = true }
 

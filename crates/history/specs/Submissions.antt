@@ -31,6 +31,7 @@ IsSubmitted IsValue h s = (s.writes ≡ []) ⊎ IsSubmission IsValue h s
 
 -- ---- the answer
 
+-- what the machine answers to a submission
 pub data Decision (V : Type 0) : Type 0 where
   -- it writes nothing
   Reads : Decision V
@@ -49,9 +50,11 @@ time_now m now = max (last (commit_order m) + 1) now
 abbrev pub commit_made : {V : Type 0} → Machine V → Submission V → Commit V
 commit_made m s = record { time = time_now m s.now; label = s.label; writes = s.writes }
 
+-- a commit is queued, unless its time is past the last that a commit may have
 abbrev pub timed : {V : Type 0} → Commit V → Decision V
 timed c = if nat_lt c.time (2 ^ 63) then Queues c else Ends
 
+-- a conflict on this key, if there is one, or else this decision
 abbrev pub unless_conflict : {V : Type 0} → Option Key → Decision V → Decision V
 unless_conflict (Some key) decision = Conflicts key
 unless_conflict None decision = decision
@@ -60,6 +63,7 @@ unless_conflict None decision = decision
 abbrev pub conflict_of : {V : Type 0} → Machine V → Submission V → Option Key
 conflict_of m s = conflict_with (commit_order m) s.snapshot s.writes
 
+-- what becomes of a submission with these writes: where there are none, it only reads
 abbrev pub decision_on : {V : Type 0} → Machine V → Submission V → List (KeyWrite V) → Decision V
 decision_on m s [] = Reads
 decision_on m s (w ∷ ws) = unless_conflict (conflict_of m s) (timed (commit_made m s))

@@ -14,6 +14,7 @@ use Rattle.image.specs.StandsFor.{archived_upto}
 
 -- ---- the keys of a heap, in order
 
+-- a key put into a rising list, by how it compares with the first; more is the rest with the key in it
 abbrev pub insert_at : Ordering → Key → Key → List Key → List Key → List Key
 insert_at Less key first rest more = key ∷ first ∷ rest
 insert_at Equal key first rest more = first ∷ rest
@@ -24,10 +25,12 @@ abbrev pub insert_key : Key → List Key → List Key
 insert_key key [] = key ∷ []
 insert_key key (first ∷ rest) = insert_at (key_cmp key first) key first rest (insert_key key rest)
 
+-- these keys, each once and rising
 abbrev pub sorted_keys : List Key → List Key
 sorted_keys [] = []
 sorted_keys (key ∷ keys) = insert_key key (sorted_keys keys)
 
+-- the keys of all records of members, in their order
 abbrev pub member_keys : List Member → List Key
 member_keys members = flat_map (λ m. map (λ r. r.key) m.records) members
 
@@ -41,9 +44,11 @@ heap_keys reading = sorted_keys (map (λ old. old.key) reading.anchors ++ member
 abbrev pub to_archive : Reading → ℕ → Key → List (Version Value)
 to_archive reading upto key = filter (ends_by upto) (filter (ends_after (max (archived_upto reading) (floor_of reading.log key.relation))) (heap_versions reading key))
 
+-- the record of a run that has this version of a key
 abbrev pub archive_record : Key → Version Value → ArchiveRecord
 archive_record key v = record { key = key; version = v }
 
+-- the records of a run for these versions of each key, in the order of the keys
 abbrev pub archive_records : (Key → List (Version Value)) → List Key → List ArchiveRecord
 archive_records versions keys = flat_map (λ key. map (archive_record key) (versions key)) keys
 
@@ -57,9 +62,11 @@ archive_plan reading upto = archive_records (to_archive reading upto) (heap_keys
 abbrev pub to_keep : Reading → Key → List (Version Value)
 to_keep reading key = filter (stands_at (archived_upto reading)) (heap_versions reading key)
 
+-- the record of the anchor chain that has this version of a key
 abbrev pub old_record : Key → Version Value → OldRecord
 old_record key v = record { key = key; from = v.from; value = v.value }
 
+-- the records of the anchor chain for these versions of each key, in the order of the keys
 abbrev pub old_records : (Key → List (Version Value)) → List Key → List OldRecord
 old_records versions keys = flat_map (λ key. map (old_record key) (versions key)) keys
 

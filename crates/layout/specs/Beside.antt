@@ -30,6 +30,7 @@ TurnBesideWrite = (header : Header) (old : Layout) (slot : Slot) (new : Layout) 
     → AllByRecursion (λ f. f.number ≢ e.number) (live old) → AllByRecursion (λ f. f.number ≢ e.number) (live new) → AreSound areas → IsLoosened (extent_start e.number) (length (extent_bytes e)) areas.heap heap
     → IsTurnAt header old slot new stage areas → IsTurnAt header old slot new stage (record areas { heap = heap })
 
+-- while a slot is in the writing, the heap may be synced
 abbrev pub TurnBesideSync : Type 0
 TurnBesideSync = (header : Header) (old : Layout) (slot : Slot) (new : Layout) (stage : SlotStage) (areas : Areas) → AreSound areas
     → IsTurnAt header old slot new stage areas → IsTurnAt header old slot new stage (record areas { heap = synced areas.heap })

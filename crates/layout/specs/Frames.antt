@@ -16,9 +16,11 @@ pub record HasPartOf (at n : ℕ) (old new : List ℕ) : Type 0 where
   pub inside : at + n ≤ length new
   pub same : (k : ℕ) → at ≤ k → k < at + n → slice_index new k ≡ slice_index old k
 
+-- new has the bytes of old where this extent stands in the heap
 abbrev pub HasExtentOf : List ℕ → List ℕ → Extent → Type 0
 HasExtentOf old new e = HasPartOf (extent_start e.number) (length (extent_bytes e)) old new
 
+-- new has the bytes of old where this run stands in the archive
 abbrev pub HasRunOf : List ℕ → List ℕ → StoredRun → Type 0
 HasRunOf old new s = HasPartOf s.entry.start (length (run_bytes s.records)) old new
 

@@ -77,6 +77,7 @@ pub record IsGrowthWay (header : Header) (stage : GrowthStage) (calm : AreaState
   pub leads : (new : Areas) → IsGrowthCall stage (total header) header.pieces (Ok tt) old new → IsGrowing header (growth_stage_after stage) (calm_after stage calm) new.status
   pub alone : (result : Result (Unit {0}) DeviceFault) (new : Areas) → IsGrowthCall stage (total header) header.pieces result old new → new ≡ record old { status = new.status }
 
+-- so it is at every stage of a piece in the making
 abbrev pub GrowthGoes : Type 0
 GrowthGoes = (header : Header) (stage : GrowthStage) (calm : AreaState) (old : Areas) → IsGrowing header stage calm old.status → IsSound calm → AreSound old → IsGrowthWay header stage calm old
 
@@ -91,6 +92,7 @@ pub record IsCalmCall (header : Header) (growth : GrowthStage) (calm : AreaState
   pub goes : OnOk result (IsGrowing header growth next new.status)
   pub leaves : (content : List ℕ) → MayLeave new.status content → LeftBeside header (IsTrue (may_be_open growth)) next content
 
+-- so it is of every call of a slot while a piece is in the making
 abbrev pub SlotIsCalm : Type 0
 SlotIsCalm = (header : Header) (growth : GrowthStage) (calm : AreaState) (number : ℕ) (body : List ℕ) (stage : SlotStage) (result : Result (Unit {0}) DeviceFault) (old new : Areas)
     → IsGrowing header growth calm old.status → IsSound calm → AreSound old → AreSound new → number < total header → (stage ≡ Begun → length body ≡ 511)
@@ -107,6 +109,7 @@ abbrev pub ShutHolds : Type 0
 ShutHolds = (header : Header) (layout : Layout) (image : Image) (calm : List ℕ) → MayGrow header → HoldsLayout header (record image { status = calm }) layout → IsBeside header calm image.status
     → slice_index image.status (next_gate header) ≢ 0xC7 → HoldsLayout header image layout
 
+-- the piece's gate is open over zeros: the image holds the layout by the header with one piece more
 abbrev pub OpenHolds : Type 0
 OpenHolds = (header : Header) (layout : Layout) (image : Image) (calm : List ℕ) → MayGrow header → HoldsLayout header (record image { status = calm }) layout → IsBeside header calm image.status
     → HasZeros header piece_length image.status → slice_index image.status (next_gate header) ≡ 0xC7 → HoldsLayout (grown header) image layout
@@ -116,6 +119,7 @@ abbrev pub GrownRests : Type 0
 GrownRests = (header : Header) (slots : List Slot) (calm a : AreaState) → MayGrow header → IsGrowing header GateWritten calm a → IsSound calm → IsSettled a
     → StatusRests header slots calm → StatusRests (grown header) slots a
 
+-- so it is of a slot in the writing, at its stage
 abbrev pub GrownTurns : Type 0
 GrownTurns = (header : Header) (slots : List Slot) (slot : Slot) (stage : SlotStage) (calm a : AreaState) → MayGrow header → IsGrowing header GateWritten calm a → IsSound calm → IsSettled a
     → length slots < total header → StatusAt header slots slot stage calm → StatusAt (grown header) slots slot stage a

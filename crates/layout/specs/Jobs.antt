@@ -31,11 +31,13 @@ abbrev pub ArchiveLaid : Type 0
 ArchiveLaid = (header : Header) (layout : Layout) (reading : Reading) (slot : Slot) (run : StoredRun) → IsLayoutOf header layout reading → slot.body ≡ Archived run.entry
     → IsStoredRun run → AreInRow 0 (runs_of layout.slots ++ run.entry ∷ []) → IsLayoutOf header (archived layout slot run) (with_run reading run.entry.upto run.records)
 
+-- the layout after a reclaim spells the reading with its anchors
 abbrev pub ReclaimLaid : Type 0
 ReclaimLaid = (header : Header) (layout : Layout) (reading : Reading) (slot : Slot) (anchors : Anchors) (chain : List Extent) (olds : List OldRecord) → IsLayoutOf header layout reading
     → slot.body ≡ Reclaimed anchors → anchors.upto ≡ archived_upto reading → reclaimed_upto reading ≤ archived_upto reading → IsAnchorChain anchors chain olds → AreDistinct (live layout ++ chain)
     → IsLayoutOf header (reclaimed layout slot (archived_upto reading) chain) (with_anchors reading olds)
 
+-- the layout after a floor spells the reading with the floor
 abbrev pub FloorLaid : Type 0
 FloorLaid = (header : Header) (layout : Layout) (reading : Reading) (slot : Slot) (relation : Option ℕ) (floor : ℕ) → IsLayoutOf header layout reading → slot.body ≡ Floor relation floor
     → IsLayoutOf header (floored layout slot) (with_floor reading relation floor)
@@ -44,8 +46,10 @@ FloorLaid = (header : Header) (layout : Layout) (reading : Reading) (slot : Slot
 abbrev pub ArchiveKept : Type 0
 ArchiveKept = (layout : Layout) (slot : Slot) (run : StoredRun) (areas : Areas) → KeepsParts layout areas → KeepsRun areas.archive run → KeepsParts (archived layout slot run) areas
 
+-- the parts after a reclaim are kept, where those before it are and its chain is
 abbrev pub ReclaimKept : Type 0
 ReclaimKept = (layout : Layout) (slot : Slot) (mark : ℕ) (chain : List Extent) (areas : Areas) → KeepsParts layout areas → KeepsExtents chain areas.heap → KeepsParts (reclaimed layout slot mark chain) areas
 
+-- the parts after a floor are kept, where those before it are
 abbrev pub FloorKept : Type 0
 FloorKept = (layout : Layout) (slot : Slot) (areas : Areas) → KeepsParts layout areas → KeepsParts (floored layout slot) areas

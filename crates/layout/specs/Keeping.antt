@@ -17,6 +17,7 @@ LeavesOnly P a = (content : List ℕ) → MayLeave a content → P content
 
 -- ---- the status area, at rest or with one slot in the writing
 
+-- the status area holds this log, and all of it is on the disk
 pub record StatusRests (header : Header) (slots : List Slot) (a : AreaState) : Type 0 where
   pub settled : IsSettled a
   pub log : IsLog header a.bytes slots
@@ -39,9 +40,11 @@ pub record IsGateWritten (header : Header) (slots : List Slot) (slot : Slot) (a 
 
 -- ---- the other areas: they may be in the writing elsewhere
 
+-- whatever a stop may leave of the heap holds these extents
 abbrev pub KeepsExtents : List Extent → AreaState → Type 0
 KeepsExtents extents a = AllByRecursion (KeepsExtent a) extents
 
+-- whatever a stop may leave of the archive holds these runs
 abbrev pub KeepsRuns : List StoredRun → AreaState → Type 0
 KeepsRuns runs a = AllByRecursion (KeepsRun a) runs
 

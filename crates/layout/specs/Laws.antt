@@ -58,10 +58,12 @@ abbrev pub Goes : Layout → List ℕ → Stage → Areas → List Areas → Typ
 Goes layout body stage old [] = AreSound old
 Goes layout body stage old (new ∷ more) = AreSound old × IsCallOf layout body stage (Ok tt) old new × Goes layout body (stage_after stage) new more
 
+-- the stage of a group after these calls, each answered Ok
 abbrev pub stage_after_all : Stage → List Areas → Stage
 stage_after_all stage [] = stage
 stage_after_all stage (new ∷ more) = stage_after_all (stage_after stage) more
 
+-- the areas after the last of these calls, or before them if there are none
 abbrev pub last_of : Areas → List Areas → Areas
 last_of old [] = old
 last_of old (new ∷ more) = last_of new more
@@ -94,6 +96,7 @@ pub record IsTurnWay (header : Header) (old : Layout) (body : List ℕ) (stage :
   pub within : (result : Result (Unit {0}) DeviceFault) (next : Areas) (image : Image) → IsSlotCall (length old.slots) body stage result areas next → LeavesImage next image
       → MayWithin stage (ImageStandsFor header image h floors) (ImageStandsFor header image h' floors')
 
+-- so it is where the slot's layouts spell readings that stand for these histories and floors
 abbrev pub TurnStands : Type 0
 TurnStands = (header : Header) (old : Layout) (slot : Slot) (new : Layout) (reading reading' : Reading) (h h' : History Value) (floors floors' : ℕ → ℕ) (body : List ℕ) (stage : SlotStage) (areas : Areas)
     → Adds header old slot new → IsLayoutOf header old reading → StandsFor reading h floors → IsLayoutOf header new reading' → StandsFor reading' h' floors'

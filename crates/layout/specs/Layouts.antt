@@ -25,6 +25,7 @@ pub record StoredMember : Type 0 where
   pub member : readings.Member
   pub extents : List Extent
 
+-- the entry names this commit and its chain, and the extents hold its records, all in range
 pub record IsStoredMember (s : StoredMember) : Type 0 where
   pub head_is : s.member.head ≡ head_of s.entry
   pub chain : IsChain s.entry.first s.entry.extents s.entry.records s.extents (map record_bytes s.member.records)
@@ -47,6 +48,7 @@ live layout = layout.anchors ++ extents_of layout.members
 
 -- ---- what the slots name
 
+-- the commits that a slot's body names
 abbrev pub entries_in : Body → List Entry
 entries_in (Commit members) = members.items
 entries_in (Archived run) = []
@@ -61,9 +63,11 @@ entries_of slots = flat_map (λ s. entries_in s.body) slots
 abbrev pub later_than : ℕ → List Entry → List Entry
 later_than mark entries = filter (λ entry. nat_lt mark entry.time) entries
 
+-- the anchor chain before the first reclaim: it is empty
 abbrev pub no_anchors : Anchors
 no_anchors = record { upto = 0; first = 0; extents = 0; records = 0 }
 
+-- the anchor chain that stands after a slot: the one that it names, or the one before it
 abbrev pub anchors_in : Anchors → Body → Anchors
 anchors_in before (Commit members) = before
 anchors_in before (Archived run) = before

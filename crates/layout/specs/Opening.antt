@@ -37,6 +37,7 @@ pub record HoldsLog (header : Header) (bytes : List ℕ) (slots : List Slot) : T
 abbrev pub unread : Reading → Reading
 unread reading = record reading { runs = [] }
 
+-- a layout as opening reads it: without the runs
 abbrev pub unread_layout : Layout → Layout
 unread_layout layout = record layout { runs = [] }
 
@@ -105,6 +106,7 @@ pub record AreLiveAnchors (heap : List ℕ) (mark : ℕ) (anchors : Anchors) (ch
   pub rising : IsStrictlySortedBy key_cmp (map (λ old. old.key) olds)
   pub times : AllByRecursion (IsAnchorUpto mark) olds
 
+-- the heap holds a right anchor chain of these numbers, up to this mark
 pub record HasAnchors (heap : List ℕ) (mark : ℕ) (anchors : Anchors) : Type 0 where
   pub chain : List Extent
   pub olds : List OldRecord

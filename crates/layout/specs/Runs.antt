@@ -22,6 +22,7 @@ index_from place (r ∷ rs) = u64_bytes place ++ index_from (place + length (arc
 unfoldable pub run_bytes : List ArchiveRecord → List ℕ
 run_bytes records = flat_map archive_bytes records ++ index_from 0 records
 
+-- a run has the length and the number of records that the log names, and its records are in range
 pub record IsStoredRun (s : StoredRun) : Type 0 where
   pub length_is : length (run_bytes s.records) ≡ s.entry.len
   pub records_are : length s.records ≡ s.entry.records

@@ -30,6 +30,7 @@ pub record Group : Type 0 where
   pub members : List StoredMember
   pub slot : Slot
 
+-- the commits of a group, as what a reading has of them
 abbrev pub members_of : Group → List Member
 members_of group = map (λ s. s.member) group.members
 
@@ -57,6 +58,7 @@ IsCallOf layout body (Storing done (e ∷ rest)) result old new = Writes Heap (e
 IsCallOf layout body (Storing done []) result old new = Syncs Heap result old new
 IsCallOf layout body (Turning stage) result old new = IsSlotCall (length layout.slots) body stage result old new
 
+-- the stage after a call that was answered Ok
 abbrev pub stage_after : Stage → Stage
 stage_after (Storing done (e ∷ rest)) = Storing (done ++ e ∷ []) rest
 stage_after (Storing done []) = Turning Begun

@@ -89,6 +89,7 @@ pub record StaysNamed (tells : Bool) (old new : StoreValue) (area : Area) (k : �
 
 -- ---- laws
 
+-- a store that opened has no job that writes in front of the end of the log's runs
 abbrev pub OpenedWritesBehind : Type 0
 OpenedWritesBehind = (tells : Bool) (disk : DiskState) (mark : ℕ) (v : StoreValue) → Opens tells disk mark v → WritesBehind v
 
@@ -126,6 +127,7 @@ pub record HasPublished (old : StoreValue) (count : ℕ) (new : StoreValue) : Ty
   pub extents : AllByRecursion (IsKept new.transactions.usages) (flat_map numbers_of (take count old.transactions.queue))
   pub slots : new.log.used ≡ old.log.used + 1
 
+-- where a group is published, its slot and the extents of its commits are named
 abbrev pub PublishedNamed : Type 0
 PublishedNamed = (tells : Bool) (old new : StoreValue) (count : ℕ) → IsTyped tells old → Pumps tells old (Ok (group.Published count)) new → HasPublished old count new
 
@@ -134,6 +136,7 @@ pub record HasArchived (old : StoreValue) (job : ArchiveJob) (new : StoreValue) 
   pub run : new.runs_end ≡ job.run.start + job.run.len
   pub slots : new.log.used ≡ old.log.used + 1
 
+-- where an archive is done, its slot and its run are named
 abbrev pub ArchivedNamed : Type 0
 ArchivedNamed = (tells : Bool) (old new : StoreValue) (job : ArchiveJob) → IsTyped tells old → old.job ≡ Some (job_of job) → PumpsJob tells old (Ok did.JobDone) new → HasArchived old job new
 
@@ -142,6 +145,7 @@ pub record HasAnchored (old new : StoreValue) : Type 0 where
   pub extents : AllByRecursion (IsKept new.transactions.usages) old.transactions.reserved
   pub slots : new.log.used ≡ old.log.used + 1
 
+-- where a reclaim is done, its slot and the extents of its anchors are named
 abbrev pub AnchorsNamed : Type 0
 AnchorsNamed = (tells : Bool) (old new : StoreValue) (anchors : Anchors) (source : Sourced) (written : ℕ) (stage : JobStage) → IsTyped tells old → old.job ≡ Some (record { work = Reclaim anchors source written; stage = stage })
     → PumpsJob tells old (Ok did.JobDone) new → HasAnchored old new
@@ -152,6 +156,7 @@ pub record NamesNoMore (old new : StoreValue) : Type 0 where
   pub usages : new.transactions.usages ≡ old.transactions.usages
   pub runs : new.runs_end ≡ old.runs_end
 
+-- where a floor is done, its slot is named and nothing more
 abbrev pub FloorNamesNoMore : Type 0
 FloorNamesNoMore = (tells : Bool) (old new : StoreValue) (scope : Option ℕ) (time : ℕ) (floors : FloorsValue) (stage : JobStage) → IsTyped tells old → old.job ≡ Some (record { work = Floor scope time floors; stage = stage })
     → PumpsJob tells old (Ok did.JobDone) new → NamesNoMore old new
@@ -163,6 +168,7 @@ pub record NamesPiece (old new : StoreValue) : Type 0 where
   pub usages : new.transactions.usages ≡ old.transactions.usages
   pub runs : new.runs_end ≡ old.runs_end
 
+-- where a growth is done, its piece is named and nothing more
 abbrev pub GrowthNamesPiece : Type 0
 GrowthNamesPiece = (tells : Bool) (old new : StoreValue) (growth : GrowthState) (stage : JobStage) → IsTyped tells old → old.job ≡ Some (record { work = Grow growth; stage = stage })
     → PumpsJob tells old (Ok did.JobDone) new → NamesPiece old new

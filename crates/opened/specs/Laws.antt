@@ -128,6 +128,7 @@ pub record AnswersBy (tells : Bool) (v : StoreValue) (h : History Value) (floors
   pub scan_between : (view : ViewValue) (asked new : StoreValue) (later : Machine Value) (relation a b : ℕ) (answer : Result (Vec (ℕ × Version Value) Global) QueryFault)
       → IsViewOf v view → Stands tells asked later → GoesOn tells v asked → AnswersScanRows tells asked view relation a b answer new → SaysScanBetween (IsSure tells view.reclaimed a) h floors relation a b answer
 
+-- a store that stands for a machine answers by what that has published
 abbrev pub StandsAnswers : Type 0
 StandsAnswers = (tells : Bool) (v : StoreValue) (m : Machine Value) → Stands tells v m → AnswersBy tells v m.published m.floors
 

@@ -13,6 +13,7 @@ use Rattle.recovery.specs.declared.recovered.HeapRead.{HeapRead}
 use Rattle.recovery.specs.HeapReads.{numbers_in}
 use Rattle.recovery.specs.Walk.{claimed}
 
+-- the name of the anchors' chain, as its slot gives it
 abbrev pub anchors_name : Anchors → ChainName
 anchors_name anchors = record { first = anchors.first; extents = anchors.extents; records = anchors.records }
 

@@ -11,6 +11,7 @@ after_fault (Damaged area place) s = s
 after_fault Device s = record s { refused = counted s.refused }
 after_fault NoMemory s = s
 
+-- the disk after reads with this answer: nothing but a refusal is counted
 abbrev pub after_reads : {T : Type 0} → Result T OpenFault → DiskState → DiskState
 after_reads (Ok x) s = s
 after_reads (Err fault) s = after_fault fault s

@@ -24,6 +24,7 @@ use Rattle.recovery.specs.Walk.{extent_at, numbers_at, claimed, AreClaimable}
 abbrev pub numbers_of : List ℕ → Member → List ℕ
 numbers_of heap entry = numbers_at heap entry.first entry.extents
 
+-- the name of a commit's chain, as its slot gives it
 abbrev pub chain_name : Member → ChainName
 chain_name entry = record { first = entry.first; extents = entry.extents; records = entry.records }
 

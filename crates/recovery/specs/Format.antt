@@ -10,6 +10,7 @@ use Rattle.status.specs.declared.header.Header.{Header}
 use Rattle.recovery.specs.declared.fault.FormatFault.{FormatFault}
 use Rattle.recovery.specs.declared.fault.FormatFault.TheVariants as faults
 
+-- a store may be formatted with this many slots
 abbrev pub IsSlotCount : ℕ → Type 0
 IsSlotCount slots = (16 ≤ slots) × (slots ≤ 65536)
 

@@ -23,6 +23,7 @@ use Rattle.recovery.specs.Chains.{live_named}
 abbrev pub values_of : List OldRecord → Key → Option Value
 values_of olds key = latest (old_writes olds key)
 
+-- the numbers of these extents
 abbrev pub numbers_in : List Extent → List ℕ
 numbers_in extents = map (λ e. e.number) extents
 

@@ -45,6 +45,7 @@ pub record SaySame (r s : Recovered) : Type 0 where
   pub writes : (key : Key) → chains.writes_of r.chains key ≡ chains.writes_of s.chains key
   pub lasts : r.last ≡ s.last
 
+-- two openings of one image say the same
 abbrev pub OpensOnce : Type 0
 OpensOnce = (image : Image) (r s : Recovered) → IsReadFrom image r → IsReadFrom image s → SaySame r s
 

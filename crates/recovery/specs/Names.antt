@@ -10,9 +10,11 @@ use Rattle.recovery.specs.declared.recovered.CommitName.{CommitName}
 use Rattle.recovery.specs.declared.fault.OpenFault.{OpenFault}
 use Rattle.recovery.specs.declared.fault.OpenFault.TheVariants.{NotAStore, Damaged, Device, NoMemory}
 
+-- the time and label of a commit that was read
 abbrev pub head_named : CommitName → Head
 head_named name = record { time = name.time; label = name.label }
 
+-- what is told of a commit that a slot names: its time and label
 abbrev pub name_of : Member → CommitName
 name_of entry = record { time = entry.time; label = entry.label }
 

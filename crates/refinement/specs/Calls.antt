@@ -39,9 +39,11 @@ BeginsTo S m (Ok txn) new = Step IsValue m (Began txn.snapshot) (begun m) × S n
 BeginsTo S m (Err fault.NoMemory) new = Step IsValue m (BeginRefused steps.NoMemory) m × S new m
 BeginsTo S m (Err fault.Failed) new = Step IsValue m (BeginRefused steps.Failed) m × S new m
 
+-- what a begin leads to, by its answer, where the store stands for the machine after it
 abbrev pub BeginsOn : Bool → Machine Value → Result TxnValue BeginFault → StoreValue → Type 0
 BeginsOn tells m answer new = BeginsTo (Stands tells) m answer new
 
+-- a begin is a step of the machine, and the store stands for the machine after it
 abbrev pub BeginStands : Type 0
 BeginStands = (tells : Bool) (old new : StoreValue) (answer : Result TxnValue BeginFault) (m : Machine Value) → Stands tells old m → stores.Begins old answer new → BeginsOn tells m answer new
 
@@ -50,6 +52,7 @@ abbrev pub AbortStands : Type 0
 AbortStands = (tells : Bool) (old new : StoreValue) (txn : TxnValue) (m : Machine Value) → Stands tells old m → stores.Aborts old txn new
     → MatchBool (is_own old.transactions txn) ((after : Machine Value) × Step IsValue m (Aborted txn.snapshot) after × Stands tells new after) (Stands tells new m)
 
+-- a submit of an own transaction is a step of the machine, and a stranger's changes nothing
 abbrev pub SubmitStands : Type 0
 SubmitStands = (tells : Bool) (old new : StoreValue) (txn : TxnValue) (label now : ℕ) (answer : Result Submitted SubmitFault) (m : Machine Value) → Stands tells old m
     → AreTxnWrites txn.state txn.snapshot txn.writes → label < 2 ^ 64 → stores.Submits old txn label now answer new
@@ -60,6 +63,7 @@ abbrev pub PumpStands : Type 0
 PumpStands = (tells : Bool) (old new : StoreValue) (answer : Result Did PumpFault) (m : Machine Value) → Stands tells old m → (IsTrue tells → AreSound new.disk.areas) → Pumps tells old answer new
     → MatchBool m.failed ((answer ≡ Err pump.Failed) × Stands tells new m) ((after : Machine Value) × Run IsValue m (begins_in m ++ ends_in m.gate answer) after × Stands tells new after)
 
+-- a ticket is answered as the machine does, or as a stranger's, and nothing of the machine's changes
 abbrev pub RedeemStands : Type 0
 RedeemStands = (tells : Bool) (old new : StoreValue) (ticket : TicketValue) (answer : Redeemed) (m : Machine Value) → Stands tells old m → stores.Redeems old ticket answer new
     → RedeemsAs (answers.redeemed_by m ticket.time) answer × Stands tells new m
@@ -93,9 +97,11 @@ StartsTo S m r (Err start.HeapFull) new = ⊥
 StartsTo S m r (Err start.NoMemory) new = IsSome r.scope × S new m
 StartsTo S m r (Err start.NotGrowable) new = ⊥
 
+-- what the start of a floor leads to, by its answer, where the store stands for the machine after it
 abbrev pub StartsOn : Bool → Machine Value → Raising → Result (Unit {0}) StartFault → StoreValue → Type 0
 StartsOn tells m r answer new = StartsTo (Stands tells) m r answer new
 
+-- a floor begins or is refused so, and the store stands for the machine after it
 abbrev pub FloorStartStands : Type 0
 FloorStartStands = (tells : Bool) (old new : StoreValue) (scope : Option ℕ) (floor : ℕ) (answer : Result (Unit {0}) StartFault) (m : Machine Value) → Stands tells old m
     → StartsFloor old scope floor answer new → StartsOn tells m (raising_to scope floor) answer new

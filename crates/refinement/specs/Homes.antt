@@ -35,6 +35,7 @@ HasPlace (Reclaim anchors source written) v m = anchors.upto ≤ v.archived
 HasPlace (Floor scope floor floors) v m = Unit {0}
 HasPlace (Grow growth) v m = Unit {0}
 
+-- so it is of the job that runs, if there is one
 abbrev pub JobHasPlace : StoreValue → Machine Value → Type 0
 JobHasPlace v m = MatchOption v.job (Unit {0}) (λ job. HasPlace job.work v m)
 

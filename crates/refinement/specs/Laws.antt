@@ -102,6 +102,7 @@ floor_ends_in job_did.BodySynced r = GateDue OfFloor ∷ []
 floor_ends_in job_did.GateWritten r = GateWritten OfFloor ∷ []
 floor_ends_in job_did.JobDone r = FloorPublished r ∷ []
 
+-- the machine's events in such a step, if a floor is in the making
 abbrev pub floor_ends : JobDid → Option Raising → List (Event Value)
 floor_ends what None = []
 floor_ends what (Some r) = floor_ends_in what r
@@ -113,6 +114,7 @@ job_breaks_in (Due OfGroup) = Broke ∷ []
 job_breaks_in (Due OfFloor) = GateWritten OfFloor ∷ Broke ∷ []
 job_breaks_in (MayBeOpen change) = Broke ∷ []
 
+-- the machine's events in a step of a job, by its answer
 abbrev pub job_ends_in : Machine Value → Result JobDid PumpFault → List (Event Value)
 job_ends_in m (Ok what) = floor_ends what m.raising
 job_ends_in m (Err pump.Busy) = []
@@ -128,6 +130,7 @@ RedeemsAs said (redeemed.Waiting ticket) = said ≡ answers.Waiting
 RedeemsAs said redeemed.InDoubt = said ≡ answers.InDoubt
 RedeemsAs said redeemed.Stranger = Unit {0}
 
+-- the times of a label that memory tells are those of the published history
 abbrev pub TimesAreOfLabel : Type 0
 TimesAreOfLabel = (v : TransactionsValue) (m : Machine Value) (label : ℕ) → StandsInMemory v m → orders.times_of label (calls.order_of v) ≡ answers.times_of m.published label
 
@@ -161,9 +164,11 @@ Says Sure held Is (Err query.Stranger) = ⊥
 abbrev pub SaysScanAt : Type 0 → History Value → (ℕ → ℕ) → ℕ → ℕ → Result (Vec (ℕ × Value) Global) QueryFault → Type 0
 SaysScanAt Sure h floors relation time answer = Says Sure (λ (found : Vec (ℕ × Value) Global). found.items) (answers.IsScanAtAnswer h floors relation time) answer
 
+-- an answer with the rows of a key from a to b is that of the history, where that is known
 abbrev pub SaysBetween : Type 0 → History Value → (ℕ → ℕ) → Key → ℕ → ℕ → Result (Vec (Version Value) Global) QueryFault → Type 0
 SaysBetween Sure h floors key a b answer = Says Sure (λ (rows : Vec (Version Value) Global). rows.items) (λ said. answers.between_answer h floors key a b ≡ said) answer
 
+-- an answer with the rows of a relation from a to b is that of the history, where that is known
 abbrev pub SaysScanBetween : Type 0 → History Value → (ℕ → ℕ) → ℕ → ℕ → ℕ → Result (Vec (ℕ × Version Value) Global) QueryFault → Type 0
 SaysScanBetween Sure h floors relation a b answer = Says Sure (λ (rows : Vec (ℕ × Version Value) Global). rows.items) (answers.IsScanBetweenAnswer h floors relation a b) answer
 

@@ -39,21 +39,27 @@ pub record Leaves (old new : TransactionsValue) : Type 0 where
   pub opened : new.opened ≡ old.opened
   pub heads : new.heads ≡ old.heads
 
+-- a step of a group leaves the transactions so
 abbrev pub PumpLeaves : Type 0
 PumpLeaves = (tells : Bool) (old new : StoreValue) (answer : Result Did PumpFault) → Pumps tells old answer new → Leaves old.transactions new.transactions
 
+-- the start of an archive leaves the transactions so
 abbrev pub ArchiveStartLeaves : Type 0
 ArchiveStartLeaves = (old new : StoreValue) (upto : ℕ) (answer : Result (Unit {0}) StartFault) → StartsArchive old upto answer new → Leaves old.transactions new.transactions
 
+-- the start of a reclaim leaves the transactions so
 abbrev pub ReclaimStartLeaves : Type 0
 ReclaimStartLeaves = (old new : StoreValue) (answer : Result (Unit {0}) StartFault) → StartsReclaim old answer new → Leaves old.transactions new.transactions
 
+-- the start of a floor leaves the transactions so
 abbrev pub FloorStartLeaves : Type 0
 FloorStartLeaves = (old new : StoreValue) (scope : Option ℕ) (floor : ℕ) (answer : Result (Unit {0}) StartFault) → StartsFloor old scope floor answer new → Leaves old.transactions new.transactions
 
+-- the start of a growth leaves the transactions so
 abbrev pub GrowStartLeaves : Type 0
 GrowStartLeaves = (old new : StoreValue) (answer : Result (Unit {0}) StartFault) → StartsGrowth old answer new → Leaves old.transactions new.transactions
 
+-- a step of a job leaves the transactions so
 abbrev pub JobPumpLeaves : Type 0
 JobPumpLeaves = (tells : Bool) (old new : StoreValue) (answer : Result JobDid PumpFault) → PumpsJob tells old answer new → Leaves old.transactions new.transactions
 
@@ -66,6 +72,7 @@ LeftBySubmit v t label (Ok (submitted.Queued ticket)) new = (ticket.mark ≡ v.m
 LeftBySubmit v t label (Err refused.Stranger) new = ⊥
 LeftBySubmit v t label (Err why) new = new ≡ v
 
+-- a submit of an own transaction leaves the transactions so
 abbrev pub SubmitLeaves : Type 0
 SubmitLeaves = (v new : TransactionsValue) (t : TxnValue) (label now : ℕ) (answer : Result Submitted SubmitFault) → SubmitsOwn v t label now answer new → LeftBySubmit v t label answer new
 
@@ -83,6 +90,7 @@ LeftByRedeem old k (redeemed.Waiting back) new = (back ≡ k) × (new ≡ old)
 LeftByRedeem old k redeemed.InDoubt new = new ≡ old
 LeftByRedeem old k redeemed.Stranger new = (new ≡ old) × (k.mark ≡ old.mark → orders.is_awaited k.time old.heads ≡ true → ⊥)
 
+-- a redeem leaves the transactions so
 abbrev pub RedeemLeaves : Type 0
 RedeemLeaves = (old new : TransactionsValue) (k : TicketValue) (answer : Redeemed) → calls.Redeems old k answer new → LeftByRedeem old k answer new
 
@@ -105,5 +113,6 @@ pub record Publishes (m n : Machine Value) (count : ℕ) : Type 0 where
   pub queue : n.queue ≡ drop count m.queue
   pub floors : n.floors ≡ m.floors
 
+-- a step of a group publishes as many commits as its answer tells, and nothing else
 abbrev pub PumpPublishes : Type 0
 PumpPublishes = (m n : Machine Value) (answer : Result Did PumpFault) → Run IsValue m (begins_in m ++ ends_in m.gate answer) n → Publishes m n (count_in answer)

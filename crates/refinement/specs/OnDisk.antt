@@ -95,6 +95,7 @@ AllPacked before (q ∷ qs) (c ∷ cs) = IsPacked before q c × AllPacked (befor
 abbrev pub member_of : History Value → QueuedValue → Commit Value → StoredMember
 member_of before q c = record { entry = q.entry; member = stored_member (values_in before) c; extents = chain_of (numbers_of q) (packed before c) }
 
+-- what the slot of these commits is to name, each over those before it
 abbrev pub members_of : History Value → List QueuedValue → History Value → List StoredMember
 members_of before [] cs = []
 members_of before (q ∷ qs) [] = []
@@ -153,6 +154,7 @@ body_of (OfRun run) = ArchivedBody run.entry
 body_of (OfAnchors a) = ReclaimedBody a.entry
 body_of (OfFloor scope floor) = FloorBody scope floor
 
+-- the slot of this number that names what a job makes
 abbrev pub slot_naming : ℕ → Product → Slot
 slot_naming number p = record { number = number; body = body_of p }
 
@@ -162,6 +164,7 @@ laid_with layout (OfRun run) = archived layout (slot_naming (length layout.slots
 laid_with layout (OfAnchors a) = reclaimed layout (slot_naming (length layout.slots) (OfAnchors a)) a.entry.upto a.extents
 laid_with layout (OfFloor scope floor) = floored layout (slot_naming (length layout.slots) (OfFloor scope floor))
 
+-- what the image reads as once the slot is open
 abbrev pub read_with : Reading → Product → Reading
 read_with reading (OfRun run) = with_run reading run.entry.upto run.records
 read_with reading (OfAnchors a) = with_anchors reading a.olds
@@ -191,6 +194,7 @@ pub record IsNextFloor (reading : Reading) (h : History Value) (scope : Option �
   pub by_last : floor ≤ histories.last h
   pub in_range : floor < 2 ^ 63
 
+-- what a job makes may come next in the log
 abbrev pub MayBeNext : Layout → Reading → History Value → Product → Type 0
 MayBeNext layout reading h (OfRun run) = IsNextRun layout reading h run
 MayBeNext layout reading h (OfAnchors a) = IsNextChain reading a
@@ -224,6 +228,7 @@ pub record IsFilling (a : StoredAnchors) (source : Sourced) (written : ℕ) (hea
   pub rest : map (λ (e : Extent). e.body) (drop written a.extents) ≡ bodies (map spelling source.left)
   pub held : AllByRecursion (HoldsExtent heap.bytes) (take written a.extents)
 
+-- so much is written of what the job makes, before it is all stored
 abbrev pub IsMaking : JobWork → Product → Areas → Type 0
 IsMaking (Archive run writer) (OfRun r) areas = IsWritten r writer areas.archive
 IsMaking (Archive run writer) (OfAnchors a) areas = ⊥
@@ -250,12 +255,14 @@ IsAtJob header layout work p job.Writing areas = IsMaking work p areas
 IsAtJob header layout work p job.Stored areas = KeepsProduct p areas
 IsAtJob header layout work p (job.Turning t) areas = IsTurnFor header layout p t areas
 
+-- a job makes something that may come next, and the areas have what is done of it at its stage
 pub record JobIsAt (header : Header) (layout : Layout) (reading : Reading) (h : History Value) (reserved : List ℕ) (j : Job) (areas : Areas) : Type 0 where
   pub product : Product
   pub made : IsMadeBy reserved j.work product
   pub next : MayBeNext layout reading h product
   pub at : IsAtJob header layout j.work product j.stage areas
 
+-- so it is of the job that runs, if there is one
 abbrev pub HasJob : Header → Layout → Reading → History Value → List ℕ → Option Job → Areas → Type 0
 HasJob header layout reading h reserved None areas = Unit {0}
 HasJob header layout reading h reserved (Some j) areas = JobIsAt header layout reading h reserved j areas

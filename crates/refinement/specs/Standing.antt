@@ -22,9 +22,11 @@ pub record Name : Type 0 where
   pub time : ℕ
   pub label : ℕ
 
+-- the time and label of a commit
 abbrev pub name_of : Commit Value → Name
 name_of c = record { time = c.time; label = c.label }
 
+-- the time and label of a commit as memory has them
 abbrev pub name_at : CommitHead → Name
 name_at head = record { time = head.time; label = head.label }
 
@@ -64,6 +66,7 @@ AllWait reclaimed before (q ∷ qs) (c ∷ cs) = Waits reclaimed before q c × A
 abbrev pub snapshots_of : List (Option ℕ) → List ℕ
 snapshots_of opened = filter_map (λ place. place) opened
 
+-- something is done of a group
 abbrev pub IsStaged : GroupStage → Type 0
 IsStaged NoGroup = ⊥
 IsStaged (Storing member extent) = Unit {0}

@@ -46,11 +46,13 @@ gate_for (Reclaim anchors source written) stage = Shut
 gate_for (Floor scope floor floors) stage = gate_at OfFloor stage
 gate_for (Grow growth) stage = Shut
 
+-- the machine's gate, by what a job makes and by its stage
 abbrev pub gate_in : JobWork → JobStage → Gate
 gate_in work Writing = Shut
 gate_in work Stored = Shut
 gate_in work (Turning turn) = gate_for work turn.stage
 
+-- the machine's gate, by the job that runs: where none does it is shut
 abbrev pub job_gate : Option Job → Gate
 job_gate None = Shut
 job_gate (Some job) = gate_in job.work job.stage
@@ -71,6 +73,7 @@ raising_by (Reclaim anchors source written) = None
 raising_by (Floor scope floor floors) = Some (record { scope = scope; floor = floor })
 raising_by (Grow growth) = None
 
+-- the floor that the job which runs is to raise, if it is to raise one
 abbrev pub raising_of : Option Job → Option Raising
 raising_of None = None
 raising_of (Some job) = raising_by job.work
@@ -85,6 +88,7 @@ pub record IsRaising (job : Option Job) (profile : ℕ) (raising : Option Raisin
   pub scope : MatchOption raising (Unit {0}) (λ r. IsScopeOf profile r.scope)
   pub of_profile : AreOfProfile profile floors
 
+-- the floor that the job is to raise is the machine's in the making, and all are of the store's profile
 abbrev pub RaisesFloor : StoreValue → Machine Value → Type 0
 RaisesFloor v m = IsRaising v.job v.log.profile m.raising m.floors
 
@@ -99,10 +103,12 @@ KeepsWork (Reclaim anchors source written) stage archived last opened pending ve
 KeepsWork (Floor scope floor floors) stage archived last opened pending versions standing = floors ≡ raised_in scope floor standing
 KeepsWork (Grow growth) stage archived last opened pending versions standing = ⊥
 
+-- what memory keeps of the job that runs, if there is one
 abbrev pub KeepsJobOf : Option Job → (archived last : ℕ) → List (Option ℕ) → Option (List KeyWrites) → List KeyWrites → FloorsValue → Type 0
 KeepsJobOf None archived last opened pending versions standing = Unit {0}
 KeepsJobOf (Some job) archived last opened pending versions standing = KeepsWork job.work job.stage archived last opened pending versions standing
 
+-- what the store's memory keeps of its job, beside this machine
 abbrev pub KeepsJobIn : StoreValue → Machine Value → Type 0
 KeepsJobIn v m = KeepsJobOf v.job v.archived (histories.last m.published) v.transactions.opened v.transactions.pending v.transactions.versions v.transactions.floors
 
@@ -134,12 +140,14 @@ pub record StandsStill (tells : Bool) (v : StoreValue) (m : Machine Value) : Typ
 
 -- ---- a piece of slots in the making
 
+-- the growth of a piece, if that is what the job makes
 abbrev pub growth_in : JobWork → Option GrowthState
 growth_in (Archive run writer) = None
 growth_in (Reclaim anchors source written) = None
 growth_in (Floor scope floor floors) = None
 growth_in (Grow growth) = Some growth
 
+-- the growth of a piece, if the job that runs makes one
 abbrev pub growth_of : Option Job → Option GrowthState
 growth_of None = None
 growth_of (Some job) = growth_in job.work
@@ -170,6 +178,7 @@ pub record StandsGrowing (tells : Bool) (growth : GrowthState) (v : StoreValue) 
   pub still : StandsStill tells (without_growth v calm) m
   pub beside : (told : IsTrue tells) → GrowsBeside (still.disk told).header growth calm v m
 
+-- the store stands for the machine, beside a piece in the making or without one
 abbrev pub StandsBy : Bool → Option GrowthState → StoreValue → Machine Value → Type 0
 StandsBy tells None v m = StandsStill tells v m
 StandsBy tells (Some growth) v m = StandsGrowing tells growth v m

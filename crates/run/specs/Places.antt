@@ -42,18 +42,21 @@ place_at [] i = Free
 place_at (p ∷ ps) zero = p
 place_at (p ∷ ps) (suc i) = place_at ps i
 
+-- the place holds no transaction
 abbrev pub IsNoTransaction : Place → Type 0
 IsNoTransaction Free = Unit {0}
 IsNoTransaction (Running snapshot writes) = ⊥
 IsNoTransaction (Waits time) = Unit {0}
 IsNoTransaction (Views history floors reclaimed) = Unit {0}
 
+-- the place holds no ticket
 abbrev pub IsNoTicket : Place → Type 0
 IsNoTicket Free = Unit {0}
 IsNoTicket (Running snapshot writes) = Unit {0}
 IsNoTicket (Waits time) = ⊥
 IsNoTicket (Views history floors reclaimed) = Unit {0}
 
+-- the place holds no view
 abbrev pub IsNoView : Place → Type 0
 IsNoView Free = Unit {0}
 IsNoView (Running snapshot writes) = Unit {0}
@@ -62,6 +65,7 @@ IsNoView (Views history floors reclaimed) = ⊥
 
 -- ---- what a place of the store's callers holds
 
+-- the callers hold no transaction there
 abbrev pub HasNoTransaction : Option Held → Type 0
 HasNoTransaction None = Unit {0}
 HasNoTransaction (Some held.Nothing) = Unit {0}
@@ -69,6 +73,7 @@ HasNoTransaction (Some (held.Transaction txn)) = ⊥
 HasNoTransaction (Some (held.Ticket ticket)) = Unit {0}
 HasNoTransaction (Some (held.View view)) = Unit {0}
 
+-- the callers hold no ticket there
 abbrev pub HasNoTicket : Option Held → Type 0
 HasNoTicket None = Unit {0}
 HasNoTicket (Some held.Nothing) = Unit {0}
@@ -76,6 +81,7 @@ HasNoTicket (Some (held.Transaction txn)) = Unit {0}
 HasNoTicket (Some (held.Ticket ticket)) = ⊥
 HasNoTicket (Some (held.View view)) = Unit {0}
 
+-- the callers hold no view there
 abbrev pub HasNoView : Option Held → Type 0
 HasNoView None = Unit {0}
 HasNoView (Some held.Nothing) = Unit {0}
@@ -83,6 +89,7 @@ HasNoView (Some (held.Transaction txn)) = Unit {0}
 HasNoView (Some (held.Ticket ticket)) = Unit {0}
 HasNoView (Some (held.View view)) = ⊥
 
+-- the transaction that the callers hold there, if it is one
 abbrev pub transaction_in : Option Held → Option TxnValue
 transaction_in None = None
 transaction_in (Some held.Nothing) = None
@@ -90,6 +97,7 @@ transaction_in (Some (held.Transaction txn)) = Some txn
 transaction_in (Some (held.Ticket ticket)) = None
 transaction_in (Some (held.View view)) = None
 
+-- the view that the callers hold there, if it is one
 abbrev pub view_in : Option Held → Option ViewValue
 view_in None = None
 view_in (Some held.Nothing) = None
@@ -124,6 +132,7 @@ abbrev pub IsRead : Bool → StoreValue → Held → Place → Type 0
 IsRead tells v (held.View view) (Views history floors reclaimed) = ViewReads tells v view history floors
 IsRead tells v x p = Unit {0}
 
+-- what each held view reads is there
 pub record AreRead (tells : Bool) (v : StoreValue) (xs : List Held) (ps : List Place) : Type 0 where
   pub each : (i : ℕ) (x : Held) → slice_get xs i ≡ Some x → IsRead tells v x (place_at ps i)
 
@@ -141,21 +150,25 @@ pub record ArePlaces (v : TransactionsValue) (h : History Value) (xs : List Held
 
 -- ---- the answer to a call, and what its place holds
 
+-- what a begin answers, and what its place holds: the transaction, or nothing
 abbrev pub begin_answer : Result TxnValue BeginFault → Answer × Held
 begin_answer (Ok txn) = (answer.Begin (Ok tt), held.Transaction txn)
 begin_answer (Err why) = (answer.Begin (Err why), held.Nothing)
 
+-- what a submit answers, and what its place holds: the ticket of a commit that is queued, or nothing
 abbrev pub submit_answer : Result Submitted SubmitFault → Answer × Held
 submit_answer (Ok (submitted.ReadOnly snapshot)) = (answer.Submit (Ok (outcome.ReadOnly snapshot)), held.Nothing)
 submit_answer (Ok (submitted.Queued ticket)) = (answer.Submit (Ok outcome.Queued), held.Ticket ticket)
 submit_answer (Err why) = (answer.Submit (Err why), held.Nothing)
 
+-- what a redeem answers, and what the ticket's place then holds: the ticket while it waits, or nothing
 abbrev pub redeem_answer : Redeemed → Answer × Held
 redeem_answer (redeemed.Done time) = (answer.Redeem (told.Done time), held.Nothing)
 redeem_answer (redeemed.Waiting ticket) = (answer.Redeem told.Waiting, held.Ticket ticket)
 redeem_answer redeemed.InDoubt = (answer.Redeem told.InDoubt, held.Nothing)
 redeem_answer redeemed.Stranger = (answer.Redeem told.Stranger, held.Nothing)
 
+-- what the taking of a view answers, and what its place holds: the view, or nothing
 abbrev pub view_answer : Result ViewValue AllocError → Answer × Held
 view_answer (Ok view) = (answer.View (Ok tt), held.View view)
 view_answer (Err why) = (answer.View (Err why), held.Nothing)

@@ -75,10 +75,12 @@ pub record DeleteSays (at_snapshot sees : Option Value) (writes : List (KeyWrite
   pub bad : said ≢ Err txn.BadValue
   pub err : OnErr said (after ≡ writes)
 
+-- a put to the transaction of a place changes its writes alone
 abbrev pub Puts : World → ℕ → Key → Value → Place → Result (Unit {0}) TxnFault → World → Type 0
 Puts w i key value (Running snapshot writes) said next = (after : List (KeyWrite Value)) × PutSays writes key value said after × (next ≡ same (put w i (Running snapshot after)))
 Puts w i key value place said next = ⊥
 
+-- a delete in the transaction of a place changes its writes alone
 abbrev pub Deletes : World → ℕ → Key → Place → Result (Unit {0}) TxnFault → World → Type 0
 Deletes w i key (Running snapshot writes) said next =
     (after : List (KeyWrite Value)) × DeleteSays (state w.machine.published snapshot key) (seen w.machine.published snapshot writes key) writes key said after × (next ≡ same (put w i (Running snapshot after)))
@@ -89,6 +91,7 @@ abbrev pub Gets : World → Key → Place → Result (Option Value) AllocError �
 Gets w key (Running snapshot writes) said next = IfOk said (λ value. value ≡ seen w.machine.published snapshot writes key) × (next ≡ same w)
 Gets w key place said next = ⊥
 
+-- so is what a transaction sees of a relation
 abbrev pub Scans : World → ℕ → Place → Result (Vec (ℕ × Value) Global) AllocError → World → Type 0
 Scans w relation (Running snapshot writes) said next = IfOk said (λ found. IsScanSeen w.machine.published snapshot writes relation found.items) × (next ≡ same w)
 Scans w relation place said next = ⊥
@@ -138,6 +141,7 @@ Redeems w i (Waits time) told.Waiting next = (answers.redeemed_by w.machine time
 Redeems w i (Waits time) told.InDoubt next = (answers.redeemed_by w.machine time ≡ answers.InDoubt) × (next ≡ spent w i)
 Redeems w i place said next = ⊥
 
+-- a ticket is given up: it is spent without an answer
 abbrev pub GivesUp : World → ℕ → Place → World → Type 0
 GivesUp w i (Waits time) next = next ≡ spent w i
 GivesUp w i place next = ⊥
@@ -159,18 +163,22 @@ abbrev pub AsksScan : Bool → World → ℕ → ℕ → Place → Result (Vec (
 AsksScan tells w relation time (Views history floors reclaimed) said next = SaysScanAt (IsSure tells reclaimed time) history floors relation time said × (next ≡ same w)
 AsksScan tells w relation time place said next = ⊥
 
+-- a view answers a query of a key from a to b by the history of its moment
 abbrev pub AsksBetween : Bool → World → Key → ℕ → ℕ → Place → Result (Vec (Version Value) Global) QueryFault → World → Type 0
 AsksBetween tells w key a b (Views history floors reclaimed) said next = SaysBetween (IsSure tells reclaimed a) history floors key a b said × (next ≡ same w)
 AsksBetween tells w key a b place said next = ⊥
 
+-- a view answers a scan of a relation from a to b by the history of its moment
 abbrev pub AsksScanBetween : Bool → World → ℕ → ℕ → ℕ → Place → Result (Vec (ℕ × Version Value) Global) QueryFault → World → Type 0
 AsksScanBetween tells w relation a b (Views history floors reclaimed) said next = SaysScanBetween (IsSure tells reclaimed a) history floors relation a b said × (next ≡ same w)
 AsksScanBetween tells w relation a b place said next = ⊥
 
+-- a view is ended, and its place is free
 abbrev pub Closes : World → ℕ → Place → World → Type 0
 Closes w i (Views history floors reclaimed) next = next ≡ spent w i
 Closes w i place next = ⊥
 
+-- the times of the published commits with a label, or there is no memory for them
 abbrev pub ListsTimes : World → ℕ → Result (Vec ℕ Global) AllocError → World → Type 0
 ListsTimes w label said next = IfOk said (λ times. times.items ≡ answers.times_of w.machine.published label) × (next ≡ same w)
 

@@ -44,6 +44,7 @@ trace_of tells old before calls answers new after start keeps is = record {
 
 -- ---- moments
 
+-- the moment after this many of the calls, or after the last where there are fewer
 abbrev pub moment_after : (tells : Bool) (calls : List Call) (answers : List Answer) (start end : Moment) → Chain tells calls answers start end → ℕ → Moment
 moment_after tells [] said start end chain n = start
 moment_after tells (c ∷ cs) [] start end chain n = start

@@ -7,6 +7,7 @@ use Rattle.refinement.specs.Stands.{Stands}
 use Rattle.run.specs.declared.held.Held.{Held}
 use Rattle.run.specs.Places.{Place, Free, ArePlaces, AreRead}
 
+-- the machine, and what the place of each call holds
 pub record World : Type 0 where
   pub machine : Machine Value
   -- one for each call that was made

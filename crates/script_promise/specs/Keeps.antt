@@ -55,6 +55,7 @@ pub record KeepsUnopened (tells : Bool) (before : ScriptMoment) (why : OpenFault
   pub fault : IsReadFault why
   pub stops : LeavesNoMore given.areas disk.areas
 
+-- what a line keeps: a `reopen` by opening again, and any other by its calls
 abbrev pub KeepsBy : Bool → Line → Reply → ScriptMoment → ScriptMoment → Type 0
 KeepsBy tells line.Reopen r before after = KeepsByOpening tells before after
 KeepsBy tells l r before after = KeepsByCalls tells l r before after

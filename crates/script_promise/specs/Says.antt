@@ -45,9 +45,11 @@ pub record Exchange : Type 0 where
   pub calls : List Call
   pub answers : List Answer
 
+-- no call is made
 abbrev pub no_call : Exchange
 no_call = record { calls = []; answers = [] }
 
+-- one call is made, and has this answer
 abbrev pub one_call : Call → Answer → Exchange
 one_call c a = record { calls = c ∷ []; answers = a ∷ [] }
 
@@ -57,27 +59,32 @@ by_view place c a = record { calls = call.View ∷ c ∷ call.End place ∷ []; 
 
 -- ---- what is replied of an answer
 
+-- the reply to a begin: the snapshot, or the refusal
 abbrev pub of_begin : ℕ → Result (Unit {0}) BeginFault → Reply
 of_begin time (Ok u) = reply.Snapshot time
 of_begin time (Err why) = reply.Refused (fault.Begin why)
 
+-- the reply to a submit: the snapshot of what only read, that it is queued, or the refusal
 abbrev pub of_submit : Result SubmitOutcome SubmitFault → Reply
 of_submit (Ok (outcome.ReadOnly time)) = reply.ReadOnly time
 of_submit (Ok outcome.Queued) = reply.Queued
 of_submit (Err why) = reply.Refused (fault.Submit why)
 
+-- the reply to a redeem: what the ticket is redeemed for, or that it is a stranger's
 abbrev pub of_redeem : RedeemOutcome → Reply
 of_redeem (told.Done time) = reply.Done time
 of_redeem told.Waiting = reply.Waiting
 of_redeem told.InDoubt = reply.InDoubt
 of_redeem told.Stranger = reply.Refused fault.Stranger
 
+-- the reply with the times of a label, or that there is no memory for them
 abbrev pub of_times : Result (Vec ℕ Global) AllocError → Reply
 of_times (Ok times) = reply.Times times
 of_times (Err why) = reply.Refused fault.NoMemory
 
 -- ---- lines
 
+-- no call is made, since the name stands for nothing or is taken
 abbrev pub RefusesName : Exchange → Reply → Type 0
 RefusesName made r = (made ≡ no_call) × (r ≡ reply.Refused fault.Name)
 
@@ -90,21 +97,27 @@ abbrev pub SaysPut : ℕ → Key → List Text → Exchange → Reply → Type 0
 SaysPut i key fields made r = ((made ≡ no_call) × (r ≡ reply.Refused (fault.Txn txn.NoMemory)))
     ⊎ ((parts : Bor (List (Bor Text))) × (said : Result (Unit {0}) TxnFault) × (map (λ (part : Bor Text). part.now) parts.now ≡ fields) × (made ≡ one_call (call.Put i key parts) (answer.Put said)) × (r ≡ session.done said))
 
+-- the key is deleted in the transaction of this place, and what that answered is replied
 abbrev pub SaysDelete : ℕ → Key → Exchange → Reply → Type 0
 SaysDelete i key made r = (said : Result (Unit {0}) TxnFault) × (made ≡ one_call (call.Delete i key) (answer.Delete said)) × (r ≡ session.done said)
 
+-- the transaction of this place is asked for the key, and what it sees is replied
 abbrev pub SaysGet : ℕ → Key → Exchange → Reply → Type 0
 SaysGet i key made r = (said : Result (Option (List Text)) AllocError) × (made ≡ one_call (call.Get i key) (answer.Get said)) × (r ≡ session.seen said)
 
+-- the transaction of this place is submitted, and what becomes of it is replied
 abbrev pub SaysSubmit : ℕ → ℕ → ℕ → Exchange → Reply → Type 0
 SaysSubmit i label now made r = (said : Result SubmitOutcome SubmitFault) × (made ≡ one_call (call.Submit i label now) (answer.Submit said)) × (r ≡ of_submit said)
 
+-- the transaction of this place is aborted
 abbrev pub SaysAbort : ℕ → Exchange → Reply → Type 0
 SaysAbort i made r = (made ≡ one_call (call.Abort i) answer.Abort) × (r ≡ reply.Ok)
 
+-- the ticket of this place is redeemed, and what that answered is replied
 abbrev pub SaysRedeem : ℕ → Exchange → Reply → Type 0
 SaysRedeem i made r = (said : RedeemOutcome) × (made ≡ one_call (call.Redeem i) (answer.Redeem said)) × (r ≡ of_redeem said)
 
+-- one step of a group is taken, and what it did is replied
 abbrev pub SaysPump : Exchange → Reply → Type 0
 SaysPump made r = (said : Result Did PumpFault) × (made ≡ one_call call.Pump (answer.Pump said)) × (r ≡ session.pumped said)
 
@@ -122,38 +135,49 @@ pub record SaysFlush (made : Exchange) (r : Reply) : Type 0 where
 abbrev pub ByView : ScriptMoment → Exchange → Call → Answer → Reply → Reply → Type 0
 ByView m made c a r said = (made ≡ by_view (length (held_of m.state)) c a) × (r ≡ said)
 
+-- there is no memory for a view, and nothing is asked
 abbrev pub LacksView : Exchange → Reply → Type 0
 LacksView made r = (why : AllocError) × (made ≡ one_call call.View (answer.View (Err why))) × (r ≡ reply.Refused (fault.Query query.NoMemory))
 
+-- a view of now is asked for the value of the key at the time, or there is no memory for it
 abbrev pub SaysAt : ScriptMoment → Key → ℕ → Exchange → Reply → Type 0
 SaysAt m key time made r = LacksView made r ⊎ ((said : Result (Option (List Text)) QueryFault) × ByView m made (call.At (length (held_of m.state)) key time) (answer.At said) r (session.found said))
 
+-- a view of now is asked for the values of the relation at the time, or there is no memory for it
 abbrev pub SaysScan : ScriptMoment → ℕ → ℕ → Exchange → Reply → Type 0
 SaysScan m relation time made r =
     LacksView made r ⊎ ((said : Result (Vec (ℕ × List Text) Global) QueryFault) × ByView m made (call.ScanAt (length (held_of m.state)) relation time) (answer.ScanAt said) r (session.records_found said))
 
+-- a view of now is asked for the rows of the key from a to b, or there is no memory for it
 abbrev pub SaysBetween : ScriptMoment → Key → ℕ → ℕ → Exchange → Reply → Type 0
 SaysBetween m key a b made r =
     LacksView made r ⊎ ((said : Result (Vec (Version (List Text)) Global) QueryFault) × ByView m made (call.Between (length (held_of m.state)) key a b) (answer.Between said) r (session.rows_found said))
 
+-- the store is asked for the times of the label
 abbrev pub SaysTimes : ℕ → Exchange → Reply → Type 0
 SaysTimes label made r = (said : Result (Vec ℕ Global) AllocError) × (made ≡ one_call (call.TimesOf label) (answer.TimesOf said)) × (r ≡ of_times said)
 
+-- an archive is started, or refused
 abbrev pub SaysArchive : ℕ → Exchange → Reply → Type 0
 SaysArchive upto made r = (said : Result (Unit {0}) StartFault) × (made ≡ one_call (call.Archive upto) (answer.Archive said)) × (r ≡ session.started said)
 
+-- a reclaim is started, or refused
 abbrev pub SaysReclaim : Exchange → Reply → Type 0
 SaysReclaim made r = (said : Result (Unit {0}) StartFault) × (made ≡ one_call call.Reclaim (answer.Reclaim said)) × (r ≡ session.started said)
 
+-- a floor is started, or refused
 abbrev pub SaysFloor : Option ℕ → ℕ → Exchange → Reply → Type 0
 SaysFloor scope floor made r = (said : Result (Unit {0}) StartFault) × (made ≡ one_call (call.Floor scope floor) (answer.Floor said)) × (r ≡ session.started said)
 
+-- a growth is started, or refused
 abbrev pub SaysGrow : Exchange → Reply → Type 0
 SaysGrow made r = (said : Result (Unit {0}) StartFault) × (made ≡ one_call call.Grow (answer.Grow said)) × (r ≡ session.started said)
 
+-- one step of a job is taken, and what it did is replied
 abbrev pub SaysJob : Exchange → Reply → Type 0
 SaysJob made r = (said : Result JobDid PumpFault) × (made ≡ one_call call.JobPump (answer.JobPump said)) × (r ≡ session.worked said)
 
+-- steps of a job are taken until one finds nothing to do or is refused, and what it said is replied
 pub record SaysFinish (made : Exchange) (r : Reply) : Type 0 where
   pub steps : List JobDid
   pub ended : Result JobDid PumpFault

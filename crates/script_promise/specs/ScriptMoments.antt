@@ -23,9 +23,11 @@ pub record ScriptMoment : Type 0 where
 abbrev pub first_script_moment : StoreValue → Machine Value → ScriptMoment
 first_script_moment store machine = record { state = fresh store; machine = machine; done = [] }
 
+-- what the name of an open transaction stands for
 abbrev pub transaction_of : OpenName → Held
 transaction_of e = held.Transaction e.txn
 
+-- what the name of a ticket stands for
 abbrev pub ticket_of : TicketName → Held
 ticket_of e = held.Ticket e.ticket
 
@@ -33,6 +35,7 @@ ticket_of e = held.Ticket e.ticket
 abbrev pub held_of : State → List Held
 held_of s = map transaction_of s.opened ++ map ticket_of s.tickets
 
+-- what of a history such a name stands for; no view is held between two lines
 abbrev pub place_of : Held → Place
 place_of held.Nothing = Free
 place_of (held.Transaction txn) = Running txn.snapshot txn.writes

@@ -65,6 +65,7 @@ pub record IsArchiveBegun (v : StoreValue) (upto : ℕ) (new : StoreValue) : Typ
   pub floors_are : entry.floors ≡ floors v
   pub new_is : new ≡ with_archive v upto entry
 
+-- why no archive begins once its run is counted: it would end past the greatest place, or for want of memory
 abbrev pub IsRunRefusal : StoreValue → ℕ → StartFault → Type 0
 IsRunRefusal v upto fault.ArchiveFull = IsPastEnd v upto
 IsRunRefusal v upto fault.NoMemory = Unit {0}
@@ -78,6 +79,7 @@ IsRunRefusal v upto fault.StatusFull = ⊥
 IsRunRefusal v upto fault.HeapFull = ⊥
 IsRunRefusal v upto fault.NotGrowable = ⊥
 
+-- an archive begins with a run that ends before the greatest place, or is refused and nothing has changed
 abbrev pub BeginsRun : StoreValue → ℕ → Result (Unit {0}) StartFault → StoreValue → Type 0
 BeginsRun v upto (Ok done) new = (v.runs_end + length (run_bytes (archive_of v upto)) < 2 ^ 63) × (upto < 2 ^ 63 → IsRun (run_of upto v.runs_end (archive_of v upto))) × IsArchiveBegun v upto new
 BeginsRun v upto (Err why) new = IsRunRefusal v upto why × (new ≡ v)

@@ -37,21 +37,26 @@ use Rattle.store.specs.Values.{StoreValue, HasRest}
 abbrev pub last : StoreValue → ℕ
 last v = calls.last v.transactions
 
+-- the floors that stand
 abbrev pub floors : StoreValue → FloorsValue
 floors v = v.transactions.floors
 
+-- a begin changes the transactions alone
 pub record Begins (old : StoreValue) (answer : Result TxnValue BeginFault) (new : StoreValue) : Type 0 where
   pub transactions : calls.Begins old.transactions answer new.transactions
   pub rest : HasRest old new
 
+-- an abort changes the transactions alone
 pub record Aborts (old : StoreValue) (txn : TxnValue) (new : StoreValue) : Type 0 where
   pub transactions : calls.Aborts old.transactions txn new.transactions
   pub rest : HasRest old new
 
+-- a redeem changes the transactions alone
 pub record Redeems (old : StoreValue) (ticket : TicketValue) (answer : Redeemed) (new : StoreValue) : Type 0 where
   pub transactions : calls.Redeems old.transactions ticket answer new.transactions
   pub rest : HasRest old new
 
+-- a submit changes the transactions alone
 pub record Submits (old : StoreValue) (txn : TxnValue) (label now : ℕ) (answer : Result Submitted SubmitFault) (new : StoreValue) : Type 0 where
   pub transactions : submits.Submits old.transactions txn label now answer new.transactions
   pub rest : HasRest old new
@@ -66,6 +71,7 @@ IsTimesOf v label times = times ≡ orders.times_of label (calls.order_of v.tran
 
 -- ---- whose view it is
 
+-- two runs are the same: by what their slots say, and by the mark and the floors before those
 abbrev pub same_run : RunEntry → RunEntry → Bool
 same_run a b =
     (a.slot.upto == b.slot.upto)
@@ -109,6 +115,7 @@ FindsAt tells v view key time = Finds tells v view time (RefusesAt view key.rela
     (λ h o. at_answer h (floor_at view.floors) key time ≡ Ok o)
     (λ answer. MatchResult answer (IsValueFound (archive_of v.disk) view key time) (IfDamaged (IsFindDamaged (archive_of v.disk) view.runs key time)))
 
+-- an own view is asked for the value of a key at a time, and a stranger's is refused
 abbrev pub AnswersAtView : Bool → StoreValue → ViewValue → Key → ℕ → Result (Option Value) QueryFault → StoreValue → Type 0
 AnswersAtView tells v view key time answer new = OrStranger v view (FindsAt tells v view key time) answer new
 
@@ -120,6 +127,7 @@ FindsScanAt tells v view relation time = Finds tells v view time (RefusesAt view
     (λ answer. MatchResult answer (λ found. AreValuesFound (archive_of v.disk) view relation time found.items)
     (IfDamaged (IsDamagedRun (AreScanRowsOf (archive_of v.disk) relation time (time + 1)) (AreScanRowsBroken (archive_of v.disk) relation time (time + 1)) time view.runs)))
 
+-- an own view is asked for the values of a relation at a time, and a stranger's is refused
 abbrev pub AnswersScanAt : Bool → StoreValue → ViewValue → ℕ → ℕ → Result (Vec (ℕ × Value) Global) QueryFault → StoreValue → Type 0
 AnswersScanAt tells v view relation time answer new = OrStranger v view (FindsScanAt tells v view relation time) answer new
 
@@ -131,6 +139,7 @@ FindsRows tells v view key a b = Finds tells v view a (RefusesRows view key.rela
     (λ answer. MatchResult answer (λ found. AreRowsFound (archive_of v.disk) view key a b found.items)
     (IfDamaged (IsDamagedRun (AreRowsOf (archive_of v.disk) key a b) (AreRowsBroken (archive_of v.disk) key a b) a view.runs)))
 
+-- an own view is asked for the rows of a key from a up to b, and a stranger's is refused
 abbrev pub AnswersRows : Bool → StoreValue → ViewValue → Key → ℕ → ℕ → Result (Vec (Version Value) Global) QueryFault → StoreValue → Type 0
 AnswersRows tells v view key a b answer new = OrStranger v view (FindsRows tells v view key a b) answer new
 
@@ -142,5 +151,6 @@ FindsScanRows tells v view relation a b = Finds tells v view a (RefusesRows view
     (λ answer. MatchResult answer (λ found. AreScanRowsFound (archive_of v.disk) view relation a b found.items)
     (IfDamaged (IsDamagedRun (AreScanRowsOf (archive_of v.disk) relation a b) (AreScanRowsBroken (archive_of v.disk) relation a b) a view.runs)))
 
+-- an own view is asked for the rows of a relation from a up to b, and a stranger's is refused
 abbrev pub AnswersScanRows : Bool → StoreValue → ViewValue → ℕ → ℕ → ℕ → Result (Vec (ℕ × Version Value) Global) QueryFault → StoreValue → Type 0
 AnswersScanRows tells v view relation a b answer new = OrStranger v view (FindsScanRows tells v view relation a b) answer new

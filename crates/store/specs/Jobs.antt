@@ -64,9 +64,11 @@ pub record SyncsStored (tells : Bool) (area : Area) (what : JobDid) (job : Job) 
 abbrev pub piece_of : InWriting → List ℕ
 piece_of writer = take 8192 writer.left
 
+-- the writer behind that piece
 abbrev pub behind_piece : InWriting → InWriting
 behind_piece writer = record writer { at = writer.at + length (piece_of writer); left = drop 8192 writer.left }
 
+-- the next piece of the run is written to its place, or the device refused it
 pub record WritesRun (tells : Bool) (run : Run) (writer : InWriting) (job : Job) (old : StoreValue) (result : Result JobDid PumpFault) (new : StoreValue) : Type 0 where
   pub call : Calls tells (Writes areas.Archive writer.at (piece_of writer)) result old.disk new.disk
   pub moves : JobMoves did.WroteRun (record job { work = Archive run (behind_piece writer) }) (record job { work = Archive run (behind_piece writer) }) old result new
@@ -138,6 +140,7 @@ made_ready (Reclaim anchors source written) v = record v { transactions = prepar
 made_ready (Floor scope floor floors) v = v
 made_ready (Grow growth) v = v
 
+-- a job of this kind takes memory before its slot is begun, which may be refused
 abbrev pub TakesMemory : JobWork → Type 0
 TakesMemory (Archive run writer) = ⊥
 TakesMemory (Reclaim anchors source written) = Unit {0}
@@ -191,6 +194,7 @@ pub record TurnsJob (tells : Bool) (job : Job) (turn : TurnState) (old : StoreVa
 abbrev pub first_turn : StoreValue → Job → TurnState
 first_turn v job = record { number = v.log.used; body = spelling v.log.profile (record { number = v.log.used; body = slot_body job.work }); stage = slots.Begun }
 
+-- the next slot of the log is in the writing
 abbrev pub slot_taken : StoreValue → StoreValue
 slot_taken v = record v { log = record v.log { writing = true } }
 

@@ -24,6 +24,7 @@ abbrev pub with_live : List ℕ → List LiveChain → List ℕ
 with_live times [] = times
 with_live times (chain ∷ chains) = with_live (with_times times chain.extents.items chain.time) chains
 
+-- for each extent the time of the commit whose live chain it is in, 0 if it is in none
 abbrev pub times_of : List LiveChain → List ℕ
 times_of live = with_live (replicate 65536 0) live
 

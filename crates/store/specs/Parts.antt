@@ -14,6 +14,7 @@ use Rattle.store.specs.declared.job.JobStage.TheVariants.{Writing, Stored, Turni
 use Rattle.store.specs.declared.job.JobDid.{JobDid}
 use Rattle.store.specs.declared.job.JobDid.TheVariants as did
 
+-- a store of these parts
 abbrev pub parts_of : TransactionsValue → LogState → Option TurnState → Option Job → ℕ → ℕ → ArchiveValue → DiskState → StoreValue
 parts_of transactions log turn job archived runs_end archive disk = record { transactions = transactions; log = log; turn = turn; job = job; archived = archived; runs_end = runs_end; archive = archive; disk = disk }
 

@@ -46,6 +46,7 @@ pub record WritesExtent (tells : Bool) (stored : StoredExtent) (old : StoreValue
   pub call : Calls tells (Writes Heap (extent_start stored.extent) stored.image) result old.disk new.disk
   pub steps : Steps did.WroteExtent (wrote_extent old.transactions) old result new
 
+-- the heap is synced, which stores the group, or the device refused it
 pub record SyncsHeap (tells : Bool) (old : StoreValue) (result : Result Did PumpFault) (new : StoreValue) : Type 0 where
   pub call : Calls tells (Syncs Heap) result old.disk new.disk
   pub steps : Steps did.HeapSynced (at_stage stages.Stored old.transactions) old result new
@@ -96,6 +97,7 @@ TakesSlot tells body old result new = TurnsSlot tells (record { number = old.log
 abbrev pub freshly : StoreValue → StoreValue
 freshly v = record v { transactions = freshened v.transactions }
 
+-- the group's slot is in the writing, and its versions have forgotten what a reclaim has ended
 abbrev pub begun : StoreValue → StoreValue
 begun v = taken (freshly v)
 
@@ -113,6 +115,7 @@ MayBeginSlot tells old result new = ((is_stale old.transactions ≡ true) × (re
 abbrev pub started : StoreValue → StoreValue
 started v = record v { transactions = grouped v.transactions }
 
+-- a step of a group, by what comes next; a slot is begun where no job's is in the writing
 abbrev pub TakesStep : Bool → NextStep → StoreValue → Result Did PumpFault → StoreValue → Type 0
 TakesStep tells step.Idle old result new = (result ≡ Ok did.Idle) × (new ≡ old)
 TakesStep tells step.WriteExtent old result new = MatchOption (next_extent old.transactions) ⊥ (λ stored. WritesExtent tells stored old result new)

@@ -52,6 +52,7 @@ with_reclaim v numbers = record v {
   job = Some (record { work = Reclaim (anchors_named v numbers) (record { all = anchors_of v; left = anchors_of v }) 0; stage = Writing });
 }
 
+-- so it has, and took the least free extents, as many as its anchors need
 pub record IsReclaimBegun (v new : StoreValue) : Type 0 where
   pub numbers : List ℕ
   -- each extent is the least free one, and they are as many as the anchors need
@@ -59,6 +60,7 @@ pub record IsReclaimBegun (v new : StoreValue) : Type 0 where
   pub many : length numbers ≡ length (anchor_bodies v)
   pub new_is : new ≡ with_reclaim v numbers
 
+-- why no reclaim begins once its anchors are counted: too few extents are free, or for want of memory
 abbrev pub IsAnchorRefusal : StoreValue → StartFault → Type 0
 IsAnchorRefusal v fault.HeapFull = nat_lt (free_count v.transactions) (length (anchor_bodies v)) ≡ true
 IsAnchorRefusal v fault.NoMemory = Unit {0}
@@ -72,6 +74,7 @@ IsAnchorRefusal v fault.StatusFull = ⊥
 IsAnchorRefusal v fault.ArchiveFull = ⊥
 IsAnchorRefusal v fault.NotGrowable = ⊥
 
+-- a reclaim begins where enough extents are free, or is refused and nothing has changed
 abbrev pub BeginsReclaim : StoreValue → Result (Unit {0}) StartFault → StoreValue → Type 0
 BeginsReclaim v (Ok done) new = (length (anchor_bodies v) ≤ free_count v.transactions) × IsReclaimBegun v new
 BeginsReclaim v (Err why) new = IsAnchorRefusal v why × (new ≡ v)

@@ -20,6 +20,7 @@ pub record ArchiveValue : Type 0 where
   -- the parts of the archive that the reader keeps: where each begins, and its bytes
   pub kept : List (ℕ × List ℕ)
 
+-- a store: its transactions and log, the slot and the job in the making, its archive and its disk
 pub record StoreValue : Type 0 where
   pub transactions : TransactionsValue
   pub log : LogState
@@ -53,6 +54,7 @@ turn_in Writing = None
 turn_in Stored = None
 turn_in (Turning turn) = Some turn
 
+-- the slot of the job that runs, while it is in the writing
 abbrev pub turn_of : Option Job → Option TurnState
 turn_of None = None
 turn_of (Some job) = turn_in job.stage
@@ -64,6 +66,7 @@ lent_by (Reclaim anchors source written) = 1
 lent_by (Floor scope floor floors) = 1
 lent_by (Grow growth) = 0
 
+-- the slots that the job which runs holds for its own, 0 if none runs
 abbrev pub lent_to : Option Job → ℕ
 lent_to None = 0
 lent_to (Some job) = lent_by job.work
