@@ -189,7 +189,7 @@ SubmitStep old i label now r new = (e : OpenName) × (answer : Result Submitted 
     × store.Submits old.store e.txn label now answer new.store × (r ≡ submitted answer)
     × (new.opened ≡ remove old.opened i) × (new.tickets ≡ with_submitted e.name old.tickets answer)
 
--- the answer to `redeem`: done at a time, waiting or in doubt, or that the ticket is of another store
+-- the answer to `redeem`: done at a time, waiting, in doubt, or refused as a stranger
 abbrev pub redeemed : Redeemed → Reply
 redeemed (redeemed_as.Done t) = reply.Done t
 redeemed (redeemed_as.Waiting ticket) = reply.Waiting

@@ -80,7 +80,7 @@ abbrev pub is_own_of : TransactionsValue → ℕ → ℕ → ℕ → List (KeyWr
 is_own_of v mark number snapshot writes =
     if mark == v.mark then (if is_snapshot (snapshot_of number v.opened) snapshot then list_all (is_of_value v.versions snapshot) writes else false) else false
 
--- the transaction is one that this store began and that is open
+-- the transaction is the store's own: begun by it, still open, and with writes that fit its snapshot
 abbrev pub is_own : TransactionsValue → TxnValue → Bool
 is_own v txn = is_own_of v txn.mark txn.number txn.snapshot txn.writes
 
