@@ -69,12 +69,14 @@ pub record IsUnbroken (area : List ℕ) (run : RunEntry) : Type 0 where
 
 -- ---- that it breaks a rule
 
+-- the n-th entry of the run's index breaks a rule
 pub data IsEntryBroken (area : List ℕ) (run : RunEntry) (n : ℕ) : Type 0 where
   -- the run reaches past the area's end
   PastEnd : length area < run_end run → IsEntryBroken area run n
   -- no records leave room for such a place of the n-th
   NoPlace : (IsPlace run n (entry_at area run n) → ⊥) → IsEntryBroken area run n
 
+-- the n-th head breaks a rule, by its entry, by itself or beside what was read last
 pub data IsHeadBroken (area : List ℕ) (run : RunEntry) (last : Option Placed) (n : ℕ) : Type 0 where
   BadEntry : IsEntryBroken area run n → IsHeadBroken area run last n
   -- by itself the head is none of the run
@@ -82,6 +84,7 @@ pub data IsHeadBroken (area : List ℕ) (run : RunEntry) (last : Option Placed) 
   -- it isn't behind the record before it, which was read just before it
   OutOfOrder : IsPlace run n (entry_at area run n) → may_follow_last last (placed_at area run n) ≡ false → IsHeadBroken area run last n
 
+-- the n-th value breaks a rule, by the entry behind it, by its length or by its bytes
 pub data IsValueBroken (area : List ℕ) (run : RunEntry) (n : ℕ) : Type 0 where
   BadEnd : IsEntryBroken area run (n + 1) → IsValueBroken area run n
   -- the next place is too near or too far

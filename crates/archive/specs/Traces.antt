@@ -84,6 +84,7 @@ pub data IsFindBroken (area : List ℕ) (run : RunEntry) (key : Key) (time : ℕ
 abbrev pub NoneBefore : List ℕ → List RunEntry → Key → ℕ → ℕ → Type 0
 NoneBefore area runs key time number = (n : ℕ) (run : RunEntry) → n < number → slice_get runs n ≡ Some run → time < run.slot.upto → IsFoundIn area run key time None
 
+-- what a look through all runs found: no version, or that of the first run that has one
 pub data IsFound (area : List ℕ) (runs : List RunEntry) (key : Key) (time : ℕ) (answer : Option Value) : Type 0 where
   Nowhere : NoneBefore area runs key time (length runs) → answer ≡ None → IsFound area runs key time answer
   InRun : (number : ℕ) (run : RunEntry) (value : Value) → NoneBefore area runs key time number → slice_get runs number ≡ Some run → time < run.slot.upto
@@ -196,6 +197,7 @@ AreWalked Gives time runs (part ∷ parts) =
     × (((run.slot.upto ≤ time) × (part ≡ [])) ⊎ ((time < run.slot.upto) × Gives run part)))
     × AreWalked Gives time runs parts
 
+-- the rows of all runs together, in the order of the log
 pub record IsOfRuns {R : Type 0} (Gives : RunEntry → List R → Type 0) (time : ℕ) (runs : List RunEntry) (rows : List R) : Type 0 where
   pub parts : List (List R)
   pub each : AreWalked Gives time runs parts
@@ -214,14 +216,18 @@ pub record IsDamagedRun {R : Type 0} (Gives : RunEntry → List R → Type 0) (B
 
 -- ---- the rows of a key, and those of a relation
 
+-- the rows of a key that one run gives
 abbrev pub AreRowsOf : List ℕ → Key → ℕ → ℕ → RunEntry → List (Version Value) → Type 0
 AreRowsOf area key a b = IsWalked alone area (of_key key a b)
 
+-- what a walk for these rows met that breaks a rule
 abbrev pub AreRowsBroken : List ℕ → Key → ℕ → ℕ → RunEntry → Type 0
 AreRowsBroken area key a b = IsWalkBroken alone area (of_key key a b)
 
+-- the rows of a relation that one run gives, each with its record
 abbrev pub AreScanRowsOf : List ℕ → ℕ → ℕ → ℕ → RunEntry → List (ℕ × Version Value) → Type 0
 AreScanRowsOf area relation a b = IsWalked with_record area (of_relation relation a b)
 
+-- what a walk for these rows met that breaks a rule
 abbrev pub AreScanRowsBroken : List ℕ → ℕ → ℕ → ℕ → RunEntry → Type 0
 AreScanRowsBroken area relation a b = IsWalkBroken with_record area (of_relation relation a b)

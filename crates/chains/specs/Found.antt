@@ -4,6 +4,7 @@ use Rattle.history.specs.declared.time.Version.{Version}
 use Rattle.history.specs.Versions.{ends_after}
 use Rattle.chains.specs.Writes.{Value}
 
+-- versions of one key, oldest first
 abbrev pub Versions : Type 0
 Versions = List (Version Value)
 

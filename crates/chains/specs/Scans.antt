@@ -15,6 +15,7 @@ abbrev pub shown : ℕ → ℕ → KeyWrites → List (ℕ × Value)
 shown relation time c =
     if c.key.relation == relation then option_to_list (option_map (λ value. (c.key.record, value)) (value_at c.writes time)) else []
 
+-- the records of the relation that have a value at the time, with their values, in the order of the keys
 abbrev pub scanned : ℕ → ℕ → List KeyWrites → List (ℕ × Value)
 scanned relation time [] = []
 scanned relation time (c ∷ cs) = shown relation time c ++ scanned relation time cs

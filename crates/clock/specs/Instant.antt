@@ -25,6 +25,7 @@ pub record FitsText (m : Moment) : Type 0 where
 abbrev pub day_number : Moment → ℕ
 day_number m = unsigned_abs (days_from_civil (pos m.year) m.month m.day)
 
+-- the seconds from midnight to the time of the day
 abbrev pub second_of_day : Moment → ℕ
 second_of_day m = m.hour * 3600 + m.minute * 60 + m.second
 
@@ -32,6 +33,7 @@ second_of_day m = m.hour * 3600 + m.minute * 60 + m.second
 abbrev pub instant_of : Moment → ℕ
 instant_of m = (day_number m * 86_400 + second_of_day m) * 1_000_000
 
+-- a number below 100 as two decimal digits
 abbrev pub two_digits : ℕ → List ℕ
 two_digits n = (48 + n / 10) ∷ (48 + n % 10) ∷ []
 
@@ -61,5 +63,6 @@ ReadsAsOne = (text : List ℕ) (t u : ℕ) → Spells text t → Spells text u �
 abbrev pub IsShownAsOne : Type 0
 IsShownAsOne = (text other : List ℕ) (t : ℕ) → Spells text t → Spells other t → text ≡ other
 
+-- every text that spells an instant has 20 bytes
 abbrev pub HasTwentyBytes : Type 0
 HasTwentyBytes = (text : List ℕ) (t : ℕ) → Spells text t → length text ≡ 20

@@ -15,36 +15,44 @@ HasNumber bits id rows n = (t : Text) × (one_of id rows ≡ Some t) × ParsesUn
 abbrev pub HasKey : List Row → Key → Type 0
 HasKey rows key = HasNumber 16 (codes "REL") rows key.relation × HasNumber 64 (codes "REC") rows key.«record»
 
+-- `format` is asked for, in this directory and with this many slots
 abbrev pub AsksFormat : List Row → Action → Type 0
 AsksFormat rows (action.Format dir slots) = (first_of (codes "DIR") rows ≡ Some dir.now) × HasNumber 32 (codes "slots") rows slots
 AsksFormat rows _ = ⊥
 
+-- `run` is asked for, on the store in this directory
 abbrev pub AsksRun : List Row → Action → Type 0
 AsksRun rows (action.Run dir) = first_of (codes "DIR") rows ≡ Some dir.now
 AsksRun rows _ = ⊥
 
+-- `at` is asked for, of this key; the time is the text that was given, not yet read
 abbrev pub AsksAt : List Row → Action → Type 0
 AsksAt rows (action.At dir key time) = (first_of (codes "DIR") rows ≡ Some dir.now)
     × HasKey rows key × (first_of (codes "TIME") rows ≡ Some time.now)
 AsksAt rows _ = ⊥
 
+-- `between` is asked for, of this key; both times are the texts that were given, not yet read
 abbrev pub AsksBetween : List Row → Action → Type 0
 AsksBetween rows (action.Between dir key from to) = (first_of (codes "DIR") rows ≡ Some dir.now)
     × HasKey rows key × (first_of (codes "FROM") rows ≡ Some from.now) × (first_of (codes "TO") rows ≡ Some to.now)
 AsksBetween rows _ = ⊥
 
+-- `vacuum` is asked for, up to a time, which is the text that was given, not yet read
 abbrev pub AsksVacuum : List Row → Action → Type 0
 AsksVacuum rows (action.Vacuum dir time) = (first_of (codes "DIR") rows ≡ Some dir.now) × (first_of (codes "TIME") rows ≡ Some time.now)
 AsksVacuum rows _ = ⊥
 
+-- `grow` is asked for, of the store in this directory
 abbrev pub AsksGrow : List Row → Action → Type 0
 AsksGrow rows (action.Grow dir) = first_of (codes "DIR") rows ≡ Some dir.now
 AsksGrow rows _ = ⊥
 
+-- `dump` is asked for, of the store in this directory
 abbrev pub AsksDump : List Row → Action → Type 0
 AsksDump rows (action.Dump dir) = first_of (codes "DIR") rows ≡ Some dir.now
 AsksDump rows _ = ⊥
 
+-- `stress` is asked for, with so many writers, readers and rounds
 abbrev pub AsksStress : List Row → Action → Type 0
 AsksStress rows (action.Stress writers readers rounds) = HasNumber 8 (codes "WRITERS") rows writers
     × HasNumber 8 (codes "READERS") rows readers × HasNumber 16 (codes "ROUNDS") rows rounds

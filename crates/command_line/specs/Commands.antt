@@ -18,24 +18,31 @@ IsCommand c app = (app_of c ≡ app) × ((fields_of c).has_globals ≡ false)
 abbrev pub text : Text → Rule
 text name = record (new_rule name) { required = true }
 
+-- the directory of the store
 abbrev pub dir : Rule
 dir = text (codes "DIR")
 
+-- the time that is asked about, or up to which a vacuum goes
 abbrev pub time : Rule
 time = text (codes "TIME")
 
+-- where the interval that is asked about begins
 abbrev pub from : Rule
 from = text (codes "FROM")
 
+-- where the interval that is asked about ends
 abbrev pub to : Rule
 to = text (codes "TO")
 
+-- the relation of a key, of 16 bits
 abbrev pub relation : Rule
 relation = record (text (codes "REL")) { parser = Some (parser.Signed (pos 0) (pos 65_535)) }
 
+-- the record of a key, of 64 bits
 abbrev pub record_number : Rule
 record_number = record (text (codes "REC")) { parser = Some (parser.Unsigned 0 18_446_744_073_709_551_615) }
 
+-- how many slots a new store has: 1024 unless the option says another number
 abbrev pub slots : Rule
 slots = record (new_rule (codes "slots")) {
   long = Some (codes "slots");
@@ -44,18 +51,23 @@ slots = record (new_rule (codes "slots")) {
   defaults = codes "1024" ∷ [];
 }
 
+-- how many threads commit: 1 to 8
 abbrev pub writers : Rule
 writers = record (text (codes "WRITERS")) { parser = Some (parser.Signed (pos 1) (pos 8)) }
 
+-- how many threads ask: 0 to 8
 abbrev pub readers : Rule
 readers = record (text (codes "READERS")) { parser = Some (parser.Signed (pos 0) (pos 8)) }
 
+-- how many rounds each thread makes: 1 to 1000
 abbrev pub rounds : Rule
 rounds = record (text (codes "ROUNDS")) { parser = Some (parser.Signed (pos 1) (pos 1000)) }
 
+-- `format DIR`: makes an empty store
 abbrev pub format : App
 format = with_rule (with_rule (new_app (codes "format")) dir) slots
 
+-- `run DIR`: runs a script on a store
 abbrev pub run : App
 run = with_rule (new_app (codes "run")) dir
 
@@ -63,21 +75,27 @@ run = with_rule (new_app (codes "run")) dir
 abbrev pub of_record : Text → App
 of_record name = with_rule (with_rule (with_rule (new_app name) dir) relation) record_number
 
+-- `at DIR REL REC TIME`: asks for a record's value at a time
 abbrev pub at : App
 at = with_rule (of_record (codes "at")) time
 
+-- `between DIR REL REC FROM TO`: asks for a record's rows between two times
 abbrev pub between : App
 between = with_rule (with_rule (of_record (codes "between")) from) to
 
+-- `vacuum DIR TIME`: archives up to a time, and then reclaims
 abbrev pub vacuum : App
 vacuum = with_rule (with_rule (new_app (codes "vacuum")) dir) time
 
+-- `grow DIR`: adds a piece of slots to a store
 abbrev pub grow : App
 grow = with_rule (new_app (codes "grow")) dir
 
+-- `dump DIR`: shows the log of a store
 abbrev pub dump : App
 dump = with_rule (new_app (codes "dump")) dir
 
+-- `stress WRITERS READERS ROUNDS`: tries a store that several threads share
 abbrev pub stress : App
 stress = with_rule (with_rule (with_rule (new_app (codes "stress")) writers) readers) rounds
 
@@ -97,5 +115,6 @@ working = with_subcommand (with_subcommand asking vacuum.top) grow.top
 abbrev pub keeping : App
 keeping = with_subcommand working dump.top
 
+-- the whole command line: these, and the command that tries a store with threads
 abbrev pub timestore : App
 timestore = with_subcommand keeping stress.top

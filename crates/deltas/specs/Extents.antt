@@ -18,6 +18,7 @@ extent_start number = 8192 * (number - 1)
 unfoldable pub extent_bytes : Extent → List ℕ
 extent_bytes e = u32_bytes e.number ++ u32_bytes e.next ++ u32_bytes (length e.body) ++ u32_bytes 0 ++ e.body ++ replicate (8176 - length e.body) 0
 
+-- its number is one of the heap's, and it has bytes of records that fit it
 pub record IsExtent (e : Extent) : Type 0 where
   pub low : 0 < e.number
   pub high : e.number ≤ 65536
@@ -26,6 +27,7 @@ pub record IsExtent (e : Extent) : Type 0 where
 
 -- ---- chains
 
+-- the number of the first extent of a chain, 0 where there is none
 abbrev pub first_of : List Extent → ℕ
 first_of [] = 0
 first_of (e ∷ es) = e.number

@@ -13,5 +13,6 @@ content_of_loan (loan.Delta mask changed) = Delta mask changed.now
 content_of_loan loan.Gone = Gone
 content_of_loan (loan.Old from value) = Old from value.now
 
+-- the record that the loan shows
 abbrev pub record_of_loan : RecordRef → Record
 record_of_loan r = record { key = r.key; content = content_of_loan r.content }

@@ -65,16 +65,19 @@ code_number code.NotGrowable = negsuc 27
 abbrev pub IsDamagedCode : Area → ℕ → Code → Info → Type 0
 IsDamagedCode area place said info = (said ≡ code.Damaged) × (info.a ≡ place) × (info.b ≡ area_number area)
 
+-- the code for why no store opens, and what is told with it
 abbrev pub IsOpenCode : OpenFault → Code → Info → Type 0
 IsOpenCode fault.NotAStore said info = said ≡ code.NotAStore
 IsOpenCode (fault.Damaged area place) said info = IsDamagedCode area place said info
 IsOpenCode fault.Device said info = said ≡ code.Failed
 IsOpenCode fault.NoMemory said info = said ≡ code.NoMemory
 
+-- the code for why no transaction begins
 abbrev pub begin_code : BeginFault → Code
 begin_code begin.NoMemory = code.NoMemory
 begin_code begin.Failed = code.Failed
 
+-- the code for what a transaction answers to a write
 abbrev pub txn_code : Result (Unit {0}) TxnFault → Code
 txn_code (Ok done) = code.Ok
 txn_code (Err txn.Missing) = code.Missing
@@ -92,6 +95,7 @@ IsSubmitCode submit.NoMemory said info = said ≡ code.NoMemory
 IsSubmitCode submit.Failed said info = said ≡ code.Failed
 IsSubmitCode submit.Stranger said info = said ≡ code.Stranger
 
+-- the code for why a step of a group or of a job is refused
 abbrev pub pump_code : PumpFault → Code
 pump_code pump.Busy = code.Busy
 pump_code pump.NoMemory = code.NoMemory

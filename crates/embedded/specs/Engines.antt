@@ -68,11 +68,13 @@ IsOutOfNumbers old said new = (said ≡ code.NoMemory) × KeepsStore old new × 
 abbrev pub WhileSettled : Engine → Code → Engine → Type 0 → Type 0
 WhileSettled old said new Does = MatchOption (stopped_by old.state) Does (λ why. (said ≡ why) × (new ≡ old))
 
+-- a device call stands out
 abbrev pub asks : EngineState → Bool
 asks Settled = false
 asks Asks = true
 asks Failed = false
 
+-- a device call was refused
 abbrev pub is_failed : EngineState → Bool
 is_failed Settled = false
 is_failed Asks = false
@@ -159,6 +161,7 @@ abbrev pub TakesTransaction : Engine → Code → Info → Engine → Type 0
 TakesTransaction old said info new = IsOutOfNumbers old said new
     ⊎ ((new.state ≡ old.state) × (new.before ≡ old.before) × ((answer : Result TxnValue BeginFault) × Begins old.store answer new.store × TellsBegin answer old.places said info new.places))
 
+-- begin: a transaction is kept under the number that is told, or the code says why not
 abbrev pub BeginsEngine : Engine → Code → Info → Engine → Type 0
 BeginsEngine old said info new = WhileSettled old said new (TakesTransaction old said info new)
 
@@ -179,6 +182,7 @@ SubmitsTaken txn label now old said info new = (new.state ≡ old.state) × (new
     × MatchBool (is_failed old.state) ((said ≡ code.Failed) × (new.places ≡ old.places) × Aborts old.store txn new.store)
     ((answer : Result Submitted SubmitFault) × Submits old.store txn label now answer new.store × TellsSubmit answer old.places said info new.places)
 
+-- submit: the transaction's number is spent, and its writes are queued, or the code says why not
 abbrev pub SubmitsEngine : ℕ → ℕ → ℕ → Engine → Code → Info → Engine → Type 0
 SubmitsEngine number label now old said info new = UnlessAsked old said new (OfNumber (transaction_under old number) old said new
     (λ txn. (taken : Places) × IsTaken number old.places taken × SubmitsTaken txn label now (record old { places = taken }) said info new))
@@ -187,6 +191,7 @@ SubmitsEngine number label now old said info new = UnlessAsked old said new (OfN
 abbrev pub AbortsTaken : TxnValue → Engine → Engine → Type 0
 AbortsTaken txn old new = KeepsNumbers old new × Aborts old.store txn new.store
 
+-- abort: the transaction's number is spent, and its snapshot is given up
 abbrev pub AbortsEngine : ℕ → Engine → Code → Engine → Type 0
 AbortsEngine number old said new = OfNumber (transaction_under old number) old said new
     (λ txn. (said ≡ code.Ok) × ((taken : Places) × IsTaken number old.places taken × AbortsTaken txn (record old { places = taken }) new))
@@ -215,6 +220,7 @@ was_published Failed (Some p) time = nat_le time p.last
 abbrev pub TellsWaiting : TicketValue → Engine → Code → Info → Places → Type 0
 TellsWaiting ticket old said info new = MatchBool (is_failed old.state) ((said ≡ code.InDoubt) × (new ≡ old.places)) ((said ≡ code.Waiting) × IsKept (Ticket ticket) info.a old.places new)
 
+-- a ticket that waits is kept again or is in doubt, and the store is what it was
 abbrev pub KeepsTicket : TicketValue → Engine → Code → Info → Engine → Type 0
 KeepsTicket ticket old said info new = KeepsStore old new × TellsWaiting ticket old said info new.places
 
@@ -225,10 +231,12 @@ TellsRedeemed (redeemed.Waiting ticket) old said info new = TellsWaiting ticket 
 TellsRedeemed redeemed.InDoubt old said info new = (new ≡ old.places) × (said ≡ code.InDoubt)
 TellsRedeemed redeemed.Stranger old said info new = (new ≡ old.places) × (said ≡ code.Stranger)
 
+-- a ticket that was taken out is redeemed, and what became of it is told
 abbrev pub RedeemsTaken : TicketValue → Engine → Code → Info → Engine → Type 0
 RedeemsTaken ticket old said info new = (new.state ≡ old.state) × (new.before ≡ old.before)
     × ((answer : Redeemed) × Redeems old.store ticket answer new.store × TellsRedeemed answer old said info new.places)
 
+-- redeem: the ticket is taken out, and what became of it is told; while it waits it is kept again
 abbrev pub RedeemsEngine : ℕ → Engine → Code → Info → Engine → Type 0
 RedeemsEngine number old said info new = UnlessAsked old said new (OfNumber (ticket_under old number) old said new
     (λ ticket. (taken : Places) × IsTaken number old.places taken × RedeemsTaken ticket (record old { places = taken }) said info new))
@@ -281,18 +289,23 @@ TellsStart (Err why) said info = IsStartCode why said info
 abbrev pub StartsEngine : (StoreValue → Result (Unit {0}) StartFault → StoreValue → Type 0) → Engine → Code → Info → Engine → Type 0
 StartsEngine Starts old said info new = WhileSettled old said new (KeepsNumbers old new × ((answer : Result (Unit {0}) StartFault) × Starts old.store answer new.store × TellsStart answer said info))
 
+-- an archive up to a time begins, or the code says why not
 abbrev pub ArchivesEngine : ℕ → Engine → Code → Info → Engine → Type 0
 ArchivesEngine upto = StartsEngine (λ old answer new. StartsArchive old upto answer new)
 
+-- a reclaim begins, or the code says why not
 abbrev pub ReclaimsEngine : Engine → Code → Info → Engine → Type 0
 ReclaimsEngine = StartsEngine StartsReclaim
 
+-- a growth by one piece of slots begins, or the code says why not
 abbrev pub GrowsEngine : Engine → Code → Info → Engine → Type 0
 GrowsEngine = StartsEngine StartsGrowth
 
+-- the floor of all relations begins to rise to a time, or the code says why not
 abbrev pub RaisesEngine : ℕ → Engine → Code → Info → Engine → Type 0
 RaisesEngine time = StartsEngine (λ old answer new. StartsFloor old None time answer new)
 
+-- the floor of one relation begins to rise to a time, or the code says why not
 abbrev pub RaisesFloorOf : ℕ → ℕ → Engine → Code → Info → Engine → Type 0
 RaisesFloorOf relation time = StartsEngine (λ old answer new. StartsFloor old (Some relation) time answer new)
 

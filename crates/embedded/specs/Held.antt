@@ -22,30 +22,36 @@ held_in stamp (Some place) = if place.stamp == stamp then place.held else Nothin
 abbrev pub named_in : List Place → ℕ → Held
 named_in places number = held_in (number / 65536) (slice_get places (number % 65536))
 
+-- what stands under a number: a transaction, a ticket, a view or nothing
 abbrev pub named : Places → ℕ → Held
 named places number = named_in places.places.items number
 
+-- what stands there, if it is a transaction
 abbrev pub transaction_in : Held → Option TxnValue
 transaction_in Nothing = None
 transaction_in (Transaction txn) = Some txn
 transaction_in (Ticket ticket) = None
 transaction_in (View view) = None
 
+-- what stands there, if it is a ticket
 abbrev pub ticket_in : Held → Option TicketValue
 ticket_in Nothing = None
 ticket_in (Transaction txn) = None
 ticket_in (Ticket ticket) = Some ticket
 ticket_in (View view) = None
 
+-- what stands there, if it is a view
 abbrev pub view_in : Held → Option ViewValue
 view_in Nothing = None
 view_in (Transaction txn) = None
 view_in (Ticket ticket) = None
 view_in (View view) = Some view
 
+-- the transaction that a number names, if it names one
 abbrev pub transaction_under : Engine → ℕ → Option TxnValue
 transaction_under e number = transaction_in (named e.places number)
 
+-- the ticket that a number names, if it names one
 abbrev pub ticket_under : Engine → ℕ → Option TicketValue
 ticket_under e number = ticket_in (named e.places number)
 
@@ -53,6 +59,7 @@ ticket_under e number = ticket_in (named e.places number)
 abbrev pub view_of : Places → Option Published → ℕ → Option ViewValue
 view_of places before number = if number == 18446744073709551615 then option_map (λ p. p.view) before else view_in (named places number)
 
+-- the view that a number names, if it names one; the greatest number too may name one
 abbrev pub view_under : Engine → ℕ → Option ViewValue
 view_under e number = view_of e.places e.before number
 
@@ -70,12 +77,14 @@ SameNumbers old new = (n : ℕ) → named new n ≡ named old n
 abbrev pub IsKept : Held → ℕ → Places → Places → Type 0
 IsKept held number old new = (named old number ≡ Nothing) × (number < 2 ^ 63) × Names number held old new
 
+-- nothing stands there
 abbrev pub is_nothing : Held → Bool
 is_nothing Nothing = true
 is_nothing (Transaction txn) = false
 is_nothing (Ticket ticket) = false
 is_nothing (View view) = false
 
+-- there is such a place, and nothing stands in it
 abbrev pub holds_nothing : Option Place → Bool
 holds_nothing None = false
 holds_nothing (Some place) = is_nothing place.held

@@ -52,17 +52,21 @@ Over archive v Finds = (before after : Lent) × IsOver archive before × Finds (
 abbrev pub IsRecentAt : ViewValue → Key → ℕ → Option Value → Type 0
 IsRecentAt view key time found = (view.reclaimed ≤ time) × AnswersAt view key.relation time found (value_at (writes_of view.state key) time)
 
+-- a key's value at a time from memory alone, or why it is refused
 abbrev pub RecentAt : ViewValue → Key → ℕ → Result (Option Value) QueryFault → Type 0
 RecentAt view key time answer = MatchResult answer (IsRecentAt view key time) (RefusesRecent view key.relation time)
 
+-- a relation's records at a time from memory alone, or why they are refused
 abbrev pub RecentScanAt : ViewValue → ℕ → ℕ → Result (Vec (ℕ × Value) Global) QueryFault → Type 0
 RecentScanAt view relation time answer =
     MatchResult answer (λ found. (view.reclaimed ≤ time) × AnswersAt view relation time found.items (scanned relation time view.state)) (RefusesRecentScan view relation time)
 
+-- a key's rows of an interval from memory alone, or why they are refused
 abbrev pub RecentRows : ViewValue → Key → ℕ → ℕ → Result (Vec (Version Value) Global) QueryFault → Type 0
 RecentRows view key a b answer =
     MatchResult answer (λ found. (view.reclaimed ≤ a) × AnswersBetween view key.relation a b found.items (rows_in view.state a b key)) (RefusesRecentRows view key.relation a b)
 
+-- the rows of all records of a relation from memory alone, or why they are refused
 abbrev pub RecentScanRows : ViewValue → ℕ → ℕ → ℕ → Result (Vec (ℕ × Version Value) Global) QueryFault → Type 0
 RecentScanRows view relation a b answer =
     MatchResult answer (λ found. (view.reclaimed ≤ a) × AnswersBetween view relation a b found.items (scanned_rows relation a b view.state)) (RefusesRecentRows view relation a b)
@@ -80,9 +84,11 @@ is_none archive view = (length archive == 0) && takes_bytes (slice_get view.runs
 abbrev pub LentScanAt : List ℕ → StoreValue → ViewValue → ℕ → ℕ → Result (Vec (ℕ × Value) Global) QueryFault → Type 0
 LentScanAt archive v view relation time answer = MatchBool (is_none archive view) (RecentScanAt view relation time answer) (Over archive v (λ old new. FindsScanAt true old view relation time answer new))
 
+-- so for a key's rows of an interval
 abbrev pub LentRows : List ℕ → StoreValue → ViewValue → Key → ℕ → ℕ → Result (Vec (Version Value) Global) QueryFault → Type 0
 LentRows archive v view key a b answer = MatchBool (is_none archive view) (RecentRows view key a b answer) (Over archive v (λ old new. FindsRows true old view key a b answer new))
 
+-- so for the rows of all records of a relation
 abbrev pub LentScanRows : List ℕ → StoreValue → ViewValue → ℕ → ℕ → ℕ → Result (Vec (ℕ × Version Value) Global) QueryFault → Type 0
 LentScanRows archive v view relation a b answer = MatchBool (is_none archive view) (RecentScanRows view relation a b answer) (Over archive v (λ old new. FindsScanRows true old view relation a b answer new))
 
@@ -99,10 +105,12 @@ IsFaultCode (Damaged start) said info = IsDamagedCode Archive start said info
 IsFaultCode NeedsDisk said info = said ≡ code.NeedsArchive
 IsFaultCode Stranger said info = said ≡ code.Stranger
 
+-- a value is told as its bytes; where the key has none, the code says so
 abbrev pub IsValueTold : Option Value → Code → Info → List ℕ → Type 0
 IsValueTold None said info out = said ≡ code.None
 IsValueTold (Some value) said info out = AreBytesTold (value_bytes value) said info out
 
+-- the value that was found is told, or the code says why the query is refused
 abbrev pub TellsValue : Result (Option Value) QueryFault → Code → Info → List ℕ → Type 0
 TellsValue (Ok found) said info out = IsValueTold found said info out
 TellsValue (Err why) said info out = IsFaultCode why said info
@@ -141,18 +149,22 @@ abbrev pub AsksRecent : ℕ → Key → ℕ → Engine → Code → Info → Lis
 AsksRecent number key time e said info out =
     MatchOption (view_under e number) (said ≡ code.Unknown) (λ view. TellsRecent view key time said info out)
 
+-- what the view of this number answers over the archive that is lent; where none is, from memory alone
 abbrev pub AsksAt : List ℕ → ℕ → Key → ℕ → Engine → Code → Info → List ℕ → Type 0
 AsksAt archive number key time e said info out =
     MatchOption (view_under e number) (said ≡ code.Unknown) (λ view. MatchBool (is_none archive view) (TellsRecent view key time said info out) (TellsOver archive e.store view key time said info out))
 
+-- so for a relation's records at a time
 abbrev pub AsksScanAt : List ℕ → ℕ → ℕ → ℕ → Engine → Code → Info → List Row → List ℕ → Type 0
 AsksScanAt archive number relation time e said info rows out =
     MatchOption (view_under e number) (said ≡ code.Unknown) (λ view. (answer : Result (Vec (ℕ × Value) Global) QueryFault) × LentScanAt archive e.store view relation time answer × TellsRows shown_record answer said info rows out)
 
+-- so for a key's rows of an interval
 abbrev pub AsksRows : List ℕ → ℕ → Key → ℕ → ℕ → Engine → Code → Info → List Row → List ℕ → Type 0
 AsksRows archive number key a b e said info rows out =
     MatchOption (view_under e number) (said ≡ code.Unknown) (λ view. (answer : Result (Vec (Version Value) Global) QueryFault) × LentRows archive e.store view key a b answer × TellsRows (shown_version key.«record») answer said info rows out)
 
+-- so for the rows of all records of a relation
 abbrev pub AsksScanRows : List ℕ → ℕ → ℕ → ℕ → ℕ → Engine → Code → Info → List Row → List ℕ → Type 0
 AsksScanRows archive number relation a b e said info rows out =
     MatchOption (view_under e number) (said ≡ code.Unknown) (λ view. (answer : Result (Vec (ℕ × Version Value) Global) QueryFault) × LentScanRows archive e.store view relation a b answer × TellsRows shown_entry answer said info rows out)

@@ -10,6 +10,7 @@ use Rattle.wire.specs.Values.{IsValue, value_bytes}
 abbrev pub SpellsValue : List ℕ → Type 0
 SpellsValue bytes = (value : List (List ℕ)) × IsValue value × (bytes ≡ value_bytes value)
 
+-- why a put is refused: too many keys, bytes that are no value, or want of memory; never a missing key
 abbrev pub RefusesPut : Key → List ℕ → TxnValue → TxnFault → Type 0
 RefusesPut key bytes txn fault.Missing = ⊥
 RefusesPut key bytes txn fault.TooManyKeys = SpellsValue bytes × IsFullFor txn.writes key
@@ -21,6 +22,7 @@ abbrev pub Puts : Key → List ℕ → TxnValue → Result (Unit {0}) TxnFault �
 Puts key bytes txn (Ok done) after = (value : List (List ℕ)) × (bytes ≡ value_bytes value) × (after ≡ with_put txn key value)
 Puts key bytes txn (Err why) after = (after ≡ txn) × RefusesPut key bytes txn why
 
+-- why a delete is refused: the key has no value, too many keys, or want of memory; never a bad value
 abbrev pub RefusesDelete : Key → TxnValue → TxnFault → Type 0
 RefusesDelete key txn fault.Missing = seen_by txn key ≡ None
 RefusesDelete key txn fault.TooManyKeys = IsSome (seen_by txn key) × IsFullFor txn.writes key

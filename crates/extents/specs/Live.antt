@@ -7,6 +7,7 @@ use Rattle.extents.specs.declared.live.LiveFault.{LiveFault}
 use Rattle.extents.specs.declared.live.LiveFault.TheVariants.{NoMemory, NotFree}
 use Rattle.extents.specs.Usages.{with_usages, AreDistinct}
 
+-- the heap has an extent of this number
 abbrev pub IsNumber : ℕ → Type 0
 IsNumber number = (1 ≤ number) × (number ≤ 65536)
 
@@ -27,6 +28,7 @@ pub record IsFirstNotFree (numbers : List ℕ) (number : ℕ) : Type 0 where
   pub live : AreLive before
   pub again : IsNumber number → Contains before number
 
+-- why these extents are not live: memory was refused, or this number is the first that is not free
 abbrev pub IsLiveFault : List ℕ → LiveFault → Type 0
 IsLiveFault numbers NoMemory = Unit {0}
 IsLiveFault numbers (NotFree number) = IsFirstNotFree numbers number

@@ -5,9 +5,11 @@ use Rattle.extents.specs.declared.usage.Usage.{Usage}
 use Rattle.extents.specs.declared.usage.Usage.TheVariants.{Free, Out, Kept}
 use Rattle.extents.specs.Usages.{usage_of, with_usage}
 
+-- the time of the commit whose chain has the extent
 abbrev pub time_of : List ℕ → ℕ → ℕ
 time_of times number = get_or times (number - 1) 0
 
+-- the extent is in the chain of the commit of this time
 abbrev pub with_time : List ℕ → ℕ → ℕ → List ℕ
 with_time times number time = slice_set times (number - 1) time
 
@@ -16,6 +18,7 @@ abbrev pub with_times : List ℕ → List ℕ → ℕ → List ℕ
 with_times times [] time = times
 with_times times (n ∷ ns) time = with_times (with_time times n time) ns time
 
+-- an extent of this usage is kept
 abbrev pub is_kept : Usage → Bool
 is_kept Free = false
 is_kept Out = false

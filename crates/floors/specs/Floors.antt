@@ -7,6 +7,7 @@ use Rattle.std.specs.declared.alloc.Global.{Global}
 use Rattle.history.specs.Floors.{covers}
 use Rattle.floors.specs.declared.floors.OwnFloor.{OwnFloor}
 
+-- the floor of each relation
 pub record FloorsValue : Type 0 where
   -- that of the relations that have none of their own
   pub every : ℕ
@@ -31,6 +32,7 @@ abbrev pub floor_or : ℕ → List OwnFloor → ℕ → ℕ
 floor_or every [] relation = every
 floor_or every (o ∷ os) relation = if o.relation == relation then o.floor else floor_or every os relation
 
+-- the floor of a relation: its own, or else that of every relation
 abbrev pub floor_at : FloorsValue → ℕ → ℕ
 floor_at floors relation = floor_or floors.every floors.own relation
 
@@ -60,6 +62,7 @@ same_own [] (p ∷ ps) = false
 same_own (o ∷ os) [] = false
 same_own (o ∷ os) (p ∷ ps) = same_floor o p && same_own os ps
 
+-- both are the same floors, of every relation and of single ones
 abbrev pub same_floors : FloorsValue → FloorsValue → Bool
 same_floors a b = (a.every == b.every) && same_own a.own b.own
 

@@ -4,6 +4,7 @@ use Rattle.group.specs.declared.commit_order.CommitHead.{CommitHead}
 use Rattle.group.specs.declared.commit_order.TicketState.{TicketState}
 use Rattle.group.specs.declared.commit_order.TicketState.TheVariants.{Unknown, Waiting, Published}
 
+-- the commit order, by the times and the labels of its commits
 pub record CommitOrderValue : Type 0 where
   pub heads : List CommitHead
   -- how many of them are published
@@ -36,6 +37,7 @@ pub record HasRoom (old new : CommitOrderValue) : Type 0 where
   pub published : new.published ≡ old.published
   pub room : old.room ≤ new.room
 
+-- the heads of the published commits
 abbrev pub published_heads : CommitOrderValue → List CommitHead
 published_heads v = take v.published v.heads
 
@@ -43,6 +45,7 @@ published_heads v = take v.published v.heads
 abbrev pub last_published : CommitOrderValue → ℕ
 last_published v = last_time (published_heads v)
 
+-- the time of the last commit that was given one, published or not; 0 for none
 abbrev pub last_assigned : CommitOrderValue → ℕ
 last_assigned v = last_time v.heads
 

@@ -4,6 +4,7 @@ use Rattle.wire.specs.declared.slot.Member.{Member}
 use Rattle.chains.specs.KeyWrites.{KeyWrites}
 use Rattle.group.specs.declared.queued.StoredExtent.{StoredExtent}
 
+-- a commit that waits, with all that its publishing needs
 pub record QueuedValue : Type 0 where
   -- what its slot is to say of it
   pub entry : Member

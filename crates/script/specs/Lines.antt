@@ -85,6 +85,7 @@ abbrev pub alone : Line → List Text → Option Line
 alone found [] = Some found
 alone found _ = None
 
+-- what these words ask for: a command and what belongs to it, or nothing where they have no such form
 abbrev pub line_of : List Text → Option Line
 line_of [] = None
 line_of (command ∷ rest) =

@@ -5,6 +5,7 @@ use Rattle.std.specs.Char.{is_ascii_digit}
 use Rattle.std.specs.Str.{bytes_eq}
 use Rattle.std.specs.Str.Parse.{digits_value}
 
+-- the bytes of a line, or of a word
 abbrev pub Text : Type 0
 Text = List ℕ
 
@@ -41,6 +42,7 @@ number_in most word = if is_numeral word && nat_lt (digits_value 10 word) (most 
 abbrev pub is_hex_digit : ℕ → Bool
 is_hex_digit b = is_ascii_digit b || (nat_lt 96 b && nat_lt b 103)
 
+-- the number that a hexadecimal digit stands for
 abbrev pub hex_digit_value : ℕ → ℕ
 hex_digit_value b = if is_ascii_digit b then b - 48 else b - 87
 
@@ -58,6 +60,7 @@ is_hex word = nat_lt 0 (length word) && ((length word % 2 == 0) && list_all is_h
 abbrev pub dash : Text
 dash = codes "-"
 
+-- a word that spells a field: a dash for the empty one, or the hexadecimal digits of its bytes
 abbrev pub is_field : Text → Bool
 is_field word = bytes_eq word dash || is_hex word
 

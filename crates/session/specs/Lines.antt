@@ -2,6 +2,7 @@
 use Rattle.std.specs.Prelude.{◌≡◌, ℕ, ◌==◌, Bool, true, false, List, [], ◌∷◌, Option, Some, None, if◌then◌else◌, ⊤}
 use Rattle.session.specs.Texts.{Text}
 
+-- a byte goes before the first of the lines, or is a line of its own where there is none
 abbrev pub onto_line : ℕ → List Text → List Text
 onto_line x [] = (x ∷ []) ∷ []
 onto_line x (l ∷ ls) = (x ∷ l) ∷ ls

@@ -46,12 +46,14 @@ use Rattle.session.specs.declared.reply.Reply.{Reply}
 use Rattle.session.specs.declared.reply.Reply.TheVariants as reply
 use Rattle.session.specs.Texts.{Text}
 
+-- what a session is: its store, and what each name in use stands for
 pub record State : Type 0 where
   pub store : StoreValue
   -- the names of open transactions, and those of tickets
   pub opened : List OpenName
   pub tickets : List TicketName
 
+-- a session that begins on a store, with no name in use
 abbrev pub fresh : StoreValue → State
 fresh store = record { store = store; opened = []; tickets = [] }
 
@@ -59,18 +61,23 @@ fresh store = record { store = store; opened = []; tickets = [] }
 abbrev pub Given : Type 0
 Given = DiskState
 
+-- what a store is, as the theorems tell it
 abbrev pub Stored : Type 0
 Stored = StoreValue
 
+-- an open transaction has this name
 abbrev pub names_txn : Text → OpenName → Bool
 names_txn name e = bytes_eq e.name name
 
+-- a ticket has this name
 abbrev pub names_ticket : Text → TicketName → Bool
 names_ticket name e = bytes_eq e.name name
 
+-- where the open transaction of a name is in the list, if it is there
 abbrev pub txn_place : Text → State → Option ℕ
 txn_place name s = position (names_txn name) s.opened
 
+-- where the ticket of a name is in the list, if it is there
 abbrev pub ticket_place : Text → State → Option ℕ
 ticket_place name s = position (names_ticket name) s.tickets
 
@@ -86,14 +93,17 @@ RefusesName old r new = (r ≡ reply.Refused fault.Name) × (new ≡ old)
 abbrev pub IfTest : Bool → Type 0 → Type 0 → Type 0
 IfTest b P Q = (b ≡ true → P) × (b ≡ false → Q)
 
+-- the answer to `begin`: the snapshot, or why none begins
 abbrev pub begun : Result TxnValue BeginFault → Reply
 begun (Ok txn) = reply.Snapshot txn.snapshot
 begun (Err f) = reply.Refused (fault.Begin f)
 
+-- the open transactions after a begin: one more under its name, unless it was refused
 abbrev pub with_begun : Text → List OpenName → Result TxnValue BeginFault → List OpenName
 with_begun name opened (Ok txn) = opened ++ record { name = name; txn = txn } ∷ []
 with_begun name opened (Err f) = opened
 
+-- `begin` with a free name: the store begins a transaction, which stands under the name from then on
 abbrev pub BeginStep : State → Text → Reply → State → Type 0
 BeginStep old name r new = (answer : Result TxnValue BeginFault) × store.Begins old.store answer new.store × (r ≡ begun answer)
     × (new.opened ≡ with_begun name old.opened answer) × (new.tickets ≡ old.tickets)
@@ -122,6 +132,7 @@ pub record Deletes (old : TxnValue) (key : Key) (answer : Result (Unit {0}) TxnF
   pub bad : answer ≢ Err refuses.BadValue
   pub err : OnErr answer (new ≡ old)
 
+-- the answer to a write of a transaction: ok, or why it is refused
 abbrev pub done : Result (Unit {0}) TxnFault → Reply
 done (Ok _) = reply.Ok
 done (Err f) = reply.Refused (fault.Txn f)
@@ -135,26 +146,32 @@ abbrev pub WithTxn : State → ℕ → OpenName → TxnValue → State → Type 
 WithTxn old i e txn new = (slice_get old.opened i ≡ Some e) × (new.store ≡ old.store)
     × (new.opened ≡ remove old.opened i ++ record e { txn = txn } ∷ []) × (new.tickets ≡ old.tickets)
 
+-- `put`: the transaction at this place of the list writes the fields to the key, or refuses to
 abbrev pub PutStep : State → ℕ → Key → List Text → Reply → State → Type 0
 PutStep old i key fields r new = (e : OpenName) × (txn : TxnValue) × (answer : Result (Unit {0}) TxnFault)
     × WithTxn old i e txn new × Puts e.txn key fields answer txn × (r ≡ done answer)
 
+-- `delete`: the transaction at this place of the list deletes the key, or refuses to
 abbrev pub DeleteStep : State → ℕ → Key → Reply → State → Type 0
 DeleteStep old i key r new = (e : OpenName) × (txn : TxnValue) × (answer : Result (Unit {0}) TxnFault)
     × WithTxn old i e txn new × Deletes e.txn key answer txn × (r ≡ done answer)
 
+-- the answer to `get`: the value or none, or that there was no memory for it
 abbrev pub seen : Result (Option (List Text)) AllocError → Reply
 seen (Ok value) = reply.Found value
 seen (Err e) = reply.Refused fault.NoMemory
 
+-- `get`: what the transaction at this place of the list sees of the key; nothing changes
 abbrev pub GetStep : State → ℕ → Key → Reply → State → Type 0
 GetStep old i key r new = (e : OpenName) × (answer : Result (Option (List Text)) AllocError) × (slice_get old.opened i ≡ Some e)
     × IfOk answer (λ value. value ≡ seen_by e.txn key) × (r ≡ seen answer) × (new ≡ old)
 
+-- `abort`: the store gives up the transaction at this place of the list, and its name is free
 abbrev pub AbortStep : State → ℕ → Reply → State → Type 0
 AbortStep old i r new = (e : OpenName) × (slice_get old.opened i ≡ Some e) × IsTxn e.txn × store.Aborts old.store e.txn new.store × (r ≡ reply.Ok)
     × (new.opened ≡ remove old.opened i) × (new.tickets ≡ old.tickets)
 
+-- the answer to `submit`: queued, or that it only reads, or why it is refused
 abbrev pub submitted : Result Submitted SubmitFault → Reply
 submitted (Ok (submitted_as.ReadOnly t)) = reply.ReadOnly t
 submitted (Ok (submitted_as.Queued ticket)) = reply.Queued
@@ -166,11 +183,13 @@ with_submitted name tickets (Ok (submitted_as.ReadOnly t)) = tickets
 with_submitted name tickets (Ok (submitted_as.Queued ticket)) = tickets ++ record { name = name; ticket = ticket } ∷ []
 with_submitted name tickets (Err f) = tickets
 
+-- `submit`: the store takes the transaction at this place, which is open no more whatever is answered
 abbrev pub SubmitStep : State → ℕ → ℕ → ℕ → Reply → State → Type 0
 SubmitStep old i label now r new = (e : OpenName) × (answer : Result Submitted SubmitFault) × (slice_get old.opened i ≡ Some e) × IsTxn e.txn × (label < 2 ^ 64)
     × store.Submits old.store e.txn label now answer new.store × (r ≡ submitted answer)
     × (new.opened ≡ remove old.opened i) × (new.tickets ≡ with_submitted e.name old.tickets answer)
 
+-- the answer to `redeem`: done at a time, waiting, in doubt, or refused as a stranger
 abbrev pub redeemed : Redeemed → Reply
 redeemed (redeemed_as.Done t) = reply.Done t
 redeemed (redeemed_as.Waiting ticket) = reply.Waiting
@@ -184,11 +203,13 @@ with_redeemed name tickets (redeemed_as.Waiting ticket) = tickets ++ record { na
 with_redeemed name tickets redeemed_as.InDoubt = tickets
 with_redeemed name tickets redeemed_as.Stranger = tickets
 
+-- `redeem`: the ticket at this place of the list is redeemed, and stays under its name only while it waits
 abbrev pub RedeemStep : State → ℕ → Reply → State → Type 0
 RedeemStep old i r new = (e : TicketName) × (answer : Redeemed) × (slice_get old.tickets i ≡ Some e)
     × store.Redeems old.store e.ticket answer new.store × (r ≡ redeemed answer)
     × (new.tickets ≡ with_redeemed e.name (remove old.tickets i) answer) × (new.opened ≡ old.opened)
 
+-- the answer to a step of the group: what it did, or why it is refused
 abbrev pub pumped : Result Did PumpFault → Reply
 pumped (Ok step) = reply.Did step
 pumped (Err f) = reply.Refused (fault.Pump f)
@@ -198,6 +219,7 @@ pub record StepsGroup (tells : Bool) (old : StoreValue) (answer : Result Did Pum
   pub is : Pumps tells old answer new
   pub sound : IsTrue tells → AreSound new.disk.areas
 
+-- `pump`: the store takes one step of the commits that are queued
 abbrev pub PumpStep : Bool → StoreValue → Reply → StoreValue → Type 0
 PumpStep tells old r new = (answer : Result Did PumpFault) × StepsGroup tells old answer new × (r ≡ pumped answer)
 
@@ -221,22 +243,28 @@ pub record Flushes (tells : Bool) (old : StoreValue) (r : Reply) (new : StoreVal
   pub ends : EndsFlush answer
   pub reply : r ≡ pumped answer
 
+-- the answer to a line that begins a job: it has begun, or why it has not
 abbrev pub started : Result (Unit {0}) StartFault → Reply
 started (Ok _) = reply.Started
 started (Err f) = reply.Refused (fault.Start f)
 
+-- `archive`: the store begins an archive up to a time, or refuses to
 abbrev pub ArchiveStep : StoreValue → ℕ → Reply → StoreValue → Type 0
 ArchiveStep old upto r new = (answer : Result (Unit {0}) StartFault) × StartsArchive old upto answer new × (r ≡ started answer)
 
+-- `reclaim`: the store begins a reclaim, or refuses to
 abbrev pub ReclaimStep : StoreValue → Reply → StoreValue → Type 0
 ReclaimStep old r new = (answer : Result (Unit {0}) StartFault) × StartsReclaim old answer new × (r ≡ started answer)
 
+-- `floor`: the store begins to raise the floor of all relations or of one to a time, or refuses to
 abbrev pub FloorStep : StoreValue → Option ℕ → ℕ → Reply → StoreValue → Type 0
 FloorStep old scope time r new = (answer : Result (Unit {0}) StartFault) × StartsFloor old scope time answer new × (r ≡ started answer)
 
+-- `grow`: the store begins a growth by one piece of slots, or refuses to
 abbrev pub GrowStep : StoreValue → Reply → StoreValue → Type 0
 GrowStep old r new = (answer : Result (Unit {0}) StartFault) × StartsGrowth old answer new × (r ≡ started answer)
 
+-- the answer to a step of a job: what it did, or why it is refused
 abbrev pub worked : Result JobDid PumpFault → Reply
 worked (Ok step) = reply.JobDid step
 worked (Err f) = reply.Refused (fault.Pump f)
@@ -246,6 +274,7 @@ pub record StepsJob (tells : Bool) (old : StoreValue) (answer : Result JobDid Pu
   pub is : PumpsJob tells old answer new
   pub sound : IsTrue tells → AreSound new.disk.areas
 
+-- `job`: the store takes one step of its job
 abbrev pub JobStep : Bool → StoreValue → Reply → StoreValue → Type 0
 JobStep tells old r new = (answer : Result JobDid PumpFault) × StepsJob tells old answer new × (r ≡ worked answer)
 
@@ -274,10 +303,12 @@ abbrev pub Asks : Bool → StoreValue → Key → ℕ → Result (Option (List T
 Asks tells old key time answer new = (taken : Option ViewValue) × MatchOption taken ((answer ≡ Err query.NoMemory) × (new ≡ old))
     (λ view. store.IsViewOf old view × store.AnswersAtView tells old view key time answer new)
 
+-- the answer to `at`: the value or none, or why the query is refused
 abbrev pub found : Result (Option (List Text)) QueryFault → Reply
 found (Ok value) = reply.Found value
 found (Err f) = reply.Refused (fault.Query f)
 
+-- `at`: what a view that is taken now says of a key at a time
 abbrev pub AtStep : Bool → StoreValue → Key → ℕ → Reply → StoreValue → Type 0
 AtStep tells old key time r new = (answer : Result (Option (List Text)) QueryFault) × Asks tells old key time answer new × (r ≡ found answer)
 
@@ -286,10 +317,12 @@ abbrev pub AsksScan : Bool → StoreValue → ℕ → ℕ → Result (Vec (ℕ �
 AsksScan tells old relation time answer new = (taken : Option ViewValue) × MatchOption taken ((answer ≡ Err query.NoMemory) × (new ≡ old))
     (λ view. store.IsViewOf old view × store.AnswersScanAt tells old view relation time answer new)
 
+-- the answer to `scan`: the records with their values, or why the query is refused
 abbrev pub records_found : Result (Vec (ℕ × List Text) Global) QueryFault → Reply
 records_found (Ok found) = reply.Records found
 records_found (Err f) = reply.Refused (fault.Query f)
 
+-- `scan`: what a view that is taken now says of a relation's records at a time
 abbrev pub ScanStep : Bool → StoreValue → ℕ → ℕ → Reply → StoreValue → Type 0
 ScanStep tells old relation time r new = (answer : Result (Vec (ℕ × List Text) Global) QueryFault) × AsksScan tells old relation time answer new × (r ≡ records_found answer)
 
@@ -298,10 +331,12 @@ abbrev pub AsksRows : Bool → StoreValue → Key → ℕ → ℕ → Result (Ve
 AsksRows tells old key a b answer new = (taken : Option ViewValue) × MatchOption taken ((answer ≡ Err query.NoMemory) × (new ≡ old))
     (λ view. store.IsViewOf old view × store.AnswersRows tells old view key a b answer new)
 
+-- the answer to `between`: the rows, or why the query is refused
 abbrev pub rows_found : Result (Vec (Version (List Text)) Global) QueryFault → Reply
 rows_found (Ok rows) = reply.Rows rows
 rows_found (Err f) = reply.Refused (fault.Query f)
 
+-- `between`: what a view that is taken now says of a key's rows from a to b
 abbrev pub BetweenStep : Bool → StoreValue → Key → ℕ → ℕ → Reply → StoreValue → Type 0
 BetweenStep tells old key a b r new = (answer : Result (Vec (Version (List Text)) Global) QueryFault) × AsksRows tells old key a b answer new × (r ≡ rows_found answer)
 

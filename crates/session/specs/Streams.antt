@@ -15,6 +15,7 @@ text_left remaining input = remaining input.reader
 abbrev pub last_line : {R : Type 0} → Lines R → Text
 last_line input = input.line.items
 
+-- how many lines were read so far
 abbrev pub lines_read : {R : Type 0} → Lines R → ℕ
 lines_read input = input.count
 

@@ -31,6 +31,7 @@ use Rattle.session.specs.declared.fault.Fault.TheVariants as fault
 use Rattle.session.specs.declared.reply.Reply.{Reply}
 use Rattle.session.specs.declared.reply.Reply.TheVariants as reply
 
+-- the bytes of a text
 abbrev pub Text : Type 0
 Text = List ℕ
 
@@ -42,6 +43,7 @@ bad_line n = codes "line " ++ decimal n ++ codes ": bad\n"
 abbrev pub hex_text : Text → Text
 hex_text bytes = encode_lower bytes
 
+-- a field in hex, or a dash where it is empty
 abbrev pub field_text : Text → Text
 field_text [] = codes "-"
 field_text (b ∷ bs) = hex_text (b ∷ bs)
@@ -50,6 +52,7 @@ field_text (b ∷ bs) = hex_text (b ∷ bs)
 abbrev pub fields_text : List Text → Text
 fields_text fields = flat_map (λ f. codes " " ++ field_text f) fields
 
+-- the line that says a value
 abbrev pub value_text : List Text → Text
 value_text fields = codes "value" ++ fields_text fields ++ codes "\n"
 
@@ -57,6 +60,7 @@ value_text fields = codes "value" ++ fields_text fields ++ codes "\n"
 abbrev pub numbers_text : List ℕ → Text
 numbers_text numbers = flat_map (λ n. codes " " ++ decimal n) numbers
 
+-- the line that says the times of a label
 abbrev pub times_text : List ℕ → Text
 times_text times = codes "times" ++ numbers_text times ++ codes "\n"
 
@@ -68,6 +72,7 @@ rows_line count = codes "rows " ++ decimal count ++ codes "\n"
 abbrev pub row_text : Version (List Text) → Text
 row_text row = decimal row.from ++ (codes " " ++ (decimal row.to ++ (fields_text row.value ++ codes "\n")))
 
+-- a line for each row, and then how many they are
 abbrev pub rows_text : List (Version (List Text)) → Text
 rows_text rows = flat_map row_text rows ++ rows_line (length rows)
 
@@ -75,9 +80,11 @@ rows_text rows = flat_map row_text rows ++ rows_line (length rows)
 abbrev pub record_text : ℕ × List Text → Text
 record_text pair = decimal pair.0 ++ (fields_text pair.1 ++ codes "\n")
 
+-- a line for each record, and then how many they are
 abbrev pub records_text : List (ℕ × List Text) → Text
 records_text found = flat_map record_text found ++ rows_line (length found)
 
+-- the line that says what a step of the group did
 abbrev pub step_text : Did → Text
 step_text did.Idle = codes "idle\n"
 step_text did.WroteExtent = codes "wrote extent\n"
@@ -87,6 +94,7 @@ step_text did.BodySynced = codes "body synced\n"
 step_text did.GateWritten = codes "gate written\n"
 step_text (did.Published count) = codes "published " ++ decimal count ++ codes "\n"
 
+-- the line that says what a step of a job did
 abbrev pub job_step_text : JobDid → Text
 job_step_text job.Idle = codes "idle\n"
 job_step_text job.WroteRun = codes "wrote run\n"
@@ -100,35 +108,42 @@ job_step_text job.BodySynced = codes "body synced\n"
 job_step_text job.GateWritten = codes "gate written\n"
 job_step_text job.JobDone = codes "job done\n"
 
+-- the words for why no transaction begins
 abbrev pub begin_text : BeginFault → Text
 begin_text begin.NoMemory = codes "no memory"
 begin_text begin.Failed = codes "failed"
 
+-- the words for why a transaction refuses a write
 abbrev pub txn_text : TxnFault → Text
 txn_text txn.Missing = codes "missing"
 txn_text txn.TooManyKeys = codes "too many keys"
 txn_text txn.BadValue = codes "bad value"
 txn_text txn.NoMemory = codes "no memory"
 
+-- the words for why a step is refused
 abbrev pub pump_text : PumpFault → Text
 pump_text pump.Busy = codes "busy"
 pump_text pump.NoMemory = codes "no memory"
 pump_text pump.Failed = codes "failed"
 
+-- the words for why no store is made
 abbrev pub format_text : FormatFault → Text
 format_text format.BadSlots = codes "bad slots"
 format_text format.Occupied = codes "occupied"
 format_text format.Device = codes "device"
 format_text format.NoMemory = codes "no memory"
 
+-- the refusal of a damaged store: its area, and the place in it
 abbrev pub damage_line : Area → ℕ → Text
 damage_line area.Status place = codes "refused: damaged status " ++ decimal place ++ codes "\n"
 damage_line area.Heap place = codes "refused: damaged heap " ++ decimal place ++ codes "\n"
 damage_line area.Archive place = codes "refused: damaged archive " ++ decimal place ++ codes "\n"
 
+-- the line that says a refusal in these words
 abbrev pub refused : Text → Text
 refused text = codes "refused: " ++ text ++ codes "\n"
 
+-- the line that says why a submit is refused, with the key of a conflict
 abbrev pub submit_line : SubmitFault → Text
 submit_line (submit.Conflict key) = codes "refused: conflict " ++ (decimal key.relation ++ (codes " " ++ (decimal key.«record» ++ codes "\n")))
 submit_line submit.HeapFull = codes "refused: heap full\n"
@@ -138,6 +153,7 @@ submit_line submit.NoMemory = codes "refused: no memory\n"
 submit_line submit.Failed = codes "refused: failed\n"
 submit_line submit.Stranger = codes "refused: stranger\n"
 
+-- the line that says why a job does not begin
 abbrev pub start_line : StartFault → Text
 start_line start.Failed = codes "refused: failed\n"
 start_line start.WrongProfile = codes "refused: wrong profile\n"
@@ -151,6 +167,7 @@ start_line start.HeapFull = codes "refused: heap full\n"
 start_line start.NotGrowable = codes "refused: not growable\n"
 start_line start.NoMemory = codes "refused: no memory\n"
 
+-- the line that says why a query is refused
 abbrev pub query_line : QueryFault → Text
 query_line (query.BeforeKept floor) = codes "refused: before kept " ++ decimal floor ++ codes "\n"
 query_line (query.NotYet last) = codes "refused: not yet " ++ decimal last ++ codes "\n"
@@ -161,12 +178,14 @@ query_line (query.Damaged start) = codes "refused: damaged archive " ++ decimal 
 query_line query.NeedsDisk = codes "refused: needs disk\n"
 query_line query.Stranger = codes "refused: stranger\n"
 
+-- the line that says why a store does not open
 abbrev pub open_line : OpenFault → Text
 open_line opening.NotAStore = codes "refused: not a store\n"
 open_line (opening.Damaged part place) = damage_line part place
 open_line opening.Device = codes "refused: device\n"
 open_line opening.NoMemory = codes "refused: no memory\n"
 
+-- the line that says any refusal
 abbrev pub refusal_line : Fault → Text
 refusal_line fault.Name = codes "refused: name\n"
 refusal_line fault.Time = codes "refused: bad time\n"

@@ -37,8 +37,10 @@ Moves archive v before after w = w ≡ record v { archive = archive }
 abbrev pub told : SightValue → SightValue
 told v = record { seen = v.seen; archive = v.archive; heard = nothing_known; writes = false }
 
+-- the writer's pass once it was told what another pass has seen and knows
 abbrev pub informed : SightValue → SightValue → SightValue
 informed v w = record v { heard = known_by w }
 
+-- what is left of the pass that told it: it has seen nothing and knows nothing
 abbrev pub idle : SightValue
 idle = record { seen = nothing; archive = no_archive; heard = nothing_known; writes = false }

@@ -20,6 +20,7 @@ pub record Seen : Type 0 where
   pub queue : History Value
   pub floors : List ℕ
 
+-- no commit was seen, and no floor
 abbrev pub nothing : Seen
 nothing = record { published = []; queue = []; floors = [] }
 
@@ -27,9 +28,11 @@ nothing = record { published = []; queue = []; floors = [] }
 abbrev pub order_of : Seen → History Value
 order_of s = s.published ++ s.queue
 
+-- what is to be seen of a state of the machine
 abbrev pub seen_of : Machine Value → Seen
 seen_of m = record { published = m.published; queue = m.queue; floors = floors_listed m.floors }
 
+-- the second history begins with the commits of the first
 abbrev pub IsFrontOf : History Value → History Value → Type 0
 IsFrontOf front whole = (rest : History Value) × (whole ≡ front ++ rest)
 
@@ -44,9 +47,11 @@ pub record Known : Type 0 where
   pub seen : Seen
   pub archive : ArchiveSeen
 
+-- no commit was seen, and nothing is known of the archive
 abbrev pub nothing_known : Known
 nothing_known = record { seen = nothing; archive = no_archive }
 
+-- the second has seen as much or more, and knows no earlier archive
 pub record IsMore (old new : Known) : Type 0 where
   pub seen : IsLater old.seen new.seen
   pub archive : IsArchiveLater old.archive new.archive
@@ -58,11 +63,14 @@ pub record SightValue : Type 0 where
   pub heard : Known
   pub writes : Bool
 
+-- what a pass has seen, and what it knows of the archive
 abbrev pub known_by : SightValue → Known
 known_by v = record { seen = v.seen; archive = v.archive }
 
+-- the writer's pass before it has seen anything
 abbrev pub first_sight : SightValue
 first_sight = record { seen = nothing; archive = no_archive; heard = nothing_known; writes = true }
 
+-- a pass that is not the writer's and has seen nothing
 abbrev pub unmade_sight : SightValue
 unmade_sight = record { seen = nothing; archive = no_archive; heard = nothing_known; writes = false }

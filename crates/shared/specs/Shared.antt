@@ -103,6 +103,7 @@ job_seen result raising s = if is_done result then raised_seen raising s else s
 abbrev pub SeenReached : Machine Value → Seen → Type 0
 SeenReached start seen = (m : Machine Value) × Reached start m × (seen ≡ seen_of m)
 
+-- the history has a commit of this time
 abbrev pub HasCommitAt : History Value → ℕ → Type 0
 HasCommitAt h time = (c : Commit Value) × Contains h c × (c.time ≡ time)
 
@@ -128,6 +129,7 @@ pub record Reads (start : Machine Value) (brand : ℕ) (txn : TxnValue) (seen : 
   pub reads : (key : Key) → at_snapshot txn.state txn.snapshot key ≡ state machine.published txn.snapshot key
   pub writes : txn.writes ≡ []
 
+-- at a state that steps lead to a transaction begins, or memory was refused, or the store has failed
 abbrev pub BeginHappens : Machine Value → ℕ → Result TxnValue BeginFault → Seen → Type 0
 BeginHappens start brand (Ok txn) seen = Reads start brand txn seen
 BeginHappens start brand (Err begin.NoMemory) seen = SeenReached start seen
@@ -157,12 +159,14 @@ SubmitHappens start brand txn label now result seen = Submits start brand txn la
 
 -- ---- steps of groups and jobs
 
+-- from a state that steps lead to the machine does what a step of the group answers
 pub record PumpHappens (start : Machine Value) (result : Result Did PumpFault) : Type 0 where
   pub before : Machine Value
   pub after : Machine Value
   pub reached : Reached start before
   pub run : MatchBool before.failed ((result ≡ Err pump.Failed) × (after ≡ before)) (Run IsValue before (begins_in before ++ ends_in before.gate result) after)
 
+-- from a state that steps lead to the machine does what a step of a job answers
 pub record JobHappens (start : Machine Value) (result : Result JobDid PumpFault) : Type 0 where
   pub before : Machine Value
   pub after : Machine Value
@@ -235,6 +239,7 @@ changed before writes [] = writes
 changed before writes (change.Put key fields ∷ changes) = changed before (with_write writes (record { key = key; write = Some (map (λ field. field.now) fields.now) })) changes
 changed before writes (change.Delete key ∷ changes) = changed before (if is_some (before key) then with_write writes (record { key = key; write = None }) else without writes key) changes
 
+-- how many commits an answer to `commit` says are published
 abbrev pub commits_in : Result Committed CommitFault → ℕ
 commits_in (Ok (committed.Done time)) = 1
 commits_in (Ok (committed.ReadOnly time)) = 0

@@ -44,6 +44,7 @@ pub record Input : Type 0 where
   pub read : ℕ
   pub refused : Bool
 
+-- what is known of an input from before an action, and of its refusal from after it
 abbrev pub given : {R : Type 0} → (R → Option Text) → Lines R → Lines R → Input
 given remaining old new = record { text = text_left remaining old; read = lines_read old; refused = is_input_refused new }
 
@@ -54,9 +55,11 @@ pub record Output : Type 0 where
   pub after : Option Text
   pub refused : Bool
 
+-- what an action told, by the output before it and after it
 abbrev pub told : {W : Type 0} → (W → Option Text) → ℕ → Answers W → Answers W → Output
 told contents status old new = record { status = status; before = text_said contents old; after = text_said contents new; refused = is_output_refused new }
 
+-- the whole text was written, where the writer's bytes are known
 abbrev pub SaysAll : Output → Text → Type 0
 SaysAll o text = Appends o.before o.after text
 
@@ -84,9 +87,11 @@ pub record MakesStore (tells : Bool) (old : DiskState) (slots : ℕ) (output : O
   pub formatted : IsTrue tells → IsFormatted slots old.areas new.areas
   pub said : IsSaid output (codes "formatted " ++ (decimal slots ++ codes "\n"))
 
+-- no store is made, and why is said
 abbrev pub RefusesToMake : Bool → DiskState → ℕ → Output → DiskState → Type 0
 RefusesToMake tells old slots output new = (f : FormatFault) × FormatRefuses tells slots old f new × IsRefused output (refusal_line (fault.Format f))
 
+-- `format`: an empty store is made, or refused
 abbrev pub Makes : Bool → DiskState → ℕ → Output → DiskState → Type 0
 Makes tells old slots output new = MakesStore tells old slots output new ⊎ RefusesToMake tells old slots output new
 
@@ -96,6 +101,7 @@ Makes tells old slots output new = MakesStore tells old slots output new ⊎ Ref
 abbrev pub DoesNotOpen : Bool → DiskState → Output → DiskState → Type 0
 DoesNotOpen tells old output new = (f : OpenFault) × OpenRefuses tells old f new × IsRefused output (open_line f)
 
+-- the store opens, but no session can begin for want of memory, which is said
 abbrev pub HasNoMemory : Bool → DiskState → Output → DiskState → Type 0
 HasNoMemory tells old output new = (store : StoreValue) × Opens tells old 1 store × (new ≡ store.disk) × IsRefused output (refusal_line fault.NoMemory)
 
@@ -120,6 +126,7 @@ pub record Runs (tells : Bool) (old : DiskState) (input : Input) (output : Outpu
   pub ends : IsEndOf end input output
   pub status : HasStatusOf end output
 
+-- `run`: the script runs on the store, or does not begin
 abbrev pub RunsScript : Bool → DiskState → Input → Output → DiskState → Type 0
 RunsScript tells old input output new = DoesNotOpen tells old output new ⊎ (HasNoMemory tells old output new ⊎ Runs tells old input output new)
 
@@ -131,6 +138,7 @@ pub record RunsOnNew (tells : Bool) (old : DiskState) (input : Input) (output : 
   pub sound : IsTrue tells → AreSound made.areas
   pub runs : RunsScript tells made input output new
 
+-- the example: a script runs on an empty store that is made for it, or none is made
 abbrev pub RunsNew : Bool → DiskState → Input → Output → DiskState → Type 0
 RunsNew tells old input output new = RefusesToMake tells old 16 output new ⊎ RunsOnNew tells old input output new
 
@@ -150,6 +158,7 @@ pub record AsksStore (tells : Bool) (old : DiskState) (asks : Line) (output : Ou
   pub told : IsTold output answer
   pub closes : Closes asked new
 
+-- a question, as one line: the store answers it, or is not asked, and why is said
 abbrev pub Asks : Bool → DiskState → Line → Output → DiskState → Type 0
 Asks tells old asks output new = DoesNotOpen tells old output new ⊎ (HasNoMemory tells old output new ⊎ AsksStore tells old asks output new)
 
@@ -202,6 +211,7 @@ pub record DumpsLog (tells : Bool) (old : DiskState) (output : Output) (new : Di
 abbrev pub LacksText : DiskState → Output → DiskState → Type 0
 LacksText old output new = (new ≡ old) × IsRefused output (refusal_line fault.NoMemory)
 
+-- `dump`: the log is said, or why it is not
 abbrev pub Dumps : Bool → DiskState → Output → DiskState → Type 0
 Dumps tells old output new = (HasNoHeader tells old output new ⊎ HasNoLog tells old output new) ⊎ (DumpsLog tells old output new ⊎ LacksText old output new)
 
@@ -234,6 +244,7 @@ pub record VacuumsStore (tells : Bool) (old : DiskState) (upto : ℕ) (output : 
   pub closes : Closes asked given
   pub says : SaysVacuum tells upto given done output new
 
+-- `vacuum`: the store archives and reclaims, or is not asked, and why is said
 abbrev pub Vacuums : Bool → DiskState → ℕ → Output → DiskState → Type 0
 Vacuums tells old upto output new = DoesNotOpen tells old output new ⊎ (HasNoMemory tells old output new ⊎ VacuumsStore tells old upto output new)
 
@@ -243,6 +254,7 @@ Vacuums tells old upto output new = DoesNotOpen tells old output new ⊎ (HasNoM
 abbrev pub LacksHeader : Bool → DiskState → LogFault → DiskState → Type 0
 LacksHeader tells old why new = IsHeaderFault why × (IsTrue tells → HasNoHeaderFor old.areas.status.bytes why) × (new ≡ refused_by why old)
 
+-- the line that says how many slots a store has
 abbrev pub slots_line : Header → Text
 slots_line header = codes "slots " ++ (decimal (total header) ++ codes "\n")
 
@@ -267,6 +279,7 @@ pub record GrowsStore (tells : Bool) (old : DiskState) (output : Output) (new : 
   pub closes : Closes asked given
   pub says : SaysGrown tells given refused output new
 
+-- `grow`: the store grows by a piece, or is not asked, and why is said
 abbrev pub Grows : Bool → DiskState → Output → DiskState → Type 0
 Grows tells old output new = DoesNotOpen tells old output new ⊎ (HasNoMemory tells old output new ⊎ GrowsStore tells old output new)
 

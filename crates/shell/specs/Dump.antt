@@ -33,9 +33,11 @@ abbrev pub numbers_line : ℕ → Text → ℕ → ℕ → ℕ → ℕ → Text
 numbers_line number kind a b c d = codes "slot " ++ (decimal number ++ (kind ++ (decimal a ++ (codes " " ++ (decimal b ++ (codes " " ++ (decimal c
     ++ (codes " " ++ (decimal d ++ codes "\n")))))))))
 
+-- the line that stands before the members of a group
 abbrev pub commit_line : ℕ → Text
 commit_line number = codes "slot " ++ (decimal number ++ codes " commit\n")
 
+-- the text of a slot's body: a line of its own for each member of a group, one line for each job
 abbrev pub IsBodyText : ℕ → Body → Text → Type 0
 IsBodyText n (body.Commit members) text = (lines : Text) × Each IsMemberLine members.items lines × (text ≡ commit_line n ++ lines)
 IsBodyText n (body.Archived run) text = text ≡ numbers_line n (codes " archived ") run.upto run.start run.len run.records
@@ -43,6 +45,7 @@ IsBodyText n (body.Reclaimed anchors) text = text ≡ numbers_line n (codes " re
 IsBodyText n (body.Floor None floor) text = text ≡ codes "slot " ++ (decimal n ++ (codes " floor " ++ (decimal floor ++ codes "\n")))
 IsBodyText n (body.Floor (Some relation) floor) text = text ≡ codes "slot " ++ (decimal n ++ (codes " floor " ++ (decimal floor ++ (codes " relation " ++ (decimal relation ++ codes "\n")))))
 
+-- the text of one slot of the log
 abbrev pub IsSlotText : Slot → Text → Type 0
 IsSlotText slot text = IsBodyText slot.number slot.body text
 

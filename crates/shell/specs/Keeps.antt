@@ -84,9 +84,11 @@ pub record GrowthKeeps (tells : Bool) (h : History Value) (floors : ℕ → ℕ)
   pub says : SaysGrown tells given refused output new
   pub holds : new.areas ≡ given.areas
 
+-- the store opens as this history; no line is answered, or a growth keeps the promise
 abbrev pub GrowthOpenedKeeps : Bool → History Value → (ℕ → ℕ) → DiskState → Output → DiskState → Type 0
 GrowthOpenedKeeps tells h floors old output new = (store : StoreValue) × Opens tells old 1 store × ((new ≡ store.disk) ⊎ GrowthKeeps tells h floors store output new)
 
+-- of whatever history the image stands for: the store does not open, or a growth keeps the promise
 abbrev pub GrowingKeeps : Bool → DiskState → Output → DiskState → Type 0
 GrowingKeeps tells old output new = (header : Header) (h : History Value) (floors : ℕ → ℕ) → IsImageOf header (image_of old.areas) h floors
     → ((f : OpenFault) × OpenRefuses tells old f new) ⊎ GrowthOpenedKeeps tells h floors old output new

@@ -19,6 +19,7 @@ use Rattle.shell.specs.declared.vacuuming.Job.TheVariants as job
 use Rattle.shell.specs.declared.vacuuming.Vacuumed.{Vacuumed}
 use Rattle.shell.specs.declared.vacuuming.Vacuumed.TheVariants as vacuumed
 
+-- the answer refuses its line
 abbrev pub is_refusal : Reply → Bool
 is_refusal (reply.Refused f) = true
 is_refusal _ = false
@@ -54,6 +55,7 @@ HasLog tells old slots new = (header : Header) × (IsTrue tells → ReadsHeader 
 abbrev pub HasNoHeaderFor : List ℕ → LogFault → Type 0
 HasNoHeaderFor bytes why = (header : Header) → ReadsHeader bytes header → AnswersHeader header (Err why)
 
+-- the header is read, and the log that follows it has this fault
 abbrev pub HasNoLogFor : List ℕ → LogFault → Type 0
 HasNoLogFor bytes why = (header : Header) × ReadsHeader bytes header × IsLogFault header bytes why
 
@@ -74,8 +76,10 @@ records_in kind upto (slot ∷ slots) = option_map_or (λ (n : ℕ). n) (records
 
 -- ---- what is said
 
+-- the line that says how many records the archive up to this time wrote, by the log
 abbrev pub archived_line : ℕ → List Slot → Text
 archived_line upto slots = codes "archived " ++ (decimal (records_in job.Archive upto slots) ++ codes "\n")
 
+-- the line that says how many records the anchors of the reclaim up to this time hold, by the log
 abbrev pub reclaimed_line : ℕ → List Slot → Text
 reclaimed_line upto slots = codes "reclaimed " ++ (decimal (records_in job.Reclaim upto slots) ++ codes "\n")

@@ -10,6 +10,7 @@ use Rattle.image.specs.Values.{Value, IsValue}
 use Rattle.chains.specs.KeyWrites.{KeyWrites, writes_of}
 use Rattle.snapshot.specs.WriteSets.{AreRising, with_write, without}
 
+-- an open transaction: which one of which store, what it reads, and what it has written
 pub record TxnValue : Type 0 where
   -- of the store that began it
   pub mark : ℕ
@@ -53,5 +54,6 @@ with_put t key value = record t { writes = with_write t.writes (record { key = k
 abbrev pub writes_after_delete : TxnValue → Key → List (KeyWrite Value)
 writes_after_delete t key = if is_some (at_snapshot t.state t.snapshot key) then with_write t.writes (record { key = key; write = None }) else without t.writes key
 
+-- the transaction after a delete
 abbrev pub with_delete : TxnValue → Key → TxnValue
 with_delete t key = record t { writes = writes_after_delete t key }

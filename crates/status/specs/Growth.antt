@@ -45,6 +45,7 @@ growth_stage_after (Zeroing parts) = if nat_lt parts 16 then Zeroing (parts + 1)
 growth_stage_after ZerosSynced = GateWritten
 growth_stage_after GateWritten = GateWritten
 
+-- the piece in the making once the call of its stage was made
 abbrev pub growth_after : GrowthState → GrowthState
 growth_after growth = record growth { stage = growth_stage_after growth.stage }
 
@@ -58,6 +59,7 @@ may_be_open GateWritten = true
 abbrev pub with_piece : GrowthState → LogState → LogState
 with_piece growth log = record log { slots = growth.slots + 256; pieces = growth.piece + 1 }
 
+-- the log after such a call: only the last one adds the piece
 abbrev pub grown_by : Grew → GrowthState → LogState → LogState
 grown_by grew.WroteZeros growth log = log
 grown_by grew.ZerosSynced growth log = log

@@ -9,5 +9,6 @@ kept_after before [] = before
 kept_after before (Floor scope floor ∷ slots) = kept_after (raised_in scope floor before) slots
 kept_after before (slot ∷ slots) = kept_after before slots
 
+-- the floors that a log gives
 abbrev pub kept_of : List Slot → FloorsValue
 kept_of log = kept_after no_floors log

@@ -13,6 +13,7 @@ use Rattle.status.specs.Rules.{is_built, MayFollow, KeepsRules}
 
 -- ---- the disk
 
+-- after reads that were refused so: nothing has changed but the count, where the device refused one
 abbrev pub refused_by : LogFault → DiskState → DiskState
 refused_by NotAStore s = s
 refused_by (Damaged n) s = s

@@ -15,6 +15,7 @@ is_built profile kind = ((profile == 1) || ((profile == 2) || (profile == 3))) &
 
 -- ---- a slot as the rules see it
 
+-- the time and the label of a commit, as its slot says them
 abbrev pub head_of : Entry → readings.Head
 head_of entry = record { time = entry.time; label = entry.label }
 
@@ -25,17 +26,20 @@ slot_of (Archived run) = readings.Archived run.upto
 slot_of (Reclaimed anchors) = readings.Reclaimed anchors.upto
 slot_of (Floor relation floor) = readings.Floor relation floor
 
+-- these slots as the reading has them
 abbrev pub log_of : List Slot → List readings.Slot
 log_of slots = map (λ s. slot_of s.body) slots
 
 -- ---- runs
 
+-- the run that a slot names, if it is that of an archive
 abbrev pub runs_in : Body → List Run
 runs_in (Commit members) = []
 runs_in (Archived run) = run ∷ []
 runs_in (Reclaimed anchors) = []
 runs_in (Floor relation floor) = []
 
+-- the runs that these slots name, in the order of the log
 abbrev pub runs_of : List Slot → List Run
 runs_of slots = flat_map (λ s. runs_in s.body) slots
 

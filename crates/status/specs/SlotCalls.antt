@@ -22,6 +22,7 @@ IsSlotCall number body BodySynced result old new = Writes Status (slot_start num
 IsSlotCall number body GateWritten result old new = Syncs Status result old new
 IsSlotCall number body Opened result old new = ⊥
 
+-- the stage once the device call of this one was made
 abbrev pub slot_stage_after : SlotStage → SlotStage
 slot_stage_after Begun = BodyWritten
 slot_stage_after BodyWritten = BodySynced

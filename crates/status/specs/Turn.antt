@@ -5,6 +5,7 @@ use Rattle.status.specs.TurnState.{TurnState, LogState}
 use Rattle.status.specs.declared.turn.Step.{Step}
 use Rattle.status.specs.declared.turn.Step.TheVariants.{More, Open}
 
+-- what the device call of a stage leads to: the next stage, or the slot that is open
 abbrev pub IsStep : SlotStage → TurnState → Step → Type 0
 IsStep Begun turn (More next) = next ≡ record turn { stage = BodyWritten }
 IsStep BodyWritten turn (More next) = next ≡ record turn { stage = BodySynced }

@@ -6,6 +6,7 @@ use Rattle.archive.specs.declared.fault.ArchiveFault.TheVariants as archive
 use Rattle.timequery.specs.declared.fault.QueryFault.{QueryFault}
 use Rattle.timequery.specs.declared.fault.QueryFault.TheVariants.{BeforeKept, NotYet, EmptyInterval, Device, NoMemory, Damaged, NeedsDisk, Stranger}
 
+-- a fault of the archive as a query answers it
 abbrev pub query_fault : ArchiveFault → QueryFault
 query_fault archive.Device = Device
 query_fault archive.NoMemory = NoMemory

@@ -143,6 +143,7 @@ abbrev pub lesser : ℕ → List (ℕ × Version Value) → List (ℕ × Version
 lesser number [] = []
 lesser number (p ∷ ps) = if nat_lt p.0 number then p ∷ lesser number ps else []
 
+-- the rows behind those at the front whose record is lesser
 abbrev pub not_lesser : ℕ → List (ℕ × Version Value) → List (ℕ × Version Value)
 not_lesser number [] = []
 not_lesser number (p ∷ ps) = if nat_lt p.0 number then not_lesser number ps else p ∷ ps

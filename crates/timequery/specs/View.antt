@@ -21,11 +21,13 @@ abbrev pub mark_after : ℕ → List RunEntry → ℕ
 mark_after mark [] = mark
 mark_after mark (run ∷ runs) = mark_after run.slot.upto runs
 
+-- the archive mark by these runs, 0 where there is none
 abbrev pub mark_of : List RunEntry → ℕ
 mark_of runs = mark_after 0 runs
 
 -- ---- views
 
+-- a view: all that queries read of one moment
 pub record ViewValue : Type 0 where
   -- the mark of the store that gave it
   pub mark : ℕ

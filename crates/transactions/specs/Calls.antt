@@ -32,6 +32,7 @@ pub record IsBegun (old : TransactionsValue) (txn : TxnValue) (new : Transaction
   pub within : txn.number ≤ length old.opened
   pub new_is : new ≡ record old { opened = with_opened old.opened txn.number txn.snapshot }
 
+-- what a begin answers: a new transaction, or that the store has failed or memory was refused
 abbrev pub Begins : TransactionsValue → Result TxnValue BeginFault → TransactionsValue → Type 0
 Begins old (Ok txn) new = IsBegun old txn new
 Begins old (Err begin.NoMemory) new = (old.failed ≡ false) × (new ≡ old)
@@ -47,5 +48,6 @@ AnswersTicket old ticket ticket_state.Unknown result new = (result ≡ redeemed.
 AnswersTicket old ticket ticket_state.Published result new = (result ≡ redeemed.Done ticket.time) × (new ≡ record old { heads = orders.redeemed ticket.time old.heads })
 AnswersTicket old ticket ticket_state.Waiting result new = (result ≡ (if old.failed then redeemed.InDoubt else redeemed.Waiting ticket)) × (new ≡ old)
 
+-- what redeeming a ticket answers; one of another store is a stranger
 abbrev pub Redeems : TransactionsValue → TicketValue → Redeemed → TransactionsValue → Type 0
 Redeems old ticket result new = MatchBool (ticket.mark == old.mark) (AnswersTicket old ticket (orders.ticket_state ticket.time (order_of old)) result new) ((result ≡ redeemed.Stranger) × (new ≡ old))

@@ -24,6 +24,7 @@ HasExtent q = 0 < length q.stored
 abbrev pub AreBy : ℕ → List KeyWrites → List QueuedValue → Type 0
 AreBy time versions queue = (latest versions ≤ time) × AllByRecursion (λ q. latest q.after ≤ time) queue
 
+-- what always holds: the commit order, the group, the versions, the extents and the slots agree
 pub record IsInOrder (v : TransactionsValue) : Type 0 where
   pub split : v.published + length v.queue ≡ length v.heads
   -- no version is later than the last time that was given

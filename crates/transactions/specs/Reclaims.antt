@@ -30,6 +30,7 @@ pub record IsReserved (v : TransactionsValue) (count : ℕ) (new : TransactionsV
   pub many : length numbers ≡ count
   pub new_is : new ≡ with_reserved v numbers
 
+-- a job asks for so many extents: it has them, or the heap has too few, or memory was refused
 abbrev pub Reserves : TransactionsValue → ℕ → Result (Unit {0}) ReserveFault → TransactionsValue → Type 0
 Reserves v count (Ok done) new = (count ≤ free_count v) × IsReserved v count new
 Reserves v count (Err fault.HeapFull) new = (nat_lt (free_count v) count ≡ true) × (new ≡ v)
@@ -39,6 +40,7 @@ Reserves v count (Err fault.NoMemory) new = (count ≤ free_count v) × (new ≡
 abbrev pub prepared : TransactionsValue → ℕ → TransactionsValue
 prepared v mark = record v { pending = Some (forgotten mark v.versions) }
 
+-- the versions that a reclaim leaves are made, or memory for them was refused
 abbrev pub Prepares : TransactionsValue → ℕ → Result (Unit {0}) AllocError → TransactionsValue → Type 0
 Prepares v mark (Ok done) new = new ≡ prepared v mark
 Prepares v mark (Err none) new = new ≡ v

@@ -35,6 +35,7 @@ step_of Turning group = steps.AdvanceSlot
 abbrev pub due : TransactionsValue → NextStep
 due v = step_of v.stage v.group
 
+-- what the next step of the store does: a group begins first where it may
 abbrev pub next_step : TransactionsValue → NextStep
 next_step v = due (grouped v)
 
@@ -50,6 +51,7 @@ extent_of queue NoGroup = None
 extent_of queue Stored = None
 extent_of queue Turning = None
 
+-- the extent that is to be written next, if one is
 abbrev pub next_extent : TransactionsValue → Option StoredExtent
 next_extent v = extent_of v.queue v.stage
 
@@ -58,12 +60,14 @@ abbrev pub place_behind : Option QueuedValue → ℕ → ℕ → GroupStage
 place_behind None member extent = Storing (member + 1) 0
 place_behind (Some q) member extent = if nat_lt (extent + 1) (length q.stored) then Storing member (extent + 1) else Storing (member + 1) 0
 
+-- what is done of a group once its next extent is written
 abbrev pub stage_behind : List QueuedValue → GroupStage → GroupStage
 stage_behind queue (Storing member extent) = place_behind (slice_get queue member) member extent
 stage_behind queue NoGroup = NoGroup
 stage_behind queue Stored = Stored
 stage_behind queue Turning = Turning
 
+-- the next extent of the group was written
 abbrev pub wrote_extent : TransactionsValue → TransactionsValue
 wrote_extent v = record v { stage = stage_behind v.queue v.stage }
 
@@ -85,6 +89,7 @@ is_stale v = is_older v.reclaimed (slice_get v.queue (v.group - 1))
 abbrev pub freshened : TransactionsValue → TransactionsValue
 freshened v = record v { queue = fresh_at v.reclaimed (v.group - 1) v.queue (slice_get v.queue (v.group - 1)) }
 
+-- this much is done of the group
 abbrev pub at_stage : GroupStage → TransactionsValue → TransactionsValue
 at_stage stage v = record v { stage = stage }
 

@@ -33,6 +33,7 @@ first_conflict versions snapshot writes = find (λ key. nat_lt snapshot (last_ti
 abbrev pub bodies_over : List KeyWrites → List (KeyWrite Value) → List (List ℕ)
 bodies_over versions writes = bodies (map spelling (map record_of (map (stored_record (λ key. latest (writes_of versions key))) writes)))
 
+-- the bytes of the records of these writes over the commit order, in each extent that they need
 abbrev pub bodies_for : TransactionsValue → List (KeyWrite Value) → List (List ℕ)
 bodies_for v writes = bodies_over (ordered v) writes
 
@@ -53,14 +54,17 @@ pub data Verdict : Type 0 where
   ClockEnds : Verdict
   Queues : ℕ → Verdict
 
+-- queued at this time, unless it is past the end of the clock
 abbrev pub verdict_on_clock : ℕ → Verdict
 verdict_on_clock time = if nat_lt time (2 ^ 63) then Queues time else ClockEnds
 
+-- of writes that no conflict bars: by the free extents, then the spare slots, then the clock
 abbrev pub verdict_on_room : TransactionsValue → List (KeyWrite Value) → ℕ → Verdict
 verdict_on_room v writes now =
     if nat_lt (free_count v) (length (bodies_for v writes)) then HeapIsFull
     else (if nat_le (spare v) 2 then StatusIsFull else verdict_on_clock (time_now v now))
 
+-- a conflict comes before any want of room
 abbrev pub verdict_on_conflict : TransactionsValue → List (KeyWrite Value) → ℕ → Option Key → Verdict
 verdict_on_conflict v writes now (Some key) = Conflicts key
 verdict_on_conflict v writes now None = verdict_on_room v writes now
@@ -69,6 +73,7 @@ verdict_on_conflict v writes now None = verdict_on_room v writes now
 abbrev pub verdict_on_writes : TransactionsValue → ℕ → List (KeyWrite Value) → ℕ → Verdict
 verdict_on_writes v snapshot writes now = verdict_on_conflict v writes now (first_conflict (ordered v) snapshot writes)
 
+-- of any writes: where there are none, the transaction only reads
 abbrev pub verdict : TransactionsValue → ℕ → List (KeyWrite Value) → ℕ → Verdict
 verdict v snapshot [] now = Reads
 verdict v snapshot (w ∷ ws) now = verdict_on_writes v snapshot (w ∷ ws) now

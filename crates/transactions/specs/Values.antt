@@ -14,6 +14,7 @@ use Rattle.group.specs.Queued.{QueuedValue}
 use Rattle.transactions.specs.declared.stage.GroupStage.{GroupStage}
 use Rattle.transactions.specs.declared.stage.GroupStage.TheVariants.{NoGroup, Storing, Stored, Turning}
 
+-- the commit order, the versions in memory, the extents, the slots and the open transactions of a store
 pub record TransactionsValue : Type 0 where
   pub mark : ℕ
   -- the snapshots of the open transactions, by number
@@ -59,11 +60,13 @@ abbrev pub mark_after : ℕ → List QueuedValue → ℕ
 mark_after mark [] = mark
 mark_after mark (q ∷ qs) = mark_after q.reclaimed qs
 
+-- the mark up to which the versions after the whole commit order have forgotten what ended
 abbrev pub ordered_mark : TransactionsValue → ℕ
 ordered_mark v = mark_after v.reclaimed v.queue
 
 -- ---- transactions that are the store's own
 
+-- an open transaction is there, and this is its snapshot
 abbrev pub is_snapshot : Option ℕ → ℕ → Bool
 is_snapshot None time = false
 is_snapshot (Some snapshot) time = snapshot == time
@@ -72,10 +75,12 @@ is_snapshot (Some snapshot) time = snapshot == time
 abbrev pub is_of_value : List KeyWrites → ℕ → KeyWrite Value → Bool
 is_of_value versions snapshot w = is_some w.write || is_some (value_at (writes_of versions w.key) snapshot)
 
+-- this store began it, it is open with this snapshot, and its writes are those of a transaction
 abbrev pub is_own_of : TransactionsValue → ℕ → ℕ → ℕ → List (KeyWrite Value) → Bool
 is_own_of v mark number snapshot writes =
     if mark == v.mark then (if is_snapshot (snapshot_of number v.opened) snapshot then list_all (is_of_value v.versions snapshot) writes else false) else false
 
+-- the transaction is the store's own: begun by it, still open, and with writes that fit its snapshot
 abbrev pub is_own : TransactionsValue → TxnValue → Bool
 is_own v txn = is_own_of v txn.mark txn.number txn.snapshot txn.writes
 
@@ -98,6 +103,7 @@ claimed_by NoGroup group waiting = waiting
 claimed_by (Storing member extent) group waiting = waiting
 claimed_by Stored group waiting = waiting
 
+-- the slots that all waiting commits may still take
 abbrev pub claimed : TransactionsValue → ℕ
 claimed v = claimed_by v.stage v.group (length v.queue)
 
@@ -109,6 +115,7 @@ spare v = v.slots - v.used - claimed v
 abbrev pub with_slot_lent : TransactionsValue → TransactionsValue
 with_slot_lent v = record v { slots = v.slots - 1 }
 
+-- the slot that was lent comes back, as one that the log has
 abbrev pub with_slot_used : TransactionsValue → TransactionsValue
 with_slot_used v = record v { slots = v.slots + 1; used = v.used + 1 }
 

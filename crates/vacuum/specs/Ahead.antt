@@ -45,6 +45,7 @@ pub record IsBehind (upto : ℕ) (old new : Ahead) : Type 0 where
   pub part : new.part ≡ drop 1 old.part
   pub ended : is_some (first_record new.key upto new.part) ≡ true
 
+-- what stands next has gone on to the next version of the same key, which has a record too
 abbrev pub HasMoved : ℕ → Option Ahead → Option Ahead → Type 0
 HasMoved upto None new = ⊥
 HasMoved upto (Some a) None = ⊥

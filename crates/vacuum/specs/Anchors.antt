@@ -22,6 +22,7 @@ anchors_of mark frozen = flat_map (key_anchors mark) frozen
 abbrev pub key_olds : ℕ → KeyWrites → List Record
 key_olds mark c = map old_record_of (key_anchors mark c)
 
+-- those of all keys as the heap has them
 abbrev pub olds_of : ℕ → List KeyWrites → List Record
 olds_of mark frozen = map old_record_of (anchors_of mark frozen)
 

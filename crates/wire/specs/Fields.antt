@@ -7,6 +7,7 @@ pub use Rattle.image.specs.Values.{IsField}
 abbrev pub field_bytes : List ℕ → List ℕ
 field_bytes field = length field ∷ field
 
+-- the bytes of these fields, one after another
 abbrev pub fields_bytes : List (List ℕ) → List ℕ
 fields_bytes fields = flat_map field_bytes fields
 
@@ -16,16 +17,19 @@ HasFields zero bytes = Unit {0}
 HasFields (suc n) [] = ⊥
 HasFields (suc n) (len ∷ bytes) = (len ≤ length bytes) × HasFields n (drop len bytes)
 
+-- that many fields from the front of the bytes
 abbrev pub fields_at : ℕ → List ℕ → List (List ℕ)
 fields_at zero bytes = []
 fields_at (suc n) [] = []
 fields_at (suc n) (len ∷ bytes) = take len bytes ∷ fields_at n (drop len bytes)
 
+-- the bytes behind that many fields
 abbrev pub rest_at : ℕ → List ℕ → List ℕ
 rest_at zero bytes = bytes
 rest_at (suc n) [] = []
 rest_at (suc n) (len ∷ bytes) = rest_at n (drop len bytes)
 
+-- each of these is a field
 abbrev pub AreAllFields : List (List ℕ) → Type 0
 AreAllFields fields = AllByRecursion IsField fields
 
