@@ -1,6 +1,6 @@
 //! Archives that a script makes, step by step.
 use crate::archived::{RUN, SLOT};
-use crate::dialogue::{FOUR_COMMITS, SCRIPT, Script, hold, is_text};
+use crate::dialogue::{FOUR_COMMITS, PROFILES, SCRIPT, Script, hold, is_text};
 use crate::steps::Step::{Ends, Long, New, Parts, Says, Spells};
 use crate::steps::{Step, go};
 use crate::trials::{TORN, Trial, is_count, left_goes_on, tried};
@@ -419,8 +419,9 @@ fn each_left_answers_alike(alloc: Global, disk: &FaultDisk) -> Result<(), Fail> 
 }
 
 /// Stops at each call in turn. A stop is met by each of the six calls of the archive once.
-fn stops_at_each_call(alloc: Global, write_reaches: bool) -> Result<(), Fail> {
+fn stops_at_each_call(alloc: Global, write_reaches: bool, profile: u8) -> Result<(), Fail> {
     let trial = Trial {
+        profile,
         before: STORE,
         action: SCRIPT,
         script: ONE_ARCHIVE,
@@ -443,12 +444,18 @@ fn stops_at_each_call(alloc: Global, write_reaches: bool) -> Result<(), Fail> {
 
 #[test]
 fn a_stop_in_an_archive_changes_no_answer(rt: HostRuntime) -> Result<(), Fail> {
-    stops_at_each_call(rt.alloc(), false)
+    for profile in PROFILES {
+        stops_at_each_call(rt.alloc(), false, profile)?;
+    }
+    Ok(())
 }
 
 #[test]
 fn a_stop_after_a_write_of_an_archive_changes_no_answer(rt: HostRuntime) -> Result<(), Fail> {
-    stops_at_each_call(rt.alloc(), true)
+    for profile in PROFILES {
+        stops_at_each_call(rt.alloc(), true, profile)?;
+    }
+    Ok(())
 }
 
 /// A new store has nothing to archive.
@@ -503,8 +510,9 @@ fn is_failed(said: &str) -> Result<bool, Fail> {
 }
 
 /// Each call is refused in turn; once the store is opened it fails at each of the archive's six.
-fn refuses_each_call(alloc: Global, write_reaches: bool) -> Result<(), Fail> {
+fn refuses_each_call(alloc: Global, write_reaches: bool, profile: u8) -> Result<(), Fail> {
     let trial = Trial {
+        profile,
         before: STORE,
         action: SCRIPT,
         script: REFUSED_JOB,
@@ -525,31 +533,44 @@ fn refuses_each_call(alloc: Global, write_reaches: bool) -> Result<(), Fail> {
 
 #[test]
 fn after_a_refused_step_of_a_job_reading_goes_on(rt: HostRuntime) -> Result<(), Fail> {
-    refuses_each_call(rt.alloc(), false)
+    for profile in PROFILES {
+        refuses_each_call(rt.alloc(), false, profile)?;
+    }
+    Ok(())
 }
 
 #[test]
 fn after_a_refused_step_that_was_made_reading_goes_on(rt: HostRuntime) -> Result<(), Fail> {
-    refuses_each_call(rt.alloc(), true)
+    for profile in PROFILES {
+        refuses_each_call(rt.alloc(), true, profile)?;
+    }
+    Ok(())
 }
 
-/// An archive whose second call of the disk is to be refused.
-const RUN_SYNC: Trial<'static> = Trial {
-    before: STORE,
-    action: SCRIPT,
-    script: "archive 120\njob\njob\nbegin u\nat 1 7 110\nat 1 7 130\n",
-    write_reaches: false,
-    stops: false,
-};
-
-#[test]
-fn a_refused_sync_of_a_run_fails_the_store(rt: HostRuntime) -> Result<(), Fail> {
+/// One call of an archive is its run's sync. Refused, it fails the store, which reads on.
+fn refuses_the_sync_of_a_run(alloc: Global, profile: u8) -> Result<(), Fail> {
+    let trial = Trial {
+        profile,
+        before: STORE,
+        action: SCRIPT,
+        script: "archive 120\njob\njob\nbegin u\nat 1 7 110\nat 1 7 130\n",
+        write_reaches: false,
+        stops: false,
+    };
     let answers = "started\nwrote run\nrefused: failed\nrefused: failed\nvalue 62\nvalue 63\n";
     for calls_before in 0..100 {
-        let (said, _, _disk) = tried(rt.alloc(), &RUN_SYNC, calls_before)?;
+        let (said, _, _disk) = tried(alloc, &trial, calls_before)?;
         if said.as_str() == answers {
             return Ok(());
         }
     }
     Err(Fail::new("no call was the sync of the run"))
+}
+
+#[test]
+fn a_refused_sync_of_a_run_fails_the_store(rt: HostRuntime) -> Result<(), Fail> {
+    for profile in PROFILES {
+        refuses_the_sync_of_a_run(rt.alloc(), profile)?;
+    }
+    Ok(())
 }

@@ -1,8 +1,8 @@
 //! Disks that hold no store, damaged stores, and scripts and commands that ask for what is not to be
 //! had. Each is refused by its name, and nothing is lost.
-use crate::dialogue::{ONE_COMMIT, SCRIPT, new_store, says};
+use crate::dialogue::{NEWEST_PROFILE, ONE_COMMIT, SCRIPT, says, store_of_profile};
 use crate::steps::Step::{At, Changes, Cuts, Does, Formats, Long, New, Refuses, Runs, Says};
-use crate::steps::{Step, each_goes, go, goes_on};
+use crate::steps::{Step, each_goes, go, goes_in, goes_on};
 use disk::Area;
 use shell::Action;
 use std::alloc::{AllocError, Global};
@@ -100,10 +100,10 @@ const BAD_LINE: &str = "snapshot 0\nok\nqueued\nidle\nsnapshot 100\nok\nline 7: 
 /// What was committed before it.
 const BEFORE_LINE: &[Step] = &[At("100", "value 61"), At("101", "refused: not yet 100")];
 
-/// A line must be refused by its number, and what was committed before it stays.
-fn is_bad(alloc: Global, line: &str) -> Result<(), Fail> {
+/// A line must be refused by its number, and what was committed before it stays, in a store of this profile.
+fn is_bad(alloc: Global, line: &str, profile: u8) -> Result<(), Fail> {
     let script = with_line(alloc, line)?;
-    let disk = new_store(alloc, 16)?;
+    let disk = store_of_profile(alloc, 16, profile)?;
     let disk = says(alloc, disk, SCRIPT, script.as_str(), (BAD_LINE, 1))?;
     let _disk = goes_on(alloc, disk, BEFORE_LINE)?;
     Ok(())
@@ -134,7 +134,9 @@ const BAD_LINES: &[&str] = &[
 #[test]
 fn a_line_of_no_form_ends_the_script(rt: HostRuntime) -> Result<(), Fail> {
     for line in BAD_LINES {
-        is_bad(rt.alloc(), line)?;
+        is_bad(rt.alloc(), line, 1)?;
+        is_bad(rt.alloc(), line, 2)?;
+        is_bad(rt.alloc(), line, 3)?;
     }
     Ok(())
 }
@@ -197,7 +199,7 @@ const MOST_SLOTS: &[Step] = &[
 
 #[test]
 fn a_store_may_have_most_slots(rt: HostRuntime) -> Result<(), Fail> {
-    go(rt.alloc(), MOST_SLOTS)
+    goes_in(rt.alloc(), NEWEST_PROFILE, MOST_SLOTS)
 }
 
 /// Questions for a time, of no store and of one.

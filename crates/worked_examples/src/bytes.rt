@@ -1,4 +1,5 @@
 //! The bytes of a disk in memory.
+use crate::dialogue::NEWEST_PROFILE;
 use disk::{Area, Disk, MemDisk};
 use std::alloc::Global;
 use std::test::Fail;
@@ -55,6 +56,16 @@ fn are_bytes(bytes: &[u8], place: usize, expected: &[u8]) -> Result<(), Fail> {
     }
     let found = found.get(..expected.len()).unwrap_or(found);
     Err(Fail::new(format_args!("at {place}: {found:?}")))
+}
+
+/// Byte 8 of the status area, the profile of a store; that of new stores where there is no such byte.
+pub fn profile_of(disk: &mut MemDisk) -> Result<u8, Fail> {
+    if disk.len(Area::Status)? < 9 {
+        return Ok(NEWEST_PROFILE);
+    }
+    let mut bytes = [0; 1];
+    disk.read(Area::Status, 8, &mut bytes)?;
+    Ok(bytes[0])
 }
 
 /// From a place on an area must have the bytes that a text spells.

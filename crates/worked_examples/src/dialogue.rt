@@ -1,5 +1,5 @@
 //! Scripts with their answers, run on a disk in memory.
-use crate::bytes::change;
+use crate::bytes::{change, profile_of};
 use disk::{Area, Disk, MemDisk};
 use history::Key;
 use session::{Answers, Lines};
@@ -17,8 +17,11 @@ pub const KEY: Key = Key {
 /// The script of the input, on the store of a folder.
 pub const SCRIPT: Action<'static> = Action::Run { dir: "" };
 
-/// The profile of the stores that `format` makes: byte 8 of their headers.
-const NEWEST_PROFILE: u8 = 3;
+/// The profiles of stores, byte 8 of their headers. `format` makes stores of the last one.
+pub const PROFILES: [u8; 3] = [1, 2, 3];
+
+/// The profile of the stores that `format` makes.
+pub const NEWEST_PROFILE: u8 = 3;
 
 /// Four commits of one key: a value, another, none, and a third.
 pub const FOUR_COMMITS: &str = "begin a | snapshot 0
@@ -103,7 +106,33 @@ pub fn is_said(said: &str, ended: u8, answers: &str, status: u8) -> Result<(), F
     is_status(ended, status)
 }
 
-/// The action must say this, and end with this status.
+/// Appends a line as a store of this profile says it where one of the newest profile says so: of the
+/// older ones `reopen` tells the one floor of all relations, and the log of the first has no pieces.
+fn push_said(text: &mut String, line: &str, profile: u8) -> Result<(), AllocError> {
+    if profile < NEWEST_PROFILE
+        && let Some(front) = line.strip_suffix(" floors 0")
+    {
+        text.push_str(front)?;
+        return push_line(text, " floor 0");
+    }
+    if profile == 1
+        && let Some(front) = line.strip_suffix(" pieces 0")
+    {
+        return push_line(text, front);
+    }
+    push_line(text, line)
+}
+
+/// What a store of this profile says where one of the newest profile says these lines.
+pub fn of_profile(alloc: Global, lines: &str, profile: u8) -> Result<String, AllocError> {
+    let mut text = String::new(alloc);
+    for line in lines.lines() {
+        push_said(&mut text, line, profile)?;
+    }
+    Ok(text)
+}
+
+/// The action must say this, as a store of the newest profile would, and end with this status.
 pub fn says(
     alloc: Global,
     disk: MemDisk,
@@ -111,8 +140,9 @@ pub fn says(
     script: &str,
     (answers, status): (&str, u8),
 ) -> Result<MemDisk, Fail> {
-    let (said, ended, disk) = told(alloc, action, disk, script)?;
-    is_said(said.as_str(), ended, answers, status)?;
+    let (said, ended, mut disk) = told(alloc, action, disk, script)?;
+    let answers = of_profile(alloc, answers, profile_of(&mut disk)?)?;
+    is_said(said.as_str(), ended, answers.as_str(), status)?;
     Ok(disk)
 }
 
@@ -293,6 +323,7 @@ fn holds(alloc: Global, script: &Script, profile: u8) -> Result<(), Fail> {
     let disk = converses(alloc, new, script.before)?;
     let dialogue = repeated(alloc, script.parts)?;
     let (lines, answers) = parted(alloc, dialogue.as_str())?;
+    let answers = of_profile(alloc, answers.as_str(), profile)?;
     let (said, status, _disk) = told(alloc, SCRIPT, disk, lines.as_str())?;
     is_text(script.name, said.as_str(), answers.as_str())?;
     is_status(status, 0)
@@ -306,7 +337,10 @@ pub fn hold_in(alloc: Global, scripts: &[Script], profile: u8) -> Result<(), Fai
     Ok(())
 }
 
-/// The same on stores as `format` makes them.
+/// The same on new stores of each profile.
 pub fn hold(alloc: Global, scripts: &[Script]) -> Result<(), Fail> {
-    hold_in(alloc, scripts, NEWEST_PROFILE)
+    for profile in PROFILES {
+        hold_in(alloc, scripts, profile)?;
+    }
+    Ok(())
 }

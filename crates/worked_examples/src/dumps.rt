@@ -1,8 +1,8 @@
 //! Logs as text.
 use crate::dialogue::{FOUR_COMMITS, ONE_COMMIT};
 use crate::raised_floors::RAISED;
-use crate::steps::Step::{Changes, Cuts, Dumps, New, Older, Parts, Says};
-use crate::steps::{Step, each_goes, go};
+use crate::steps::Step::{Changes, Cuts, Dumps, New, Parts, Says};
+use crate::steps::{Step, each_goes, each_goes_in, go, goes_in};
 use disk::Area;
 use std::test::Fail;
 
@@ -69,7 +69,7 @@ fn a_reclaim_behind_an_archive(rt: HostRuntime) -> Result<(), Fail> {
 }
 
 const FLOORED: &[Step] = &[
-    Older(16, 2),
+    New(16),
     Parts(&[(FOUR_COMMITS, 1), (RAISED, 1)]),
     Dumps(
         "header 16 pieces 0
@@ -92,7 +92,8 @@ used 7 of 16
 
 #[test]
 fn a_floor_behind_a_reclaim(rt: HostRuntime) -> Result<(), Fail> {
-    go(rt.alloc(), FLOORED)
+    goes_in(rt.alloc(), 1, FLOORED)?;
+    goes_in(rt.alloc(), 2, FLOORED)
 }
 
 /// A group of two, one of which has two records in two extents, and commits at the last time that has
@@ -182,11 +183,24 @@ const CHANGED: &[&[Step]] = &[
     ],
     &[Changes(Area::Status, 8, 1), Dumps(FIRST_PROFILE, 0)],
     &[Changes(Area::Status, 8, 2), Dumps(ONE_MEMBER, 0)],
-    &[Changes(Area::Status, 17, 0xC7), Dumps(ONE_MEMBER, 0)],
 ];
+
+/// The gate of a piece behind one that is closed says nothing in a store of pieces.
+const GATE_APART: &[Step] = &[Changes(Area::Status, 17, 0xC7), Dumps(ONE_MEMBER, 0)];
+
+/// In one of the first profile it is no header's.
+const NO_HEADER: &[Step] = &[
+    Changes(Area::Status, 17, 0xC7),
+    Dumps("refused: not a store\n", 1),
+];
+
+const COMMITTED: &[Step] = &[New(16), Says(ONE_COMMIT)];
 
 #[test]
 fn only_the_log_is_read(rt: HostRuntime) -> Result<(), Fail> {
-    each_goes(rt.alloc(), &[New(16), Says(ONE_COMMIT)], CHANGED)?;
+    each_goes(rt.alloc(), COMMITTED, CHANGED)?;
+    each_goes_in(rt.alloc(), 1, COMMITTED, &[NO_HEADER])?;
+    each_goes_in(rt.alloc(), 2, COMMITTED, &[GATE_APART])?;
+    each_goes_in(rt.alloc(), 3, COMMITTED, &[GATE_APART])?;
     go(rt.alloc(), &[Dumps("refused: not a store\n", 1)])
 }

@@ -1,6 +1,7 @@
 //! Floors of single relations: what each bars, what an archive and a reclaim then keep, and what a log
 //! with them is as bytes and as text.
-use crate::steps::{Step, each_goes};
+use crate::dialogue::NEWEST_PROFILE;
+use crate::steps::{Step, each_goes_in};
 use disk::Area;
 use std::test::Fail;
 
@@ -170,11 +171,12 @@ reopen | last 115 floor 115
 
 #[test]
 fn floors_of_relations_stand_alone(rt: HostRuntime) -> Result<(), Fail> {
-    each_goes(rt.alloc(), &BY_RELATION, &[&BARRED, &KEPT, &TOLD, &REFUSED])
+    let all: [&[Step]; 4] = [&BARRED, &KEPT, &TOLD, &REFUSED];
+    each_goes_in(rt.alloc(), NEWEST_PROFILE, &BY_RELATION, &all)
 }
 
 #[test]
 fn a_store_with_one_floor_has_none_of_a_relation(rt: HostRuntime) -> Result<(), Fail> {
-    each_goes(rt.alloc(), &[Step::Older(16, 1)], &[&ONE_FLOOR])?;
-    each_goes(rt.alloc(), &[Step::Older(16, 2)], &[&ONE_FLOOR])
+    each_goes_in(rt.alloc(), 1, &[Step::New(16)], &[&ONE_FLOOR])?;
+    each_goes_in(rt.alloc(), 2, &[Step::New(16)], &[&ONE_FLOOR])
 }

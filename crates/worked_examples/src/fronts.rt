@@ -1,7 +1,7 @@
 //! A script of commits and an archive, stopped before, within and after each call of the disk: what is
 //! opened again is what the lines `done` say, or that with the whole group whose gate was begun.
 use crate::bytes::stopped;
-use crate::dialogue::{SCRIPT, is_status, new_store, told};
+use crate::dialogue::{PROFILES, SCRIPT, is_status, store_of_profile, told};
 use crate::steps::Step::{New, Says};
 use crate::steps::{Step, go, goes_on};
 use crate::trials::{TORN, Trial, is_count, left_goes_on, tried};
@@ -244,9 +244,10 @@ fn commands(alloc: Global, lines: usize) -> Result<String, AllocError> {
 }
 
 /// Stops at each call in turn. A stop is met by each step once, and before them by the opening.
-fn stops_within_each_call(alloc: Global, write_reaches: bool) -> Result<(), Fail> {
+fn stops_within_each_call(alloc: Global, write_reaches: bool, profile: u8) -> Result<(), Fail> {
     let script = commands(alloc, usize::MAX)?;
     let trial = Trial {
+        profile,
         before: &[New(16)],
         action: SCRIPT,
         script: script.as_str(),
@@ -271,12 +272,18 @@ const WHOLE: &[Step] = &[New(16), Says(LINES)];
 #[test]
 fn a_stop_within_a_call_leaves_what_is_done_or_one_more_group(rt: HostRuntime) -> Result<(), Fail> {
     go(rt.alloc(), WHOLE)?;
-    stops_within_each_call(rt.alloc(), false)
+    for profile in PROFILES {
+        stops_within_each_call(rt.alloc(), false, profile)?;
+    }
+    Ok(())
 }
 
 #[test]
 fn a_stop_after_a_call_leaves_what_is_done_or_one_more_group(rt: HostRuntime) -> Result<(), Fail> {
-    stops_within_each_call(rt.alloc(), true)
+    for profile in PROFILES {
+        stops_within_each_call(rt.alloc(), true, profile)?;
+    }
+    Ok(())
 }
 
 /// The disk and what the machine may leave of it must have the groups that are published, or one
@@ -290,18 +297,27 @@ fn opens_each_between(alloc: Global, said: &str, disk: MemDisk) -> Result<(), Fa
     Ok(())
 }
 
-/// Stops behind a line of the script.
-fn stops_behind_line(alloc: Global, lines: usize) -> Result<(), Fail> {
+/// Stops behind a line of the script, on a store of this profile.
+fn stops_behind_line(alloc: Global, lines: usize, profile: u8) -> Result<(), Fail> {
     let script = commands(alloc, lines)?;
-    let (said, status, disk) = told(alloc, SCRIPT, new_store(alloc, 16)?, script.as_str())?;
+    let store = store_of_profile(alloc, 16, profile)?;
+    let (said, status, disk) = told(alloc, SCRIPT, store, script.as_str())?;
     is_status(status, 0)?;
     opens_each_between(alloc, said.as_str(), disk)
 }
 
+/// Stops behind each line.
+fn stops_behind_lines(alloc: Global, profile: u8) -> Result<(), Fail> {
+    for lines in 0..LINES.lines().count() {
+        stops_behind_line(alloc, lines, profile)?;
+    }
+    Ok(())
+}
+
 #[test]
 fn a_stop_between_calls_leaves_what_is_done_or_one_more_group(rt: HostRuntime) -> Result<(), Fail> {
-    for lines in 0..LINES.lines().count() {
-        stops_behind_line(rt.alloc(), lines)?;
+    for profile in PROFILES {
+        stops_behind_lines(rt.alloc(), profile)?;
     }
     Ok(())
 }

@@ -1,7 +1,7 @@
 //! Floors: from when on a store answers, what bars one, and what a stop leaves of one.
 use crate::dialogue::{FOUR_COMMITS, SCRIPT, Script, hold_in};
-use crate::steps::Step::{At, Long, Older, Parts, Says, Spells};
-use crate::steps::{Step, each_goes};
+use crate::steps::Step::{At, Long, New, Parts, Says, Spells};
+use crate::steps::{Step, each_goes_in};
 use crate::trials::{Trial, is_count, left_goes_on, tried};
 use disk::{Area, FaultDisk};
 use std::alloc::Global;
@@ -37,8 +37,8 @@ const SLOT: &str = "c7 04 00 00 06000000 7800000000000000 ..z 496";
 
 /// The steps, on a store of each profile that has one floor for all relations.
 fn each_older_goes(alloc: Global, steps: &[Step]) -> Result<(), Fail> {
-    each_goes(alloc, &[Older(16, 1)], &[steps])?;
-    each_goes(alloc, &[Older(16, 2)], &[steps])
+    each_goes_in(alloc, 1, &[New(16)], &[steps])?;
+    each_goes_in(alloc, 2, &[New(16)], &[steps])
 }
 
 /// A floor, and the store opened again behind it.
@@ -359,7 +359,8 @@ fn is_failed(said: &str) -> Result<bool, Fail> {
 /// met once: the store fails and reads on, and the floor is not raised.
 fn refuses_each_call(alloc: Global, write_reaches: bool, profile: u8) -> Result<(), Fail> {
     let trial = Trial {
-        before: &[Older(16, profile), Says(FOUR_COMMITS)],
+        profile,
+        before: &[New(16), Says(FOUR_COMMITS)],
         action: SCRIPT,
         script: ONE_FLOOR,
         write_reaches,

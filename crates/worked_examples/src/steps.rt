@@ -1,8 +1,8 @@
 //! Examples as tables: what is done to a disk in memory, step by step, and what each step must give.
 use crate::bytes::{change, cut, has_extents, is_long, put, spells, stopped};
 use crate::dialogue::{
-    SCRIPT, answers, converses, converses_by_parts, dumps, ends_well, is_refused, new_store, rows,
-    says, store_of_profile,
+    NEWEST_PROFILE, PROFILES, SCRIPT, answers, converses, converses_by_parts, dumps, ends_well,
+    is_refused, rows, says, store_of_profile,
 };
 use disk::{Area, MemDisk};
 use shell::Action;
@@ -14,8 +14,6 @@ use std::test::Fail;
 pub enum Step {
     /// A new store of this many slots takes its place.
     New(u32),
-    /// The same of an older profile.
-    Older(u32, u8),
     /// A script whose lines are answered as the dialogue says.
     Says(&'static str),
     /// The same of a dialogue's parts, as `repeated` has them.
@@ -80,12 +78,11 @@ fn done(alloc: Global, disk: MemDisk, step: &Step) -> Result<MemDisk, Fail> {
     says(alloc, disk, action, input, (lines, status))
 }
 
-/// Takes a step.
-fn taken(alloc: Global, disk: MemDisk, step: &Step) -> Result<MemDisk, Fail> {
+/// Takes a step, where new stores are of this profile.
+fn taken(alloc: Global, profile: u8, disk: MemDisk, step: &Step) -> Result<MemDisk, Fail> {
     let mut disk = disk;
     match *step {
-        Step::New(slots) => new_store(alloc, slots),
-        Step::Older(slots, profile) => store_of_profile(alloc, slots, profile),
+        Step::New(slots) => store_of_profile(alloc, slots, profile),
         Step::Says(dialogue) => converses(alloc, disk, dialogue),
         Step::Parts(parts) => converses_by_parts(alloc, disk, parts),
         Step::Ends(script) => ends_well(alloc, disk, script),
@@ -103,31 +100,59 @@ fn taken(alloc: Global, disk: MemDisk, step: &Step) -> Result<MemDisk, Fail> {
     }
 }
 
-/// Takes the steps, beginning with a disk: the one that they leave.
-pub fn goes_on(alloc: Global, disk: MemDisk, steps: &[Step]) -> Result<MemDisk, Fail> {
+/// Takes the steps, beginning with a disk, where new stores are of this profile: the one that they leave.
+fn goes_on_in(alloc: Global, profile: u8, disk: MemDisk, steps: &[Step]) -> Result<MemDisk, Fail> {
     let mut disk = disk;
     for step in steps {
-        disk = taken(alloc, disk, step)?;
+        disk = taken(alloc, profile, disk, step)?;
     }
     Ok(disk)
 }
 
-/// Takes the steps, beginning with an empty disk: the one that they leave.
-pub fn stands(alloc: Global, steps: &[Step]) -> Result<MemDisk, Fail> {
-    goes_on(alloc, MemDisk::new(alloc), steps)
+/// Takes the steps, beginning with a disk: the one that they leave.
+pub fn goes_on(alloc: Global, disk: MemDisk, steps: &[Step]) -> Result<MemDisk, Fail> {
+    goes_on_in(alloc, NEWEST_PROFILE, disk, steps)
 }
 
-/// Steps that begin with an empty disk.
-pub fn go(alloc: Global, steps: &[Step]) -> Result<(), Fail> {
-    let _disk = stands(alloc, steps)?;
+/// Takes the steps, beginning with an empty disk, where new stores are of this profile: the one that they
+/// leave.
+pub fn stands(alloc: Global, profile: u8, steps: &[Step]) -> Result<MemDisk, Fail> {
+    goes_on_in(alloc, profile, MemDisk::new(alloc), steps)
+}
+
+/// Steps that begin with an empty disk, where new stores are of this profile.
+pub fn goes_in(alloc: Global, profile: u8, steps: &[Step]) -> Result<(), Fail> {
+    let _disk = stands(alloc, profile, steps)?;
     Ok(())
 }
 
-/// Steps, and others that go on behind them, each time from the empty disk.
-pub fn each_goes(alloc: Global, before: &[Step], all: &[&[Step]]) -> Result<(), Fail> {
+/// The same with stores of each profile.
+pub fn go(alloc: Global, steps: &[Step]) -> Result<(), Fail> {
+    for profile in PROFILES {
+        goes_in(alloc, profile, steps)?;
+    }
+    Ok(())
+}
+
+/// Steps, and others that go on behind them, each time from the empty disk, where new stores are of this
+/// profile.
+pub fn each_goes_in(
+    alloc: Global,
+    profile: u8,
+    before: &[Step],
+    all: &[&[Step]],
+) -> Result<(), Fail> {
     for steps in all {
-        let disk = stands(alloc, before)?;
+        let disk = stands(alloc, profile, before)?;
         let _disk = goes_on(alloc, disk, steps)?;
+    }
+    Ok(())
+}
+
+/// The same with stores of each profile.
+pub fn each_goes(alloc: Global, before: &[Step], all: &[&[Step]]) -> Result<(), Fail> {
+    for profile in PROFILES {
+        each_goes_in(alloc, profile, before, all)?;
     }
     Ok(())
 }

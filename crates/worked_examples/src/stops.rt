@@ -1,5 +1,5 @@
 //! Stops of the machine before, within and after each call of the disk.
-use crate::dialogue::SCRIPT;
+use crate::dialogue::{PROFILES, SCRIPT};
 use crate::steps::Step::{At, New, Says, Spells, Stops};
 use crate::steps::{Step, each_goes};
 use crate::trials::{TORN, Trial, is_count, left_goes_on, tried};
@@ -44,8 +44,9 @@ fn asks_each_left(alloc: Global, said: &str, disk: &FaultDisk) -> Result<(), Fai
 }
 
 /// Stops at each call in turn. A stop is met by each of the six calls of the commit once.
-fn stops_at_each_call(alloc: Global, write_reaches: bool) -> Result<(), Fail> {
+fn stops_at_each_call(alloc: Global, write_reaches: bool, profile: u8) -> Result<(), Fail> {
     let trial = Trial {
+        profile,
         before: &[New(16)],
         action: SCRIPT,
         script: ONE_COMMIT,
@@ -66,12 +67,18 @@ fn stops_at_each_call(alloc: Global, write_reaches: bool) -> Result<(), Fail> {
 
 #[test]
 fn a_stop_keeps_all_of_a_commit_or_nothing(rt: HostRuntime) -> Result<(), Fail> {
-    stops_at_each_call(rt.alloc(), false)
+    for profile in PROFILES {
+        stops_at_each_call(rt.alloc(), false, profile)?;
+    }
+    Ok(())
 }
 
 #[test]
 fn a_stop_after_a_write_keeps_all_or_nothing(rt: HostRuntime) -> Result<(), Fail> {
-    stops_at_each_call(rt.alloc(), true)
+    for profile in PROFILES {
+        stops_at_each_call(rt.alloc(), true, profile)?;
+    }
+    Ok(())
 }
 
 /// Three commits under one gate, which is written and not synced.

@@ -1,5 +1,5 @@
 //! Inputs that wait for answers, and inputs and outputs that refuse.
-use crate::dialogue::{KEY, ONE_COMMIT, SCRIPT, answers, new_store};
+use crate::dialogue::{KEY, NEWEST_PROFILE, ONE_COMMIT, SCRIPT, answers, new_store};
 use crate::steps::Step::{New, Says};
 use crate::steps::{Step, stands};
 use disk::MemDisk;
@@ -253,7 +253,7 @@ const STORE: &[Step] = &[New(16), Says(ONE_COMMIT)];
 #[test]
 fn a_command_whose_answer_is_refused_is_status_1(rt: HostRuntime) -> Result<(), Fail> {
     let alloc = rt.alloc();
-    let mut disk = stands(alloc, STORE)?;
+    let mut disk = stands(alloc, NEWEST_PROFILE, STORE)?;
     for (action, text) in SAID {
         for room in 0..=text.len() {
             disk = says_on_screen(&rt, alloc, disk, (action, text), room)?;

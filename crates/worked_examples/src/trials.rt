@@ -9,6 +9,8 @@ use std::test::Fail;
 /// An action of whose calls of the disk one is refused.
 #[derive(Clone, Copy)]
 pub struct Trial<'a> {
+    /// The profile of the stores that are made before.
+    pub profile: u8,
     /// What stands on the disk before.
     pub before: &'a [Step],
     pub action: Action<'a>,
@@ -31,7 +33,7 @@ pub fn tried(
         write_reaches: trial.write_reaches,
         stops: trial.stops,
     };
-    let disk = FaultDisk::new(stands(alloc, trial.before)?, fault);
+    let disk = FaultDisk::new(stands(alloc, trial.profile, trial.before)?, fault);
     told(alloc, trial.action, disk, trial.script)
 }
 

@@ -1,11 +1,12 @@
 //! The command `vacuum`: what it archives and reclaims, and where it stops.
-use crate::dialogue::{FOUR_COMMITS, is_text};
+use crate::dialogue::{FOUR_COMMITS, PROFILES, is_text};
 use crate::dumps::RECLAIMED_LOG;
 use crate::raised_floors::FROM_115;
-use crate::steps::Step::{At, Dumps, New, Older, Parts, Says, Vacuums};
-use crate::steps::{Step, go};
+use crate::steps::Step::{At, Dumps, New, Parts, Says, Vacuums};
+use crate::steps::{Step, go, goes_in};
 use crate::trials::{Trial, is_count, left_goes_on, tried};
 use shell::Action;
+use std::alloc::Global;
 use std::test::Fail;
 
 /// All that stood after the four commits.
@@ -32,7 +33,7 @@ fn what_ended_is_archived_and_its_space_reclaimed(rt: HostRuntime) -> Result<(),
 }
 
 const FLOORED: &[Step] = &[
-    Older(16, 1),
+    New(16),
     Says(FOUR_COMMITS),
     Says("floor 115 | started\nfinish | idle\n"),
     Vacuums("120", "archived 1\nreclaimed 0\n", 0),
@@ -41,7 +42,8 @@ const FLOORED: &[Step] = &[
 
 #[test]
 fn what_ended_by_the_floor_is_not_archived(rt: HostRuntime) -> Result<(), Fail> {
-    go(rt.alloc(), FLOORED)
+    goes_in(rt.alloc(), 1, FLOORED)?;
+    goes_in(rt.alloc(), 2, FLOORED)
 }
 
 /// Three commits of two keys, of which two stand at 105.
@@ -128,16 +130,10 @@ fn what_was_archived_is_said_where_the_reclaim_is_refused(rt: HostRuntime) -> Re
     go(rt.alloc(), FULL)
 }
 
-/// A vacuum of the four commits.
-const VACUUM: Trial<'static> = Trial {
-    before: &[New(16), Says(FOUR_COMMITS)],
-    action: Action::Vacuum {
-        dir: "",
-        time: "120",
-    },
-    script: "",
-    write_reaches: false,
-    stops: false,
+/// A vacuum up to the third commit.
+const VACUUM: Action<'static> = Action::Vacuum {
+    dir: "",
+    time: "120",
 };
 
 /// How many calls were refused of the archive and of the reclaim, and whether none was.
@@ -163,13 +159,20 @@ fn counted(refused: &mut Refused, said: &str) -> Result<(), Fail> {
 
 /// Each call is refused in turn: those of opening and of reading the log, the six of the archive and
 /// the five of the reclaim.
-#[test]
-fn a_vacuum_stops_at_each_refused_call(rt: HostRuntime) -> Result<(), Fail> {
+fn stops_at_each_call(alloc: Global, profile: u8) -> Result<(), Fail> {
+    let vacuum = Trial {
+        profile,
+        before: &[New(16), Says(FOUR_COMMITS)],
+        action: VACUUM,
+        script: "",
+        write_reaches: false,
+        stops: false,
+    };
     let mut refused = Refused::default();
     for calls_before in 0..100 {
-        let (said, _, disk) = tried(rt.alloc(), &VACUUM, calls_before)?;
+        let (said, _, disk) = tried(alloc, &vacuum, calls_before)?;
         counted(&mut refused, said.as_str())?;
-        left_goes_on(rt.alloc(), &disk, (0xC7, 0), &[Says(ROWS)])?;
+        left_goes_on(alloc, &disk, (0xC7, 0), &[Says(ROWS)])?;
         if refused.done {
             break;
         }
@@ -177,4 +180,12 @@ fn a_vacuum_stops_at_each_refused_call(rt: HostRuntime) -> Result<(), Fail> {
     is_count(u32::from(refused.done), 1)?;
     is_count(refused.archives, 6)?;
     is_count(refused.reclaims, 5)
+}
+
+#[test]
+fn a_vacuum_stops_at_each_refused_call(rt: HostRuntime) -> Result<(), Fail> {
+    for profile in PROFILES {
+        stops_at_each_call(rt.alloc(), profile)?;
+    }
+    Ok(())
 }
