@@ -1,10 +1,10 @@
 //! Words of the command line: what they ask for, and the texts of help and usage faults.
 use clap::Error;
+use command_line::{Action, WordsFault, read_words};
 use history::Key;
 use std::alloc::Global;
 use std::process::Abort;
 use std::test::Fail;
-use command_line::{Action, WordsFault, read_words};
 
 fn asked<'a>(alloc: Global, words: &'a [&'a str]) -> Result<Action<'a>, Fail> {
     match read_words(alloc, words) {

@@ -6,8 +6,8 @@ use chains::Frozen;
 use deltas::{Body, pack};
 use extents::{Extents, Usage};
 use group::{
-    CommitHead, CommitOrder, Queued, QueuedParts, TicketState, StoredExtent, Ticket, first_conflict,
-    give_back_all, keep_all, records_of, seal_all, take_extents,
+    CommitHead, CommitOrder, Queued, QueuedParts, StoredExtent, Ticket, TicketState,
+    first_conflict, give_back_all, keep_all, records_of, seal_all, take_extents,
 };
 use std::alloc::Global;
 use std::test::Fail;
