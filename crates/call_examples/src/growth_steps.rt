@@ -49,14 +49,16 @@ fn is_queued(rt: &impl Abort, alloc: Global, store: &mut Store<MemDisk>, now: u6
     }
 }
 
-/// Commits from a time on, each in a slot of its own, till none is left for one more. How many there were.
+/// Commits from a time on, each in a slot of its own, till none is left for one more. How many there were,
+/// 1,000 at most.
 fn fill(rt: &impl Abort, alloc: Global, store: &mut Store<MemDisk>, from: u64) -> u64 {
-    let mut count = 0;
-    while count < 1000 && is_queued(rt, alloc, store, from + count) {
+    for count in 0..1000 {
+        if !is_queued(rt, alloc, store, from.saturating_add(count)) {
+            return count;
+        }
         pump_to(rt, store, Did::Idle);
-        count += 1;
     }
-    count
+    1000
 }
 
 /// The store ends with so many bytes in the status area, and these gates of its first two pieces.
