@@ -231,7 +231,7 @@ pub fn dumps(alloc: Global, disk: MemDisk, text: &str, status: u8) -> Result<Mem
 
 /// The lines of a script, and their answers: each line of a dialogue is a line of the script, a bar
 /// and its answer. Behind a bar alone stands a further line of the answer.
-fn parted(alloc: Global, dialogue: &str) -> Result<(String, String), AllocError> {
+pub fn parted(alloc: Global, dialogue: &str) -> Result<(String, String), AllocError> {
     let mut script = String::new(alloc);
     let mut answers = String::new(alloc);
     for line in dialogue.lines() {

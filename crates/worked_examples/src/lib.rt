@@ -27,6 +27,8 @@ mod fronts;
 #[cfg(test)]
 mod groups;
 #[cfg(test)]
+mod growths;
+#[cfg(test)]
 mod intervals;
 #[cfg(test)]
 mod limits;
