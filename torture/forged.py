@@ -46,7 +46,7 @@ def asked_of(areas: Areas, keys: list[Key]) -> tuple[list[str], Answer, str]:
         return ["reopen"], (1, [f"refused: {why}"]), kind
     lines = files.questions(keys)
     wanted = [
-        f"last {files.newest} floor {files.floor}",
+        files.opened(),
         *(said for line in lines for said in files.answer(line)),
     ]
     outcome = "opens" if files.is_sound() else "opens, a run is damaged"
@@ -203,7 +203,7 @@ def print_table(small: Small) -> None:
             change = f"{area} {place} := {data[:24].hex()}" + " .." * (len(data) > 24)
         try:
             files = Files(small.changed([(area, place, data)]))
-            answer = f"opens, last {files.newest} floor {files.floor}" + (
+            answer = f"opens, {files.opened()}" + (
                 "" if files.is_sound() else ", a run is damaged"
             )
         except image.Refused as why:
