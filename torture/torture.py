@@ -57,7 +57,7 @@ def new_store(program: str, chance: random.Random, folder: str, slots: int) -> M
 
 
 def stops_case(program: str, chance: random.Random, folder: str) -> Counter:
-    small = new_store(program, chance, folder, chance.choice((32, 256)))
+    small = new_store(program, chance, folder, chance.choice((16, 32, 256)))
     play = Play(program, chance)
     play.play(folder, small, 200)
     return play.tried + Counter({f"profile {small.profile}": 1})
