@@ -6,13 +6,13 @@ between.py PROGRAM [--only archive|reclaim|floor|one floor|grow] [--seconds S] [
 
 A record has three versions and a deletion. Before each step of the job a commit is begun, and
 pumped until it is published or meets the job's slot; of a growth each step but the first comes
-behind one step of a commit. Then the log has the slots that KINDS names, counted by hand, and the
-store has as many slots. What a stop may leave is all that was written since the syncs, nothing of it, all
-of it torn or half of the last write, torn to bytes 00, c7 and ff; a stop before a call leaves what
-one after the call before it may leave. Each image is opened and asked at every time, and compared
-with the list of write sets (machine.py) and with a plain reader (image.py). With --seconds it ends
-after so many; the images of the first stop are then spread over all of them. The status is 1 where
-one fails; a script is left that shows it.
+behind one step of a commit. Then the log has the slots that KINDS names, counted by hand. What a
+stop may leave is all that was written since the syncs, nothing of it, all of it torn or half of
+the last write, torn to bytes 00, c7 and ff; a stop before a call leaves what one after the call
+before it may leave. Each image is opened and asked at every time, and compared with the list of
+write sets (machine.py) and with a plain reader (image.py). With --seconds it ends after so many;
+the images of the first stop are then spread over all of them. The status is 1 where one fails; a
+script is left that shows it.
 """
 from __future__ import annotations
 

@@ -122,13 +122,14 @@ def bytes_of(small: Small, kind: str, area: str, places: Iterable[int]) -> Itera
 
 
 def in_log(small: Small, every: int) -> list[int]:
-    """The bytes of the header and the log, and two slots more; of the slots behind it the gates, and
-    of their zeros one of so many. Of a store of an earlier profile those of the header and the
+    """The bytes of the header and the log, and two slots more; of the slots behind it the gates,
+    and of their zeros one of so many. Of a store of an earlier profile those of the header and the
     floors."""
     end = slot(len(small.found) + 2, 0)
     if small.profile == NEWEST:
         behind = range(end, len(small.areas["status"]))
-        return [*range(end), *(it for it in behind if it % image.SLOT == 0 or it % every == every - 1)]
+        some = (it for it in behind if it % image.SLOT == 0 or it % every == every - 1)
+        return [*range(end), *some]
     floors = [slot(at, 0) for at, kind in enumerate(small.kinds) if kind == "floor"]
     return [it for first in (0, *floors) for it in range(first, first + image.SLOT)]
 

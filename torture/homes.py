@@ -225,11 +225,11 @@ class Files:
         keys = sorted({*keys, *(it[0] for it in self.versions)})
         lines = [f"times {label}" for label in sorted({label for _, label in self.named})]
         for relation, record in keys:
-            starts = {machine.floor_of(self.floors, relation), *moments[:: max(1, len(moments) // 4)]}
+            floor = machine.floor_of(self.floors, relation)
             lines += [f"at {relation} {record} {moment}" for moment in moments]
             lines += [
                 f"between {relation} {record} {moment} {self.newest + 1}"
-                for moment in sorted(starts)
+                for moment in sorted({floor, *moments[:: max(1, len(moments) // 4)]})
             ]
         for relation in sorted({key[0] for key in keys}):
             lines += [f"scan {relation} {moment}" for moment in moments]

@@ -22,8 +22,8 @@ GATES = range(16, 271)
 Value = tuple[bytes, ...]
 # of a commit slot the members (label, time, first extent, extents, records); of an archive upto,
 # start, length, records;
-# of a reclaim upto, first extent, extents, records; of a floor its time, and its relation where it is
-# not that of all
+# of a reclaim upto, first extent, extents, records; of a floor its time, and its relation where it
+# is not that of all
 Slot = tuple[str, Any]
 # a record's key, what it says of it, and where the next one begins
 Read = tuple[Key, Any, int]

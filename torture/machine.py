@@ -12,7 +12,7 @@ LATEST = (1 << 63) - 1
 SPARE_FOR_JOBS = 2
 # the slots of a piece, and the most that a store has
 PIECE, SLOTS_MOST = 256, 65536
-# of a store: in the first one it does not grow, in the last one each relation has a floor of its own
+# a store of the first one does not grow; in the last one each relation has a floor of its own
 PROFILES = (1, 2, 3)
 NEWEST = PROFILES[-1]
 
@@ -178,8 +178,8 @@ GROWTH = ("wrote zeros",) * 16 + ("zeros synced", "gate written", "job done")
 
 @dataclass
 class Job:
-    """An archive, a reclaim or a floor, up to a time, or a growth; its last step and how many it has
-    made; and the relation of a floor that is not that of all."""
+    """An archive, a reclaim or a floor, up to a time, or a growth; its last step and how many it
+    has made; and the relation of a floor that is not that of all."""
 
     kind: str
     upto: int
@@ -391,7 +391,7 @@ class Machine:
         if self.job is None:
             return f"{said} with no job"
         if said not in self.job.next_steps():
-            return f"{said} is no step {self.job.made + 1} of this {self.job.kind} after {self.job.step}"
+            return f"{said} is no step of this {self.job.kind} after {self.job.step}"
         if self.job.takes_slot() and said in SLOT_STEPS and is_other_in_slot:
             return "two slots in the writing"
         self.job.makes(said)

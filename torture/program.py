@@ -215,8 +215,8 @@ def differing(found: Answer, wanted: Answer) -> str:
 
 
 def format_store(program: str, folder: str, slots: int, profile: int = NEWEST) -> None:
-    """A new store: the program makes one of the newest profile, and one of an earlier profile differs
-    in one byte of its header."""
+    """A new store: the program makes one of the newest profile, and one of an earlier profile
+    differs in one byte of its header."""
     said = command(program, "format", folder, "--slots", str(slots))
     if said != (0, [f"formatted {slots}"]):
         raise Failure(f"format answers {said}")

@@ -281,7 +281,7 @@ at 1 7 130
 scan 2 130
 """.splitlines()
 
-# two growths with commits, a floor and a reclaim between their steps, and one that is begun and lost
+# growths with commits between their steps, and one that is begun and lost
 GROWTHS = """begin a
 put a 1 7 61
 put a 1 8 -

@@ -198,8 +198,8 @@ def check_left(
     def failure(why: str, lines: list[str], wanted: list[str], words: str = "run DIR") -> Failure:
         return Failure(f"{where}: {why}", Shown(areas, lines, wanted, {}, words))
 
-    profile, newest = image.profile_of(areas["status"]), machine.last(front.order[: front.counts[0]])
-    first = [machine.opened(profile, newest, front.floors[0])]
+    newest = machine.last(front.order[: front.counts[0]])
+    first = [machine.opened(image.profile_of(areas["status"]), newest, front.floors[0])]
     try:
         found = image.read(areas)
     except image.Refused as why:
