@@ -298,7 +298,11 @@ def main() -> int:
     given = words.parse_args()
     use_memory()
     program, until = os.path.abspath(given.program), Until(given.seconds)
-    smalls = {it: small_store(program, it) for it in reversed(PROFILES)}
+    try:
+        smalls = {it: small_store(program, it) for it in reversed(PROFILES)}
+    except Failure as why:
+        report("a store to be forged", why)
+        return 1
     if given.table:
         for small in smalls.values():
             print_table(small)
