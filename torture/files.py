@@ -185,7 +185,7 @@ class Files:
 
     def played(self, chance: random.Random) -> Areas:
         folder = tempfile.mkdtemp(dir=self.folder)
-        small = new_store(self.program, chance, folder, 64)
+        small = new_store(self.program, folder, 64, chance.choice(machine.PROFILES))
         Play(self.program, chance, has_stops=False).play(folder, small, 100)
         return read_areas(folder)
 
@@ -259,7 +259,7 @@ class Files:
         self.read_only_disk()
 
     def full_disk(self, place: str, chance: random.Random) -> None:
-        small = new_store(self.program, chance, place, 64)
+        small = new_store(self.program, place, 64, chance.choice(machine.PROFILES))
         session = Session(self.program, place)
         try:
             small, front = write_on(session, small, chance)

@@ -260,6 +260,10 @@ class Play:
         line = some_line(self.chance, small, BY_STEPS)
         if line not in ("pump", "job"):
             tell(session, small, stops, line)
+            # some zeros at once, so that sessions come to a growth's gate
+            is_new = small.job is not None and small.job.kind == "grow" and not small.job.made
+            for _ in range(self.chance.randrange(17) if is_new and line == "grow" else 0):
+                step(session, small, stops, "job")
             return
         said = step(session, small, stops, line)
         if said not in ("idle", "refused: busy") and self.has_stops:

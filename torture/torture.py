@@ -49,18 +49,16 @@ FAILURES_MOST = 5
 REFUSED = (8, 1, 1, 3, 2, 6, 6, 1, 1)
 
 
-def new_store(program: str, chance: random.Random, folder: str, slots: int) -> Machine:
-    """A new store of one of the profiles, and its machine."""
-    profile = chance.choice(machine.PROFILES)
+def new_store(program: str, folder: str, slots: int, profile: int) -> Machine:
+    """A new store, and its machine."""
     format_store(program, folder, slots, profile)
     return Machine(slots=slots, profile=profile)
 
 
-def stops_case(program: str, chance: random.Random, folder: str) -> Counter:
-    small = new_store(program, chance, folder, chance.choice((16, 32, 256)))
+def stops_case(program: str, chance: random.Random, folder: str, profile: int) -> Counter:
     play = Play(program, chance)
-    play.play(folder, small, 200)
-    return play.tried + Counter({f"profile {small.profile}": 1})
+    play.play(folder, new_store(program, folder, chance.choice((16, 32, 256)), profile), 200)
+    return play.tried
 
 
 # ---- kills
@@ -116,11 +114,10 @@ class Killed:
         )
 
 
-def kills_case(program: str, chance: random.Random, folder: str) -> Counter:
+def kills_case(program: str, chance: random.Random, folder: str, profile: int) -> Counter:
     """The program is killed in a script, and in a command: a front of the commits is left, with
     each that it answered done."""
-    small = new_store(program, chance, folder, 4096)
-    killed = Killed(program, folder, chance, small)
+    killed = Killed(program, folder, chance, new_store(program, folder, 4096, profile))
     timer = threading.Timer(
         seconds_to_begin(program) * (1 + 20 * chance.random()), killed.session.process.kill
     )
@@ -135,7 +132,7 @@ def kills_case(program: str, chance: random.Random, folder: str) -> Counter:
     if left.published:
         word = killed_command(program, chance, folder, left)
         tried += Counter({f"kills in {word}": 1, "images": 1})
-    return tried + Counter({f"profile {small.profile}": 1})
+    return tried
 
 
 def killed_command(program: str, chance: random.Random, folder: str, small: Machine) -> str:
@@ -161,11 +158,10 @@ def killed_command(program: str, chance: random.Random, folder: str, small: Mach
 # ---- a full disk
 
 
-def full_case(program: str, chance: random.Random, folder: str) -> Counter:
+def full_case(program: str, chance: random.Random, folder: str, profile: int) -> Counter:
     """A file may not grow past a limit: the store says failed, goes on reading, and loses nothing
     that it answered done."""
-    small = new_store(program, chance, folder, 64)
-    profile = small.profile
+    small = new_store(program, folder, 64, profile)
     limit = 34000 + chance.randrange(1, 12) * 8192 - chance.choice((0, 0, 1, 8191))
     # with room for a piece of slots or not
     limit += chance.choice((0, 0, 256 * 512))
@@ -188,7 +184,7 @@ def full_case(program: str, chance: random.Random, folder: str) -> Counter:
     left = check_left(program, read_areas(folder), front or small.front(), "after a full disk")
     go_on(program, folder, left)
     filled = "disks with room" if front is None else "disks filled"
-    return Counter({filled: 1, "images": 1, f"profile {profile}": 1})
+    return Counter({filled: 1, "images": 1})
 
 
 def write_on(
@@ -242,10 +238,11 @@ def go_on(program: str, folder: str, small: Machine) -> None:
 # ---- forged files
 
 
-def forged_case(program: str, chance: random.Random, folder: str) -> Counter:
+def forged_case(program: str, chance: random.Random, folder: str, profile: int) -> Counter:
     """Bytes of the files are changed, one is cut, or it is that of another store: the program
     opens them, or says why not, as the plain reader does."""
-    whole, other = played(program, chance, folder), played(program, chance, folder + "/other")
+    whole = played(program, chance, folder, profile)
+    other = played(program, chance, folder + "/other", chance.choice(machine.PROFILES))
     keys = [(relation, record) for relation in (1, 2) for record in (0, 1, 7)]
     found, tried = image.read(whole), Counter()
     for _ in range(60):
@@ -261,13 +258,13 @@ def forged_case(program: str, chance: random.Random, folder: str) -> Counter:
             chance.random() < 0.2,
         )
         tried += Counter({said: 1, "images": 1})
-    return tried + Counter({f"profile {found.profile}": 1})
+    return tried
 
 
-def played(program: str, chance: random.Random, folder: str) -> Areas:
+def played(program: str, chance: random.Random, folder: str, profile: int) -> Areas:
     """The files of a store after some lines."""
     os.makedirs(folder, exist_ok=True)
-    small = new_store(program, chance, folder, chance.choice((16, 64)))
+    small = new_store(program, folder, chance.choice((16, 64)), profile)
     Play(program, chance, has_stops=False).play(folder, small, 200)
     return read_areas(folder)
 
@@ -314,11 +311,11 @@ def drawn(chance: random.Random, case: Case, count: int, opened: Counter) -> Ite
             yield from a_vacuum(chance, case.small)
 
 
-def refused_case(program: str, chance: random.Random, folder: str) -> Counter:
+def refused_case(program: str, chance: random.Random, folder: str, profile: int) -> Counter:
     """Some calls of a random script, each refused in a run of its own."""
     formatted, store = os.path.join(folder, "formatted"), os.path.join(folder, "store")
     os.makedirs(formatted)
-    small = new_store(program, chance, formatted, 256)
+    format_store(program, formatted, 256, profile)
     start, nothing = read_areas(formatted), wrong.Wrong(folder)
     first = Case(program, store, start, nothing)
     opened: Counter = Counter()
@@ -334,7 +331,7 @@ def refused_case(program: str, chance: random.Random, folder: str) -> Counter:
         refused = wrong.Wrong(folder, what, program)
         outcome = Case(program, store, start, refused).play(first.session.lines)
         tried += Counter({f"{kind} {outcome}": 1, "images": 1})
-    return tried + Counter({f"profile {small.profile}": 1})
+    return tried
 
 
 # ---- all of it
@@ -346,10 +343,13 @@ KINDS = {
 
 
 def one_case(program: str, kind: str, seed: int) -> Counter | None:
-    """Runs a case: what it tried, or None where it fails."""
+    """Runs a case, on a store of the profile whose turn it is: what it tried, or None where it
+    fails."""
     folder = tempfile.mkdtemp(prefix=f"torture-{kind}-")
+    profile = machine.PROFILES[-1 - (seed + [*KINDS].index(kind)) % len(machine.PROFILES)]
     try:
-        return KINDS[kind](program, random.Random(f"{kind} {seed}"), folder)
+        chance = random.Random(f"{kind} {seed}")
+        return KINDS[kind](program, chance, folder, profile) + Counter({f"profile {profile}": 1})
     except Failure as why:
         report(f"{kind} of seed {seed}", why)
         return None
