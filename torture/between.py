@@ -2,16 +2,17 @@
 """A job with commits between its steps, stopped before, within and after each device call; what is
 left then reclaims, commits, and is stopped again at each device call of that.
 
-between.py PROGRAM [--only archive|reclaim|floor] [--seconds S] [--jobs N]
+between.py PROGRAM [--only archive|reclaim|floor|one floor|grow] [--seconds S] [--jobs N]
 
 A record has three versions and a deletion. Before each step of the job a commit is begun, and
-pumped until it is published or meets the job's slot; then the log has the slots that KINDS names,
-counted by hand. What a stop may leave is all that was written since the syncs, nothing of it, all
-of it torn or half of the last write, torn to bytes 00, c7 and ff; a stop before a call leaves what
-one after the call before it may leave. Each image is opened and asked at every time, and compared
-with the list of write sets (machine.py) and with a plain reader (image.py). With --seconds it ends
-after so many; the images of the first stop are then spread over all of them. The status is 1 where
-one fails; a script is left that shows it.
+pumped until it is published or meets the job's slot; of a growth each step but the first comes
+behind one step of a commit. Then the log has the slots that KINDS names, counted by hand. What a
+stop may leave is all that was written since the syncs, nothing of it, all of it torn or half of
+the last write, torn to bytes 00, c7 and ff; a stop before a call leaves what one after the call
+before it may leave. Each image is opened and asked at every time, and compared with the list of
+write sets (machine.py) and with a plain reader (image.py). With --seconds it ends after so many;
+the images of the first stop are then spread over all of them. The status is 1 where one fails; a
+script is left that shows it.
 """
 from __future__ import annotations
 
@@ -26,7 +27,7 @@ from dataclasses import dataclass
 
 import image
 from image import Slot
-from machine import Front, Machine
+from machine import NEWEST, PIECE, Front, Machine
 from program import (
     FAILURES_MOST, Areas, Failure, Until, format_store, read_areas, report, spread, use_memory,
     words_of, write_areas
@@ -58,13 +59,16 @@ FIRST_SLOTS = [commits(it) for it in ((1, 100, 1), (2, 110, 2), (3, 120, 3), (4,
 @dataclass(frozen=True)
 class Kind:
     """A job: what stands before it, its start, the device calls of it and the commits between, the
-    slots behind the first four, and the job that comes next."""
+    slots behind the first four, and the job that comes next; the store's profile, and how many
+    slots it has then."""
 
     before: list[str]
     start: str
     calls: int
     slots: list[Slot]
     then: str
+    profile: int = NEWEST
+    all_slots: int = SLOTS
 
 
 # three commits are published beside an archive or a reclaim; the fourth waits for the job's slot,
@@ -86,17 +90,33 @@ KINDS = {
             commits((13, 133, 8)), ("reclaimed", (110, 5, 1, 1)), commits((14, 134, 9)),
             commits((15, 135, 10), (16, 136, 11)),
         ],
-        "floor 120",
+        "floorof 1 120",
     ),
     "floor": Kind(
+        [], "floorof 1 115", 23,
+        [
+            commits((11, 131, 5)), ("floor", (115, 1)), commits((12, 132, 6)),
+            commits((13, 133, 7), (14, 134, 8)),
+        ],
+        "archive 120",
+    ),
+    # the same of all relations, in a store of an earlier profile
+    "one floor": Kind(
         [], "floor 115", 23,
         [
             commits((11, 131, 5)), ("floor", (115,)), commits((12, 132, 6)),
             commits((13, 133, 7), (14, 134, 8)),
         ],
-        "archive 120",
+        "archive 120", profile=1,
+    ),
+    # three commits beside 19 calls, and the third one's gate just before the piece's
+    "grow": Kind(
+        [], "grow", 37, [commits((11, 131, 5)), commits((12, 132, 6)), commits((13, 133, 7))],
+        "grow", all_slots=SLOTS + PIECE,
     ),
 }
+# of the zeros that a second growth writes, at which ones it is stopped
+ZEROS_STOPPED = (1, 8, 16)
 
 
 @dataclass(frozen=True)
@@ -109,7 +129,9 @@ class Left:
 
     def key(self) -> bytes:
         text = hashlib.sha256(
-            repr((self.front.counts, self.front.floors, len(self.front.order))).encode()
+            repr(
+                (self.front.counts, self.front.floors, self.front.slots, len(self.front.order))
+            ).encode()
         )
         for area, data in self.areas.items():
             text.update(f"{area} {len(data)} ".encode() + data)
@@ -145,16 +167,22 @@ class Walk:
             calls = self.calls
             yield from self.step(line)
 
-    def commit(self, number: int, *records: str) -> Iterator[Left]:
+    def begin_commit(self, number: int, *records: str) -> None:
         self.tell(
             f"begin t{number}", *(f"put t{number} {it}" for it in records),
             f"submit t{number} {10 + number} 0",
         )
+
+    def commit(self, number: int, *records: str) -> Iterator[Left]:
+        self.begin_commit(number, *records)
         yield from self.steps("pump")
 
     def job_between_commits(self, start: str) -> Iterator[Left]:
         yield from lefts("before the first call", self.stops, self.small)
         self.tell(start)
+        if start == "grow":
+            yield from self.growth_between_steps()
+            return
         number = 0
         while self.small.job:
             number += 1
@@ -162,11 +190,25 @@ class Walk:
             yield from self.step("job")
         yield from self.steps("pump")
 
+    def growth_between_steps(self) -> Iterator[Left]:
+        """Behind its first step one of a group and one of the growth in turns."""
+        number = 0
+        yield from self.step("job")
+        while self.small.job:
+            if not self.small.queue:
+                number += 1
+                self.begin_commit(number, f"1 {100 + number} 65")
+            yield from self.step("pump")
+            yield from self.step("job")
+
     def job_and_commits(self, start: str) -> Iterator[Left]:
         """The next job, if there is one to be done, and commits behind it."""
         yield from lefts("opened", self.stops, self.small)
         self.tell(start)
-        yield from self.steps("job")
+        for left in self.steps("job"):
+            job = self.small.job
+            if job is None or job.step != "wrote zeros" or job.made in ZEROS_STOPPED:
+                yield left
         for number, (extents, records) in enumerate(AFTER):
             yield from self.commit_in_least(20 + number, extents, records)
         self.session.end_well()
@@ -231,9 +273,9 @@ class Between:
 
 def first_stops(program: str, kind: Kind) -> list[Left]:
     """What a stop may leave at each call of a job with commits between, each image once."""
-    small = Machine(slots=SLOTS)
+    small = Machine(slots=SLOTS, profile=kind.profile)
     with tempfile.TemporaryDirectory(prefix="between-") as folder:
-        format_store(program, folder, SLOTS)
+        format_store(program, folder, SLOTS, kind.profile)
         before = Walk(program, folder, small)
         before.tell(*VERSIONS, *kind.before)
         before.session.end_well()
@@ -244,9 +286,11 @@ def first_stops(program: str, kind: Kind) -> list[Left]:
             walk.session.end_well()
         finally:
             walk.session.kill()
-        slots = image.read_log(read_areas(folder)["status"]).slots
-    if (walk.calls, slots) != (kind.calls, FIRST_SLOTS + kind.slots):
-        raise Failure(f"{kind.start}: {walk.calls} device calls and the slots {slots}")
+        status = read_areas(folder)["status"]
+        slots, count = image.read_log(status).slots, image.header(status)
+    wanted = (kind.calls, FIRST_SLOTS + kind.slots, kind.all_slots)
+    if (walk.calls, slots, count) != wanted:
+        raise Failure(f"{kind.start}: {walk.calls} device calls and of {count} slots {slots}")
     return list(found.values())
 
 

@@ -1,4 +1,5 @@
-"""A small store, and for each check of opening a change of its bytes that breaks it."""
+"""A small store of each profile, and for each check of opening a change of its bytes that breaks
+it."""
 from __future__ import annotations
 
 import image
@@ -6,8 +7,14 @@ import machine
 from program import AREAS, Areas, Failure, format_store, read_areas, run
 from scripts import LARGE
 
+# of the header; a store that grows has one piece more, in which its log ends
+SLOTS = 16
+# floors that refuse no question of what is archived: of relations that come later or have none, or
+# lower than all commits
+OWN_FLOORS = ((0, 105), (3, 111), (5, 100), (9, 111), (65535, 1))
+LOW_FLOORS = tuple((0, time) for time in range(1, 6))
 # two commits in a slot, a delta, a deletion, two extents of one chain, anchors, two runs, two
-# floors, and two chains of the same bytes
+# floors of a relation, and two chains of the same bytes
 SCRIPT = f"""begin a
 put a 1 7 61 62
 put a 1 8 -
@@ -20,6 +27,7 @@ put c 2 1 64 65 66
 submit b 2 110
 submit c 2 0
 flush
+GROWN
 floor 105
 finish
 begin d
@@ -57,6 +65,25 @@ put i 5 1 -
 submit i 8 160
 flush
 """.splitlines()
+
+
+def script(profile: int) -> list[str]:
+    """The lines for a profile: one that grows does so first, and has some more floors."""
+    floors = OWN_FLOORS if machine.has_own_floors(profile) else LOW_FLOORS
+    grown = ["grow", "finish"]
+    for relation, time in floors:
+        grown += [machine.floor_line(profile, relation, time), "finish"]
+    lines = []
+    for line in SCRIPT:
+        if line == "GROWN":
+            lines += grown if machine.can_grow(profile) else []
+        elif line.startswith("floor "):
+            lines.append(machine.floor_line(profile, 1, int(line.split(" ")[1])))
+        else:
+            lines.append(line)
+    return lines
+
+
 # the commits of the last slots: e, f with g, and h and i, which have the same records
 SINGLE, LARGE_AND_GONE, TWIN, OTHER_TWIN = -4, -3, -2, -1
 
@@ -81,24 +108,40 @@ def heap_at(number: int, place: int) -> int:
 
 
 class Small:
-    """The store of the script, and where its parts lie."""
+    """The store of the script in a profile, and where its parts lie."""
 
-    def __init__(self, program: str, folder: str) -> None:
-        format_store(program, folder, 16)
-        status, said = run(program, folder, SCRIPT)
+    def __init__(self, program: str, folder: str, profile: int) -> None:
+        self.profile, lines = profile, script(profile)
+        format_store(program, folder, SLOTS, profile)
+        status, said = run(program, folder, lines)
         if status or any(it.startswith("refused") for it in said):
             raise Failure(f"the script answers {said}")
         self.areas = read_areas(folder)
-        whole = machine.Machine(slots=16)
-        for line in SCRIPT:
+        whole = machine.Machine(slots=SLOTS, profile=profile)
+        for line in lines:
             whole.answer(line)
         read = image.read(self.areas)
         why = image.why_not(self.areas, read, whole.published)
-        if why or read.log.floor != whole.floor:
-            raise Failure(f"the plain reader finds {why or read.log.floor}")
+        found, wanted = (read.slots, read.log.floors), (whole.slots, whole.floors)
+        if why or found != wanted:
+            raise Failure(f"the plain reader finds {why or found}, and not {wanted}")
         self.keys = sorted({key for it in whole.published for key in it.writes})
-        self.found, self.live = read.log.slots, read.live
+        self.found, self.live, self.slots = read.log.slots, read.live, read.slots
         self.kinds = [kind for kind, _ in self.found]
+
+    def floors_of_first(self) -> list[tuple]:
+        """The bodies of the two floors of the first relation."""
+        own = (1,) if machine.has_own_floors(self.profile) else ()
+        return [(105, *own), (107, *own)]
+
+    def floor_end(self) -> int:
+        """Where the body of a floor slot ends."""
+        return 18 if machine.has_own_floors(self.profile) else 16
+
+    def floor_at(self, number: int, time: int) -> bytes:
+        """An open slot with a floor of the relation that has the first one, behind its gate."""
+        relation = word(1, 2) if machine.has_own_floors(self.profile) else b""
+        return b"\xc7\4\0\0" + word(number, 4) + word(time, 8) + relation
 
     def body(self, kind: str, which: int = -1) -> tuple[int, tuple]:
         number = [at for at, it in enumerate(self.kinds) if it == kind][which]
@@ -114,19 +157,45 @@ class Small:
         return {area: bytes(data) for area, data in areas.items()}
 
 
-def header_checks() -> list[Check]:
+def header_checks(small: Small) -> list[Check]:
+    rest = image.GATES.stop if machine.can_grow(small.profile) else image.GATES.start
     changes: list[tuple[str, int, bytes | None]] = [
         ("an empty file", 0, None), ("a file of 511 bytes", 511, None),
         ("the first word", 0, b"n"), ("the first word's last byte", 7, b"2"),
-        ("the profile", 8, b"\4"), ("15 slots", 12, word(15, 4)),
-        ("65,537 slots", 12, word(65537, 4)), ("more slots than the file has", 12, word(17, 4)),
-        ("a piece that the file has no room for", 16, b"\xc7"),
-        ("a byte of the header's rest", 271, b"\1"), ("the header's last byte", 511, b"\1"),
-        ("a slot cut off", 512 + 16 * 512 - 1, None),
+        ("profile 0", 8, b"\0"), ("profile 4", 8, b"\4"), ("the profile's last byte", 11, b"\1"),
+        ("15 slots", 12, word(15, 4)), ("65,537 slots", 12, word(65537, 4)),
+        ("more slots than the file has", 12, word(SLOTS + 1, 4)),
+        ("a byte of the header's rest", rest, b"\1"),
+        ("an open gate in the header's rest", rest, b"\xc7"),
+        ("the header's last byte", 511, b"\1"), ("a slot cut off", slot(small.slots, -1), None),
     ]
+    others = [it for it in machine.PROFILES if it != small.profile]
     return [
         (f"header: {name}", ("status", place, data), "not a store")
         for name, place, data in changes
+    ] + [(f"header: profile {it}", ("status", 8, bytes([it])), None) for it in others]
+
+
+def piece_checks(small: Small) -> list[Check]:
+    """The gates of pieces: those behind a closed one are ignored; where the first one is closed,
+    the log ends with the header's slots."""
+    gate, last = image.GATES.start, image.GATES.stop - 1
+    refused: list[tuple[str, int, bytes | None]] = [
+        ("a piece that the file has no room for", gate + 1, b"\xc7"),
+        ("all pieces", gate, b"\xc7" * 255), ("a piece cut off", slot(SLOTS, 0), None),
+        ("a slot more than the file has, beside a piece", 12, word(SLOTS + 1, 4) + b"\xc7"),
+    ]
+    opens: list[tuple[str, int, bytes | None]] = [
+        ("the gate closed", gate, b"\0"), ("the gate of another value", gate, b"\xc6"),
+        ("a gate behind a gap", gate + 2, b"\xc7"), ("the last gate behind a gap", last, b"\xc7"),
+        ("the gate closed and the next one open", gate, b"\x37\xc7"),
+        ("closed gates of any value", gate + 1, bytes(range(254)).replace(b"\xc7", b"\xc6")),
+        ("as many slots of the header and no piece", 12, word(small.slots, 4) + b"\0"),
+        ("fewer slots than the file has, and no piece", 12, word(SLOTS + 255, 4) + b"\0"),
+    ]
+    return [
+        (f"pieces: {name}", ("status", place, data), answer)
+        for some, answer in ((refused, "not a store"), (opens, None)) for name, place, data in some
     ]
 
 
@@ -193,8 +262,8 @@ def floor_slot(small: Small) -> list[SlotChange]:
         ("with a member", 2, b"\1"), ("with byte 3", 3, b"\1"),
         ("of another number", 4, word(number + 1, 4)), ("at 0", 8, word(0, 8)),
         ("at 2^63", 8, word(1 << 63, 8)), ("not later", 8, word(105, 8)),
-        ("past the last commit", 8, word(131, 8)), ("with a byte behind it", 16, b"\1"),
-        ("with a last byte", 511, b"\1"),
+        ("past the last commit", 8, word(131, 8)),
+        ("with a byte behind it", small.floor_end(), b"\1"), ("with a last byte", 511, b"\1"),
     ]
     return [(number, f"a floor {name}", place, data) for name, place, data in changes]
 
@@ -206,8 +275,7 @@ def slot_checks(small: Small) -> list[Check]:
         *commit_slots(), *archived_slot(small), *reclaimed_slots(small), *floor_slot(small),
         (last + 1, "the gate behind the log opened", 0, b"\xc7"),
         (
-            last + 1, "a floor of another slot behind the log", 0,
-            b"\xc7\4\0\0" + word(last, 4) + word(120, 8),
+            last + 1, "a floor of another slot behind the log", 0, small.floor_at(last, 120),
         ),
     ]
     rows: list[Check] = [
@@ -228,22 +296,24 @@ def slot_checks(small: Small) -> list[Check]:
 def floor_changes(small: Small) -> list[Check]:
     """Floors that keep the log's rules: what is refused by them, and a run with what ended by a
     floor before it."""
-    first, second, behind = small.body("floor", 0)[0], small.body("floor")[0], len(small.found)
+    behind = len(small.found)
+    first, second = (
+        number for number, (kind, body) in enumerate(small.found)
+        if kind == "floor" and body in small.floors_of_first()
+    )
     between = small.areas["status"][slot(first, 16): slot(second, 8)]
     changes = [
-        (
-            "a floor behind the log", slot(behind, 0),
-            b"\xc7\4\0\0" + word(behind, 4) + word(120, 8),
-        ),
+        ("a floor behind the log", slot(behind, 0), small.floor_at(behind, 120)),
         (
             "a floor at the last commit behind the log", slot(behind, 0),
-            b"\xc7\4\0\0" + word(behind, 4) + word(160, 8),
+            small.floor_at(behind, 160),
         ),
         ("a later floor", slot(second, 8), word(130, 8)),
         (
             "a floor later than a run's versions", slot(first, 8),
             word(110, 8) + between + word(111, 8),
         ),
+        *(own_floors(first, second) if machine.has_own_floors(small.profile) else []),
     ]
     rows: list[Check] = [
         (f"floors: {name}", ("status", place, data), None) for name, place, data in changes
@@ -253,6 +323,17 @@ def floor_changes(small: Small) -> list[Check]:
             "floors: a version in a run that ended by the floor before it",
             ("archive", TO_OF_RECORD, word(105, 8)), None,
         )
+    ]
+
+
+def own_floors(first: int, second: int) -> list[tuple[str, int, bytes]]:
+    """Floors that are those of other relations."""
+    return [
+        ("the first floor is another relation's", slot(first, 16), word(2, 2)),
+        ("the second floor is another relation's", slot(second, 16), word(2, 2)),
+        ("a floor of a relation without records", slot(second, 16), word(65534, 2)),
+        ("a floor lower than another relation's", slot(second, 8), word(101, 8) + word(2, 2)),
+        ("a floor as late as the relation's", slot(second, 8), word(111, 8) + word(3, 2)),
     ]
 
 
@@ -395,7 +476,11 @@ def table(small: Small) -> list[Check]:
         ),
         ("the archive cut to nothing", ("archive", 0, None), "damaged archive 0"),
     ]
-    return header_checks() + slot_checks(small) + floor_changes(small) + chain_checks(small) + cuts
+    pieces = piece_checks(small) if machine.can_grow(small.profile) else []
+    return [
+        *header_checks(small), *pieces, *slot_checks(small), *floor_changes(small),
+        *chain_checks(small), *cuts,
+    ]
 
 
 def overlap(a: Change, b: Change) -> bool:

@@ -1,6 +1,6 @@
 #!/usr/bin/env python3
 """Files as a system has them: a full file system, rights that lack, what is no file or no folder,
-files of other stores, a long script.
+files of other stores, growths up to the most slots, a long script.
 
 files.py PROGRAM [--lines N]
 
@@ -28,14 +28,16 @@ from collections.abc import Callable
 from typing import TextIO
 
 import forged
+import image
+import machine
 from machine import Machine
 from program import (
     AREAS, Areas, Failure, Session, command, ended, format_store, read_areas, report, run,
-    use_memory, words_of, write_areas
+    status_of, use_memory, words_of, write_areas
 )
 from scripts import check_left
 from stops import Play
-from torture import write_on
+from torture import new_store, write_on
 
 # what a run may take more than another by chance, in KiB
 SLACK = 256
@@ -45,7 +47,7 @@ NOBODY_ID = 65534
 NOBODY = {"user": NOBODY_ID, "group": NOBODY_ID, "extra_groups": []}
 COMMANDS = {
     "at": "at DIR 1 7 100", "between": "between DIR 1 7 0 101", "vacuum": "vacuum DIR 100",
-    "run": "run DIR", "dump": "dump DIR",
+    "grow": "grow DIR", "run": "run DIR", "dump": "dump DIR",
 }
 # they leave the store as it is
 TEN_LINES = [
@@ -183,9 +185,52 @@ class Files:
 
     def played(self, chance: random.Random) -> Areas:
         folder = tempfile.mkdtemp(dir=self.folder)
-        format_store(self.program, folder, 64)
-        Play(self.program, chance, has_stops=False).play(folder, Machine(slots=64), 100)
+        small = new_store(self.program, folder, 64, chance.choice(machine.PROFILES))
+        Play(self.program, chance, has_stops=False).play(folder, small, 100)
         return read_areas(folder)
+
+    # ---- growths
+
+    def growths(self) -> None:
+        """Growths up to the most slots that a store has: its slots and profile, how often it is
+        tried, and how many pieces it then has."""
+        most, piece = machine.SLOTS_MOST, machine.PIECE
+        for slots, profile, tries, pieces in (
+            (most - piece, 3, 2, 1), (most - piece + 1, 3, 1, 0), (most, 2, 1, 0),
+            (most - 2 * piece, 2, 3, 2), (16, 2, 2, 2), (16, 1, 1, 0),
+        ):
+            folder = tempfile.mkdtemp(dir=self.folder)
+            format_store(self.program, folder, slots, profile)
+            small = Machine(slots=slots, profile=profile)
+            for _ in range(tries):
+                self.grows(folder, small)
+            found = image.pieces(read_areas(folder)["status"])
+            if found != pieces:
+                raise Failure(f"profile {profile}, {slots} slots: grows by {found}, not {pieces}")
+            shutil.rmtree(folder)
+        self.too_many_pieces()
+
+    def grows(self, folder: str, small: Machine) -> None:
+        wanted = small.growth()
+        said = command(self.program, "grow", folder)
+        if said != (status_of(wanted), wanted):
+            raise Failure(f"grow answers {said}, and not {wanted}")
+        check_left(self.program, read_areas(folder), small.front(), f"after grow answered {wanted}")
+        self.tried["growths"] += 1
+
+    def too_many_pieces(self) -> None:
+        """A piece more than a store may have, in a file that has room for it."""
+        areas = read_areas(self.store())
+        status = bytearray(areas["status"].ljust(512 + 512 * (machine.SLOTS_MOST + 256), b"\0"))
+        status[12:16] = machine.SLOTS_MOST.to_bytes(4, "little")
+        for gate, wanted in ((0xC7, "not a store"), (0xC6, "opens")):
+            status[image.GATES.start] = gate
+            said = forged.check(
+                self.program, {**areas, "status": bytes(status)}, "too many pieces", [(1, 7)], True
+            )
+            if said != wanted:
+                raise Failure(f"a store of the most slots and a gate {gate} {said}, not {wanted}")
+            self.tried["growths"] += 1
 
     # ---- file systems
 
@@ -203,7 +248,7 @@ class Files:
         and it goes on."""
         for seed in seeds:
             chance = random.Random(f"full disk {seed}")
-            place = self.mounted(f"size={4 * chance.randrange(11, 40)}k")
+            place = self.mounted(f"size={4 * chance.randrange(11, 80)}k")
             if place is None:
                 print("no rights to mount: a full file system and a read-only one are left out")
                 return
@@ -214,8 +259,8 @@ class Files:
         self.read_only_disk()
 
     def full_disk(self, place: str, chance: random.Random) -> None:
-        format_store(self.program, place, 64)
-        session, small = Session(self.program, place), Machine(slots=64)
+        small = new_store(self.program, place, 64, chance.choice(machine.PROFILES))
+        session = Session(self.program, place)
         try:
             small, front = write_on(session, small, chance)
             if front:
@@ -329,8 +374,8 @@ def main() -> int:
     with tempfile.TemporaryDirectory(prefix="files-") as folder:
         files = Files(os.path.abspath(given.program), folder, given.lines)
         checks = [
-            files.rights, files.kinds, lambda: files.swapped(range(4)),
-            lambda: files.full_disks(range(12)), files.full_format, files.long_script,
+            files.rights, files.kinds, lambda: files.swapped(range(6)), files.growths,
+            lambda: files.full_disks(range(18)), files.full_format, files.long_script,
         ]
         for check in checks:
             try:

@@ -1,6 +1,8 @@
 #!/usr/bin/env python3
 """Files that no store left: each check of opening broken by a byte, and pairs of them; every byte
-of a small store's log, extents and runs set to other values; each file cut at every length.
+of a small store's log, extents and runs set to other values; each file cut at every length. So of
+a store of the newest profile; of one of each other profile the checks, and the bytes of its header
+and of its floors, in which profiles differ.
 
 forged.py PROGRAM [--only KIND] [--seconds S] [--jobs N] [--table]
 
@@ -19,13 +21,13 @@ import os
 import sys
 import tempfile
 from collections import Counter
-from collections.abc import Iterator
+from collections.abc import Iterable, Iterator
 from concurrent.futures import ProcessPoolExecutor
 
 import image
-from checks import Change, Small, heap_at, overlap, table
+from checks import Change, Small, heap_at, overlap, slot, table
 from homes import Files
-from machine import Key
+from machine import NEWEST, PROFILES, Key
 from program import (
     AREAS, FAILURES_MOST, Answer, Areas, Failure, Shown, Until, command, differing, read_areas,
     report, run, spread, use_memory, words_of, write_areas
@@ -46,7 +48,7 @@ def asked_of(areas: Areas, keys: list[Key]) -> tuple[list[str], Answer, str]:
         return ["reopen"], (1, [f"refused: {why}"]), kind
     lines = files.questions(keys)
     wanted = [
-        f"last {files.newest} floor {files.floor}",
+        files.opened(),
         *(said for line in lines for said in files.answer(line)),
     ]
     outcome = "opens" if files.is_sound() else "opens, a run is damaged"
@@ -90,13 +92,13 @@ def check(program: str, areas: Areas, what: str, keys: list[Key], has_dump: bool
 
 # ---- the images
 
-# its kind, what it is, the changes, the answer if the table says it
-Forgery = tuple[str, str, list[Change], "str | None"]
+# the profile of the store, its kind, what it is, the changes, the answer if the table says it
+Forgery = tuple[int, str, str, list[Change], "str | None"]
 
 
 def tabled(small: Small) -> Iterator[Forgery]:
     for name, change, answer in table(small):
-        yield "table", name, [change], answer
+        yield small.profile, "table", name, [change], answer
 
 
 def pairs(small: Small) -> Iterator[Forgery]:
@@ -107,15 +109,29 @@ def pairs(small: Small) -> Iterator[Forgery]:
             if not overlap(change, also):
                 # a cut comes last: what it leaves is changed before
                 both = sorted((change, also), key=lambda it: it[2] is None)
-                yield "pairs", f"{name} and {other}", both, None
+                yield small.profile, "pairs", f"{name} and {other}", both, None
 
 
-def bytes_of(small: Small, kind: str, area: str, places: list[int]) -> Iterator[Forgery]:
+def bytes_of(small: Small, kind: str, area: str, places: Iterable[int]) -> Iterator[Forgery]:
     """Each of these bytes set to each of the values, and to its complement."""
     for place in places:
         now = small.areas[area][place]
         for value in sorted({*VALUES, now ^ 0xFF} - {now}):
-            yield kind, f"{area} {place} := {value:02x}", [(area, place, bytes([value]))], None
+            change = (area, place, bytes([value]))
+            yield small.profile, kind, f"{area} {place} := {value:02x}", [change], None
+
+
+def in_log(small: Small, every: int) -> list[int]:
+    """The bytes of the header and the log, and two slots more; of the slots behind it the gates,
+    and of their zeros one of so many. Of a store of an earlier profile those of the header and the
+    floors."""
+    end = slot(len(small.found) + 2, 0)
+    if small.profile == NEWEST:
+        behind = range(end, len(small.areas["status"]))
+        some = (it for it in behind if it % image.SLOT == 0 or it % every == every - 1)
+        return [*range(end), *some]
+    floors = [slot(at, 0) for at, kind in enumerate(small.kinds) if kind == "floor"]
+    return [it for first in (0, *floors) for it in range(first, first + image.SLOT)]
 
 
 def in_extents(small: Small, every: int) -> list[int]:
@@ -132,24 +148,38 @@ def in_extents(small: Small, every: int) -> list[int]:
     return places
 
 
-def cuts(small: Small) -> Iterator[Forgery]:
+def lengths(small: Small, area: str, every: int) -> list[int]:
+    """Where to cut an area: of the closed slots behind the log one place of so many."""
+    size = len(small.areas[area])
+    end = slot(len(small.found) + 2, 0) if area == "status" else size
+    return [it for it in range(size) if it < end or it % every == every - 1 or it == size - 1]
+
+
+def cuts(small: Small, every: int) -> Iterator[Forgery]:
     for area in AREAS:
-        for length in range(len(small.areas[area])):
-            yield f"cuts of {area}", f"{area} cut to {length}", [(area, length, None)], None
+        for length in lengths(small, area, every):
+            cut = (area, length, None)
+            yield small.profile, f"cuts of {area}", f"{area} cut to {length}", [cut], None
 
 
 KINDS = ("table", "pairs", "log", "extents", "runs", "cuts")
+# of an earlier profile
+EARLIER = ("table", "log")
 
 
 def forgeries(small: Small, kind: str, zeros: int) -> Iterator[Forgery]:
-    status, archive = (list(range(len(small.areas[area]))) for area in ("status", "archive"))
+    if small.profile != NEWEST and kind not in EARLIER:
+        return iter(())
     return {
-        "table": lambda: tabled(small), "pairs": lambda: pairs(small), "cuts": lambda: cuts(small),
-        "log": lambda: bytes_of(small, "bytes of the log", "status", status),
+        "table": lambda: tabled(small), "pairs": lambda: pairs(small),
+        "cuts": lambda: cuts(small, zeros),
+        "log": lambda: bytes_of(small, "bytes of the log", "status", in_log(small, zeros)),
         "extents": lambda: bytes_of(
             small, "bytes of live extents", "heap", in_extents(small, zeros)
         ),
-        "runs": lambda: bytes_of(small, "bytes of runs", "archive", archive),
+        "runs": lambda: bytes_of(
+            small, "bytes of runs", "archive", range(len(small.areas["archive"]))
+        ),
     }[kind]()
 
 
@@ -171,20 +201,21 @@ class Trier:
     """Tries images in a process of its own."""
 
     program: str
-    small: Small
+    smalls: dict[int, Small]
 
     @classmethod
-    def begin(cls, program: str, small: Small) -> None:
+    def begin(cls, program: str, smalls: dict[int, Small]) -> None:
         use_memory()
-        cls.program, cls.small = program, small
+        cls.program, cls.smalls = program, smalls
 
     @classmethod
     def one(cls, forgery: Forgery) -> tuple[str, str, Failure | None]:
-        kind, what, changes, answer = forgery
+        profile, kind, what, changes, answer = forgery
+        small, kind = cls.smalls[profile], f"profile {profile}, {kind}"
         try:
-            areas = cls.small.changed(changes)
+            areas = small.changed(changes)
             said = check(
-                cls.program, areas, what, cls.small.keys,
+                cls.program, areas, f"profile {profile}, {what}", small.keys,
                 all(area == "status" for area, _, _ in changes),
             )
             if answer is not None and why_refused(areas) != answer:
@@ -203,25 +234,32 @@ def print_table(small: Small) -> None:
             change = f"{area} {place} := {data[:24].hex()}" + " .." * (len(data) > 24)
         try:
             files = Files(small.changed([(area, place, data)]))
-            answer = f"opens, last {files.newest} floor {files.floor}" + (
+            answer = f"opens, {files.opened()}" + (
                 "" if files.is_sound() else ", a run is damaged"
             )
         except image.Refused as why:
             answer = str(why)
-        print(f"{name}: {change}: {answer}")
+        print(f"profile {small.profile}, {name}: {change}: {answer}")
+
+
+def all_images(smalls: dict[int, Small], given: argparse.Namespace) -> Iterator[Forgery]:
+    """The tables, and then of each other kind one after the other, each kind spread over itself."""
+    kinds = [given.only] if given.only else KINDS
+    images = {
+        kind: [it for small in smalls.values() for it in forgeries(small, kind, given.zeros)]
+        for kind in kinds
+    }
+    yield from images.pop("table", ())
+    yield from in_turns([it for it in images.values() if it])
 
 
 def try_all(
-    program: str, small: Small, given: argparse.Namespace, until: Until
+    program: str, smalls: dict[int, Small], given: argparse.Namespace, until: Until
 ) -> tuple[Counter, int]:
     tried: Counter = Counter()
-    bad = 0
-    kinds = [given.only] if given.only else KINDS
-    images = [list(forgeries(small, kind, given.zeros)) for kind in kinds]
-    firsts = images.pop(0) if kinds[0] == "table" else []
-    all_of = iter([*firsts, *in_turns(images)])
+    bad, all_of = 0, all_images(smalls, given)
     with ProcessPoolExecutor(
-        given.jobs, initializer=Trier.begin, initargs=(program, small)
+        given.jobs, initializer=Trier.begin, initargs=(program, smalls)
     ) as pool:
         while some := list(itertools.islice(all_of, AT_ONCE * given.jobs)):
             for kind, said, why in pool.map(Trier.one, some, chunksize=AT_ONCE // 4):
@@ -232,6 +270,11 @@ def try_all(
             if until.is_over() or bad >= FAILURES_MOST:
                 break
     return tried, bad
+
+
+def small_store(program: str, profile: int) -> Small:
+    with tempfile.TemporaryDirectory(prefix="forged-store-") as folder:
+        return Small(program, folder, profile)
 
 
 def say(tried: Counter) -> None:
@@ -246,20 +289,25 @@ def main() -> int:
     words = words_of(__doc__)
     words.add_argument("--seconds", type=float, help="for how long (until all is tried)")
     words.add_argument(
-        "--zeros", type=int, default=64, help="of the zeros of an extent one of so many (64)"
+        "--zeros", type=int, default=64,
+        help="of the zeros of an extent and behind the log one of so many (64)",
     )
     words.add_argument("--only", choices=KINDS)
     words.add_argument("--jobs", type=int, default=2, help="images tried at once (2)")
-    words.add_argument("--table", action="store_true", help="print the table of checks")
+    words.add_argument("--table", action="store_true", help="print the tables of checks")
     given = words.parse_args()
     use_memory()
     program, until = os.path.abspath(given.program), Until(given.seconds)
-    with tempfile.TemporaryDirectory(prefix="forged-store-") as folder:
-        small = Small(program, folder)
+    try:
+        smalls = {it: small_store(program, it) for it in reversed(PROFILES)}
+    except Failure as why:
+        report("a store to be forged", why)
+        return 1
     if given.table:
-        print_table(small)
+        for small in smalls.values():
+            print_table(small)
         return 0
-    tried, bad = try_all(program, small, given, until)
+    tried, bad = try_all(program, smalls, given, until)
     say(tried)
     print(f"{until.rate(tried.total(), 'images')}; {bad} failed")
     return 1 if bad else 0

@@ -51,7 +51,7 @@ class Run(image.Run):
         place = self.place(number)
         key = (self.number_at(place, 2), self.number_at(place + 2, 8))
         start, stop = self.number_at(place + 10, 8), self.number_at(place + 18, 8)
-        if not (start < stop and self.above < stop <= self.upto):
+        if not (start < stop and self.above(key[0]) < stop <= self.upto):
             raise self.damaged()
         if last is not None and number == last[0] + 1:
             room = place - last[1]
@@ -118,7 +118,7 @@ class Files:
     def __init__(self, areas: Areas) -> None:
         self.image = image.read(areas)
         log, history = self.image.log, self.image.history
-        self.newest, self.floor = log.newest, log.floor
+        self.newest, self.floors = log.newest, log.floors
         self.archived, self.reclaimed = log.archived, log.reclaimed
         self.named = [(it.time, it.label) for it in history]
         standing = dict(self.image.anchors)
@@ -134,7 +134,7 @@ class Files:
         self.versions.sort(key=lambda it: it[:2])
         self.archive = areas["archive"]
         self.runs = [
-            Run(it.upto, it.start, it.length, it.records, it.above, self.archive)
+            Run(it.upto, it.start, it.length, it.records, it.mark, it.floors, self.archive)
             for it in image.runs(log)
         ]
 
@@ -147,8 +147,15 @@ class Files:
         ]
         return [(key, part) for key, part in parts if part[0] < part[1]]
 
+    def refusal(self, relation: int, first: int, end: int) -> list[str]:
+        return machine.refusal(self.newest, machine.floor_of(self.floors, relation), first, end)
+
+    def opened(self) -> str:
+        """What opening says."""
+        return machine.opened(self.image.profile, self.newest, self.floors)
+
     def at(self, key: Key, time: int) -> list[str]:
-        refused = machine.refusal(self.newest, self.floor, time, time + 1)
+        refused = self.refusal(key[0], time, time + 1)
         if refused:
             return refused
         found = [part[2] for one, part in self.memory(time, time + 1) if one == key]
@@ -159,7 +166,7 @@ class Files:
         return [f"value {found[0]}"] if found else ["none"]
 
     def between(self, key: Key, a: int, b: int) -> list[str]:
-        refused = machine.refusal(self.newest, self.floor, a, b)
+        refused = self.refusal(key[0], a, b)
         if refused:
             return refused
         below = a < self.reclaimed
@@ -171,7 +178,7 @@ class Files:
         return [f"{start} {stop} {fields}" for start, stop, fields in rows] + [f"rows {len(rows)}"]
 
     def scan(self, relation: int, time: int) -> list[str]:
-        refused = machine.refusal(self.newest, self.floor, time, time + 1)
+        refused = self.refusal(relation, time, time + 1)
         if refused:
             return refused
         below = time < self.reclaimed
@@ -213,15 +220,16 @@ class Files:
             for it in (start, start - 1, stop or self.newest)
         ]
         times += [it for run in self.runs for it in (run.upto, run.upto - 1)]
-        times += [self.floor, self.floor - 1]
+        times += [it for floor in self.floors.values() for it in (floor, floor - 1)]
         moments = sorted({0, self.newest, *(it for it in times if 0 <= it <= self.newest)})
         keys = sorted({*keys, *(it[0] for it in self.versions)})
         lines = [f"times {label}" for label in sorted({label for _, label in self.named})]
         for relation, record in keys:
+            floor = machine.floor_of(self.floors, relation)
             lines += [f"at {relation} {record} {moment}" for moment in moments]
             lines += [
                 f"between {relation} {record} {moment} {self.newest + 1}"
-                for moment in sorted({self.floor, *moments[:: max(1, len(moments) // 4)]})
+                for moment in sorted({floor, *moments[:: max(1, len(moments) // 4)]})
             ]
         for relation in sorted({key[0] for key in keys}):
             lines += [f"scan {relation} {moment}" for moment in moments]

@@ -7,17 +7,23 @@ from dataclasses import dataclass, field
 from datetime import datetime, timedelta
 from typing import Any
 
-from machine import LATEST, Commit, Fields, History, Key, all_versions
+from machine import (
+    LATEST, PIECE, PROFILES, SLOTS_MOST, Commit, Fields, Floors, History, Key, all_versions,
+    can_grow, floor_of, has_own_floors
+)
 
 EXTENT = 8192
 BODY = EXTENT - 16
 SLOT = 512
 OPEN = 0xC7
+# where the gates of the pieces stand in the header
+GATES = range(16, 271)
 
 Value = tuple[bytes, ...]
 # of a commit slot the members (label, time, first extent, extents, records); of an archive upto,
 # start, length, records;
-# of a reclaim upto, first extent, extents, records; of a floor its time
+# of a reclaim upto, first extent, extents, records; of a floor its time, and its relation where it
+# is not that of all
 Slot = tuple[str, Any]
 # a record's key, what it says of it, and where the next one begins
 Read = tuple[Key, Any, int]
@@ -38,20 +44,29 @@ def damaged(area: str, place: int) -> Refused:
     return Refused(f"damaged {area} {place}")
 
 
+def profile_of(status: bytes) -> int:
+    return u(status, 8, 4)
+
+
+def gates(status: bytes) -> bytes:
+    """Those of the pieces; a store that does not grow has none."""
+    return status[GATES.start: GATES.stop] if can_grow(profile_of(status)) else b""
+
+
 def pieces(status: bytes) -> int:
-    """The pieces of 256 slots that are open: those before the first closed gate. The first profile
-    has none."""
-    gates = status[16:271] if u(status, 8, 4) > 1 else b""
-    return next((number for number, gate in enumerate(gates) if gate != OPEN), len(gates))
+    """The pieces of slots that are open: those before the first closed gate."""
+    found = gates(status)
+    return next((number for number, gate in enumerate(found) if gate != OPEN), len(found))
 
 
 def header(status: bytes) -> int:
-    """The number of slots. Stores of the third profile are none here."""
-    name, profile, slots = status[:8], u(status, 8, 4), u(status, 12, 4)
-    if len(status) < 512 or name != b"NOOVER01" or profile not in (1, 2) or slots < 16:
+    """The number of slots."""
+    slots, rest = u(status, 12, 4), GATES.start + len(gates(status))
+    is_known = status[:8] == b"NOOVER01" and profile_of(status) in PROFILES
+    if len(status) < slot_at(0) or not is_known or slots < 16 or any(status[rest: slot_at(0)]):
         raise Refused("not a store")
-    every = slots + 256 * pieces(status)
-    if any(status[16 if profile == 1 else 271:512]) or every > 65536 or len(status) < slot_at(every):
+    every = slots + PIECE * pieces(status)
+    if every > SLOTS_MOST or len(status) < slot_at(every):
         raise Refused("not a store")
     return every
 
@@ -114,10 +129,12 @@ KINDS: dict[int, tuple[str, Callable[[bytes], Any]]] = {
 }
 
 
-def form(slot: bytes, number: int) -> Slot | None:
+def form(slot: bytes, number: int, profile: int) -> Slot | None:
     """What a slot says, or None where it breaks its form."""
     kind, reader = KINDS.get(slot[1], ("", None))
     read = reader(slot) if reader else None
+    if read is not None and kind == "floor" and has_own_floors(profile):
+        read = (*read[0], u(slot, 16, 2)), 18
     if read is None or u(slot, 4, 4) != number or slot[3] != 0 or any(slot[read[1]:]):
         return None
     return kind, read[0]
@@ -125,15 +142,20 @@ def form(slot: bytes, number: int) -> Slot | None:
 
 @dataclass
 class Log:
-    """The open slots before the first closed gate; the last commit's time, the marks, the floor,
+    """The open slots before the first closed gate; the last commit's time, the marks, the floors,
     and where the next run begins."""
 
     slots: list[Slot] = field(default_factory=list)
     newest: int = 0
     archived: int = 0
     reclaimed: int = 0
-    floor: int = 0
+    floors: Floors = field(default_factory=dict)
     end: int = 0
+
+    @property
+    def floor(self) -> int:
+        """The floor of all relations."""
+        return self.floors.get(None, 0)
 
     def takes(self, slot: Slot) -> bool:
         """Adds a slot, if it keeps the log's rules."""
@@ -147,8 +169,9 @@ class Log:
             keeps = self.reclaimed < body[0] == self.archived
             self.reclaimed = body[0]
         else:
-            keeps = self.floor < body[0] <= self.newest
-            self.floor = body[0]
+            floor, relation = floor_in(body)
+            keeps = self.floors.get(relation, 0) < floor <= self.newest
+            self.floors[relation] = floor
         self.slots.append(slot)
         return keeps
 
@@ -161,13 +184,18 @@ class Log:
         return ([(0, 0, 0, 0)] + [body for kind, body in self.slots if kind == "reclaimed"])[-1]
 
 
+def floor_in(body: tuple[int, ...]) -> tuple[int, int | None]:
+    """The time of a floor slot, and its relation, None where it is the floor of all."""
+    return body[0], body[1] if len(body) > 1 else None
+
+
 def read_log(status: bytes) -> Log:
     log = Log()
     for number in range(header(status)):
         at = slot_at(number)
         if status[at] != OPEN:
             break
-        slot = form(status[at: at + SLOT], number)
+        slot = form(status[at: at + SLOT], number, profile_of(status))
         if slot is None or not log.takes(slot):
             raise damaged("status", number)
     return log
@@ -176,17 +204,22 @@ def read_log(status: bytes) -> Log:
 def dump(status: bytes) -> list[str]:
     """The text of a log."""
     log, slots = read_log(status), u(status, 12, 4)
-    has_pieces = u(status, 8, 4) > 1
+    has_pieces = can_grow(profile_of(status))
     lines = [f"header {slots} pieces {pieces(status)}" if has_pieces else f"header {slots}"]
     for number, (kind, body) in enumerate(log.slots):
-        lines.append(
-            f"slot {number} {kind}"
-            if kind == "commit"
-            else " ".join([f"slot {number} {kind}", *map(str, body)])
-        )
+        lines.append(f"slot {number} {slot_text(kind, body)}")
         for member in body if kind == "commit" else ():
             lines.append(f"member {' '.join(map(str, member))} {instant(member[1])}")
     return [*lines, f"used {len(log.slots)} of {header(status)}"]
+
+
+def slot_text(kind: str, body: Any) -> str:
+    if kind == "commit":
+        return kind
+    if kind == "floor":
+        floor, relation = floor_in(body)
+        return f"floor {floor}" if relation is None else f"floor {floor} relation {relation}"
+    return " ".join([kind, *map(str, body)])
 
 
 def instant(time: int) -> str:
@@ -325,6 +358,7 @@ class Image:
     """What files stand for: of the commits up to the reclaim mark there are the times and labels
     alone (their writes are None)."""
 
+    profile: int
     slots: int
     log: Log
     history: list[Commit]
@@ -361,7 +395,7 @@ def read(areas: Mapping[str, bytes]) -> Image:
         if run.start + run.length > len(areas["archive"]):
             raise damaged("archive", run.start)
     return Image(
-        header(areas["status"]), log, history,
+        profile_of(areas["status"]), header(areas["status"]), log, history,
         {key: (since, fields_of(value)) for key, (since, value) in olds}, frozenset(taken),
     )
 
@@ -371,24 +405,31 @@ def read(areas: Mapping[str, bytes]) -> Image:
 
 @dataclass(frozen=True)
 class Run:
-    """A run as its slot names it; its versions end later than the marks before the slot, and not
-    later than it goes up to."""
+    """A run as its slot names it, with the archive mark and the floors before the slot: its
+    versions end later than these, and not later than it goes up to."""
 
     upto: int
     start: int
     length: int
     records: int
-    above: int
+    mark: int
+    floors: Floors
+
+    def above(self, relation: int) -> int:
+        """What versions of a relation end later than."""
+        return max(self.mark, floor_of(self.floors, relation))
 
 
 def runs(log: Log) -> list[Run]:
     """The runs that a log names, in its order."""
-    found, above = [], 0
+    found, mark, floors = [], 0, {}
     for kind, body in log.slots:
         if kind == "archived":
-            found.append(Run(*body, above))
-        if kind in ("archived", "floor"):
-            above = max(above, body[0])
+            found.append(Run(*body, mark, dict(floors)))
+            mark = body[0]
+        elif kind == "floor":
+            floor, relation = floor_in(body)
+            floors[relation] = floor
     return found
 
 
@@ -417,7 +458,7 @@ def run_records(archive: bytes, run: Run) -> list[RunRecord] | None:
         if one is None or u(data, index + 8 * number, 8) != at:
             return None
         key, start, stop, value, end = one
-        if not (start < stop and run.above < stop <= run.upto):
+        if not (start < stop and run.above(key[0]) < stop <= run.upto):
             return None
         if found and not follows(found[-1], key, start):
             return None
@@ -437,7 +478,7 @@ def why_not(areas: Mapping[str, bytes], image: Image, history: History) -> str |
         return "other times or labels"
     if any(status[slot_at(number)] == OPEN for number in range(len(log.slots), image.slots)):
         return "an open gate behind the log"
-    if OPEN in status[16 + pieces(status):271]:
+    if OPEN in gates(status)[pieces(status):]:
         return "an open gate behind the pieces"
     for mine, its in zip(image.history, history):
         if its.time > log.reclaimed and mine.writes != its.writes:
@@ -451,7 +492,10 @@ def why_not(areas: Mapping[str, bytes], image: Image, history: History) -> str |
         return f"other anchors at {log.reclaimed}"
     for run in runs(log):
         # what ended by a floor before it, or is in an earlier run, is left out
-        wanted = sorted(it for it in whole if it[2] is not None and run.above < it[2] <= run.upto)
+        wanted = sorted(
+            it for it in whole
+            if it[2] is not None and run.above(it[0][0]) < it[2] <= run.upto
+        )
         if run_records(areas["archive"], run) != wanted:
             return f"other versions in the run at {run.start}"
     return None

@@ -10,11 +10,18 @@ NAMES_MOST = 64
 LATEST = (1 << 63) - 1
 # a submit leaves so many slots for jobs
 SPARE_FOR_JOBS = 2
+# the slots of a piece, and the most that a store has
+PIECE, SLOTS_MOST = 256, 65536
+# a store of the first one does not grow; in the last one each relation has a floor of its own
+PROFILES = (1, 2, 3)
+NEWEST = PROFILES[-1]
 
 # relation, record
 Key = tuple[int, int]
 # the fields as they are written in a script, or None where the record is gone
 Fields = str | None
+# of each relation that has one; the one of all relations is that of None
+Floors = dict[int | None, int]
 Found = TypeVar("Found")
 
 
@@ -108,6 +115,33 @@ def times(history: History, label: int) -> list[str]:
     return [" ".join(["times", *(str(it.time) for it in history if it.label == label)])]
 
 
+# ---- profiles
+
+
+def can_grow(profile: int) -> bool:
+    return profile >= 2
+
+
+def has_own_floors(profile: int) -> bool:
+    """Whether each relation has a floor of its own."""
+    return profile >= 3
+
+
+def floor_of(floors: Floors, relation: int) -> int:
+    return floors.get(relation, floors.get(None, 0))
+
+
+def floor_line(profile: int, relation: int, time: int) -> str:
+    """The line that raises the floor of a relation, or the one floor that there is."""
+    return f"floorof {relation} {time}" if has_own_floors(profile) else f"floor {time}"
+
+
+def opened(profile: int, newest: int, floors: Floors) -> str:
+    """What `reopen` says."""
+    said = f"floors {len(floors)}" if has_own_floors(profile) else f"floor {floor_of(floors, 0)}"
+    return f"last {newest} {said}"
+
+
 # ---- the steps of a group and of a job
 
 SLOT_STEPS = ("body written", "body synced", "gate written")
@@ -138,33 +172,46 @@ NEXT: dict[str, Order] = {
     },
     "floor": slot_after(None, "job done"),
 }
+# each step of a growth, which takes no slot
+GROWTH = ("wrote zeros",) * 16 + ("zeros synced", "gate written", "job done")
 
 
 @dataclass
 class Job:
-    """An archive, a reclaim or a floor, up to a time; its last step; and the relation of a floor that
-    is not that of all."""
+    """An archive, a reclaim or a floor, up to a time, or a growth; its last step and how many it
+    has made; and the relation of a floor that is not that of all."""
 
     kind: str
     upto: int
     step: str | None = None
     relation: int | None = None
+    made: int = 0
+
+    def takes_slot(self) -> bool:
+        return self.kind != "grow"
+
+    def next_steps(self) -> tuple[str, ...]:
+        return NEXT[self.kind][self.step] if self.takes_slot() else (GROWTH[self.made],)
 
     def is_in_slot(self) -> bool:
-        return self.step in SLOT_STEPS
+        return self.takes_slot() and self.step in SLOT_STEPS
 
     def begins_slot(self) -> bool:
-        return NEXT[self.kind][self.step] == ("body written",)
+        return self.takes_slot() and self.next_steps() == ("body written",)
+
+    def makes(self, step: str) -> None:
+        self.step, self.made = step, self.made + 1
 
 
 @dataclass(frozen=True)
 class Front:
-    """What a stop may leave: one of these numbers of an order's first commits, and one of these
-    floors."""
+    """What a stop may leave: one of these numbers of an order's first commits, with floors that are
+    one of these, and one of these numbers of slots."""
 
     order: History
     counts: Sequence[int]
-    floors: Sequence[int]
+    floors: Sequence[Floors]
+    slots: Sequence[int]
 
 
 class Machine:
@@ -172,17 +219,20 @@ class Machine:
     a group and a job are."""
 
     def __init__(
-        self, published: History = (), floor: int = 0, slots: int = 1 << 16, used: int = 0,
-        has_own_floors: bool = False,
+        self, published: History = (), slots: int = SLOTS_MOST, used: int = 0, profile: int = 2,
+        floors: Floors | None = None,
     ) -> None:
         self.published = list(published)
-        # the floor of all relations, or in the newest profile those that relations have of their own
-        self.archived, self.reclaimed, self.floor = 0, 0, floor
-        self.has_own_floors = has_own_floors
-        self.own_floors: dict[int, int] = {}
+        self.archived, self.reclaimed = 0, 0
+        self.profile, self.floors = profile, dict(floors or {})
         # the slots of the store, and those of its log
         self.slots, self.used = slots, used
         self.forget_what_waits()
+
+    @property
+    def floor(self) -> int:
+        """The floor of all relations."""
+        return self.floors.get(None, 0)
 
     def forget_what_waits(self) -> None:
         self.queue: list[Commit] = []
@@ -197,21 +247,33 @@ class Machine:
         return self.published + self.queue[: self.group]
 
     def front(self) -> Front:
-        """What a stop leaves now: what is published, or that with the group or the floor whose
-        gate is in the writing."""
+        """What a stop leaves now: what is published, or that with the group, the floor or the
+        piece whose gate is in the writing."""
         order = self.with_group() if self.turn == "gate written" else list(self.published)
-        job = self.job
-        has_floor = job is not None and (job.kind, job.step) == ("floor", "gate written")
+        is_open = self.job is not None and self.job.step == "gate written"
         return Front(
             order, (len(self.published), len(order)),
-            (self.floor, self.job.upto) if has_floor else (self.floor,),
+            self.floors_with_job() if is_open else (dict(self.floors),),
+            self.slots_with_job() if is_open else (self.slots,),
         )
+
+    def floors_with_job(self) -> tuple[Floors, ...]:
+        """The floors now, and those once the job is done, if it raises one."""
+        now, job = dict(self.floors), self.job
+        is_floor = job is not None and job.kind == "floor"
+        return (now, {**now, job.relation: job.upto}) if is_floor else (now,)
+
+    def slots_with_job(self) -> tuple[int, ...]:
+        """The slots now, and those once the job is done, if it is a growth."""
+        is_growth = self.job is not None and self.job.kind == "grow"
+        return (self.slots, self.slots + PIECE) if is_growth else (self.slots,)
 
     def spare(self) -> int:
         """The slots that no commit, group or job is to have."""
         in_slot = self.turn in SLOT_STEPS
         waiting = len(self.queue) - (self.group if in_slot else 0)
-        return self.slots - self.used - in_slot - (self.job is not None) - waiting
+        has_slot = self.job is not None and self.job.takes_slot()
+        return self.slots - self.used - in_slot - has_slot - waiting
 
     # ---- transactions
 
@@ -328,29 +390,31 @@ class Machine:
             return None if is_due else "busy where no slot is to be begun beside a group's"
         if self.job is None:
             return f"{said} with no job"
-        if said not in NEXT[self.job.kind][self.job.step]:
+        if said not in self.job.next_steps():
             return f"{said} is no step of this {self.job.kind} after {self.job.step}"
-        if said in SLOT_STEPS and is_other_in_slot:
+        if self.job.takes_slot() and said in SLOT_STEPS and is_other_in_slot:
             return "two slots in the writing"
-        self.job.step = said
+        self.job.makes(said)
         if said == "job done":
             self.end_job()
         return None
 
     def end_job(self) -> None:
-        mark = {"archive": "archived", "reclaim": "reclaimed", "floor": "floor"}[self.job.kind]
-        if self.job.relation is None:
-            setattr(self, mark, self.job.upto)
-        else:
-            self.own_floors[self.job.relation] = self.job.upto
-        self.job, self.used = None, self.used + 1
+        if self.job.kind == "archive":
+            self.archived = self.job.upto
+        elif self.job.kind == "reclaim":
+            self.reclaimed = self.job.upto
+        self.floors, self.slots = self.floors_with_job()[-1], self.slots_with_job()[-1]
+        self.job, self.used = None, self.used + self.job.takes_slot()
 
     def floor_of(self, relation: int) -> int:
-        return self.own_floors.get(relation, self.floor)
+        return floor_of(self.floors, relation)
 
     # ---- starts of jobs
 
-    def start(self, kind: str, upto: int, now: int, oldest_needed: int) -> list[str]:
+    def start(
+        self, kind: str, upto: int, now: int, oldest_needed: int, relation: int | None = None
+    ) -> list[str]:
         """Begins a job, unless one runs, it has nothing to do, no commit is as late, a snapshot is
         older, or there is no slot."""
         snapshots = [it.snapshot for it in self.names.values() if isinstance(it, Transaction)]
@@ -364,7 +428,7 @@ class Machine:
             return [f"refused: in use {min(snapshots)}"]
         if self.spare() < 1:
             return ["refused: status full"]
-        self.job = Job(kind, upto)
+        self.job = Job(kind, upto, relation=relation)
         return ["started"]
 
     def archive(self, upto: int) -> list[str]:
@@ -374,17 +438,22 @@ class Machine:
         return self.start("reclaim", self.archived, self.reclaimed, self.archived)
 
     def raise_floor(self, floor: int) -> list[str]:
-        if self.has_own_floors:
+        if has_own_floors(self.profile):
             return ["refused: wrong profile"]
         return self.start("floor", floor, self.floor, floor)
 
     def raise_floor_of(self, relation: int, floor: int) -> list[str]:
-        if not self.has_own_floors:
+        if not has_own_floors(self.profile):
             return ["refused: wrong profile"]
-        said = self.start("floor", floor, self.floor_of(relation), floor)
-        if said == ["started"]:
-            self.job.relation = relation
-        return said
+        return self.start("floor", floor, self.floor_of(relation), floor, relation)
+
+    def grow(self) -> list[str]:
+        if self.job is not None:
+            return ["refused: job busy"]
+        if not can_grow(self.profile) or self.slots + PIECE > SLOTS_MOST:
+            return ["refused: not growable"]
+        self.job = Job("grow", 0)
+        return ["started"]
 
     # ---- whole lines
 
@@ -400,8 +469,9 @@ class Machine:
         return ["idle"]
 
     def finish(self) -> list[str]:
-        """Makes the job to its end, but where a group's slot is in the writing."""
-        if self.job is not None and self.turn in SLOT_STEPS:
+        """Makes the job to its end, but where it is to take a slot and a group's is in the
+        writing."""
+        if self.job is not None and self.job.takes_slot() and self.turn in SLOT_STEPS:
             last_step = {"archive": "run synced", "reclaim": "heap synced", "floor": None}
             self.job.step = last_step[self.job.kind]
             return ["refused: busy"]
@@ -417,8 +487,7 @@ class Machine:
         if self.job is not None and self.job.step == "gate written":
             self.end_job()
         self.forget_what_waits()
-        floors = f"floors {len(self.own_floors)}" if self.has_own_floors else f"floor {self.floor}"
-        return [f"last {last(self.published)} {floors}"]
+        return [opened(self.profile, last(self.published), self.floors)]
 
     def vacuum(self, upto: int) -> list[str]:
         """The command, on a store that no one has open: what it says."""
@@ -437,6 +506,14 @@ class Machine:
         self.finish()
         return [f"archived {gone}", *([f"reclaimed {stand}"] if said == ["started"] else said)]
 
+    def growth(self) -> list[str]:
+        """The command, on a store that no one has open: what it says."""
+        said = self.grow()
+        if said != ["started"]:
+            return said
+        self.finish()
+        return [f"slots {self.slots}"]
+
     def answer(self, line: str) -> list[str] | None:
         """What a line answers; None for a step, whose answer is the store's to say, and is
         followed."""
@@ -454,7 +531,7 @@ class Machine:
             return (self.archive if word == "archive" else self.raise_floor)(int(rest[0]))
         if word == "floorof":
             return self.raise_floor_of(int(rest[0]), int(rest[1]))
-        if word in ("reclaim", "flush", "finish"):
+        if word in ("reclaim", "grow", "flush", "finish"):
             return getattr(self, word)()
         if word == "reopen":
             return self.reopened()

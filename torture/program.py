@@ -18,6 +18,8 @@ from dataclasses import dataclass
 from types import FrameType
 from typing import Any, TypeVar
 
+from machine import NEWEST
+
 # the words of refuse.c that a script of its own needs
 REFUSES = ("REFUSE_CLASS", "REFUSE_AT", "REFUSE_HOW")
 AREAS = ("status", "heap", "archive")
@@ -212,18 +214,18 @@ def differing(found: Answer, wanted: Answer) -> str:
     return f"answers {said} with status {found[0]}, and not {due} with status {wanted[0]}"
 
 
-def format_store(program: str, folder: str, slots: int) -> None:
-    """A new store of the second profile, which has one floor for all relations, as the small machine
-    and the plain reader have: a new store of the newest profile differs in one byte of its header."""
+def format_store(program: str, folder: str, slots: int, profile: int = NEWEST) -> None:
+    """A new store: the program makes one of the newest profile, and one of an earlier profile
+    differs in one byte of its header."""
     said = command(program, "format", folder, "--slots", str(slots))
     if said != (0, [f"formatted {slots}"]):
         raise Failure(f"format answers {said}")
     with open(os.path.join(folder, "status"), "r+b") as status:
         status.seek(8)
-        if status.read(1) != b"\x03":
+        if status.read(4) != NEWEST.to_bytes(4, "little"):
             raise Failure("format does not make the newest profile")
         status.seek(8)
-        status.write(b"\x02")
+        status.write(bytes([profile]))
 
 
 @functools.cache

@@ -25,13 +25,13 @@ import tempfile
 from collections import Counter
 from collections.abc import Callable
 
-from machine import Machine
+from machine import NEWEST, Machine
 from program import (
     FAILURES_MOST, Areas, Failure, Until, format_store, read_areas, report, run, spread,
     use_memory, words_of, write_areas
 )
 from refused_commands import BEFORE, COMMANDS, Command
-from refused_scripts import SCRIPTS, Case
+from refused_scripts import PROFILES, SCRIPTS, Case
 from wrong import NONE, What, Wrong, cases_of, has_compiler, is_first
 
 
@@ -86,14 +86,14 @@ class Refusals:
             return lambda wrong: one.play(wrong, self.wrong)
         if name == IN_MEMORY:
             return lambda wrong: Case(self.program, "", {}, wrong).play(SCRIPTS["example"])
-        start = self.formatted()
+        start = self.formatted(PROFILES.get(name, NEWEST))
         return lambda wrong: Case(self.program, folder, start, wrong).play(SCRIPTS[name])
 
-    def formatted(self) -> Areas:
-        folder = os.path.join(self.folder, "formatted")
+    def formatted(self, profile: int = NEWEST) -> Areas:
+        folder = os.path.join(self.folder, f"formatted {profile}")
         if not os.path.exists(folder):
             os.makedirs(folder)
-            format_store(self.program, folder, 64)
+            format_store(self.program, folder, 64, profile)
         return read_areas(folder)
 
     def stored(self) -> tuple[Areas, Machine]:
@@ -102,7 +102,7 @@ class Refusals:
         if not os.path.exists(folder):
             write_areas(folder, self.formatted())
             run(self.program, folder, BEFORE)
-        small = Machine(slots=64)
+        small = Machine(slots=64, profile=NEWEST)
         for line in BEFORE:
             small.answer(line)
         return read_areas(folder), small

@@ -5,9 +5,10 @@ import copy
 import shutil
 import signal
 from collections.abc import Callable
+from dataclasses import replace
 
 import image
-from machine import Machine
+from machine import PIECE, Machine
 from program import (
     AREAS, Areas, Failure, Shown, ended, read_areas, run, status_of, write_areas
 )
@@ -32,13 +33,15 @@ begin d
 put d 1 7 63
 submit d 4 130
 flush
-floor 105
+floorof 1 105
 finish
 """.splitlines()
 COMMANDS = {
     "at": "at DIR 1 7 105", "between": "between DIR 1 7 105 131", "dump": "dump DIR",
-    "vacuum": "vacuum DIR 120", "format": "format DIR --slots 16",
+    "vacuum": "vacuum DIR 120", "grow": "grow DIR", "format": "format DIR --slots 16",
 }
+# those that are a job of a store that is open
+JOBS = ("vacuum", "grow")
 # an opening syncs each area, and its refusal is not that of a job
 OPENING_SYNCS = len(AREAS)
 
@@ -48,7 +51,7 @@ def refusal_of(name: str, wrong: Wrong) -> str:
     if wrong.kind == "growth":
         return "refused: no memory"
     is_of_a_job = wrong.kind == "write" or wrong.kind == "sync" and wrong.at > OPENING_SYNCS
-    fails = name == "vacuum" and is_of_a_job
+    fails = name in JOBS and is_of_a_job
     return "refused: failed" if fails else "refused: device"
 
 
@@ -66,9 +69,13 @@ class Command:
             return ["formatted 16"]
         if self.name == "dump":
             return image.dump(self.start["status"])
-        if self.name == "vacuum":
-            return copy.deepcopy(self.small).vacuum(120)
+        if self.name in JOBS:
+            return self.done_on(copy.deepcopy(self.small))
         return self.small.answer(self.words.replace("DIR ", "")) or []
+
+    def done_on(self, small: Machine) -> list[str]:
+        """What a command that is a job says of a store."""
+        return small.vacuum(120) if self.name == "vacuum" else small.growth()
 
     def begin(self) -> None:
         shutil.rmtree(self.folder, ignore_errors=True)
@@ -122,7 +129,8 @@ class Command:
         """The same again, on what was left, answers as on a store where that stands."""
         left = self.left(wrong)
         status, said = self.do(nothing)
-        wanted = left.vacuum(120) if left is not None and self.name == "vacuum" else self.usual()
+        has_job = left is not None and self.name in JOBS
+        wanted = self.done_on(left) if has_job else self.usual()
         if self.name == "format" and left is not None:
             wanted = ["refused: occupied"]
         if (status, said) != (status_of(wanted), wanted):
@@ -137,15 +145,14 @@ class Command:
         """The machine of what was left, if that is a store."""
         if self.name == "format":
             try:
-                areas = read_areas(self.folder)
-                # the plain reader has the second profile, whose log without floors is the same
-                areas["status"] = areas["status"].replace(b"NOOVER01\x03", b"NOOVER01\x02", 1)
-                return machine_of(image.read(areas), [])
+                return machine_of(image.read(read_areas(self.folder)), [])
             except (image.Refused, FileNotFoundError):
                 return None
+        front = self.small.front()
+        if self.name == "grow":
+            front = replace(front, slots=(self.small.slots, self.small.slots + PIECE))
         return check_left(
-            self.program, read_areas(self.folder), self.small.front(),
-            f"after {self.words} {wrong}",
+            self.program, read_areas(self.folder), front, f"after {self.words} {wrong}"
         )
 
     def reclaim(self, wrong: Wrong, left: Machine) -> None:

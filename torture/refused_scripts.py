@@ -120,8 +120,96 @@ between 2 1 0 161
 scan 1 119
 """.splitlines()
 
-# floors beside commits, archives and reclaims; each reason why one is not raised
+# floors of two relations beside commits, archives and reclaims; each reason why one is not raised
 FLOORS = """begin a
+put a 1 7 61
+put a 1 8 -
+put a 2 1 7a
+submit a 1 100
+flush
+begin b
+put b 1 7 62
+del b 1 8
+put b 2 1 79
+submit b 2 110
+flush
+floor 105
+floorof 1 111
+begin c
+floorof 1 110
+job
+begin d
+put d 1 7 63
+submit d 3 120
+flush
+floorof 2 109
+job
+archive 110
+job
+put c 1 9 64
+submit c 4 125
+pump
+pump
+job
+flush
+at 1 7 109
+at 1 7 110
+at 2 1 109
+between 1 7 105 126
+between 1 7 110 126
+between 2 1 105 126
+scan 1 100
+scan 1 110
+scan 2 100
+floorof 1 110
+floorof 1 126
+begin e
+begin f
+put f 2 1 65
+submit f 5 130
+flush
+floorof 2 105
+finish
+archive 120
+finish
+floorof 1 126
+floorof 9 126
+abort e
+floorof 1 126
+job
+pump
+finish
+reclaim
+finish
+at 1 8 126
+at 1 7 125
+at 2 1 104
+between 2 1 105 131
+scan 1 126
+reopen
+at 1 7 125
+at 2 1 109
+between 1 7 126 131
+floorof 1 126
+archive 130
+floorof 2 130
+finish
+floorof 2 130
+finish
+floorof 65535 1
+finish
+reclaim
+finish
+reopen
+at 1 7 129
+at 1 7 130
+at 2 1 129
+scan 2 130
+scan 9 1
+""".splitlines()
+
+# the floor of all relations, in a store of an earlier profile
+ONE_FLOOR = """begin a
 put a 1 7 61
 put a 1 8 -
 submit a 1 100
@@ -131,6 +219,7 @@ put b 1 7 62
 del b 1 8
 submit b 2 110
 flush
+floorof 1 105
 floor 111
 begin c
 floor 110
@@ -192,7 +281,69 @@ at 1 7 130
 scan 2 130
 """.splitlines()
 
-SCRIPTS = {"example": EXAMPLE, "wide": WIDE, "floors": FLOORS}
+# growths with commits between their steps, and one that is begun and lost
+GROWTHS = """begin a
+put a 1 7 61
+put a 1 8 -
+submit a 1 100
+flush
+begin b
+put b 1 7 62
+submit b 2 110
+grow
+grow
+archive 100
+job
+job
+pump
+job
+pump
+pump
+job
+flush
+floorof 1 100
+reclaim
+redeem b
+finish
+archive 110
+grow
+finish
+grow
+begin c
+del c 1 8
+submit c 3 120
+pump
+pump
+job
+job
+reopen
+grow
+finish
+job
+reclaim
+finish
+grow
+begin d
+put d 2 1 63
+submit d 4 130
+flush
+finish
+floorof 1 110
+finish
+reopen
+at 1 7 109
+at 1 7 110
+between 1 8 110 131
+scan 2 130
+grow
+job
+""".splitlines()
+
+SCRIPTS = {
+    "example": EXAMPLE, "wide": WIDE, "floors": FLOORS, "one floor": ONE_FLOOR, "growths": GROWTHS
+}
+# the others are tried on a store of the newest one
+PROFILES = {"one floor": 2}
 
 
 class Case:
@@ -203,7 +354,8 @@ class Case:
         self.program, self.wrong, self.folder = program, wrong, folder
         # a store in memory is of the newest profile
         slots = image.header(start["status"]) if folder else SLOTS
-        self.small = Machine(slots=slots, has_own_floors=not folder)
+        profile = image.profile_of(start["status"]) if folder else machine.NEWEST
+        self.small = Machine(slots=slots, profile=profile)
         self.front = self.small.front()
         self.done: list[int] = []
         if folder:
@@ -247,7 +399,8 @@ class Case:
         first, then = before.front(), self.small.front()
         order = max(first.order, then.order, key=len)
         self.front = Front(
-            order, range(len(before.published), len(order) + 1), (*first.floors, *then.floors)
+            order, range(len(before.published), len(order) + 1), (*first.floors, *then.floors),
+            (*first.slots, *then.slots),
         )
 
     def lines(self, script: Iterable[str]) -> str:
@@ -389,7 +542,8 @@ class Case:
         self.small = small = before
         self.publish_groups()
         for line in (
-            "begin zz", "pump", "job", "flush", "finish", "archive 1", "reclaim", "floor 1"
+            "begin zz", "pump", "job", "flush", "finish", "archive 1", "reclaim", "floor 1",
+            "floorof 1 1", "grow",
         ):
             self.session.expect(line, ["refused: failed"], "after failed, ")
         for name, what in list(small.names.items()):
@@ -403,8 +557,7 @@ class Case:
                     "after failed, ",
                 )
                 self.done += [what] * published
-        lines, _ = questions(small.published, small.floor)
-        for line in lines[1:]:
+        for line in questions(small):
             self.session.expect(line, small.answer(line) or [], "after failed, ")
         self.session.end_well()
 
@@ -421,9 +574,10 @@ class Case:
                 f"after failed, the last commit is {said}", said, ["that of a whole group"]
             )
         order = small.published + small.queue[:group]
-        has_floor = small.job is not None and small.job.kind == "floor"
-        floors = (small.floor, small.job.upto) if has_floor else (small.floor,)
-        self.front = Front(order, (len(small.published), len(order)), floors)
+        self.front = Front(
+            order, (len(small.published), len(order)), small.floors_with_job(),
+            small.slots_with_job(),
+        )
 
     def look(self) -> None:
         """The store is opened again: a front of the commits, with each that was done."""

@@ -9,16 +9,16 @@ from collections.abc import Iterable, Sequence
 import image
 import machine
 from machine import Front, History, Key, Machine, Transaction
-from program import Areas, Failure, Shown, differing, run, write_areas
+from program import Areas, Failure, Shown, command, differing, run, write_areas
 
 KINDS = (
     "begin", "put", "del", "get", "submit", "abort", "redeem", "flush", "finish", "pump",
-    "archive", "reclaim", "floor", "job", "ask", "reopen",
+    "archive", "reclaim", "floor", "grow", "job", "ask", "reopen",
 )
 # how often each is drawn: where each step is one of a script's lines, and where a line takes all
 # of them
-BY_STEPS = (8, 12, 4, 1, 10, 1, 5, 2, 1, 40, 4, 4, 2, 40, 2, 0)
-BY_LINES = (6, 10, 3, 1, 8, 1, 5, 8, 8, 1, 4, 4, 3, 1, 8, 1)
+BY_STEPS = (8, 12, 4, 1, 10, 1, 5, 2, 1, 40, 4, 4, 2, 1, 40, 2, 0)
+BY_LINES = (6, 10, 3, 1, 8, 1, 5, 8, 8, 1, 4, 4, 3, 1, 1, 8, 1)
 # and how much less often where it can do nothing now
 IDLE = 0.1
 NAMES = [f"t{it}" for it in range(6)]
@@ -51,7 +51,8 @@ def key_text(key: Key) -> str:
 def some_moment(chance: random.Random, small: Machine) -> int:
     """A time near one of a commit or of the floor, or any up to just behind the last one."""
     newest = machine.last(small.published)
-    near = [small.floor, newest, small.archived, *(it.time for it in small.published[-8:])]
+    near = [newest, small.archived, *small.floors.values()]
+    near += [it.time for it in small.published[-8:]]
     if chance.random() < 0.8:
         return max(0, chance.choice(near) + chance.randrange(-1, 3))
     return chance.randrange(newest + 3)
@@ -79,9 +80,11 @@ def can_do(kind: str, small: Machine) -> bool:
         return bool(small.queue)
     if kind in ("finish", "job"):
         return has_job
+    if kind == "grow":
+        return not has_job and machine.can_grow(small.profile)
     marks = {
         "archive": (small.archived, newest), "reclaim": (small.reclaimed, small.archived),
-        "floor": (small.floor, newest),
+        "floor": (small.floor_of(1), newest),
     }
     return kind not in marks or not has_job and marks[kind][0] < marks[kind][1]
 
@@ -94,6 +97,14 @@ def question(chance: random.Random, small: Machine) -> str:
     if kind == "between":
         return f"between {key_text(key)} {moment} {some_moment(chance, small)}"
     return f"scan {key[0]} {moment}" if kind == "scan" else f"times {chance.randrange(3)}"
+
+
+def some_floor(chance: random.Random, small: Machine, upto: int) -> str:
+    """A line that raises a floor, now and then one of another profile, or of a relation without
+    records."""
+    relation = chance.choice((some_key(chance)[0], some_key(chance)[0], 3))
+    profile = small.profile if chance.random() < 0.95 else chance.choice(machine.PROFILES)
+    return machine.floor_line(profile, relation, upto)
 
 
 def some_line(chance: random.Random, small: Machine, weights: Sequence[int]) -> str:
@@ -117,15 +128,18 @@ def some_line(chance: random.Random, small: Machine, weights: Sequence[int]) -> 
             now = chance.choice((0, 0, newest + chance.randrange(20)))
         return f"submit {name} {chance.randrange(3)} {now}"
     if kind in ("archive", "floor"):
-        return f"{kind} {chance.choice((newest, some_moment(chance, small)))}"
+        upto = chance.choice((newest, some_moment(chance, small)))
+        return f"archive {upto}" if kind == "archive" else some_floor(chance, small, upto)
     return question(chance, small) if kind == "ask" else kind
 
 
 def a_vacuum(chance: random.Random, small: Machine) -> list[str]:
-    """Lines that raise the floor, archive and reclaim, or some of these, no transaction being
+    """Lines that raise a floor, grow, archive and reclaim, or some of these, no transaction being
     open, and ask below the marks."""
     opened = [name for name, it in small.names.items() if isinstance(it, Transaction)]
-    jobs = [f"floor {some_moment(chance, small)}"] if chance.random() < 0.4 else []
+    has_floor, jobs = chance.random() < 0.4, ["grow"] if chance.random() < 0.1 else []
+    if has_floor:
+        jobs.append(some_floor(chance, small, some_moment(chance, small)))
     if chance.random() < 0.9:
         upto = chance.choice((machine.last(small.published), some_moment(chance, small)))
         jobs += [f"archive {upto}", "reclaim"]
@@ -138,27 +152,41 @@ def a_vacuum(chance: random.Random, small: Machine) -> list[str]:
 # ---- what is left of a store
 
 
-def questions(
-    history: History, floor: int = 0, others: Iterable[int] = ()
-) -> tuple[list[str], list[str]]:
-    """Lines that ask for all that a history says from a floor on, and at other moments, with their
-    answers."""
-    keys = sorted({key for it in history for key in it.writes}) or [(1, 1)]
-    newest = machine.last(history)
-    moments = [0, *(it.time + by for it in history for by in (-1, 0, 1))]
+def moments_of(small: Machine, floor: int, others: Iterable[int]) -> list[int]:
+    """When to ask of a relation with this floor: at the moments from it on, some of which are of
+    many, and at others."""
+    moments = [0, *(it.time + by for it in small.published for by in (-1, 0, 1))]
     moments = sorted({it for it in moments if it >= floor})
-    moments = sorted(
-        {0, floor, max(floor - 1, 0), *moments[:: -(-len(moments) // MOMENTS_MOST) or 1], *others}
-    )
-    lines = ["reopen"]
+    some = moments[:: -(-len(moments) // MOMENTS_MOST) or 1]
+    return sorted({0, floor, max(floor - 1, 0), *some, *others})
+
+
+def questions(small: Machine, others: Iterable[int] = ()) -> list[str]:
+    """Lines that ask for all that a history says from its floors on, and at other moments."""
+    keys = sorted({key for it in small.published for key in it.writes}) or [(1, 1)]
+    relations = sorted({key[0] for key in keys} | {*small.floors} - {None})
+    moments = {it: moments_of(small, small.floor_of(it), others) for it in relations}
+    newest, lines = machine.last(small.published), []
     for key in keys:
-        lines += [f"at {key_text(key)} {moment}" for moment in moments]
-        lines += [f"between {key_text(key)} {start} {newest + 1}" for start in sorted({0, floor})]
-    for relation in sorted({key[0] for key in keys}):
-        lines += [f"scan {relation} {moment}" for moment in moments]
-    lines += [f"times {label}" for label in sorted({it.label for it in history})]
-    small = Machine(history, floor)
-    return lines, [said for line in lines for said in small.answer(line) or []]
+        starts = sorted({0, small.floor_of(key[0])})
+        lines += [f"at {key_text(key)} {moment}" for moment in moments[key[0]]]
+        lines += [f"between {key_text(key)} {start} {newest + 1}" for start in starts]
+    for relation in relations:
+        lines += [f"scan {relation} {moment}" for moment in moments[relation]]
+    return lines + [f"times {it}" for it in sorted({it.label for it in small.published})]
+
+
+def why_no_front(found: image.Image, front: Front) -> str | None:
+    """Why what files stand for is not one of a front; None where it is."""
+    said = {
+        "commits": (len(found.history), front.counts), "floors": (found.log.floors, front.floors),
+        "slots": (found.slots, front.slots),
+    }
+    return next(
+        (f"{name} {it} are left, and not one of {some}" for name, (it, some) in said.items()
+         if it not in some),
+        None,
+    )
 
 
 def check_left(
@@ -167,39 +195,40 @@ def check_left(
     """Files that were left open as one of a front, and answer as it does: the machine of what they
     stand for."""
 
-    def failure(why: str, lines: list[str], wanted: list[str]) -> Failure:
-        return Failure(f"{where}: {why}", Shown(areas, lines, wanted, {}))
+    def failure(why: str, lines: list[str], wanted: list[str], words: str = "run DIR") -> Failure:
+        return Failure(f"{where}: {why}", Shown(areas, lines, wanted, {}, words))
 
-    first = [f"last {machine.last(front.order[:front.counts[0]])} floor {front.floors[0]}"]
+    newest = machine.last(front.order[: front.counts[0]])
+    first = [machine.opened(image.profile_of(areas["status"]), newest, front.floors[0])]
     try:
         found = image.read(areas)
     except image.Refused as why:
         raise failure(f"the plain reader is refused: {why}", ["reopen"], first) from None
-    count, floor = len(found.history), found.log.floor
-    if count not in front.counts:
-        raise failure(
-            f"{count} commits are left, and not one of {front.counts}", ["reopen"], first
-        )
-    if floor not in front.floors:
-        raise failure(
-            f"the floor {floor} is left, and not one of {front.floors}", ["reopen"], first
-        )
-    left = front.order[:count]
-    lines, wanted = questions(left, floor, others)
-    why = image.why_not(areas, found, left)
+    why = why_no_front(found, front)
+    if why:
+        raise failure(why, ["reopen"], first)
+    left = machine_of(found, front.order[: len(found.history)])
+    lines = ["reopen", *questions(left, others)]
+    wanted = [said for line in lines for said in left.answer(line) or []]
+    why = image.why_not(areas, found, left.published)
     if why:
         raise failure(f"the plain reader finds {why}", lines, wanted)
     with tempfile.TemporaryDirectory(prefix="torture-") as folder:
         write_areas(folder, areas)
-        status, said = run(program, folder, lines)
-    if (status, said) != (0, wanted):
-        differs = differing((status, said), (0, wanted))
-        raise failure(f"what was left {differs}", lines, wanted)
-    return machine_of(found, left)
+        said, due = run(program, folder, lines), (0, wanted)
+        if said != due:
+            raise failure(f"what was left {differing(said, due)}", lines, wanted)
+        # how many slots there are is told by the log's text alone
+        due = (0, image.dump(areas["status"]))
+        said = command(program, "dump", folder) if len({*front.slots}) > 1 else due
+        if said != due:
+            raise failure(f"dump of what was left {differing(said, due)}", [], due[1], "dump DIR")
+    return left
 
 
 def machine_of(found: image.Image, history: History) -> Machine:
     """A machine that goes on with files."""
-    small = Machine(history, found.log.floor, found.slots, len(found.log.slots))
-    small.archived, small.reclaimed = found.log.archived, found.log.reclaimed
+    log = found.log
+    small = Machine(history, found.slots, len(log.slots), found.profile, log.floors)
+    small.archived, small.reclaimed = log.archived, log.reclaimed
     return small

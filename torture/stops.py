@@ -9,7 +9,7 @@ from collections.abc import Iterable, Iterator
 
 import image
 import machine
-from machine import SLOT_STEPS, Machine
+from machine import SLOT_STEPS, Job, Machine
 from program import (
     AREAS, Areas, Failure, Session, Shown, command, read_areas, status_of, write_areas
 )
@@ -19,13 +19,15 @@ from wrong import Call, Wrong, has_compiler
 # the area that a step syncs; the others write
 SYNCED = {
     "heap synced": "heap", "body synced": "status", "published": "status", "run synced": "archive",
-    "job done": "status",
+    "job done": "status", "zeros synced": "status",
 }
+# what one call of a growth writes
+ZEROS = 8192
 FILLINGS = (0x00, 0xC7, 0xFF)
-# lines between two ends of a session, how often a vacuum stands between, and how often one stands
-# behind a line
+# lines between two ends of a session, how often a vacuum or the command of a growth stands between,
+# and how often a vacuum stands behind a line
 SESSIONS = (20, 60, 200)
-VACUUMS = 0.5
+VACUUMS, GROWTHS = 0.5, 0.1
 OWN_VACUUMS = 0.04
 SECOND_STOPS = 0.02
 DEEPEST = 2
@@ -35,13 +37,25 @@ def step_name(said: str) -> str:
     return "published" if said.startswith("published") else said
 
 
-def call_of(said: str, before: Areas, after: Areas) -> Call | None:
-    """The device call of a step, as the files show it: of the first closed slot all but the gate,
-    or the gate; an extent; behind the last run."""
+def growth_call(growth: Job, status: bytes) -> Call:
+    """The write of a growth as it stands after it: zeros behind the slots, or the gate of the next
+    piece."""
+    if growth.step == "wrote zeros":
+        at = image.slot_at(image.header(status)) + ZEROS * (growth.made - 1)
+        return Call("write", "status", at, at + ZEROS)
+    at = image.GATES[image.pieces(status)]
+    return Call("write", "status", at, at + 1)
+
+
+def call_of(said: str, before: Areas, after: Areas, growth: Job | None = None) -> Call | None:
+    """The device call of a step, as the files show it: of a growth, if it is one's; of the first
+    closed slot all but the gate, or the gate; an extent; behind the last run."""
     log = image.read_log(before["status"])
     slot = image.slot_at(len(log.slots))
     if step_name(said) in SYNCED:
         return Call("sync", SYNCED[step_name(said)])
+    if growth:
+        return growth_call(growth, before["status"])
     if said == "body written":
         return Call("write", "status", slot + 1, slot + image.SLOT)
     if said == "gate written":
@@ -205,6 +219,8 @@ class Play:
             count -= lines
             if self.chance.random() < VACUUMS:
                 self.vacuum(folder, small)
+            if self.chance.random() < GROWTHS:
+                self.command(folder, small.growth(), "grow DIR", small)
 
     def session(self, folder: str, small: Machine, count: int) -> None:
         session = Traced(self.program, folder)
@@ -224,22 +240,30 @@ class Play:
         self.tried["lines"] += len(session.lines)
 
     def vacuum(self, folder: str, small: Machine) -> None:
-        newest, start = machine.last(small.published), read_areas(folder)
+        newest = machine.last(small.published)
         upto = self.chance.choice((newest, self.chance.randrange(newest + 3)))
-        wanted = small.vacuum(upto)
-        status, said = command(self.program, "vacuum", folder, str(upto))
+        self.command(folder, small.vacuum(upto), f"vacuum DIR {upto}", small)
+
+    def command(self, folder: str, wanted: list[str], words: str, small: Machine) -> None:
+        """A command between two sessions, after which the machine stands for the files."""
+        start = read_areas(folder)
+        status, said = command(self.program, *words.replace("DIR", folder).split(" "))
         if (status, said) != (status_of(wanted), wanted):
             raise Failure(
-                f"vacuum {upto}: answered {said} with status {status}, and not {wanted}",
-                Shown(start, [], wanted, {}, f"vacuum DIR {upto}"),
+                f"{words}: answered {said} with status {status}, and not {wanted}",
+                Shown(start, [], wanted, {}, words),
             )
-        self.tried["vacuums"] += 1
-        check_left(self.program, read_areas(folder), small.front(), f"after vacuum {upto}")
+        self.tried[f"commands, {words.split(' ')[0]}"] += 1
+        check_left(self.program, read_areas(folder), small.front(), f"after {words}")
 
     def line(self, session: Traced, small: Machine, stops: Stops) -> None:
         line = some_line(self.chance, small, BY_STEPS)
         if line not in ("pump", "job"):
             tell(session, small, stops, line)
+            # some zeros at once, so that sessions come to a growth's gate
+            is_new = small.job is not None and small.job.kind == "grow" and not small.job.made
+            for _ in range(self.chance.randrange(17) if is_new and line == "grow" else 0):
+                step(session, small, stops, "job")
             return
         said = step(session, small, stops, line)
         if said not in ("idle", "refused: busy") and self.has_stops:
@@ -248,7 +272,7 @@ class Play:
 
     def stop(self, small: Machine, stops: Stops, where: str) -> None:
         """What a stop may leave opens as what is published or, while a gate is in the writing, as
-        that with the whole group or the floor."""
+        that with the whole group, the floor or the piece."""
         areas = stops.left(self.chance)
         again = check_left(self.program, areas, small.front(), where)
         self.tried["images"] += 1
@@ -271,12 +295,12 @@ def areas_of(line: str, small: Machine) -> set[str]:
     synced = ("heap synced", "run synced", *SLOT_STEPS)
     is_barred = small.job is not None and small.job.is_in_slot()
     if line == "finish":
-        is_barred = small.turn in SLOT_STEPS
+        is_barred = small.turn in SLOT_STEPS and small.job is not None and small.job.takes_slot()
     if line == "flush" and small.queue:
         is_done = small.turn in synced and (is_barred or len(small.queue) == small.group)
         return (set() if is_done else {"heap"}) | (set() if is_barred else {"status"})
     if line == "finish" and small.job:
-        data = {"archive": {"archive"}, "reclaim": {"heap"}, "floor": set()}[small.job.kind]
+        data = {"archive": {"archive"}, "reclaim": {"heap"}}.get(small.job.kind, set())
         return (set() if small.job.step in synced else data) | (set() if is_barred else {"status"})
     return set(AREAS) if line == "reopen" else set()
 
@@ -298,8 +322,10 @@ def tell(session: Traced, small: Machine, stops: Stops, line: str) -> None:
 def step(session: Traced, small: Machine, stops: Stops, line: str) -> str:
     """Feeds one `pump` or `job`, which makes one device call, or none where its way is barred or
     at its end."""
+    job = small.job if line == "job" else None
     said = session.step(line, small.pumped if line == "pump" else small.jobbed)
-    shown = call_of(said, stops.now, read_areas(session.folder))
+    growth = job if job and job.kind == "grow" else None
+    shown = call_of(said, stops.now, read_areas(session.folder), growth)
     made = [it for it in session.calls() if it.kind != "read"]
     if session.trace and (len(made) != (shown is not None) or shown and not is_of(made[0], shown)):
         raise session.failure(

@@ -49,11 +49,15 @@ FAILURES_MOST = 5
 REFUSED = (8, 1, 1, 3, 2, 6, 6, 1, 1)
 
 
-def stops_case(program: str, chance: random.Random, folder: str) -> Counter:
-    slots = chance.choice((32, 256))
-    format_store(program, folder, slots)
+def new_store(program: str, folder: str, slots: int, profile: int) -> Machine:
+    """A new store, and its machine."""
+    format_store(program, folder, slots, profile)
+    return Machine(slots=slots, profile=profile)
+
+
+def stops_case(program: str, chance: random.Random, folder: str, profile: int) -> Counter:
     play = Play(program, chance)
-    play.play(folder, Machine(slots=slots), 200)
+    play.play(folder, new_store(program, folder, chance.choice((16, 32, 256)), profile), 200)
     return play.tried
 
 
@@ -63,14 +67,16 @@ def stops_case(program: str, chance: random.Random, folder: str) -> Counter:
 class Killed:
     """A script on a store, until it is killed: what it may have left."""
 
-    def __init__(self, program: str, folder: str, chance: random.Random) -> None:
-        self.session, self.chance = Session(program, folder), chance
+    def __init__(
+        self, program: str, folder: str, chance: random.Random, small: Machine
+    ) -> None:
+        self.session, self.chance, self.small = Session(program, folder), chance, small
         self.order: list[Commit] = []
-        self.done, self.floor, self.next_floor = 0, 0, 0
+        self.done = 0
 
     def lines(self, number: int) -> list[str]:
         """The lines of a commit, whose time is its number; now and then of an archive, a reclaim,
-        a floor."""
+        a floor, a growth."""
         chance, key = self.chance, some_key(self.chance)
         fields = bytes(chance.randrange(256) for _ in range(16)).hex()
         self.order.append(Commit(number, number, {key: fields}))
@@ -82,32 +88,36 @@ class Killed:
             lines += [f"archive {chance.randrange(1, number + 1)}", "finish"]
             lines += ["reclaim", "finish"] if chance.random() < 0.7 else []
         if chance.random() < 0.1:
-            lines += [f"floor {chance.randrange(max(1, number - 20), number + 1)}", "finish"]
+            floor = chance.randrange(max(1, number - 20), number + 1)
+            lines += [machine.floor_line(self.small.profile, some_key(chance)[0], floor), "finish"]
+        if chance.random() < 0.05 and machine.can_grow(self.small.profile):
+            lines += ["grow", "finish"]
         return lines
 
     def feed(self, line: str) -> bool:
-        """Feeds a line; whether it was answered."""
+        """Feeds a line; whether it was answered. The machine is told of the jobs alone."""
         said = self.session.ask(line)
         if said is None:
             return False
         self.done += said[0].startswith("done ")
-        if line.startswith("floor") and said == ["started"]:
-            self.next_floor = int(line.split(" ")[1])
+        if said == ["started"]:
+            self.small.published = self.order
+            self.small.answer(line)
         if line == "finish":
-            self.floor = self.next_floor
+            self.small.answer(line)
         return True
 
     def front(self) -> Front:
         return Front(
-            self.order, range(self.done, len(self.order) + 1), (self.floor, self.next_floor)
+            self.order, range(self.done, len(self.order) + 1), self.small.floors_with_job(),
+            self.small.slots_with_job(),
         )
 
 
-def kills_case(program: str, chance: random.Random, folder: str) -> Counter:
-    """The program is killed in a script or in a vacuum: a front of the commits is left, with each
-    that it answered done."""
-    format_store(program, folder, 4096)
-    killed = Killed(program, folder, chance)
+def kills_case(program: str, chance: random.Random, folder: str, profile: int) -> Counter:
+    """The program is killed in a script, and in a command: a front of the commits is left, with
+    each that it answered done."""
+    killed = Killed(program, folder, chance, new_store(program, folder, 4096, profile))
     timer = threading.Timer(
         seconds_to_begin(program) * (1 + 20 * chance.random()), killed.session.process.kill
     )
@@ -120,59 +130,69 @@ def kills_case(program: str, chance: random.Random, folder: str) -> Counter:
     left = check_left(program, read_areas(folder), killed.front(), "killed")
     tried = Counter({"kills": 1, "images": 1, "commits before them": killed.done})
     if left.published:
-        killed_vacuum(program, chance, folder, left)
-        tried += Counter({"kills in a vacuum": 1, "images": 1})
+        word = killed_command(program, chance, folder, left)
+        tried += Counter({f"kills in {word}": 1, "images": 1})
     return tried
 
 
-def killed_vacuum(program: str, chance: random.Random, folder: str, small: Machine) -> None:
-    newest = machine.last(small.published)
+def killed_command(program: str, chance: random.Random, folder: str, small: Machine) -> str:
+    """A vacuum or a growth is killed; which one."""
+    newest, word = machine.last(small.published), chance.choice(("vacuum", "vacuum", "grow"))
+    words = [str(chance.choice((newest, chance.randrange(1, newest + 1))))]
+    if word == "grow":
+        words = []
+        small.grow()
     process = subprocess.Popen(
-        [program, "vacuum", folder, str(chance.choice((newest, chance.randrange(1, newest + 1))))],
-        stdout=subprocess.DEVNULL,
+        [program, word, folder, *words], stdout=subprocess.DEVNULL,
     )
     time.sleep(seconds_to_begin(program) * (0.5 + 3 * chance.random()))
     process.kill()
     process.wait()
-    check_left(program, read_areas(folder), small.front(), "killed in a vacuum")
+    front = Front(
+        small.published, (len(small.published),), small.floors_with_job(), small.slots_with_job()
+    )
+    check_left(program, read_areas(folder), front, f"killed in {word}")
+    return word
 
 
 # ---- a full disk
 
 
-def full_case(program: str, chance: random.Random, folder: str) -> Counter:
+def full_case(program: str, chance: random.Random, folder: str, profile: int) -> Counter:
     """A file may not grow past a limit: the store says failed, goes on reading, and loses nothing
     that it answered done."""
-    format_store(program, folder, 64)
+    small = new_store(program, folder, 64, profile)
     limit = 34000 + chance.randrange(1, 12) * 8192 - chance.choice((0, 0, 1, 8191))
+    # with room for a piece of slots or not
+    limit += chance.choice((0, 0, 256 * 512))
 
     def limited() -> None:
         signal.signal(signal.SIGXFSZ, signal.SIG_IGN)
         resource.setrlimit(resource.RLIMIT_FSIZE, (limit, limit))
 
-    session, small = Session(program, folder, before=limited), Machine(slots=64)
+    session = Session(program, folder, before=limited)
     try:
         small, front = write_on(session, small, chance)
         if front:
             session.expect("redeem t", ["in doubt"] if small.queue else ["refused: name"])
             session.expect("begin u", ["refused: failed"])
-        for line in questions(small.published, small.floor)[0][1:]:
+        for line in questions(small):
             session.expect(line, small.answer(line) or [], "on a full disk, ")
         session.end_well()
     finally:
         session.kill()
     left = check_left(program, read_areas(folder), front or small.front(), "after a full disk")
     go_on(program, folder, left)
-    return Counter(
-        {"disks filled": front is not None, "disks with room": front is None, "images": 1}
-    )
+    filled = "disks with room" if front is None else "disks filled"
+    return Counter({filled: 1, "images": 1})
 
 
 def write_on(
     session: Session, small: Machine, chance: random.Random
 ) -> tuple[Machine, Front | None]:
-    """Commits, archives, reclaims and floors, until one is refused: what stands, and what may be
-    left then."""
+    """Commits, archives, reclaims, floors and a growth, until one is refused: what stands, and what
+    may be left then."""
+    growth = chance.choice((0, 0, 3, 9, 15))
     for number in range(1, 25):
         key, fields = some_key(chance), some_fields(chance)
         for line in ("begin t", f"put t {key_text(key)} {fields}", f"submit t {number} 0"):
@@ -184,7 +204,10 @@ def write_on(
                 "finish", "reclaim", "finish",
             ]
         if number % 4 == 2:
-            steps += [f"floor {chance.randrange(number + 2)}", "finish"]
+            floor = chance.randrange(number + 2)
+            steps += [machine.floor_line(small.profile, some_key(chance)[0], floor), "finish"]
+        if number == growth:
+            steps += ["grow", "finish"]
         for line in steps:
             before = copy.deepcopy(small)
             wanted = small.answer(line) or []
@@ -192,7 +215,9 @@ def write_on(
             if said == ["refused: failed"]:
                 order = [*before.published, *before.queue]
                 counts = range(len(before.published), len(order) + 1)
-                return before, Front(order, counts, (before.floor, small.floor))
+                return before, Front(
+                    order, counts, before.floors_with_job(), before.slots_with_job()
+                )
             if said != wanted:
                 raise session.failure(f"{line}: answered {said}, and not {wanted}", said, wanted)
     return small, None
@@ -213,10 +238,11 @@ def go_on(program: str, folder: str, small: Machine) -> None:
 # ---- forged files
 
 
-def forged_case(program: str, chance: random.Random, folder: str) -> Counter:
+def forged_case(program: str, chance: random.Random, folder: str, profile: int) -> Counter:
     """Bytes of the files are changed, one is cut, or it is that of another store: the program
     opens them, or says why not, as the plain reader does."""
-    whole, other = played(program, chance, folder), played(program, chance, folder + "/other")
+    whole = played(program, chance, folder, profile)
+    other = played(program, chance, folder + "/other", chance.choice(machine.PROFILES))
     keys = [(relation, record) for relation in (1, 2) for record in (0, 1, 7)]
     found, tried = image.read(whole), Counter()
     for _ in range(60):
@@ -235,12 +261,11 @@ def forged_case(program: str, chance: random.Random, folder: str) -> Counter:
     return tried
 
 
-def played(program: str, chance: random.Random, folder: str) -> Areas:
+def played(program: str, chance: random.Random, folder: str, profile: int) -> Areas:
     """The files of a store after some lines."""
     os.makedirs(folder, exist_ok=True)
-    slots = chance.choice((16, 64))
-    format_store(program, folder, slots)
-    Play(program, chance, has_stops=False).play(folder, Machine(slots=slots), 200)
+    small = new_store(program, folder, chance.choice((16, 64)), profile)
+    Play(program, chance, has_stops=False).play(folder, small, 200)
     return read_areas(folder)
 
 
@@ -258,6 +283,8 @@ def forge(areas: dict[str, bytearray], found: image.Image, chance: random.Random
         at = image.slot_at(chance.randrange(-1, len(found.log.slots) + 1)) + chance.choice(
             (chance.randrange(40), chance.randrange(image.SLOT))
         )
+        # now and then the gate of a piece
+        at = chance.choice(image.GATES[:4]) if chance.random() < 0.1 else at
     elif area == "heap" and found.live and chance.random() < 0.9:
         at = (chance.choice(sorted(found.live)) - 1) * image.EXTENT + chance.choice(
             (chance.randrange(16), chance.randrange(96), chance.randrange(image.EXTENT))
@@ -284,11 +311,11 @@ def drawn(chance: random.Random, case: Case, count: int, opened: Counter) -> Ite
             yield from a_vacuum(chance, case.small)
 
 
-def refused_case(program: str, chance: random.Random, folder: str) -> Counter:
+def refused_case(program: str, chance: random.Random, folder: str, profile: int) -> Counter:
     """Some calls of a random script, each refused in a run of its own."""
     formatted, store = os.path.join(folder, "formatted"), os.path.join(folder, "store")
     os.makedirs(formatted)
-    format_store(program, formatted, 256)
+    format_store(program, formatted, 256, profile)
     start, nothing = read_areas(formatted), wrong.Wrong(folder)
     first = Case(program, store, start, nothing)
     opened: Counter = Counter()
@@ -316,10 +343,13 @@ KINDS = {
 
 
 def one_case(program: str, kind: str, seed: int) -> Counter | None:
-    """Runs a case: what it tried, or None where it fails."""
+    """Runs a case, on a store of the profile whose turn it is: what it tried, or None where it
+    fails."""
     folder = tempfile.mkdtemp(prefix=f"torture-{kind}-")
+    profile = machine.PROFILES[-1 - (seed + [*KINDS].index(kind)) % len(machine.PROFILES)]
     try:
-        return KINDS[kind](program, random.Random(f"{kind} {seed}"), folder)
+        chance = random.Random(f"{kind} {seed}")
+        return KINDS[kind](program, chance, folder, profile) + Counter({f"profile {profile}": 1})
     except Failure as why:
         report(f"{kind} of seed {seed}", why)
         return None
