@@ -3,7 +3,7 @@ use crate::archived::{RUN, SLOT};
 use crate::dialogue::{FOUR_COMMITS, PROFILES, SCRIPT, Script, hold, is_text};
 use crate::steps::Step::{Ends, Long, New, Parts, Says, Spells};
 use crate::steps::{Step, go};
-use crate::trials::{TORN, Trial, is_count, left_goes_on, tried};
+use crate::trials::{Trial, fillings, is_count, left_goes_on, tried};
 use disk::{Area, FaultDisk};
 use std::alloc::Global;
 use std::test::Fail;
@@ -411,9 +411,9 @@ job
 ";
 
 /// Opens what a stop may leave of a disk, with each filling of what is torn.
-fn each_left_answers_alike(alloc: Global, disk: &FaultDisk) -> Result<(), Fail> {
-    for torn in TORN {
-        left_goes_on(alloc, disk, *torn, ANSWERS_ALIKE)?;
+fn each_left_answers_alike(alloc: Global, disk: &FaultDisk, profile: u8) -> Result<(), Fail> {
+    for torn in fillings(alloc, disk)? {
+        left_goes_on(alloc, disk, *torn, ANSWERS_ALIKE, profile)?;
     }
     Ok(())
 }
@@ -421,7 +421,6 @@ fn each_left_answers_alike(alloc: Global, disk: &FaultDisk) -> Result<(), Fail> 
 /// Stops at each call in turn. A stop is met by each of the six calls of the archive once.
 fn stops_at_each_call(alloc: Global, write_reaches: bool, profile: u8) -> Result<(), Fail> {
     let trial = Trial {
-        profile,
         before: STORE,
         action: SCRIPT,
         script: ONE_ARCHIVE,
@@ -430,8 +429,8 @@ fn stops_at_each_call(alloc: Global, write_reaches: bool, profile: u8) -> Result
     };
     let mut stops: u32 = 0;
     for calls_before in 0..100 {
-        let (said, _, disk) = tried(alloc, &trial, calls_before)?;
-        each_left_answers_alike(alloc, &disk)?;
+        let (said, _, disk) = tried(alloc, &trial, calls_before, profile)?;
+        each_left_answers_alike(alloc, &disk, profile)?;
         if said.contains("job done") {
             break;
         }
@@ -512,7 +511,6 @@ fn is_failed(said: &str) -> Result<bool, Fail> {
 /// Each call is refused in turn; once the store is opened it fails at each of the archive's six.
 fn refuses_each_call(alloc: Global, write_reaches: bool, profile: u8) -> Result<(), Fail> {
     let trial = Trial {
-        profile,
         before: STORE,
         action: SCRIPT,
         script: REFUSED_JOB,
@@ -521,12 +519,12 @@ fn refuses_each_call(alloc: Global, write_reaches: bool, profile: u8) -> Result<
     };
     let mut refusals: u32 = 0;
     for calls_before in 0..100 {
-        let (said, _, disk) = tried(alloc, &trial, calls_before)?;
+        let (said, _, disk) = tried(alloc, &trial, calls_before, profile)?;
         if said.starts_with("started\nidle\n") {
             break;
         }
         refusals = refusals.saturating_add(u32::from(is_failed(said.as_str())?));
-        left_goes_on(alloc, &disk, (0xC7, 0), ANSWERS_ALIKE)?;
+        left_goes_on(alloc, &disk, (0xC7, 0), ANSWERS_ALIKE, profile)?;
     }
     is_count(refusals, 6)
 }
@@ -547,19 +545,20 @@ fn after_a_refused_step_that_was_made_reading_goes_on(rt: HostRuntime) -> Result
     Ok(())
 }
 
-/// One call of an archive is its run's sync. Refused, it fails the store, which reads on.
-fn refuses_the_sync_of_a_run(alloc: Global, profile: u8) -> Result<(), Fail> {
-    let trial = Trial {
-        profile,
-        before: STORE,
-        action: SCRIPT,
-        script: "archive 120\njob\njob\nbegin u\nat 1 7 110\nat 1 7 130\n",
-        write_reaches: false,
-        stops: false,
-    };
+/// An archive whose second call of the disk is to be refused.
+const RUN_SYNC: Trial<'static> = Trial {
+    before: STORE,
+    action: SCRIPT,
+    script: "archive 120\njob\njob\nbegin u\nat 1 7 110\nat 1 7 130\n",
+    write_reaches: false,
+    stops: false,
+};
+
+/// One of the calls must be the sync, and the store read on behind it.
+fn fails_at_the_sync(alloc: Global, profile: u8) -> Result<(), Fail> {
     let answers = "started\nwrote run\nrefused: failed\nrefused: failed\nvalue 62\nvalue 63\n";
     for calls_before in 0..100 {
-        let (said, _, _disk) = tried(alloc, &trial, calls_before)?;
+        let (said, _, _disk) = tried(alloc, &RUN_SYNC, calls_before, profile)?;
         if said.as_str() == answers {
             return Ok(());
         }
@@ -570,7 +569,7 @@ fn refuses_the_sync_of_a_run(alloc: Global, profile: u8) -> Result<(), Fail> {
 #[test]
 fn a_refused_sync_of_a_run_fails_the_store(rt: HostRuntime) -> Result<(), Fail> {
     for profile in PROFILES {
-        refuses_the_sync_of_a_run(rt.alloc(), profile)?;
+        fails_at_the_sync(rt.alloc(), profile)?;
     }
     Ok(())
 }

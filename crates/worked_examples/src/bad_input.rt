@@ -1,8 +1,8 @@
 //! Disks that hold no store, damaged stores, and scripts and commands that ask for what is not to be
 //! had. Each is refused by its name, and nothing is lost.
-use crate::dialogue::{NEWEST_PROFILE, ONE_COMMIT, SCRIPT, says, store_of_profile};
+use crate::dialogue::{NEWEST, ONE_COMMIT, PROFILES, SCRIPT, new_store, says};
 use crate::steps::Step::{At, Changes, Cuts, Does, Formats, Long, New, Refuses, Runs, Says};
-use crate::steps::{Step, each_goes, go, goes_in, goes_on};
+use crate::steps::{Step, each_goes, go, go_in, goes_on};
 use disk::Area;
 use shell::Action;
 use std::alloc::{AllocError, Global};
@@ -15,14 +15,15 @@ const EMPTY: &[Step] = &[Refuses("refused: not a store"), Long(Area::Status, 0)]
 
 #[test]
 fn an_empty_disk_is_no_store(rt: HostRuntime) -> Result<(), Fail> {
-    go(rt.alloc(), EMPTY)
+    go_in(rt.alloc(), EMPTY, NEWEST)
 }
 
-/// Areas that were cut, and a store that was not.
+/// Areas that were cut, a profile that there is not, and a store of which nothing was.
 const CUT: &[&[Step]] = &[
     &[Cuts(Area::Status, 0), Refuses("refused: not a store")],
     &[Cuts(Area::Status, 511), Refuses("refused: not a store")],
     &[Cuts(Area::Status, 8703), Refuses("refused: not a store")],
+    &[Changes(Area::Status, 8, 4), Refuses("refused: not a store")],
     &[Cuts(Area::Heap, 0), Refuses("refused: damaged heap 1")],
     &[Cuts(Area::Heap, 8191), Refuses("refused: damaged heap 1")],
     &[At("100", "value 61")],
@@ -38,7 +39,6 @@ type Change = (Area, u32, u8, u8, &'static str);
 
 const CHANGES: &[Change] = &[
     (Area::Status, 0, 0x4e, 0x4f, "refused: not a store"),
-    (Area::Status, 8, 2, 4, "refused: not a store"),
     (Area::Status, 12, 16, 15, "refused: not a store"),
     (Area::Status, 12, 16, 17, "refused: not a store"),
     (Area::Status, 16, 0, 0xC7, "refused: not a store"),
@@ -100,12 +100,12 @@ const BAD_LINE: &str = "snapshot 0\nok\nqueued\nidle\nsnapshot 100\nok\nline 7: 
 /// What was committed before it.
 const BEFORE_LINE: &[Step] = &[At("100", "value 61"), At("101", "refused: not yet 100")];
 
-/// A line must be refused by its number, and what was committed before it stays, in a store of this profile.
+/// A line must be refused by its number, and what was committed before it stays.
 fn is_bad(alloc: Global, line: &str, profile: u8) -> Result<(), Fail> {
     let script = with_line(alloc, line)?;
-    let disk = store_of_profile(alloc, 16, profile)?;
-    let disk = says(alloc, disk, SCRIPT, script.as_str(), (BAD_LINE, 1))?;
-    let _disk = goes_on(alloc, disk, BEFORE_LINE)?;
+    let disk = new_store(alloc, 16, profile)?;
+    let disk = says(alloc, disk, SCRIPT, script.as_str(), (BAD_LINE, 1), profile)?;
+    let _disk = goes_on(alloc, disk, BEFORE_LINE, profile)?;
     Ok(())
 }
 
@@ -131,12 +131,18 @@ const BAD_LINES: &[&str] = &[
     "reopen\r",
 ];
 
+/// Each of the lines must be refused on a store of this profile.
+fn are_bad(alloc: Global, profile: u8) -> Result<(), Fail> {
+    for line in BAD_LINES {
+        is_bad(alloc, line, profile)?;
+    }
+    Ok(())
+}
+
 #[test]
 fn a_line_of_no_form_ends_the_script(rt: HostRuntime) -> Result<(), Fail> {
-    for line in BAD_LINES {
-        is_bad(rt.alloc(), line, 1)?;
-        is_bad(rt.alloc(), line, 2)?;
-        is_bad(rt.alloc(), line, 3)?;
+    for profile in PROFILES {
+        are_bad(rt.alloc(), profile)?;
     }
     Ok(())
 }
@@ -165,7 +171,7 @@ const BAD_SLOTS: &[Step] = &[
 
 #[test]
 fn a_store_has_a_count_of_slots(rt: HostRuntime) -> Result<(), Fail> {
-    go(rt.alloc(), BAD_SLOTS)
+    go_in(rt.alloc(), BAD_SLOTS, NEWEST)
 }
 
 /// A store cannot be formatted once more, with whatever count of slots.
@@ -189,7 +195,7 @@ const EXAMPLES: &[Step] = &[
 
 #[test]
 fn the_example_needs_an_empty_disk(rt: HostRuntime) -> Result<(), Fail> {
-    go(rt.alloc(), EXAMPLES)
+    go_in(rt.alloc(), EXAMPLES, NEWEST)
 }
 
 const MOST_SLOTS: &[Step] = &[
@@ -199,7 +205,7 @@ const MOST_SLOTS: &[Step] = &[
 
 #[test]
 fn a_store_may_have_most_slots(rt: HostRuntime) -> Result<(), Fail> {
-    goes_in(rt.alloc(), NEWEST_PROFILE, MOST_SLOTS)
+    go_in(rt.alloc(), MOST_SLOTS, NEWEST)
 }
 
 /// Questions for a time, of no store and of one.

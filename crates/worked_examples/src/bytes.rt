@@ -1,5 +1,4 @@
 //! The bytes of a disk in memory.
-use crate::dialogue::NEWEST_PROFILE;
 use disk::{Area, Disk, MemDisk};
 use std::alloc::Global;
 use std::test::Fail;
@@ -56,16 +55,6 @@ fn are_bytes(bytes: &[u8], place: usize, expected: &[u8]) -> Result<(), Fail> {
     }
     let found = found.get(..expected.len()).unwrap_or(found);
     Err(Fail::new(format_args!("at {place}: {found:?}")))
-}
-
-/// Byte 8 of the status area, the profile of a store; that of new stores where there is no such byte.
-pub fn profile_of(disk: &mut MemDisk) -> Result<u8, Fail> {
-    if disk.len(Area::Status)? < 9 {
-        return Ok(NEWEST_PROFILE);
-    }
-    let mut bytes = [0; 1];
-    disk.read(Area::Status, 8, &mut bytes)?;
-    Ok(bytes[0])
 }
 
 /// From a place on an area must have the bytes that a text spells.
@@ -140,4 +129,25 @@ pub fn cut(alloc: Global, disk: &mut MemDisk, area: Area, len: usize) -> Result<
 /// What a stop leaves of a disk, where each torn place has this byte.
 pub fn stopped(alloc: Global, disk: &MemDisk, fill: u8) -> Result<MemDisk, Fail> {
     Ok(disk.left(alloc, fill, b"")?)
+}
+
+/// How many bytes a disk has.
+fn size(disk: MemDisk) -> Result<u64, Fail> {
+    let mut disk = disk;
+    let status = disk.len(Area::Status)?;
+    let heap = disk.len(Area::Heap)?;
+    let archive = disk.len(Area::Archive)?;
+    Ok(status.saturating_add(heap).saturating_add(archive))
+}
+
+/// Whether two disks have as many bytes.
+pub fn are_as_long(left: MemDisk, right: MemDisk) -> Result<bool, Fail> {
+    Ok(size(left)? == size(right)?)
+}
+
+/// Whether all of a disk is synced: then a stop leaves what stands, with no tail behind it.
+pub fn is_settled(alloc: Global, disk: &MemDisk) -> Result<bool, Fail> {
+    let bare = disk.left(alloc, 0, b"")?;
+    let with_tail = disk.left(alloc, 0, b"x")?;
+    are_as_long(bare, with_tail)
 }

@@ -1,5 +1,5 @@
 //! The calls of a store and of a session, each by itself.
-use crate::dialogue::{KEY, new_store};
+use crate::dialogue::{KEY, NEWEST, PROFILES, new_store};
 use chains::SharedValue;
 use disk::{Area, Disk, MemDisk};
 use history::Key;
@@ -10,9 +10,9 @@ use std::process::Abort;
 use std::test::Fail;
 use store::{Did, QueryFault, Redeemed, Store, SubmitFault, Submitted, Ticket, Txn};
 
-/// An empty store with this mark, opened.
-fn opened(rt: &impl Abort, alloc: Global, mark: u64) -> Result<Store<MemDisk>, Fail> {
-    match Store::open(alloc, new_store(alloc, 16)?, mark) {
+/// An empty store of this profile and with this mark, opened.
+fn opened(rt: &impl Abort, alloc: Global, mark: u64, profile: u8) -> Result<Store<MemDisk>, Fail> {
+    match Store::open(alloc, new_store(alloc, 16, profile)?, mark) {
         Ok(store) => Ok(store),
         Err(_) => Err(Fail::from("not opened")),
     }
@@ -82,20 +82,27 @@ fn is_done(rt: &impl Abort, store: &mut Store<MemDisk>, ticket: Ticket, time: u6
     }
 }
 
-#[test]
-fn a_store_is_opened_written_and_asked(rt: HostRuntime) -> Result<(), Fail> {
-    let alloc = rt.alloc();
-    let mut store = opened(&rt, alloc, 5)?;
+/// A store is opened, written and asked.
+fn is_written_and_asked(rt: &impl Abort, alloc: Global, profile: u8) -> Result<(), Fail> {
+    let mut store = opened(rt, alloc, 5, profile)?;
     assert_eq!(rt; (store.last(), store.floors().every()), (0, 0));
-    let ticket = submitted(&rt, alloc, &mut store, 7, 100);
+    let ticket = submitted(rt, alloc, &mut store, 7, 100);
     assert_eq!(rt; (ticket.mark(), ticket.time()), (5, 100));
-    assert_eq!(rt; pumped(&rt, &mut store), 6);
-    is_done(&rt, &mut store, ticket, 100);
+    assert_eq!(rt; pumped(rt, &mut store), 6);
+    is_done(rt, &mut store, ticket, 100);
     assert_eq!(rt; (store.last(), store.floors().every()), (100, 0));
     let times = store.times_of(9);
     let mut disk = store.close();
     assert_eq!(rt; times?.as_slice(), [100].as_slice());
     assert_eq!(rt; disk.len(Area::Heap)?, 8192);
+    Ok(())
+}
+
+#[test]
+fn a_store_is_opened_written_and_asked(rt: HostRuntime) -> Result<(), Fail> {
+    for profile in PROFILES {
+        is_written_and_asked(&rt, rt.alloc(), profile)?;
+    }
     Ok(())
 }
 
@@ -111,27 +118,34 @@ fn asks(rt: &impl Abort, store: &mut Store<MemDisk>, time: u64, field: &[u8]) {
     store.end(view);
 }
 
-#[test]
-fn a_view_keeps_its_moment(rt: HostRuntime) -> Result<(), Fail> {
-    let alloc = rt.alloc();
-    let mut store = opened(&rt, alloc, 5)?;
-    let ticket = submitted(&rt, alloc, &mut store, 7, 100);
+/// A view shows nothing that came after it.
+fn view_keeps_its_moment(rt: &impl Abort, alloc: Global, profile: u8) -> Result<(), Fail> {
+    let mut store = opened(rt, alloc, 5, profile)?;
+    let ticket = submitted(rt, alloc, &mut store, 7, 100);
     ticket.give_up();
-    assert_eq!(rt; pumped(&rt, &mut store), 6);
-    asks(&rt, &mut store, 100, b"a");
+    assert_eq!(rt; pumped(rt, &mut store), 6);
+    asks(rt, &mut store, 100, b"a");
     let Ok(view) = store.view() else {
         panic!(rt; "no view");
     };
-    let ticket = submitted(&rt, alloc, &mut store, 7, 110);
+    let ticket = submitted(rt, alloc, &mut store, 7, 110);
     ticket.give_up();
-    assert_eq!(rt; pumped(&rt, &mut store), 6);
+    assert_eq!(rt; pumped(rt, &mut store), 6);
     assert_eq!(rt; view.mark(), 5);
     assert!(rt; matches!(store.at(&view, KEY, 99), Ok(None)));
     assert!(rt; matches!(store.at(&view, KEY, 100), Ok(Some(_))));
     assert!(rt; matches!(view.at(KEY, 110), Err(QueryFault::NotYet(100))));
     store.end(view);
-    asks(&rt, &mut store, 110, b"a");
+    asks(rt, &mut store, 110, b"a");
     let _disk = store.close();
+    Ok(())
+}
+
+#[test]
+fn a_view_keeps_its_moment(rt: HostRuntime) -> Result<(), Fail> {
+    for profile in PROFILES {
+        view_keeps_its_moment(&rt, rt.alloc(), profile)?;
+    }
     Ok(())
 }
 
@@ -156,19 +170,26 @@ fn are_three_and_five(found: &[(u64, SharedValue)]) -> bool {
     are_records && is_field(&found[0].1, b"a") && is_field(&found[1].1, b"b")
 }
 
-#[test]
-fn a_transaction_scans_its_own_writes(rt: HostRuntime) -> Result<(), Fail> {
-    let alloc = rt.alloc();
-    let mut store = opened(&rt, alloc, 5)?;
-    submitted(&rt, alloc, &mut store, 3, 100).give_up();
-    submitted(&rt, alloc, &mut store, 7, 110).give_up();
-    assert_eq!(rt; pumped(&rt, &mut store), 7);
-    let txn = with_own_writes(&rt, alloc, &mut store);
+/// A scan of a transaction has what it wrote, and not what it deleted.
+fn scans_its_own_writes(rt: &impl Abort, alloc: Global, profile: u8) -> Result<(), Fail> {
+    let mut store = opened(rt, alloc, 5, profile)?;
+    submitted(rt, alloc, &mut store, 3, 100).give_up();
+    submitted(rt, alloc, &mut store, 7, 110).give_up();
+    assert_eq!(rt; pumped(rt, &mut store), 7);
+    let txn = with_own_writes(rt, alloc, &mut store);
     let (found, none) = (txn.scan(alloc, 1), txn.scan(alloc, 2));
     store.abort(txn);
     let _disk = store.close();
     assert!(rt; are_three_and_five(&found?));
     assert_eq!(rt; none?.len(), 0);
+    Ok(())
+}
+
+#[test]
+fn a_transaction_scans_its_own_writes(rt: HostRuntime) -> Result<(), Fail> {
+    for profile in PROFILES {
+        scans_its_own_writes(&rt, rt.alloc(), profile)?;
+    }
     Ok(())
 }
 
@@ -196,22 +217,21 @@ fn is_strangers_ticket(redeemed: Redeemed) -> bool {
     }
 }
 
-#[test]
-fn a_strangers_tokens_are_only_spent(rt: HostRuntime) -> Result<(), Fail> {
-    let alloc = rt.alloc();
-    let mut own = opened(&rt, alloc, 5)?;
-    let mut other = match opened(&rt, alloc, 6) {
+/// A store refuses what another store gave.
+fn spends_a_strangers_tokens(rt: &impl Abort, alloc: Global, profile: u8) -> Result<(), Fail> {
+    let mut own = opened(rt, alloc, 5, profile)?;
+    let mut other = match opened(rt, alloc, 6, profile) {
         Ok(other) => other,
         Err(fault) => {
             let _disk = own.close();
             return Err(fault);
         }
     };
-    let kept = begun(&rt, &mut own);
-    let txn = begun(&rt, &mut other);
+    let kept = begun(rt, &mut own);
+    let txn = begun(rt, &mut other);
     assert!(rt; is_strangers_submit(own.submit(txn, 9, 100)));
-    own.abort(begun(&rt, &mut other));
-    let ticket = submitted(&rt, alloc, &mut other, 7, 100);
+    own.abort(begun(rt, &mut other));
+    let ticket = submitted(rt, alloc, &mut other, 7, 100);
     assert!(rt; is_strangers_ticket(own.redeem(ticket)));
     let Ok(view) = other.view() else {
         panic!(rt; "no view");
@@ -226,6 +246,14 @@ fn a_strangers_tokens_are_only_spent(rt: HostRuntime) -> Result<(), Fail> {
         }
     }
     let (_own, _other) = (own.close(), other.close());
+    Ok(())
+}
+
+#[test]
+fn a_strangers_tokens_are_only_spent(rt: HostRuntime) -> Result<(), Fail> {
+    for profile in PROFILES {
+        spends_a_strangers_tokens(&rt, rt.alloc(), profile)?;
+    }
     Ok(())
 }
 
@@ -276,9 +304,9 @@ const LINES: &[(&str, &str)] = &[
     ("finish", "idle\n"),
 ];
 
-/// A session on an empty store.
-fn new_session(rt: &impl Abort, alloc: Global) -> Result<Session<MemDisk>, Fail> {
-    let store = opened(rt, alloc, MARK)?;
+/// A session on an empty store of this profile.
+fn new_session(rt: &impl Abort, alloc: Global, profile: u8) -> Result<Session<MemDisk>, Fail> {
+    let store = opened(rt, alloc, MARK, profile)?;
     match Session::new(alloc, store) {
         Ok(session) => Ok(session),
         Err(store) => {
@@ -288,12 +316,23 @@ fn new_session(rt: &impl Abort, alloc: Global) -> Result<Session<MemDisk>, Fail>
     }
 }
 
+/// A session answers each line.
+fn session_answers(rt: &impl Abort, alloc: Global, profile: u8) -> Result<(), Fail> {
+    let mut session = new_session(rt, alloc, profile)?;
+    answers_all(rt, alloc, &mut session, LINES);
+    match session.opened_reply() {
+        Reply::OpenedByRelation(100, 0) => assert_eq!(rt; profile, NEWEST),
+        Reply::Opened(100, 0) => assert!(rt; profile < NEWEST),
+        _ => panic!(rt; "another last time, or a floor"),
+    }
+    let _disk = session.close();
+    Ok(())
+}
+
 #[test]
 fn a_session_answers_line_by_line(rt: HostRuntime) -> Result<(), Fail> {
-    let alloc = rt.alloc();
-    let mut session = new_session(&rt, alloc)?;
-    answers_all(&rt, alloc, &mut session, LINES);
-    assert!(rt; matches!(session.opened_reply(), Reply::OpenedByRelation(100, 0)));
-    let _disk = session.close();
+    for profile in PROFILES {
+        session_answers(&rt, rt.alloc(), profile)?;
+    }
     Ok(())
 }

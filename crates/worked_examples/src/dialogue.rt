@@ -1,5 +1,5 @@
 //! Scripts with their answers, run on a disk in memory.
-use crate::bytes::{change, profile_of};
+use crate::bytes::change;
 use disk::{Area, Disk, MemDisk};
 use history::Key;
 use session::{Answers, Lines};
@@ -17,11 +17,24 @@ pub const KEY: Key = Key {
 /// The script of the input, on the store of a folder.
 pub const SCRIPT: Action<'static> = Action::Run { dir: "" };
 
-/// The profiles of stores, byte 8 of their headers. `format` makes stores of the last one.
+/// The profiles of stores, byte 8 of their headers: the newest, which `format` makes, and the older ones.
+pub const NEWEST: u8 = 3;
+
+pub const OLDER: [u8; 2] = [1, 2];
+
 pub const PROFILES: [u8; 3] = [1, 2, 3];
 
-/// The profile of the stores that `format` makes.
-pub const NEWEST_PROFILE: u8 = 3;
+/// How a line ends that is of the newest profile, and how it does of profiles 1 and 2: the line of an
+/// opening, the first line of a log, and the first bytes of a header.
+const ENDINGS: &[(&str, &str, &str)] = &[
+    (" floors 0", " floor 0", " floor 0"),
+    (" pieces 0", "", " pieces 0"),
+    (
+        "4e4f4f5645523031 03000000",
+        "4e4f4f5645523031 01000000",
+        "4e4f4f5645523031 02000000",
+    ),
+];
 
 /// Four commits of one key: a value, another, none, and a third.
 pub const FOUR_COMMITS: &str = "begin a | snapshot 0
@@ -66,6 +79,31 @@ pub fn told<D: Disk + Drop>(
     Ok((String::from_utf8(said.into_writer())?, status, disk))
 }
 
+/// A line of the newest profile in two parts, of which the second is as this profile has it.
+fn parts_of_profile(line: &str, profile: u8) -> (&str, &str) {
+    for (newest, first, second) in ENDINGS {
+        if let Some(before) = line.strip_suffix(*newest) {
+            return match profile {
+                1 => (before, *first),
+                2 => (before, *second),
+                _ => (before, *newest),
+            };
+        }
+    }
+    (line, "")
+}
+
+/// Lines of the newest profile as a store of this one has them.
+pub fn of_profile(alloc: Global, lines: &str, profile: u8) -> Result<String, AllocError> {
+    let mut text = String::new(alloc);
+    for line in lines.lines() {
+        let (before, ending) = parts_of_profile(line, profile);
+        text.push_str(before)?;
+        push_line(&mut text, ending)?;
+    }
+    Ok(text)
+}
+
 /// How many lines are the same before the first that differs.
 fn same_lines(said: &str, answers: &str) -> u32 {
     let mut same = 0u32;
@@ -106,58 +144,30 @@ pub fn is_said(said: &str, ended: u8, answers: &str, status: u8) -> Result<(), F
     is_status(ended, status)
 }
 
-/// Appends a line as a store of this profile says it where one of the newest profile says so: of the
-/// older ones `reopen` tells the one floor of all relations, and the log of the first has no pieces.
-fn push_said(text: &mut String, line: &str, profile: u8) -> Result<(), AllocError> {
-    if profile < NEWEST_PROFILE
-        && let Some(front) = line.strip_suffix(" floors 0")
-    {
-        text.push_str(front)?;
-        return push_line(text, " floor 0");
-    }
-    if profile == 1
-        && let Some(front) = line.strip_suffix(" pieces 0")
-    {
-        return push_line(text, front);
-    }
-    push_line(text, line)
-}
-
-/// What a store of this profile says where one of the newest profile says these lines.
-pub fn of_profile(alloc: Global, lines: &str, profile: u8) -> Result<String, AllocError> {
-    let mut text = String::new(alloc);
-    for line in lines.lines() {
-        push_said(&mut text, line, profile)?;
-    }
-    Ok(text)
-}
-
-/// The action must say this, as a store of the newest profile would, and end with this status.
+/// The action must say this of a store of a profile, and end with this status. The lines are those of
+/// the newest profile.
 pub fn says(
     alloc: Global,
     disk: MemDisk,
     action: Action<'_>,
     script: &str,
-    (answers, status): (&str, u8),
+    (lines, status): (&str, u8),
+    profile: u8,
 ) -> Result<MemDisk, Fail> {
-    let (said, ended, mut disk) = told(alloc, action, disk, script)?;
-    let answers = of_profile(alloc, answers, profile_of(&mut disk)?)?;
+    let answers = of_profile(alloc, lines, profile)?;
+    let (said, ended, disk) = told(alloc, action, disk, script)?;
     is_said(said.as_str(), ended, answers.as_str(), status)?;
     Ok(disk)
 }
 
-/// An empty store of this many slots.
-pub fn new_store(alloc: Global, slots: u32) -> Result<MemDisk, Fail> {
+/// An empty store of this many slots and this profile, as `format` made it when that was the newest.
+pub fn new_store(alloc: Global, slots: u32, profile: u8) -> Result<MemDisk, Fail> {
     let action = Action::Format { dir: "", slots };
-    let (_, status, disk) = told(alloc, action, MemDisk::new(alloc), "")?;
+    let (_, status, mut disk) = told(alloc, action, MemDisk::new(alloc), "")?;
     is_status(status, 0)?;
-    Ok(disk)
-}
-
-/// A store of this profile, which `format` made at a time when it was the newest one.
-pub fn store_of_profile(alloc: Global, slots: u32, profile: u8) -> Result<MemDisk, Fail> {
-    let mut disk = new_store(alloc, slots)?;
-    change(&mut disk, Area::Status, 8, profile)?;
+    if profile != NEWEST {
+        change(&mut disk, Area::Status, 8, profile)?;
+    }
     Ok(disk)
 }
 
@@ -219,10 +229,17 @@ pub fn ends_well(alloc: Global, disk: MemDisk, script: &str) -> Result<MemDisk, 
     Ok(disk)
 }
 
-/// The log of a store must be this text, with this status. Nothing is written meanwhile, or synced.
-pub fn dumps(alloc: Global, disk: MemDisk, text: &str, status: u8) -> Result<MemDisk, Fail> {
+/// The log of a store of this profile must be this text, with this status. Nothing is written
+/// meanwhile, or synced.
+pub fn dumps(
+    alloc: Global,
+    disk: MemDisk,
+    (text, status): (&str, u8),
+    profile: u8,
+) -> Result<MemDisk, Fail> {
     let made = disk.made();
-    let disk = says(alloc, disk, Action::Dump { dir: "" }, "", (text, status))?;
+    let action = Action::Dump { dir: "" };
+    let disk = says(alloc, disk, action, "", (text, status), profile)?;
     if disk.made() == made {
         return Ok(disk);
     }
@@ -245,10 +262,16 @@ pub fn parted(alloc: Global, dialogue: &str) -> Result<(String, String), AllocEr
     Ok((script, answers))
 }
 
-/// Runs a script on a store, each line of which must be answered as the dialogue says.
-pub fn converses(alloc: Global, disk: MemDisk, dialogue: &str) -> Result<MemDisk, Fail> {
+/// Runs a script on a store of this profile, each line of which must be answered as the dialogue says.
+pub fn converses(
+    alloc: Global,
+    disk: MemDisk,
+    dialogue: &str,
+    profile: u8,
+) -> Result<MemDisk, Fail> {
     let (script, answers) = parted(alloc, dialogue)?;
-    says(alloc, disk, SCRIPT, script.as_str(), (answers.as_str(), 0))
+    let said = (answers.as_str(), 0);
+    says(alloc, disk, SCRIPT, script.as_str(), said, profile)
 }
 
 /// So many fields of this many bytes each.
@@ -296,14 +319,15 @@ pub fn repeated(alloc: Global, parts: &[(&str, u32)]) -> Result<String, AllocErr
     Ok(text)
 }
 
-/// A dialogue of repeated parts on a store.
+/// A dialogue of repeated parts on a store of this profile.
 pub fn converses_by_parts(
     alloc: Global,
     disk: MemDisk,
     parts: &[(&str, u32)],
+    profile: u8,
 ) -> Result<MemDisk, Fail> {
     let dialogue = repeated(alloc, parts)?;
-    converses(alloc, disk, dialogue.as_str())
+    converses(alloc, disk, dialogue.as_str(), profile)
 }
 
 /// A dialogue on a store that is opened after another one.
@@ -319,8 +343,8 @@ pub struct Script {
 
 /// The script must be answered as its dialogue says, on a new store of this profile.
 fn holds(alloc: Global, script: &Script, profile: u8) -> Result<(), Fail> {
-    let new = store_of_profile(alloc, script.slots, profile)?;
-    let disk = converses(alloc, new, script.before)?;
+    let new = new_store(alloc, script.slots, profile)?;
+    let disk = converses(alloc, new, script.before, profile)?;
     let dialogue = repeated(alloc, script.parts)?;
     let (lines, answers) = parted(alloc, dialogue.as_str())?;
     let answers = of_profile(alloc, answers.as_str(), profile)?;
@@ -337,7 +361,7 @@ pub fn hold_in(alloc: Global, scripts: &[Script], profile: u8) -> Result<(), Fai
     Ok(())
 }
 
-/// The same on new stores of each profile.
+/// The same in each profile.
 pub fn hold(alloc: Global, scripts: &[Script]) -> Result<(), Fail> {
     for profile in PROFILES {
         hold_in(alloc, scripts, profile)?;

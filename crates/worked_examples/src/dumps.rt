@@ -1,8 +1,8 @@
 //! Logs as text.
-use crate::dialogue::{FOUR_COMMITS, ONE_COMMIT};
+use crate::dialogue::{FOUR_COMMITS, NEWEST, ONE_COMMIT};
 use crate::raised_floors::RAISED;
 use crate::steps::Step::{Changes, Cuts, Dumps, New, Parts, Says};
-use crate::steps::{Step, each_goes, each_goes_in, go, goes_in};
+use crate::steps::{Step, each_goes, each_goes_in, go, go_in, go_in_older};
 use disk::Area;
 use std::test::Fail;
 
@@ -92,8 +92,7 @@ used 7 of 16
 
 #[test]
 fn a_floor_behind_a_reclaim(rt: HostRuntime) -> Result<(), Fail> {
-    goes_in(rt.alloc(), 1, FLOORED)?;
-    goes_in(rt.alloc(), 2, FLOORED)
+    go_in_older(rt.alloc(), FLOORED)
 }
 
 /// A group of two, one of which has two records in two extents, and commits at the last time that has
@@ -182,25 +181,33 @@ const CHANGED: &[&[Step]] = &[
         Dumps("refused: not a store\n", 1),
     ],
     &[Changes(Area::Status, 8, 1), Dumps(FIRST_PROFILE, 0)],
-    &[Changes(Area::Status, 8, 2), Dumps(ONE_MEMBER, 0)],
 ];
 
-/// The gate of a piece behind one that is closed says nothing in a store of pieces.
-const GATE_APART: &[Step] = &[Changes(Area::Status, 17, 0xC7), Dumps(ONE_MEMBER, 0)];
-
-/// In one of the first profile it is no header's.
-const NO_HEADER: &[Step] = &[
-    Changes(Area::Status, 17, 0xC7),
-    Dumps("refused: not a store\n", 1),
-];
-
-const COMMITTED: &[Step] = &[New(16), Says(ONE_COMMIT)];
+/// A store with one commit at 100.
+const STORE: &[Step] = &[New(16), Says(ONE_COMMIT)];
 
 #[test]
 fn only_the_log_is_read(rt: HostRuntime) -> Result<(), Fail> {
-    each_goes(rt.alloc(), COMMITTED, CHANGED)?;
-    each_goes_in(rt.alloc(), 1, COMMITTED, &[NO_HEADER])?;
-    each_goes_in(rt.alloc(), 2, COMMITTED, &[GATE_APART])?;
-    each_goes_in(rt.alloc(), 3, COMMITTED, &[GATE_APART])?;
-    go(rt.alloc(), &[Dumps("refused: not a store\n", 1)])
+    each_goes(rt.alloc(), STORE, CHANGED)?;
+    go_in(rt.alloc(), &[Dumps("refused: not a store\n", 1)], NEWEST)
+}
+
+/// In the profiles whose stores grow the second gate of a piece is not read where the first is closed.
+const GROWING: &[&[Step]] = &[
+    &[Changes(Area::Status, 8, 2), Dumps(ONE_MEMBER, 0)],
+    &[Changes(Area::Status, 8, 3), Dumps(ONE_MEMBER, 0)],
+    &[Changes(Area::Status, 17, 0xC7), Dumps(ONE_MEMBER, 0)],
+];
+
+/// In the first profile that byte is zero.
+const FIRST: &[&[Step]] = &[&[
+    Changes(Area::Status, 17, 0xC7),
+    Dumps("refused: not a store\n", 1),
+]];
+
+#[test]
+fn a_header_tells_its_profile(rt: HostRuntime) -> Result<(), Fail> {
+    each_goes_in(rt.alloc(), STORE, GROWING, 2)?;
+    each_goes_in(rt.alloc(), STORE, GROWING, NEWEST)?;
+    each_goes_in(rt.alloc(), STORE, FIRST, 1)
 }

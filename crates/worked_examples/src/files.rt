@@ -1,6 +1,6 @@
 //! Stores in the files of a folder: which file has which bytes, which of them opening makes, and who
 //! is kept out meanwhile.
-use crate::dialogue::{KEY, is_said, told};
+use crate::dialogue::{KEY, PROFILES, is_said, of_profile, told};
 use disk::{Area, Disk};
 use disk_file::{Access, FileDisk, FolderFault};
 use shell::Action;
@@ -381,13 +381,14 @@ fn files_that_are_read_are_not_written(rt: HostRuntime) -> Result<(), Fail> {
 /// script, and what is said.
 type Doing = (Access, Action<'static>, &'static str, &'static str);
 
+const FORMAT: Doing = (
+    Access::Make,
+    Action::Format { dir: "", slots: 16 },
+    "",
+    "formatted 16\n",
+);
+
 const DOINGS: &[Doing] = &[
-    (
-        Access::Make,
-        Action::Format { dir: "", slots: 16 },
-        "",
-        "formatted 16\n",
-    ),
     (
         Access::Change,
         Action::Run { dir: "" },
@@ -426,25 +427,52 @@ used 3 of 16
     ),
 ];
 
-/// What was asked for must be said, with status 0.
+/// What was asked for must be said of a store of this profile, with status 0.
 fn is_done<R: Files<File = fs::File> + AllocGlobal>(
     rt: &R,
     folder: &str,
     doing: &Doing,
+    profile: u8,
 ) -> Result<(), Fail> {
-    let (access, action, script, answers) = *doing;
+    let (access, action, script, lines) = *doing;
+    let answers = of_profile(rt.alloc(), lines, profile)?;
     let disk = opened(rt, folder, access)?;
     let (said, status, _disk) = told(rt.alloc(), action, disk, script)?;
-    is_said(said.as_str(), status, answers, 0)
+    is_said(said.as_str(), status, answers.as_str(), 0)
+}
+
+/// The store of the files becomes one of this profile.
+fn becomes<R: Files<File = fs::File> + AllocGlobal>(
+    rt: &R,
+    folder: &str,
+    profile: u8,
+) -> Result<(), Fail> {
+    let mut disk = opened(rt, folder, Access::Change)?;
+    disk.write_at(Area::Status, 8, &[profile])?;
+    disk.sync(Area::Status)?;
+    Ok(())
+}
+
+/// A new store of this profile is opened again for each of the doings.
+fn is_opened_again<R: Files<File = fs::File> + AllocGlobal>(
+    rt: &R,
+    folder: &str,
+    profile: u8,
+) -> Result<(), Fail> {
+    new_folder(rt, folder)?;
+    is_done(rt, folder, &FORMAT, profile)?;
+    becomes(rt, folder, profile)?;
+    for doing in DOINGS {
+        is_done(rt, folder, doing, profile)?;
+    }
+    fs::remove_dir_all(rt, folder)?;
+    Ok(())
 }
 
 #[test]
 fn a_store_of_files_is_opened_again(rt: HostRuntime) -> Result<(), Fail> {
-    let folder = "a_store";
-    new_folder(&rt, folder)?;
-    for doing in DOINGS {
-        is_done(&rt, folder, doing)?;
+    for profile in PROFILES {
+        is_opened_again(&rt, "a_store", profile)?;
     }
-    fs::remove_dir_all(&rt, folder)?;
     Ok(())
 }

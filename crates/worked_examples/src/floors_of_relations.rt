@@ -1,7 +1,7 @@
 //! Floors of single relations: what each bars, what an archive and a reclaim then keep, and what a log
 //! with them is as bytes and as text.
-use crate::dialogue::NEWEST_PROFILE;
-use crate::steps::{Step, each_goes_in};
+use crate::dialogue::NEWEST;
+use crate::steps::{Step, each_goes_in, go_in_older};
 use disk::Area;
 use std::test::Fail;
 
@@ -154,7 +154,8 @@ reopen | last 120 floors 3
 )];
 
 /// A store with one floor of all relations has none of one.
-const ONE_FLOOR: [Step; 2] = [
+const ONE_FLOOR: [Step; 3] = [
+    Step::New(16),
     Step::Says(TWO_RELATIONS),
     Step::Says(
         "floorof 1 115 | refused: wrong profile
@@ -172,11 +173,10 @@ reopen | last 115 floor 115
 #[test]
 fn floors_of_relations_stand_alone(rt: HostRuntime) -> Result<(), Fail> {
     let all: [&[Step]; 4] = [&BARRED, &KEPT, &TOLD, &REFUSED];
-    each_goes_in(rt.alloc(), NEWEST_PROFILE, &BY_RELATION, &all)
+    each_goes_in(rt.alloc(), &BY_RELATION, &all, NEWEST)
 }
 
 #[test]
 fn a_store_with_one_floor_has_none_of_a_relation(rt: HostRuntime) -> Result<(), Fail> {
-    each_goes_in(rt.alloc(), 1, &[Step::New(16)], &[&ONE_FLOOR])?;
-    each_goes_in(rt.alloc(), 2, &[Step::New(16)], &[&ONE_FLOOR])
+    go_in_older(rt.alloc(), &ONE_FLOOR)
 }

@@ -1,10 +1,10 @@
 //! A script of commits and an archive, stopped before, within and after each call of the disk: what is
 //! opened again is what the lines `done` say, or that with the whole group whose gate was begun.
-use crate::bytes::stopped;
-use crate::dialogue::{PROFILES, SCRIPT, is_status, store_of_profile, told};
+use crate::bytes::{is_settled, stopped};
+use crate::dialogue::{PROFILES, SCRIPT, is_status, new_store, told};
 use crate::steps::Step::{New, Says};
 use crate::steps::{Step, go, goes_on};
-use crate::trials::{TORN, Trial, is_count, left_goes_on, tried};
+use crate::trials::{Trial, fillings, is_count, left_goes_on, tried};
 use disk::{FaultDisk, MemDisk};
 use std::alloc::{AllocError, Global};
 use std::test::Fail;
@@ -222,11 +222,11 @@ fn is_whole(said: &str, disk: &FaultDisk) -> Result<(), Fail> {
 }
 
 /// Opens what a stop within a call may leave, with each filling of what is torn.
-fn opens_each_left(alloc: Global, said: &str, disk: &FaultDisk) -> Result<(), Fail> {
+fn opens_each_left(alloc: Global, said: &str, disk: &FaultDisk, profile: u8) -> Result<(), Fail> {
     is_whole(said, disk)?;
-    for torn in TORN {
+    for torn in fillings(alloc, disk)? {
         let groups = groups_within(said, torn.0);
-        left_goes_on(alloc, disk, *torn, front(groups)?)?;
+        left_goes_on(alloc, disk, *torn, front(groups)?, profile)?;
     }
     Ok(())
 }
@@ -247,7 +247,6 @@ fn commands(alloc: Global, lines: usize) -> Result<String, AllocError> {
 fn stops_within_each_call(alloc: Global, write_reaches: bool, profile: u8) -> Result<(), Fail> {
     let script = commands(alloc, usize::MAX)?;
     let trial = Trial {
-        profile,
         before: &[New(16)],
         action: SCRIPT,
         script: script.as_str(),
@@ -256,8 +255,8 @@ fn stops_within_each_call(alloc: Global, write_reaches: bool, profile: u8) -> Re
     };
     let mut stops: u32 = 0;
     for calls in 0..200 {
-        let (said, _, disk) = tried(alloc, &trial, calls)?;
-        opens_each_left(alloc, said.as_str(), &disk)?;
+        let (said, _, disk) = tried(alloc, &trial, calls, profile)?;
+        opens_each_left(alloc, said.as_str(), &disk, profile)?;
         if said.contains("done 122\n") {
             break;
         }
@@ -286,28 +285,37 @@ fn a_stop_after_a_call_leaves_what_is_done_or_one_more_group(rt: HostRuntime) ->
     Ok(())
 }
 
-/// The disk and what the machine may leave of it must have the groups that are published, or one
-/// more whose gate is open; and the disk as it is must have the latter.
-fn opens_each_between(alloc: Global, said: &str, disk: MemDisk) -> Result<(), Fail> {
+/// What the machine may leave of the disk must have the groups that are published, or one more whose gate
+/// is open.
+fn opens_each_torn(alloc: Global, said: &str, disk: &MemDisk, profile: u8) -> Result<(), Fail> {
     for fill in [0x00, 0xC7, 0xFF] {
-        let left = stopped(alloc, &disk, fill)?;
-        let _disk = goes_on(alloc, left, front(groups_between(said, fill))?)?;
+        let left = stopped(alloc, disk, fill)?;
+        let _disk = goes_on(alloc, left, front(groups_between(said, fill))?, profile)?;
     }
-    let _disk = goes_on(alloc, disk, front(groups_between(said, 0xC7))?)?;
     Ok(())
 }
 
-/// Stops behind a line of the script, on a store of this profile.
-fn stops_behind_line(alloc: Global, lines: usize, profile: u8) -> Result<(), Fail> {
-    let script = commands(alloc, lines)?;
-    let store = store_of_profile(alloc, 16, profile)?;
-    let (said, status, disk) = told(alloc, SCRIPT, store, script.as_str())?;
-    is_status(status, 0)?;
-    opens_each_between(alloc, said.as_str(), disk)
+/// So must what is left where something is torn; and the disk as it is must have the groups of which each
+/// gate is open.
+fn opens_each_between(alloc: Global, said: &str, disk: MemDisk, profile: u8) -> Result<(), Fail> {
+    if !is_settled(alloc, &disk)? {
+        opens_each_torn(alloc, said, &disk, profile)?;
+    }
+    let _disk = goes_on(alloc, disk, front(groups_between(said, 0xC7))?, profile)?;
+    Ok(())
 }
 
-/// Stops behind each line.
-fn stops_behind_lines(alloc: Global, profile: u8) -> Result<(), Fail> {
+/// Stops behind a line of the script.
+fn stops_behind_line(alloc: Global, lines: usize, profile: u8) -> Result<(), Fail> {
+    let script = commands(alloc, lines)?;
+    let new = new_store(alloc, 16, profile)?;
+    let (said, status, disk) = told(alloc, SCRIPT, new, script.as_str())?;
+    is_status(status, 0)?;
+    opens_each_between(alloc, said.as_str(), disk, profile)
+}
+
+/// Stops behind each line in turn.
+fn stops_behind_each_line(alloc: Global, profile: u8) -> Result<(), Fail> {
     for lines in 0..LINES.lines().count() {
         stops_behind_line(alloc, lines, profile)?;
     }
@@ -317,7 +325,7 @@ fn stops_behind_lines(alloc: Global, profile: u8) -> Result<(), Fail> {
 #[test]
 fn a_stop_between_calls_leaves_what_is_done_or_one_more_group(rt: HostRuntime) -> Result<(), Fail> {
     for profile in PROFILES {
-        stops_behind_lines(rt.alloc(), profile)?;
+        stops_behind_each_line(rt.alloc(), profile)?;
     }
     Ok(())
 }

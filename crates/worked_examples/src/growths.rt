@@ -1,8 +1,8 @@
 //! Growths of a store beside its commits and an archive, stopped at each device call.
 use crate::dialogue::{FOUR_COMMITS, SCRIPT, parted, repeated, told};
 use crate::steps::Step::{Dumps, Ends, New, Says, Stops};
-use crate::steps::{Step, goes_in};
-use crate::trials::{TORN, Trial, is_count, left_goes_on, tried};
+use crate::steps::{Step, go_in};
+use crate::trials::{Trial, fillings, is_count, left_goes_on, tried};
 use disk::FaultDisk;
 use std::alloc::Global;
 use std::test::Fail;
@@ -186,6 +186,7 @@ fn is_front(
     disk: &FaultDisk,
     torn: (u8, usize),
     (published, begun): (usize, usize),
+    profile: u8,
 ) -> Result<(), Fail> {
     let groups = groups_left(alloc, disk, torn)?;
     if groups < published || begun < groups {
@@ -206,13 +207,18 @@ fn is_front(
         Stops(0xC7),
         COMMITTED,
     ];
-    left_goes_on(alloc, disk, torn, &steps)
+    left_goes_on(alloc, disk, torn, &steps, profile)
 }
 
 /// Opens what a stop may leave, with each filling of what is torn.
-fn opens_each_left(alloc: Global, disk: &FaultDisk, groups: (usize, usize)) -> Result<(), Fail> {
-    for torn in TORN {
-        is_front(alloc, disk, *torn, groups)?;
+fn opens_each_left(
+    alloc: Global,
+    disk: &FaultDisk,
+    groups: (usize, usize),
+    profile: u8,
+) -> Result<(), Fail> {
+    for torn in fillings(alloc, disk)? {
+        is_front(alloc, disk, *torn, groups, profile)?;
     }
     Ok(())
 }
@@ -222,7 +228,6 @@ fn stops_within_each_call(alloc: Global, write_reaches: bool, profile: u8) -> Re
     let dialogue = repeated(alloc, LINES)?;
     let (script, _) = parted(alloc, dialogue.as_str())?;
     let trial = Trial {
-        profile,
         before: STORE,
         action: SCRIPT,
         script: script.as_str(),
@@ -231,12 +236,12 @@ fn stops_within_each_call(alloc: Global, write_reaches: bool, profile: u8) -> Re
     };
     let mut stops: u32 = 0;
     for calls in 0..200 {
-        let (said, _, disk) = tried(alloc, &trial, calls)?;
+        let (said, _, disk) = tried(alloc, &trial, calls, profile)?;
         let lines = answered(said.as_str());
         let published = count(dialogue.as_str(), lines, "pump | published 1");
         let behind = lines.saturating_add(1);
         let begun = count(dialogue.as_str(), behind, "pump | gate written");
-        opens_each_left(alloc, &disk, (published, begun))?;
+        opens_each_left(alloc, &disk, (published, begun), profile)?;
         if said.contains("done 150\n") {
             break;
         }
@@ -256,7 +261,7 @@ const WHOLE: &[Step] = &[
 #[test]
 fn a_stop_of_a_growth_beside_commits_leaves_what_is_done(rt: HostRuntime) -> Result<(), Fail> {
     for profile in [2, 3] {
-        goes_in(rt.alloc(), profile, WHOLE)?;
+        go_in(rt.alloc(), WHOLE, profile)?;
         stops_within_each_call(rt.alloc(), false, profile)?;
     }
     Ok(())
@@ -282,5 +287,5 @@ const FIRST_PROFILE: &[Step] = &[
 
 #[test]
 fn a_store_of_the_first_profile_does_not_grow(rt: HostRuntime) -> Result<(), Fail> {
-    goes_in(rt.alloc(), 1, FIRST_PROFILE)
+    go_in(rt.alloc(), FIRST_PROFILE, 1)
 }

@@ -1,8 +1,8 @@
 //! Floors: from when on a store answers, what bars one, and what a stop leaves of one.
-use crate::dialogue::{FOUR_COMMITS, SCRIPT, Script, hold_in};
+use crate::dialogue::{FOUR_COMMITS, OLDER, SCRIPT, Script, hold_in};
 use crate::steps::Step::{At, Long, New, Parts, Says, Spells};
-use crate::steps::{Step, each_goes_in};
-use crate::trials::{Trial, is_count, left_goes_on, tried};
+use crate::steps::{Step, go_in_older};
+use crate::trials::{Trial, fillings, is_count, left_goes_on, tried};
 use disk::{Area, FaultDisk};
 use std::alloc::Global;
 use std::test::Fail;
@@ -35,14 +35,9 @@ floor 131 | refused: not yet 130
 /// The slot of the floor, the seventh.
 const SLOT: &str = "c7 04 00 00 06000000 7800000000000000 ..z 496";
 
-/// The steps, on a store of each profile that has one floor for all relations.
-fn each_older_goes(alloc: Global, steps: &[Step]) -> Result<(), Fail> {
-    each_goes_in(alloc, 1, &[New(16)], &[steps])?;
-    each_goes_in(alloc, 2, &[New(16)], &[steps])
-}
-
 /// A floor, and the store opened again behind it.
 const FLOORED: &[Step] = &[
+    New(16),
     Parts(&[
         (FOUR_COMMITS, 1),
         (RAISED, 1),
@@ -58,7 +53,7 @@ const FLOORED: &[Step] = &[
 
 #[test]
 fn a_floor_bars_what_stood_before_it(rt: HostRuntime) -> Result<(), Fail> {
-    each_older_goes(rt.alloc(), FLOORED)
+    go_in_older(rt.alloc(), FLOORED)
 }
 
 /// What is answered of the four commits once the floor is raised to 115.
@@ -76,6 +71,7 @@ const RUN: &str =
 
 /// A floor, and behind it an archive and a reclaim.
 const LEFT_OUT: &[Step] = &[
+    New(16),
     Parts(&[
         (FOUR_COMMITS, 1),
         ("floor 115 | started\nfinish | idle\n", 1),
@@ -92,7 +88,7 @@ const LEFT_OUT: &[Step] = &[
 
 #[test]
 fn an_archive_leaves_out_what_ended_by_the_floor(rt: HostRuntime) -> Result<(), Fail> {
-    each_older_goes(rt.alloc(), LEFT_OUT)
+    go_in_older(rt.alloc(), LEFT_OUT)
 }
 
 /// Scripts of floors beside transactions, commits and other jobs.
@@ -303,8 +299,10 @@ at 1 7 110 | value 62
 
 #[test]
 fn floors_beside_other_work_are_answered(rt: HostRuntime) -> Result<(), Fail> {
-    hold_in(rt.alloc(), SCRIPTS, 1)?;
-    hold_in(rt.alloc(), SCRIPTS, 2)
+    for profile in OLDER {
+        hold_in(rt.alloc(), SCRIPTS, profile)?;
+    }
+    Ok(())
 }
 
 /// A floor of the four commits, step by step. Its four calls are all that the disk is asked for.
@@ -337,9 +335,9 @@ fn steps_left(said: &str, fill: u8) -> &'static [Step] {
 }
 
 /// Opens what a stop may leave of a disk, with each filling of what is torn, and asks.
-fn asks_each_left(alloc: Global, said: &str, disk: &FaultDisk) -> Result<(), Fail> {
-    for fill in [0x00, 0xC7, 0xFF] {
-        left_goes_on(alloc, disk, (fill, 0), steps_left(said, fill))?;
+fn asks_each_left(alloc: Global, said: &str, disk: &FaultDisk, profile: u8) -> Result<(), Fail> {
+    for torn in fillings(alloc, disk)? {
+        left_goes_on(alloc, disk, *torn, steps_left(said, torn.0), profile)?;
     }
     Ok(())
 }
@@ -359,7 +357,6 @@ fn is_failed(said: &str) -> Result<bool, Fail> {
 /// met once: the store fails and reads on, and the floor is not raised.
 fn refuses_each_call(alloc: Global, write_reaches: bool, profile: u8) -> Result<(), Fail> {
     let trial = Trial {
-        profile,
         before: &[New(16), Says(FOUR_COMMITS)],
         action: SCRIPT,
         script: ONE_FLOOR,
@@ -368,8 +365,8 @@ fn refuses_each_call(alloc: Global, write_reaches: bool, profile: u8) -> Result<
     };
     let mut refusals: u32 = 0;
     for calls_before in 0..100 {
-        let (said, _, disk) = tried(alloc, &trial, calls_before)?;
-        asks_each_left(alloc, said.as_str(), &disk)?;
+        let (said, _, disk) = tried(alloc, &trial, calls_before, profile)?;
+        asks_each_left(alloc, said.as_str(), &disk, profile)?;
         if said.contains("job done") {
             break;
         }
@@ -380,12 +377,16 @@ fn refuses_each_call(alloc: Global, write_reaches: bool, profile: u8) -> Result<
 
 #[test]
 fn a_floor_is_raised_whole_or_not_at_all(rt: HostRuntime) -> Result<(), Fail> {
-    refuses_each_call(rt.alloc(), false, 1)?;
-    refuses_each_call(rt.alloc(), false, 2)
+    for profile in OLDER {
+        refuses_each_call(rt.alloc(), false, profile)?;
+    }
+    Ok(())
 }
 
 #[test]
 fn a_floor_whose_refused_write_was_made_is_raised_or_not(rt: HostRuntime) -> Result<(), Fail> {
-    refuses_each_call(rt.alloc(), true, 1)?;
-    refuses_each_call(rt.alloc(), true, 2)
+    for profile in OLDER {
+        refuses_each_call(rt.alloc(), true, profile)?;
+    }
+    Ok(())
 }

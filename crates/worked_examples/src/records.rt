@@ -1,7 +1,7 @@
 //! What stands on the disk: headers, slots and records.
 use crate::dialogue::{FOUR_COMMITS, ONE_COMMIT};
 use crate::steps::Step::{Extents, Long, New, Says, Spells};
-use crate::steps::{Step, go, goes_in};
+use crate::steps::{Step, go};
 use crate::stored::{Stored, are_stored};
 use disk::Area;
 use std::test::Fail;
@@ -11,8 +11,10 @@ const ONE_RECORD: &[Step] = &[
     Says(ONE_COMMIT),
     Spells(
         Area::Status,
-        512,
-        "c7 01 01 00 00000000 0900000000000000 6400000000000000 01000000 01000000 01000000 ..z 476
+        0,
+        "4e4f4f5645523031 03000000
+        10000000 ..z 496
+        c7 01 01 00 00000000 0900000000000000 6400000000000000 01000000 01000000 01000000 ..z 476
         ..z 7680",
     ),
     Long(Area::Status, 8704),
@@ -25,46 +27,6 @@ const ONE_RECORD: &[Step] = &[
 #[test]
 fn one_commit_of_one_record(rt: HostRuntime) -> Result<(), Fail> {
     go(rt.alloc(), ONE_RECORD)
-}
-
-/// The front of a store's status area: of each profile its header, and zeros up to the first slot.
-const HEADERS: [(u8, Step); 3] = [
-    (
-        1,
-        Spells(
-            Area::Status,
-            0,
-            "4e4f4f5645523031 01000000 10000000 ..z 496",
-        ),
-    ),
-    (
-        2,
-        Spells(
-            Area::Status,
-            0,
-            "4e4f4f5645523031 02000000 10000000 ..z 496",
-        ),
-    ),
-    (
-        3,
-        Spells(
-            Area::Status,
-            0,
-            "4e4f4f5645523031 03000000 10000000 ..z 496",
-        ),
-    ),
-];
-
-#[test]
-fn a_header_says_its_profile(rt: HostRuntime) -> Result<(), Fail> {
-    for (profile, header) in HEADERS {
-        goes_in(
-            rt.alloc(),
-            profile,
-            &[New(16), header, Says(ONE_COMMIT), header],
-        )?;
-    }
-    Ok(())
 }
 
 const TWO_MEMBERS: &[Step] = &[

@@ -1,7 +1,5 @@
 //! Calls that the disk refuses.
-use crate::dialogue::{
-    FOUR_COMMITS, NEWEST_PROFILE, PROFILES, SCRIPT, is_said, is_text, of_profile, told,
-};
+use crate::dialogue::{FOUR_COMMITS, NEWEST, PROFILES, SCRIPT, is_said, is_text, of_profile, told};
 use crate::steps::Step;
 use crate::steps::Step::{New, Runs, Says, Stops};
 use crate::trials::{Trial, is_count, left_goes_on, still_answers, still_says, tried};
@@ -72,7 +70,6 @@ fn is_in_doubt(
 /// which there are six, so that the store is failed and reads on.
 fn refuses_each_call(alloc: Global, write_reaches: bool, profile: u8) -> Result<(), Fail> {
     let trial = Trial {
-        profile,
         before: &[New(16)],
         action: SCRIPT,
         script: LINES,
@@ -81,7 +78,7 @@ fn refuses_each_call(alloc: Global, write_reaches: bool, profile: u8) -> Result<
     };
     let mut steps: u32 = 0;
     for calls in 0..100 {
-        let (said, status, disk) = tried(alloc, &trial, calls)?;
+        let (said, status, disk) = tried(alloc, &trial, calls, profile)?;
         if said.as_str() == PUBLISHED {
             break;
         }
@@ -111,17 +108,19 @@ fn after_a_refused_call_that_was_made_reading_goes_on(rt: HostRuntime) -> Result
     Ok(())
 }
 
-/// A commit, and the store opened again behind it.
-const REOPENING: &str = "begin t
+const REOPENED: Trial<'static> = Trial {
+    before: &[New(16)],
+    action: SCRIPT,
+    script: "begin t
 put t 1 7 61
 submit t 9 100
 flush
 reopen
 at 1 7 100
-";
-
-/// What is said of it where nothing is refused, by a store of the newest profile.
-const REOPENED: &str = "snapshot 0\nok\nqueued\nidle\nlast 100 floors 0\nvalue 61\n";
+",
+    write_reaches: false,
+    stops: false,
+};
 
 /// A call of the reopening was refused.
 fn is_not_reopened(alloc: Global, said: &str, status: u8, disk: FaultDisk) -> Result<(), Fail> {
@@ -138,21 +137,14 @@ fn is_more(refused: u32, than: u32) -> Result<(), Fail> {
     Err(Fail::new(format_args!("{refused} calls were refused")))
 }
 
-/// Each call of the reopening is refused in turn.
-fn refuses_the_reopening(alloc: Global, profile: u8) -> Result<(), Fail> {
-    let trial = Trial {
-        profile,
-        before: &[New(16)],
-        action: SCRIPT,
-        script: REOPENING,
-        write_reaches: false,
-        stops: false,
-    };
-    let whole = of_profile(alloc, REOPENED, profile)?;
+/// Each call is refused in turn, till none is.
+fn refuses_a_reopening(alloc: Global, profile: u8) -> Result<(), Fail> {
+    let answers = "snapshot 0\nok\nqueued\nidle\nlast 100 floors 0\nvalue 61\n";
+    let answers = of_profile(alloc, answers, profile)?;
     let mut refused: u32 = 0;
     for calls in 0..100 {
-        let (said, status, disk) = tried(alloc, &trial, calls)?;
-        if said.as_str() == whole.as_str() {
+        let (said, status, disk) = tried(alloc, &REOPENED, calls, profile)?;
+        if said.as_str() == answers.as_str() {
             break;
         }
         if said.contains("idle") {
@@ -166,13 +158,12 @@ fn refuses_the_reopening(alloc: Global, profile: u8) -> Result<(), Fail> {
 #[test]
 fn a_refused_reopening_ends_the_script(rt: HostRuntime) -> Result<(), Fail> {
     for profile in PROFILES {
-        refuses_the_reopening(rt.alloc(), profile)?;
+        refuses_a_reopening(rt.alloc(), profile)?;
     }
     Ok(())
 }
 
 const FORMAT: Trial<'static> = Trial {
-    profile: NEWEST_PROFILE,
     before: &[],
     action: Action::Format { dir: "", slots: 16 },
     script: "",
@@ -191,7 +182,7 @@ fn is_made_again(alloc: Global, said: &str, disk: FaultDisk) -> Result<(), Fail>
 fn a_refused_format_is_made_again(rt: HostRuntime) -> Result<(), Fail> {
     let mut refused: u32 = 0;
     for calls in 0..100 {
-        let (said, status, disk) = tried(rt.alloc(), &FORMAT, calls)?;
+        let (said, status, disk) = tried(rt.alloc(), &FORMAT, calls, NEWEST)?;
         if status == 0 {
             break;
         }
@@ -201,8 +192,10 @@ fn a_refused_format_is_made_again(rt: HostRuntime) -> Result<(), Fail> {
     is_more(refused, 3)
 }
 
-/// A fifth commit behind the four.
-const FIFTH_COMMIT: &str = "begin e
+const FIFTH_COMMIT: Trial<'static> = Trial {
+    before: &[New(16), Says(FOUR_COMMITS)],
+    action: SCRIPT,
+    script: "begin e
 put e 1 7 64
 submit e 9 140
 pump
@@ -215,7 +208,10 @@ redeem e
 begin f
 at 1 7 130
 at 1 7 140
-";
+",
+    write_reaches: true,
+    stops: false,
+};
 
 /// What is said of it where the sync after the gate is refused.
 const GATE_IN_DOUBT: &str = "snapshot 130
@@ -235,16 +231,8 @@ refused: not yet 130
 
 /// A fifth commit, the sync after whose gate is refused.
 fn gate_in_doubt(alloc: Global, profile: u8) -> Result<FaultDisk, Fail> {
-    let trial = Trial {
-        profile,
-        before: &[New(16), Says(FOUR_COMMITS)],
-        action: SCRIPT,
-        script: FIFTH_COMMIT,
-        write_reaches: true,
-        stops: false,
-    };
     for calls in 0..100 {
-        let (said, _, disk) = tried(alloc, &trial, calls)?;
+        let (said, _, disk) = tried(alloc, &FIFTH_COMMIT, calls, profile)?;
         if said.as_str() == GATE_IN_DOUBT {
             return Ok(disk);
         }
@@ -269,24 +257,20 @@ const MADE: Step = Runs("times 9\n", "times 140\n", 0);
 
 const NOT_MADE: Step = Runs("times 9\n", "times\n", 0);
 
-/// The commit in doubt is made or not, as what is left of the gate tells.
-fn tells_what_was_kept(alloc: Global, profile: u8) -> Result<(), Fail> {
+/// The commit is what each of these leaves, and is made on the disk as it is.
+fn is_what_was_kept(alloc: Global, profile: u8) -> Result<(), Fail> {
     let disk = gate_in_doubt(alloc, profile)?;
     for (fill, steps) in TIMES_LEFT {
-        left_goes_on(alloc, &disk, (*fill, 0), steps)?;
+        left_goes_on(alloc, &disk, (*fill, 0), steps, profile)?;
     }
-    still_says(
-        alloc,
-        disk,
-        "times 9\nat 1 7 140\n",
-        "times 140\nvalue 64\n",
-    )
+    let answers = "times 140\nvalue 64\n";
+    still_says(alloc, disk, "times 9\nat 1 7 140\n", answers)
 }
 
 #[test]
 fn a_commit_in_doubt_is_what_the_disk_kept(rt: HostRuntime) -> Result<(), Fail> {
     for profile in PROFILES {
-        tells_what_was_kept(rt.alloc(), profile)?;
+        is_what_was_kept(rt.alloc(), profile)?;
     }
     Ok(())
 }

@@ -5,7 +5,7 @@ use crate::refused_calls::{is_not_opened, value_kept};
 use crate::steps::Step::New;
 use crate::trials::{Trial, is_count, still_answers, tried};
 use disk::FaultDisk;
-use std::alloc::{AllocError, Global};
+use std::alloc::Global;
 use std::test::Fail;
 
 const EXAMPLE: &str = "begin t
@@ -122,20 +122,16 @@ struct Refused {
     reopening: u32,
 }
 
-/// What is said behind the reopening of a store of this profile that has this value at 100.
-fn reopened(alloc: Global, value: &str, profile: u8) -> Result<String, AllocError> {
-    let lines = if value == "value 61" { KEPT } else { NOT_KEPT };
-    of_profile(alloc, lines, profile)
-}
-
-/// The script ends well with this behind what comes before the reopening, and then the store has
-/// this value at 100.
+/// The script ends well with this behind what comes before the reopening, and then the store, which is of
+/// this profile, has this value at 100.
 fn is_kept(
     alloc: Global,
     (rest, status, disk): (&str, u8, FaultDisk),
-    (value, profile): (&str, u8),
+    value: &str,
+    profile: u8,
 ) -> Result<(), Fail> {
-    let reopened = reopened(alloc, value, profile)?;
+    let reopened = if value == "value 61" { KEPT } else { NOT_KEPT };
+    let reopened = of_profile(alloc, reopened, profile)?;
     is_said(rest, status, reopened.as_str(), 0)?;
     still_answers(alloc, disk, "100", value)
 }
@@ -157,19 +153,18 @@ fn is_refused(
     alloc: Global,
     refused: &mut Refused,
     (said, status, disk): (&str, u8, FaultDisk),
-    trial: &Trial<'_>,
+    (write_reaches, profile): (bool, u8),
 ) -> Result<(), Fail> {
-    let profile = trial.profile;
     if let Some(rest) = said.strip_prefix(COMMIT_FAILED) {
         refused.commit = refused.commit.saturating_add(1);
-        let value = value_kept(refused.commit, trial.write_reaches);
-        is_kept(alloc, (rest, status, disk), (value, profile))
+        let value = value_kept(refused.commit, write_reaches);
+        is_kept(alloc, (rest, status, disk), value, profile)
     } else if let Some(rest) = said.strip_prefix(ARCHIVE_FAILED) {
         refused.archive = refused.archive.saturating_add(1);
-        is_kept(alloc, (rest, status, disk), ("value 61", profile))
+        is_kept(alloc, (rest, status, disk), "value 61", profile)
     } else if let Some(rest) = said.strip_prefix(RECLAIM_FAILED) {
         refused.reclaim = refused.reclaim.saturating_add(1);
-        is_kept(alloc, (rest, status, disk), ("value 61", profile))
+        is_kept(alloc, (rest, status, disk), "value 61", profile)
     } else if let Some(rest) = said.strip_prefix(FINISHED) {
         refused.reopening = refused.reopening.saturating_add(1);
         is_not_reopened(alloc, (rest, status, disk))
@@ -181,22 +176,26 @@ fn is_refused(
 
 /// Each call of the script is refused in turn.
 fn refuses_each_call(alloc: Global, write_reaches: bool, profile: u8) -> Result<Refused, Fail> {
+    let kept = of_profile(alloc, KEPT, profile)?;
     let trial = Trial {
-        profile,
         before: &[New(16)],
         action: SCRIPT,
         script: EXAMPLE,
         write_reaches,
         stops: false,
     };
-    let whole = reopened(alloc, "value 61", profile)?;
     let mut refused = Refused::default();
     for calls in 0..100 {
-        let (said, status, disk) = tried(alloc, &trial, calls)?;
-        if said.strip_prefix(FINISHED) == Some(whole.as_str()) {
+        let (said, status, disk) = tried(alloc, &trial, calls, profile)?;
+        if said.strip_prefix(FINISHED) == Some(kept.as_str()) {
             return Ok(refused);
         }
-        is_refused(alloc, &mut refused, (said.as_str(), status, disk), &trial)?;
+        is_refused(
+            alloc,
+            &mut refused,
+            (said.as_str(), status, disk),
+            (write_reaches, profile),
+        )?;
     }
     Err(Fail::new("the script has no end"))
 }
@@ -217,8 +216,8 @@ fn is_counted(refused: &Refused) -> Result<(), Fail> {
     is_often(refused.opening, refused.reopening)
 }
 
-/// The same where a refused write has reached the disk and where it has not.
-fn says_which_was_refused(alloc: Global, profile: u8) -> Result<(), Fail> {
+/// The refused calls of each part are counted, where a refused write has reached the disk or not.
+fn counts_each_call(alloc: Global, profile: u8) -> Result<(), Fail> {
     for write_reaches in [false, true] {
         let refused = refuses_each_call(alloc, write_reaches, profile)?;
         is_counted(&refused)?;
@@ -229,7 +228,7 @@ fn says_which_was_refused(alloc: Global, profile: u8) -> Result<(), Fail> {
 #[test]
 fn the_example_says_which_call_was_refused(rt: HostRuntime) -> Result<(), Fail> {
     for profile in PROFILES {
-        says_which_was_refused(rt.alloc(), profile)?;
+        counts_each_call(rt.alloc(), profile)?;
     }
     Ok(())
 }

@@ -1,8 +1,8 @@
 //! Examples as tables: what is done to a disk in memory, step by step, and what each step must give.
 use crate::bytes::{change, cut, has_extents, is_long, put, spells, stopped};
 use crate::dialogue::{
-    NEWEST_PROFILE, PROFILES, SCRIPT, answers, converses, converses_by_parts, dumps, ends_well,
-    is_refused, rows, says, store_of_profile,
+    OLDER, PROFILES, SCRIPT, answers, converses, converses_by_parts, dumps, ends_well, is_refused,
+    new_store, of_profile, rows, says,
 };
 use disk::{Area, MemDisk};
 use shell::Action;
@@ -12,7 +12,7 @@ use std::test::Fail;
 /// What is done to a disk, and what must come of it.
 #[derive(Clone, Copy)]
 pub enum Step {
-    /// A new store of this many slots takes its place.
+    /// A new store of this many slots takes its place, of the profile in which the steps are taken.
     New(u32),
     /// A script whose lines are answered as the dialogue says.
     Says(&'static str),
@@ -52,10 +52,22 @@ pub enum Step {
     Stops(u8),
 }
 
+/// From a place on an area of a store of this profile must have these bytes, as a text spells them of
+/// the newest profile.
+fn has_bytes(
+    alloc: Global,
+    disk: &mut MemDisk,
+    (area, place, text): (Area, usize, &str),
+    profile: u8,
+) -> Result<(), Fail> {
+    let text = of_profile(alloc, text, profile)?;
+    spells(alloc, disk, area, place, text.as_str())
+}
+
 /// Looks at the disk, or changes its bytes.
-fn looked(alloc: Global, disk: &mut MemDisk, step: &Step) -> Result<(), Fail> {
+fn looked(alloc: Global, disk: &mut MemDisk, step: &Step, profile: u8) -> Result<(), Fail> {
     match *step {
-        Step::Spells(area, place, text) => spells(alloc, disk, area, place, text),
+        Step::Spells(area, place, text) => has_bytes(alloc, disk, (area, place, text), profile),
         Step::Long(area, len) => is_long(disk, area, len),
         Step::Extents(extents) => has_extents(alloc, disk, extents),
         Step::Puts(area, place, text) => put(alloc, disk, area, place, text),
@@ -65,7 +77,7 @@ fn looked(alloc: Global, disk: &mut MemDisk, step: &Step) -> Result<(), Fail> {
 }
 
 /// An action of the program, and what it must say.
-fn done(alloc: Global, disk: MemDisk, step: &Step) -> Result<MemDisk, Fail> {
+fn done(alloc: Global, disk: MemDisk, step: &Step, profile: u8) -> Result<MemDisk, Fail> {
     let dir = "";
     let (action, input, lines, status) = match *step {
         Step::Runs(script, lines, status) => (SCRIPT, script, lines, status),
@@ -75,84 +87,85 @@ fn done(alloc: Global, disk: MemDisk, step: &Step) -> Result<MemDisk, Fail> {
         Step::Rows(from, to, lines, status) => (rows(from, to), "", lines, status),
         _ => (SCRIPT, "", "no such step", 0),
     };
-    says(alloc, disk, action, input, (lines, status))
+    says(alloc, disk, action, input, (lines, status), profile)
 }
 
-/// Takes a step, where new stores are of this profile.
-fn taken(alloc: Global, profile: u8, disk: MemDisk, step: &Step) -> Result<MemDisk, Fail> {
+/// Takes a step in a profile.
+fn taken(alloc: Global, disk: MemDisk, step: &Step, profile: u8) -> Result<MemDisk, Fail> {
     let mut disk = disk;
     match *step {
-        Step::New(slots) => store_of_profile(alloc, slots, profile),
-        Step::Says(dialogue) => converses(alloc, disk, dialogue),
-        Step::Parts(parts) => converses_by_parts(alloc, disk, parts),
+        Step::New(slots) => new_store(alloc, slots, profile),
+        Step::Says(dialogue) => converses(alloc, disk, dialogue, profile),
+        Step::Parts(parts) => converses_by_parts(alloc, disk, parts, profile),
         Step::Ends(script) => ends_well(alloc, disk, script),
-        Step::Dumps(text, status) => dumps(alloc, disk, text, status),
+        Step::Dumps(text, status) => dumps(alloc, disk, (text, status), profile),
         Step::At(time, line) => answers(alloc, disk, time, line),
         Step::Refuses(text) => is_refused(alloc, disk, text),
         Step::Cuts(area, len) => cut(alloc, &mut disk, area, len),
         Step::Stops(fill) => stopped(alloc, &disk, fill),
         Step::Spells(..) | Step::Long(..) | Step::Extents(_) | Step::Puts(..) | Step::Changes(..) =>
             {
-                looked(alloc, &mut disk, step)?;
+                looked(alloc, &mut disk, step, profile)?;
                 Ok(disk)
             }
-        _ => done(alloc, disk, step),
+        _ => done(alloc, disk, step, profile),
     }
 }
 
-/// Takes the steps, beginning with a disk, where new stores are of this profile: the one that they leave.
-fn goes_on_in(alloc: Global, profile: u8, disk: MemDisk, steps: &[Step]) -> Result<MemDisk, Fail> {
+/// Takes the steps in a profile, beginning with a disk: the one that they leave.
+pub fn goes_on(alloc: Global, disk: MemDisk, steps: &[Step], profile: u8) -> Result<MemDisk, Fail> {
     let mut disk = disk;
     for step in steps {
-        disk = taken(alloc, profile, disk, step)?;
+        disk = taken(alloc, disk, step, profile)?;
     }
     Ok(disk)
 }
 
-/// Takes the steps, beginning with a disk: the one that they leave.
-pub fn goes_on(alloc: Global, disk: MemDisk, steps: &[Step]) -> Result<MemDisk, Fail> {
-    goes_on_in(alloc, NEWEST_PROFILE, disk, steps)
+/// Takes the steps in a profile, beginning with an empty disk: the one that they leave.
+pub fn stands(alloc: Global, steps: &[Step], profile: u8) -> Result<MemDisk, Fail> {
+    goes_on(alloc, MemDisk::new(alloc), steps, profile)
 }
 
-/// Takes the steps, beginning with an empty disk, where new stores are of this profile: the one that they
-/// leave.
-pub fn stands(alloc: Global, profile: u8, steps: &[Step]) -> Result<MemDisk, Fail> {
-    goes_on_in(alloc, profile, MemDisk::new(alloc), steps)
-}
-
-/// Steps that begin with an empty disk, where new stores are of this profile.
-pub fn goes_in(alloc: Global, profile: u8, steps: &[Step]) -> Result<(), Fail> {
-    let _disk = stands(alloc, profile, steps)?;
+/// Steps in a profile that begin with an empty disk.
+pub fn go_in(alloc: Global, steps: &[Step], profile: u8) -> Result<(), Fail> {
+    let _disk = stands(alloc, steps, profile)?;
     Ok(())
 }
 
-/// The same with stores of each profile.
+/// The same in each profile.
 pub fn go(alloc: Global, steps: &[Step]) -> Result<(), Fail> {
     for profile in PROFILES {
-        goes_in(alloc, profile, steps)?;
+        go_in(alloc, steps, profile)?;
     }
     Ok(())
 }
 
-/// Steps, and others that go on behind them, each time from the empty disk, where new stores are of this
-/// profile.
+/// The same in each of the profiles whose stores have one floor for all relations.
+pub fn go_in_older(alloc: Global, steps: &[Step]) -> Result<(), Fail> {
+    for profile in OLDER {
+        go_in(alloc, steps, profile)?;
+    }
+    Ok(())
+}
+
+/// Steps in a profile, and others that go on behind them, each time from the empty disk.
 pub fn each_goes_in(
     alloc: Global,
-    profile: u8,
     before: &[Step],
     all: &[&[Step]],
+    profile: u8,
 ) -> Result<(), Fail> {
     for steps in all {
-        let disk = stands(alloc, profile, before)?;
-        let _disk = goes_on(alloc, disk, steps)?;
+        let disk = stands(alloc, before, profile)?;
+        let _disk = goes_on(alloc, disk, steps, profile)?;
     }
     Ok(())
 }
 
-/// The same with stores of each profile.
+/// The same in each profile.
 pub fn each_goes(alloc: Global, before: &[Step], all: &[&[Step]]) -> Result<(), Fail> {
     for profile in PROFILES {
-        each_goes_in(alloc, profile, before, all)?;
+        each_goes_in(alloc, before, all, profile)?;
     }
     Ok(())
 }

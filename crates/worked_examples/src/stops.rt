@@ -2,7 +2,7 @@
 use crate::dialogue::{PROFILES, SCRIPT};
 use crate::steps::Step::{At, New, Says, Spells, Stops};
 use crate::steps::{Step, each_goes};
-use crate::trials::{TORN, Trial, is_count, left_goes_on, tried};
+use crate::trials::{Trial, fillings, is_count, left_goes_on, tried};
 use disk::{Area, FaultDisk};
 use std::alloc::Global;
 use std::test::Fail;
@@ -33,12 +33,12 @@ fn steps_left(said: &str, fill: u8) -> &'static [Step] {
 }
 
 /// Opens what a stop may leave of a disk, with each filling of what is torn, and asks.
-fn asks_each_left(alloc: Global, said: &str, disk: &FaultDisk) -> Result<(), Fail> {
+fn asks_each_left(alloc: Global, said: &str, disk: &FaultDisk, profile: u8) -> Result<(), Fail> {
     if disk.ran_short() {
         return Err(Fail::new("no memory for a write"));
     }
-    for torn in TORN {
-        left_goes_on(alloc, disk, *torn, steps_left(said, torn.0))?;
+    for torn in fillings(alloc, disk)? {
+        left_goes_on(alloc, disk, *torn, steps_left(said, torn.0), profile)?;
     }
     Ok(())
 }
@@ -46,7 +46,6 @@ fn asks_each_left(alloc: Global, said: &str, disk: &FaultDisk) -> Result<(), Fai
 /// Stops at each call in turn. A stop is met by each of the six calls of the commit once.
 fn stops_at_each_call(alloc: Global, write_reaches: bool, profile: u8) -> Result<(), Fail> {
     let trial = Trial {
-        profile,
         before: &[New(16)],
         action: SCRIPT,
         script: ONE_COMMIT,
@@ -55,8 +54,8 @@ fn stops_at_each_call(alloc: Global, write_reaches: bool, profile: u8) -> Result
     };
     let mut stops: u32 = 0;
     for calls in 0..100 {
-        let (said, _, disk) = tried(alloc, &trial, calls)?;
-        asks_each_left(alloc, said.as_str(), &disk)?;
+        let (said, _, disk) = tried(alloc, &trial, calls, profile)?;
+        asks_each_left(alloc, said.as_str(), &disk, profile)?;
         if said.contains("published 1") {
             break;
         }

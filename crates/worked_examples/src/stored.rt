@@ -1,6 +1,6 @@
 //! Dialogues, and the extents that they leave.
 use crate::bytes::has_extents;
-use crate::dialogue::{PROFILES, converses_by_parts, store_of_profile};
+use crate::dialogue::{PROFILES, converses_by_parts, new_store};
 use std::alloc::Global;
 use std::test::Fail;
 
@@ -14,25 +14,25 @@ pub struct Stored {
     pub extents: &'static [&'static str],
 }
 
-/// The dialogue must leave its extents, on a store of this profile.
-fn is_stored(alloc: Global, profile: u8, stored: &Stored) -> Result<(), Fail> {
-    let disk = store_of_profile(alloc, 16, profile)?;
-    let mut disk = converses_by_parts(alloc, disk, stored.parts)?;
+/// The dialogue must leave its extents in a profile.
+fn is_stored(alloc: Global, stored: &Stored, profile: u8) -> Result<(), Fail> {
+    let disk = new_store(alloc, 16, profile)?;
+    let mut disk = converses_by_parts(alloc, disk, stored.parts, profile)?;
     has_extents(alloc, &mut disk, stored.extents)
 }
 
-/// Each dialogue must leave its extents, on a store of this profile.
-fn are_stored_in(alloc: Global, profile: u8, all: &[Stored]) -> Result<(), Fail> {
-    for stored in all {
-        is_stored(alloc, profile, stored)?;
+/// The dialogue must leave its extents in each profile.
+fn is_stored_in_each(alloc: Global, stored: &Stored) -> Result<(), Fail> {
+    for profile in PROFILES {
+        is_stored(alloc, stored, profile)?;
     }
     Ok(())
 }
 
-/// Each dialogue must leave its extents, on stores of each profile.
+/// Each dialogue must leave its extents.
 pub fn are_stored(alloc: Global, all: &[Stored]) -> Result<(), Fail> {
-    for profile in PROFILES {
-        are_stored_in(alloc, profile, all)?;
+    for stored in all {
+        is_stored_in_each(alloc, stored)?;
     }
     Ok(())
 }

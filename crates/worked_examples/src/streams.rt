@@ -1,5 +1,5 @@
 //! Inputs that wait for answers, and inputs and outputs that refuse.
-use crate::dialogue::{KEY, NEWEST_PROFILE, ONE_COMMIT, SCRIPT, answers, new_store};
+use crate::dialogue::{KEY, NEWEST, ONE_COMMIT, PROFILES, SCRIPT, answers, new_store, of_profile};
 use crate::steps::Step::{New, Says};
 use crate::steps::{Step, stands};
 use disk::MemDisk;
@@ -12,9 +12,12 @@ use std::io::{BufReader, BufWriter, Read, Write};
 use std::process::Abort;
 use std::test::Fail;
 
-/// What is fed at a time, and what it is answered with. The third line is fed in two parts. The
-/// last one lacks its line feed: it is answered once the input has ended, for which no bytes stand.
-const TALK: [(&str, &str); 10] = [
+/// What is fed at a time, and what it is answered with.
+type Talk = [(&'static str, &'static str); 10];
+
+/// The third line is fed in two parts. The last one lacks its line feed: it is answered once the input
+/// has ended, for which no bytes stand.
+const TALK: Talk = [
     ("begin t\n", "snapshot 0\n"),
     ("put t 1 7 61\n", "ok\n"),
     ("get t", ""),
@@ -29,6 +32,15 @@ const TALK: [(&str, &str); 10] = [
     ("reopen\nscan 1 100", "last 100 floors 0\n"),
     ("", "7 61\nrows 1\n"),
 ];
+
+/// The same on a store of this profile, which may have one floor for all relations.
+fn talk_of(profile: u8) -> Talk {
+    let mut talk = TALK;
+    if profile != NEWEST {
+        talk[8].1 = "last 100 floor 0\n";
+    }
+    talk
+}
 
 /// How many parts are fed before the commit is asked for that the next one makes.
 const BEFORE_COMMIT: usize = 5;
@@ -136,14 +148,22 @@ fn shown(
     Ok((String::from_utf8(screen.text)?, status, disk))
 }
 
-#[test]
-fn answers_are_shown_before_input_is_waited_for(rt: HostRuntime) -> Result<(), Fail> {
-    let alloc = rt.alloc();
-    let disk = new_store(alloc, 16)?;
-    let (said, status, disk) = shown(alloc, SCRIPT, disk, (&TALK, Then::Ends), usize::MAX)?;
-    assert_eq!(rt; said.as_str(), answers_to(alloc, &TALK)?.as_str());
+/// A talk on a new store of this profile: all is answered.
+fn is_answered(rt: &impl Abort, alloc: Global, profile: u8) -> Result<(), Fail> {
+    let talk = talk_of(profile);
+    let disk = new_store(alloc, 16, profile)?;
+    let (said, status, disk) = shown(alloc, SCRIPT, disk, (&talk, Then::Ends), usize::MAX)?;
+    assert_eq!(rt; said.as_str(), answers_to(alloc, &talk)?.as_str());
     assert_eq!(rt; status, 0);
     let _disk = answers(alloc, disk, "100", "value 61")?;
+    Ok(())
+}
+
+#[test]
+fn answers_are_shown_before_input_is_waited_for(rt: HostRuntime) -> Result<(), Fail> {
+    for profile in PROFILES {
+        is_answered(&rt, rt.alloc(), profile)?;
+    }
     Ok(())
 }
 
@@ -156,30 +176,44 @@ fn value_after(parts: usize) -> &'static str {
     }
 }
 
-#[test]
-fn a_refused_input_is_status_1(rt: HostRuntime) -> Result<(), Fail> {
-    let alloc = rt.alloc();
-    for count in 0..TALK.len() {
-        let parts = TALK.get(..count).ok_or("no such part")?;
-        let disk = new_store(alloc, 16)?;
-        let (said, status, disk) = shown(alloc, SCRIPT, disk, (parts, Then::Refuses), usize::MAX)?;
-        assert_eq!(rt; said.as_str(), answers_to(alloc, parts)?.as_str());
-        assert_eq!(rt; status, 1, "{count}");
-        let _disk = answers(alloc, disk, "100", value_after(count))?;
+/// An input of so many parts that refuses what comes behind them.
+fn is_fed(rt: &impl Abort, alloc: Global, parts: &[(&str, &str)], profile: u8) -> Result<(), Fail> {
+    let disk = new_store(alloc, 16, profile)?;
+    let (said, status, disk) = shown(alloc, SCRIPT, disk, (parts, Then::Refuses), usize::MAX)?;
+    assert_eq!(rt; said.as_str(), answers_to(alloc, parts)?.as_str());
+    assert_eq!(rt; status, 1, "{}", parts.len());
+    let _disk = answers(alloc, disk, "100", value_after(parts.len()))?;
+    Ok(())
+}
+
+/// The input refuses behind each part in turn.
+fn refuses_each_part(rt: &impl Abort, alloc: Global, profile: u8) -> Result<(), Fail> {
+    let talk = talk_of(profile);
+    for count in 0..talk.len() {
+        is_fed(rt, alloc, talk.get(..count).ok_or("no such part")?, profile)?;
     }
     Ok(())
 }
 
-/// A script on a new store, on a screen of so much room.
+#[test]
+fn a_refused_input_is_status_1(rt: HostRuntime) -> Result<(), Fail> {
+    for profile in PROFILES {
+        refuses_each_part(&rt, rt.alloc(), profile)?;
+    }
+    Ok(())
+}
+
+/// A talk on a new store of this profile, on a screen of so much room.
 fn runs_on_screen(
     rt: &impl Abort,
     alloc: Global,
-    room: usize,
-    whole: &str,
+    (room, whole): (usize, &str),
     value: &str,
+    profile: u8,
 ) -> Result<(), Fail> {
-    let disk = new_store(alloc, 16)?;
-    let (said, status, disk) = shown(alloc, SCRIPT, disk, (&TALK, Then::Ends), room)?;
+    let disk = new_store(alloc, 16, profile)?;
+    let talk = talk_of(profile);
+    let (said, status, disk) = shown(alloc, SCRIPT, disk, (&talk, Then::Ends), room)?;
     assert_eq!(rt; status, 1, "{room}");
     assert_eq!(rt; said.len(), room);
     assert!(rt; whole.starts_with(said.as_str()), "{room}");
@@ -187,15 +221,24 @@ fn runs_on_screen(
     Ok(())
 }
 
-#[test]
-fn a_refused_output_is_status_1(rt: HostRuntime) -> Result<(), Fail> {
-    let alloc = rt.alloc();
-    let whole = answers_to(alloc, &TALK)?;
-    let first = TALK.get(..BEFORE_COMMIT).ok_or("no such part")?;
+/// The output refuses behind each byte in turn.
+fn refuses_each_byte(rt: &impl Abort, alloc: Global, profile: u8) -> Result<(), Fail> {
+    let talk = talk_of(profile);
+    let whole = answers_to(alloc, &talk)?;
+    let first = talk.get(..BEFORE_COMMIT).ok_or("no such part")?;
     let before = answers_to(alloc, first)?.len();
     for room in 0..whole.len() {
-        let parts = if room < before { 0 } else { TALK.len() };
-        runs_on_screen(&rt, alloc, room, whole.as_str(), value_after(parts))?;
+        let parts = if room < before { 0 } else { talk.len() };
+        let shown = (room, whole.as_str());
+        runs_on_screen(rt, alloc, shown, value_after(parts), profile)?;
+    }
+    Ok(())
+}
+
+#[test]
+fn a_refused_output_is_status_1(rt: HostRuntime) -> Result<(), Fail> {
+    for profile in PROFILES {
+        refuses_each_byte(&rt, rt.alloc(), profile)?;
     }
     Ok(())
 }
@@ -250,14 +293,35 @@ fn says_on_screen(
 /// A store with one commit at 100.
 const STORE: &[Step] = &[New(16), Says(ONE_COMMIT)];
 
+/// So must the command on screens of less room than its answer, one byte at a time, and of as much.
+fn says_on_each_screen(
+    rt: &impl Abort,
+    alloc: Global,
+    disk: MemDisk,
+    (action, lines): (Action<'_>, &str),
+    profile: u8,
+) -> Result<MemDisk, Fail> {
+    let text = of_profile(alloc, lines, profile)?;
+    let mut disk = disk;
+    for room in 0..=text.len() {
+        disk = says_on_screen(rt, alloc, disk, (action, text.as_str()), room)?;
+    }
+    Ok(disk)
+}
+
+/// So must each command on a store of this profile.
+fn each_says_on_screens(rt: &impl Abort, alloc: Global, profile: u8) -> Result<(), Fail> {
+    let mut disk = stands(alloc, STORE, profile)?;
+    for command in SAID {
+        disk = says_on_each_screen(rt, alloc, disk, command, profile)?;
+    }
+    Ok(())
+}
+
 #[test]
 fn a_command_whose_answer_is_refused_is_status_1(rt: HostRuntime) -> Result<(), Fail> {
-    let alloc = rt.alloc();
-    let mut disk = stands(alloc, NEWEST_PROFILE, STORE)?;
-    for (action, text) in SAID {
-        for room in 0..=text.len() {
-            disk = says_on_screen(&rt, alloc, disk, (action, text), room)?;
-        }
+    for profile in PROFILES {
+        each_says_on_screens(&rt, rt.alloc(), profile)?;
     }
     Ok(())
 }

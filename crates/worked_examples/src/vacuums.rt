@@ -3,7 +3,7 @@ use crate::dialogue::{FOUR_COMMITS, PROFILES, is_text};
 use crate::dumps::RECLAIMED_LOG;
 use crate::raised_floors::FROM_115;
 use crate::steps::Step::{At, Dumps, New, Parts, Says, Vacuums};
-use crate::steps::{Step, go, goes_in};
+use crate::steps::{Step, go, go_in_older};
 use crate::trials::{Trial, is_count, left_goes_on, tried};
 use shell::Action;
 use std::alloc::Global;
@@ -42,8 +42,7 @@ const FLOORED: &[Step] = &[
 
 #[test]
 fn what_ended_by_the_floor_is_not_archived(rt: HostRuntime) -> Result<(), Fail> {
-    goes_in(rt.alloc(), 1, FLOORED)?;
-    goes_in(rt.alloc(), 2, FLOORED)
+    go_in_older(rt.alloc(), FLOORED)
 }
 
 /// Three commits of two keys, of which two stand at 105.
@@ -130,10 +129,16 @@ fn what_was_archived_is_said_where_the_reclaim_is_refused(rt: HostRuntime) -> Re
     go(rt.alloc(), FULL)
 }
 
-/// A vacuum up to the third commit.
-const VACUUM: Action<'static> = Action::Vacuum {
-    dir: "",
-    time: "120",
+/// A vacuum of the four commits.
+const VACUUM: Trial<'static> = Trial {
+    before: &[New(16), Says(FOUR_COMMITS)],
+    action: Action::Vacuum {
+        dir: "",
+        time: "120",
+    },
+    script: "",
+    write_reaches: false,
+    stops: false,
 };
 
 /// How many calls were refused of the archive and of the reclaim, and whether none was.
@@ -159,20 +164,12 @@ fn counted(refused: &mut Refused, said: &str) -> Result<(), Fail> {
 
 /// Each call is refused in turn: those of opening and of reading the log, the six of the archive and
 /// the five of the reclaim.
-fn stops_at_each_call(alloc: Global, profile: u8) -> Result<(), Fail> {
-    let vacuum = Trial {
-        profile,
-        before: &[New(16), Says(FOUR_COMMITS)],
-        action: VACUUM,
-        script: "",
-        write_reaches: false,
-        stops: false,
-    };
+fn refuses_each_call(alloc: Global, profile: u8) -> Result<(), Fail> {
     let mut refused = Refused::default();
     for calls_before in 0..100 {
-        let (said, _, disk) = tried(alloc, &vacuum, calls_before)?;
+        let (said, _, disk) = tried(alloc, &VACUUM, calls_before, profile)?;
         counted(&mut refused, said.as_str())?;
-        left_goes_on(alloc, &disk, (0xC7, 0), &[Says(ROWS)])?;
+        left_goes_on(alloc, &disk, (0xC7, 0), &[Says(ROWS)], profile)?;
         if refused.done {
             break;
         }
@@ -185,7 +182,7 @@ fn stops_at_each_call(alloc: Global, profile: u8) -> Result<(), Fail> {
 #[test]
 fn a_vacuum_stops_at_each_refused_call(rt: HostRuntime) -> Result<(), Fail> {
     for profile in PROFILES {
-        stops_at_each_call(rt.alloc(), profile)?;
+        refuses_each_call(rt.alloc(), profile)?;
     }
     Ok(())
 }
