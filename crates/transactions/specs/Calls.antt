@@ -50,4 +50,4 @@ AnswersTicket old ticket ticket_state.Waiting result new = (result ≡ (if old.f
 
 -- what redeeming a ticket answers; one of another store is a stranger
 abbrev pub Redeems : TransactionsValue → TicketValue → Redeemed → TransactionsValue → Type 0
-Redeems old ticket result new = MatchBool (ticket.mark == old.mark) (AnswersTicket old ticket (orders.ticket_state ticket.time (order_of old)) result new) ((result ≡ redeemed.Stranger) × (new ≡ old))
+Redeems old ticket result new = MatchBool (ticket.mark == old.mark) (AnswersTicket old ticket (orders.state_of_ticket ticket.time (order_of old)) result new) ((result ≡ redeemed.Stranger) × (new ≡ old))
