@@ -68,7 +68,7 @@ pub extern "C" fn ts_close(alloc: Global, handle: &mut Handle) -> i32
 #[unsafe(no_mangle)]
 pub extern "C" fn ts_last(alloc: Global, handle: &mut Handle, info: &mut Info) -> i32
     ensures same { StaysSame handle.old.engine handle.new.engine }
-    ensures answers { AnswersOn (λ e said. TellsTimes e.standing e said info.new) handle.old.engine result }
+    ensures answers { AnswersOn (λ e said. TellsTimes e.state e said info.new) handle.old.engine result }
 {
     let Some(engine) = handle.take(alloc) else {
         return Code::Closed.number();
