@@ -40,7 +40,7 @@ pub struct SharedStore<D: Disk, L: Opening> {
     alloc: Global,
     locked: Mutex<Locked<D, L>>,
     // The committer sleeps on the first, commits that wait on the second, and the vacuum on the last. Of
-    // the commits three are woken, each of which wakes the next once it has asked.
+    // the commits one is woken, which wakes the next once it has asked.
     queued: Condvar,
     settled: Condvar,
     moved: Condvar,
@@ -173,19 +173,10 @@ impl<D: Disk, L: Opening> SharedStore<D, L> {
         *after = locked.signals();
         drop(locked);
         if is_move(&did) {
-            self.tell_settled();
+            self.settled.notify_one();
             self.tell_moved(*after);
         }
         did
-    }
-
-    // Commits were published, or the store has failed: three of the calls of `commit` that wait are woken,
-    // each of which wakes the next. One at a time they would wait for each other's waking, on a machine of
-    // several cores; all at once they would meet at the lock.
-    fn tell_settled(&self) {
-        self.settled.notify_one();
-        self.settled.notify_one();
-        self.settled.notify_one();
     }
 
     /// Begins an archive of the versions that ended by `upto`, in microseconds since 1970.
@@ -238,7 +229,7 @@ impl<D: Disk, L: Opening> SharedStore<D, L> {
         let after = locked.signals();
         drop(locked);
         if is_job_move(&did) {
-            self.tell_settled();
+            self.settled.notify_one();
             self.tell_moved(after);
         }
         did
@@ -444,8 +435,8 @@ impl<D: Disk, L: Opening> SharedStore<D, L> {
         locked
     }
 
-    // A commit's caller has asked for its ticket: the next who is to ask is woken; and the committer, unless
-    // commits are on their way.
+    // A commit's caller has asked for its ticket: the next who is to ask is woken, one at a time, so that
+    // they do not meet at the lock; and the committer, unless commits are on their way.
     fn tell_asked(&self, after: Signals) {
         if after.has_due() {
             self.settled.notify_one();
