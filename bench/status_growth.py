@@ -34,6 +34,7 @@ def seconds(call):
 
 
 def formatted(program, folder, slots):
+    os.mkdir(folder)
     status, _, said = run(program, ["format", folder, "--slots", str(slots)])
     assert status == 0, said
 
@@ -82,10 +83,11 @@ def measured_growth(program, base):
 
 
 def filled(program, folder):
-    """Makes the greatest store, grown to its last piece, of as many commits of one record as it takes. Gives their number."""
+    """Makes the greatest store, grown to its last piece, of as many commits of one record as it takes. Gives their
+    number."""
     formatted(program, folder, MOST - PIECE)
     grow(program, folder)
-    commits = ("begin t", "put t 1 {0} {1}", "submit t 1 {0}", "flush")
+    commits = ("begin t", "put t 1 {0} {1}", "submit t 1 {0}", "flush", "redeem t")
     lines = [line.format(time_of, "ab" * 16) for time_of in range(1, MOST) for line in commits]
     done = subprocess.run([program, "run", folder], input="\n".join([*lines, ""]).encode(), stdout=subprocess.PIPE, check=True)
     return done.stdout.count(b"queued")
