@@ -111,15 +111,31 @@ fn one_if_valued(write: &TimedWrite<SharedValue>) -> usize
     value.fields().spelled().len().min(front)
 }
 
-/// How many of these writes have a value. It looks at all of each value in turn, with nothing to be done
-/// between, so that a processor fetches many at once; who then goes over them has them near.
-fn version_count(writes: &[TimedWrite<SharedValue>]) -> usize
+/// 1 where the write has a value, at which it does not look, and else 0.
+fn one_if_written(write: &TimedWrite<SharedValue>) -> usize
+    ensures is { (from to : ℕ) → result ≡ length (version_of from to write.now.write) }
+    ensures most { result ≤ 1 }
+{
+    match &write.write {
+        Some(_) => 1,
+        None => 0,
+    }
+}
+
+/// How many of these writes have a value. It looks at all of each value that was written before the time
+/// `near`, in turn, with nothing to be done between, so that a processor fetches many at once; who then
+/// goes over them has them near.
+fn version_count(writes: &[TimedWrite<SharedValue>], near: u64) -> usize
     ensures is { (end : ℕ) → result ≡ length (versions_upto end writes.now) }
 {
     let mut count = 0;
     let mut rest = writes;
     while let [first, after @ ..] = rest {
-        count += one_if_valued(first);
+        count += if first.time < near {
+            one_if_valued(first)
+        } else {
+            one_if_written(first)
+        };
         rest = after;
     }
     count
@@ -127,13 +143,18 @@ fn version_count(writes: &[TimedWrite<SharedValue>]) -> usize
 
 impl Part {
     /// The versions of a piece from the first one on that ends after the time; the last one ends at
-    /// `end`.
-    pub(crate) fn of(piece: &Piece, end: u64, time: u64) -> Result<Option<Part>, AllocError>
+    /// `end`. It looks at those that begin before the time `near`.
+    pub(crate) fn of(
+        piece: &Piece,
+        end: u64,
+        time: u64,
+        near: u64,
+    ) -> Result<Option<Part>, AllocError>
         ensures { IfOk result (IsFound time (versions_upto end piece.now)) }
     {
         let writes = piece.as_slice();
         let passed = before_ending(writes, end, time);
-        let versions = version_count(&writes[passed..]);
+        let versions = version_count(&writes[passed..], near);
         if versions == 0 {
             return Ok(None);
         }

@@ -85,12 +85,14 @@ impl Tree<Piece> {
     }
 
     /// Versions one after another, from the first one on that ends after the time, of these writes and
-    /// of those of the piece before them; the last one ends at `end`.
+    /// of those of the piece before them; the last one ends at `end`. It looks at those that begin before the
+    /// time `near`.
     pub(crate) fn part_after(
         &self,
         before: Option<&Piece>,
         end: u64,
         time: u64,
+        near: u64,
     ) -> Result<Option<Part>, AllocError>
         requires { IsRisingAfter 0 (held (option_copied before) ++ all_writes self.now.pieces) }
         ensures { IfOk result (IsFound time (versions_upto end (held (option_copied before.entry) ++ all_writes self.now.pieces))) }
@@ -98,16 +100,16 @@ impl Tree<Piece> {
         let Some(node) = self.top() else {
             return match before {
                 None => Ok(None),
-                Some(piece) => Part::of(piece, end, time),
+                Some(piece) => Part::of(piece, end, time, near),
             };
         };
         let first = node.piece.first_time();
         if first <= time {
-            return node.right.part_after(Some(&node.piece), end, time);
+            return node.right.part_after(Some(&node.piece), end, time, near);
         }
-        match node.left.part_after(before, first, time)? {
+        match node.left.part_after(before, first, time, near)? {
             Some(part) => Ok(Some(part)),
-            None => node.right.part_after(Some(&node.piece), end, time),
+            None => node.right.part_after(Some(&node.piece), end, time, near),
         }
     }
 

@@ -55,7 +55,7 @@ pub(crate) fn moves(ahead: &mut Option<Ahead>, upto: u64) -> bool
 pub(crate) fn ahead_in(chain: &Chain, passed: u64, upto: u64) -> Result<Option<Ahead>, AllocError>
     ensures { IfOk result (λ found. MatchOption found (key_records passed upto chain.now ≡ []) (IsAheadOf passed upto chain.now)) }
 {
-    let Some(part) = chain.part_after(passed)? else {
+    let Some(part) = chain.part_after(passed, upto)? else {
         return Ok(None);
     };
     let key = chain.key();
