@@ -2,10 +2,8 @@
 ghost use Rattle.std.specs.Prelude.{◌≡◌, ℕ, ◌<◌, ◌^◌, ◌↔◌, IfOk, OnErr, IsOk};
 ghost use Rattle.clock.specs.Commit.{next_time};
 
+use history::LAST_TIME;
 use std::marker::Model;
-
-/// The greatest commit time, in microseconds since 1970.
-pub const LAST_TIME: u64 = (1 << 63) - 1;
 
 /// The next commit time would pass `LAST_TIME`.
 #[derive(Clone, Copy, Debug, PartialEq, Eq)]

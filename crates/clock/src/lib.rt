@@ -5,5 +5,6 @@ mod commit;
 mod instant;
 pub mod laws;
 
-pub use commit::{ClockEnd, CommitClock, LAST_TIME};
+pub use commit::{ClockEnd, CommitClock};
+pub use history::LAST_TIME;
 pub use instant::{BadInstant, Moment, read_instant, read_instant_bytes, show_instant};

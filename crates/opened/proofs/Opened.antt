@@ -44,8 +44,8 @@ use Rattle.layout.specs.Opening.{unread, unread_layout}
 use Rattle.layout.proofs.OpensAsOne.{opens_once}
 use Rattle.layout.proofs.Ways.{synced_rests}
 use Rattle.recovery.specs.declared.recovered.Recovered.{Recovered}
-use Rattle.recovery.specs.declared.recovered.CommitName.{CommitName}
-use Rattle.recovery.specs.Names.{head_named}
+use Rattle.wire.specs.declared.slot.Member.{Member}
+use Rattle.status.specs.Rules as rules
 use Rattle.recovery.specs.HeapReads.{numbers_in}
 use Rattle.recovery.specs.ReadsImage.{IsOpening, IsReadAs, IsReadFrom}
 use Rattle.recovery.specs.Laws.{IsHistoryRead}
@@ -85,13 +85,13 @@ settled-left image left leaves =
 
 -- ---- the commits that the log names
 
-named : (items : List CommitName) (h : History Value) → map head_named items ≡ map head_of h → map name_at (map head_as items) ≡ map name_of h
+named : (items : List Member) (h : History Value) → map rules.head_of items ≡ map head_of h → map name_at (map head_as items) ≡ map name_of h
 named [] [] same = refl
 named [] (c ∷ cs) same = absurd cc
 named (n ∷ ns) [] same = absurd cc
 named (n ∷ ns) (c ∷ cs) same =
-    let first : head_named n ≡ head_of c = cc in
-    let rest : map head_named ns ≡ map head_of cs = cc in
+    let first : rules.head_of n ≡ head_of c = cc in
+    let rest : map rules.head_of ns ≡ map head_of cs = cc in
     let one : name_at (head_as n) ≡ name_of c = ap (λ (x : Head). record { time = x.time; label = x.label }) first in
     ap (λ (x : Name). x ∷ map name_at (map head_as ns)) one ∙ ap (λ (xs : List Name). name_of c ∷ xs) (named ns cs rest)
 
@@ -177,7 +177,7 @@ module _ (old : DiskState) (mark : ℕ) (disk : DiskState) (r : Recovered) (arch
   -- ---- memory
 
   many : length r.commits.items ≡ length h
-  many = sym (length-map r.commits.items head_named) ∙ ap (λ (l : List Head). length l) so.commits ∙ length-map h head_of
+  many = sym (length-map r.commits.items rules.head_of) ∙ ap (λ (l : List Head). length l) so.commits ∙ length-map h head_of
 
   heads_rise : orders.IsRisingAfter 0 (map head_as r.commits.items)
   heads_rise = rising-opened 0 r.commits.items (subst (λ (l : List Head). AreRisingAfter 0 l) (sym so.commits) (heads-rising 0 h rising))

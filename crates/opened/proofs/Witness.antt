@@ -42,6 +42,7 @@ use Rattle.wire.specs.declared.slot.Body.TheVariants as bodies
 use Rattle.wire.specs.declared.slot.Slot.{Slot}
 use Rattle.status.specs.declared.header.Header.{Header}
 use Rattle.status.specs.Kept.{kept_of}
+use Rattle.status.specs.Rules as rules
 use Rattle.status.specs.Rules.{runs_in, runs_of}
 use Rattle.wire.specs.declared.slot.Run.{Run}
 use Rattle.layout.specs.Extents.{Extent}
@@ -49,9 +50,7 @@ use Rattle.layout.specs.Layouts.{StoredMember, IsStoredMember, live, entries_of}
 use Rattle.layout.specs.Opening.{unread, unread_layout}
 use Rattle.layout.proofs.Layouts.{live_extents_are}
 use Rattle.recovery.specs.declared.recovered.Recovered.{Recovered}
-use Rattle.recovery.specs.declared.recovered.CommitName.{CommitName}
 use Rattle.recovery.specs.declared.recovered.LiveChain.{LiveChain}
-use Rattle.recovery.specs.Names.{head_named}
 use Rattle.recovery.specs.Walk.{claimed}
 use Rattle.recovery.specs.Chains.{live_named}
 use Rattle.recovery.specs.HeapReads.{numbers_in, live_of}
@@ -133,13 +132,13 @@ olds_again (o ∷ olds) = ap (λ (l : List OldRecord). o ∷ l) (olds_again olds
 
 -- ---- the log
 
-name_as : Head → CommitName
-name_as head = record { time = head.time; label = head.label }
+entry_as : Head → Entry
+entry_as head = record { label = head.label; time = head.time; first = 0; extents = 0; records = 0 }
 
-names_again : (heads : List Head) → map head_named (map name_as heads) ≡ heads
-unfolding name_as
-names_again [] = refl
-names_again (h ∷ hs) = ap (λ (l : List Head). h ∷ l) (names_again hs)
+entries_again : (heads : List Head) → map rules.head_of (map entry_as heads) ≡ heads
+unfolding entry_as
+entries_again [] = refl
+entries_again (h ∷ hs) = ap (λ (l : List Head). h ∷ l) (entries_again hs)
 
 few_heads : (t : ℕ) (heads : List Head) → AreRisingAfter t heads → t < 2 ^ 63 → t + length heads < 2 ^ 63
 few_heads t [] rising low = omega arith
@@ -213,8 +212,8 @@ module _ (alloc : Global) (header : Header) (image : Image) (h : History Value) 
   rising : AreRisingAfter 0 (heads_of is.reading.log)
   rising = subst (AreRisingAfter 0) (sym is.stands.opens.commits) (heads-rising 0 h (rises is.reading h floors is.stands))
 
-  commits_few : length (map name_as (heads_of is.reading.log)) < 2 ^ 63
-  commits_few = let few = few_heads 0 (heads_of is.reading.log) rising (omega arith) in omega (arith, length-map (heads_of is.reading.log) name_as)
+  commits_few : length (map entry_as (heads_of is.reading.log)) < 2 ^ 63
+  commits_few = let few = few_heads 0 (heads_of is.reading.log) rising (omega arith) in omega (arith, length-map (heads_of is.reading.log) entry_as)
 
   runs_ranged : AllByRecursion wire.IsRun (runs_of is.layout.slots)
   runs_ranged = runs_in_range header.profile is.layout.slots (λ n slot at. (is.held.log.opens.each_spelled n slot at).in_range)
@@ -264,7 +263,7 @@ module _ (alloc : Global) (header : Header) (image : Image) (h : History Value) 
   recovered = record {
     header = header;
     used = length is.layout.slots;
-    commits = vec_of alloc (map name_as (heads_of is.reading.log)) commits_few;
+    commits = vec_of alloc (map entry_as (heads_of is.reading.log)) commits_few;
     floors = kept_of is.reading.log;
     archived = archive_mark is.reading.log;
     reclaimed = reclaim_mark is.reading.log;
@@ -287,7 +286,7 @@ module _ (alloc : Global) (header : Header) (image : Image) (h : History Value) 
   unfolding recovered vec_of
   read_as = record {
     used = refl;
-    commits = names_again (heads_of is.reading.log);
+    commits = entries_again (heads_of is.reading.log);
     floors = refl;
     archived = refl;
     reclaimed = refl;

@@ -15,7 +15,6 @@ use Rattle.image.proofs.Logs.{heads_of-append, last_time_after-append, marked-al
 use Rattle.status.specs.Rules.{head_of, slot_of, log_of, KeepsRules}
 use Rattle.layout.specs.Layouts.{entries_in, entries_of, later_than, no_anchors, anchors_in, anchors_after}
 use Rattle.layout.proofs.Rules.{rules_say}
-use Rattle.recovery.specs.Names.{head_named, name_of}
 
 rising_join : (t : ℕ) (xs ys : List Head) → AreRisingAfter t xs → AreRisingAfter (last_time_after t xs) ys → AreRisingAfter t (xs ++ ys)
 rising_join t [] ys a b = b
@@ -54,10 +53,6 @@ entry_heads (s ∷ slots) = heads_in s.body slots (entry_heads slots)
 -- the times of the commits that the slots name rise
 pub entries_rise : (profile : ℕ) (slots : List Wired) → KeepsRules profile slots → AreRisingAfter 0 (map head_of (entries_of slots))
 entries_rise profile slots rules = subst (AreRisingAfter 0) (sym (entry_heads slots)) (log_rises profile [] (log_of slots) (rules_say profile slots rules).0)
-
-pub named_heads : (entries : List Member) → map head_named (map name_of entries) ≡ map head_of entries
-named_heads [] = refl
-named_heads (entry ∷ entries) = ap (λ l. head_of entry ∷ l) (named_heads entries)
 
 -- the archive mark is not later than the last commit that the slots name
 pub archived_upto_last : (profile : ℕ) (slots : List Wired) → KeepsRules profile slots → archive_mark (log_of slots) ≤ last_time_after 0 (map head_of (entries_of slots))

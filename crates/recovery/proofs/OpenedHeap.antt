@@ -28,7 +28,6 @@ use Rattle.recovery.specs.declared.fault.OpenFault.{OpenFault}
 use Rattle.recovery.specs.declared.fault.OpenFault.TheVariants.{NotAStore, Damaged, Device, NoMemory}
 use Rattle.recovery.specs.declared.recovered.HeapRead.{HeapRead}
 use Rattle.recovery.specs.declared.recovered.Recovered.{Recovered}
-use Rattle.recovery.specs.Names.{head_named}
 use Rattle.recovery.specs.RunEntries.{AreEntriesOf}
 use Rattle.recovery.specs.Faults.{ReadsStatus, IsRunsFault, IsImageFault}
 use Rattle.recovery.specs.ReadsImage.{IsOpening, KeepsOnly, IsReadFrom}
@@ -115,7 +114,7 @@ reading_of header slots olds members = record {
 -- what was read besides the header
 pub record IsGathered (slots : List Slot) (read : HeapRead) (r : Recovered) : Type 0 where
   pub used : r.used ≡ length slots
-  pub commits : map head_named r.commits.items ≡ map head_of (entries_of slots)
+  pub commits : map head_of r.commits.items ≡ map head_of (entries_of slots)
   pub floors : r.floors ≡ kept_of (log_of slots)
   pub archived : r.archived ≡ archive_mark (log_of slots)
   pub reclaimed : r.reclaimed ≡ mark_of slots

@@ -12,12 +12,12 @@ use Rattle.chains.specs.KeyWrites as chains
 use Rattle.extents.specs.Usages.{IsFree, IsKept}
 use Rattle.floors.specs.Floors.{floor_at}
 use Rattle.status.specs.declared.header.Header.{Header}
+use Rattle.status.specs.Rules as rules
 use Rattle.status.specs.Rules.{is_built}
 use Rattle.layout.specs.Layouts.{Layout, IsLayoutOf, HoldsLayout}
 use Rattle.layout.specs.Opening.{AreBuilt}
 use Rattle.recovery.specs.declared.recovered.Recovered.{Recovered}
 use Rattle.recovery.specs.declared.fault.OpenFault.{OpenFault}
-use Rattle.recovery.specs.Names.{head_named}
 use Rattle.recovery.specs.Chains.{live_named}
 use Rattle.recovery.specs.Faults.{IsReadFault, IsImageFault}
 use Rattle.recovery.specs.ReadsImage.{IsOpening, IsReadFrom}
@@ -34,7 +34,7 @@ FailsOnce = (image : Image) (a b : OpenFault) → IsImageFault image a → IsIma
 pub record SaySame (r s : Recovered) : Type 0 where
   pub headers : r.header ≡ s.header
   pub lengths : r.used ≡ s.used
-  pub names : map head_named r.commits.items ≡ map head_named s.commits.items
+  pub names : map rules.head_of r.commits.items ≡ map rules.head_of s.commits.items
   pub floors : r.floors ≡ s.floors
   pub archives : r.archived ≡ s.archived
   pub reclaims : r.reclaimed ≡ s.reclaimed
@@ -51,7 +51,7 @@ OpensOnce = (image : Image) (r s : Recovered) → IsReadFrom image r → IsReadF
 
 -- What was read is a history with its floors: of each key its versions that end after the reclaim mark and the floor, and when it was last written, if after that mark.
 pub record IsHistoryRead (h : History Value) (floors : ℕ → ℕ) (r : Recovered) : Type 0 where
-  pub commits : map head_named r.commits.items ≡ map head_of h
+  pub commits : map rules.head_of r.commits.items ≡ map head_of h
   pub floors_are : (relation : ℕ) → floor_at r.floors relation ≡ floors relation
   pub marks : r.reclaimed ≤ r.archived
   pub last_is : r.last ≡ last h

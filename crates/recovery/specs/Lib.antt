@@ -3,7 +3,7 @@ pub mod Walk
 pub mod ReadChains
 pub mod Answers
 pub mod Resolving
-pub mod Names
+pub mod Refusals
 pub mod RunEntries
 pub mod Settling
 pub mod Faults

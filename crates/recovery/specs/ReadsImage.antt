@@ -10,12 +10,11 @@ use Rattle.chains.specs.KeyWrites.{writes_of}
 use Rattle.extents.specs.declared.usage.Usage.{Usage}
 use Rattle.extents.specs.Usages.{IsFree, IsKept, IsNoneOf}
 use Rattle.status.specs.declared.header.Header.{Header}
-use Rattle.status.specs.Rules.{is_built}
+use Rattle.status.specs.Rules.{is_built, head_of}
 use Rattle.status.specs.Kept.{kept_of}
 use Rattle.layout.specs.Layouts.{Layout, live}
 use Rattle.layout.specs.Opening.{Opens}
 use Rattle.recovery.specs.declared.recovered.Recovered.{Recovered}
-use Rattle.recovery.specs.Names.{head_named}
 use Rattle.recovery.specs.RunEntries.{AreEntriesOf}
 use Rattle.recovery.specs.Chains.{live_named}
 use Rattle.recovery.specs.HeapReads.{numbers_in, live_of}
@@ -33,7 +32,7 @@ pub record KeepsOnly (usages : List Usage) (numbers : List ℕ) : Type 0 where
 -- What was read is this layout and this reading.
 pub record IsReadAs (layout : Layout) (reading : Reading) (r : Recovered) : Type 0 where
   pub used : r.used ≡ length layout.slots
-  pub commits : map head_named r.commits.items ≡ heads_of reading.log
+  pub commits : map head_of r.commits.items ≡ heads_of reading.log
   pub floors : r.floors ≡ kept_of reading.log
   pub archived : r.archived ≡ archive_mark reading.log
   pub reclaimed : r.reclaimed ≡ reclaim_mark reading.log

@@ -85,7 +85,7 @@ impl From<DeviceFault> for FormatFault {
 
 impl From<LogFault> for OpenFault {
     ghost use Rattle.std.specs.Prelude.{◌≡◌};
-    ghost use Rattle.recovery.specs.Names.{open_fault};
+    ghost use Rattle.recovery.specs.Refusals.{open_fault};
 
     ghost from_gives = { λ e r. r ≡ open_fault e };
 

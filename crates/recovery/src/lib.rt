@@ -17,4 +17,4 @@ mod runs;
 pub use fault::{FormatFault, OpenFault};
 pub use formatting::format;
 pub use opening::read_image;
-pub use recovered::{CommitName, LiveChain, Recovered};
+pub use recovered::{LiveChain, Recovered};

@@ -17,13 +17,13 @@ ghost use Rattle.status.specs.Reading.{ReadsHeader};
 ghost use Rattle.recovery.specs.Answers.{after_reads};
 ghost use Rattle.recovery.specs.Faults.{IsReadFault, IsHeaderFault, IsRunsFault, IsImageFault};
 ghost use Rattle.recovery.specs.ReadsImage.{IsOpening, IsReadFrom};
-ghost use Rattle.recovery.specs.Names.{head_named, name_of, refusals_at_opening};
+ghost use Rattle.recovery.specs.Refusals.{refusals_at_opening};
 ghost use Rattle.recovery.specs.RunEntries.{runs_named, AreMarkedFrom};
 ghost use Rattle.recovery.specs.Settling.{Settles, CountsMore, CountsAtMost};
 
 use crate::fault::OpenFault;
 use crate::heap::{last_anchors, read_heap};
-use crate::recovered::{CommitName, Recovered};
+use crate::recovered::Recovered;
 use crate::runs::read_runs;
 use archive::RunEntry;
 use disk::{Area, DeviceFault, Disk};
@@ -46,29 +46,6 @@ fn entries(alloc: Global, slots: &[Slot]) -> Result<Vec<Member>, AllocError>
         rest = after;
     }
     Ok(entries)
-}
-
-fn names(alloc: Global, entries: &[Member]) -> Result<Vec<CommitName>, AllocError>
-    ensures { IfOk result (λ names. names.items ≡ map name_of entries.now) }
-{
-    let mut names = Vec::with_capacity(alloc, entries.len())?;
-    let mut rest = entries;
-    while let [entry, after @ ..] = rest {
-        names.push(CommitName {
-            time: entry.time,
-            label: entry.label,
-        })?;
-        rest = after;
-    }
-    Ok(names)
-}
-
-// The commits, as their slots name them.
-fn commit_names(alloc: Global, entries: &[Member]) -> Result<Vec<CommitName>, AllocError>
-    ensures { IfOk result (λ names. map head_named names.items ≡ map head_of entries.now) }
-{
-    let names = names(alloc, entries)?;
-    Ok(names)
 }
 
 // All that was written is on the disk from now on.
@@ -132,8 +109,8 @@ fn find_header<D: Disk>(disk: &mut D) -> Result<Header, OpenFault>
 // The image of a settled disk.
 fn read_settled<D: Disk>(alloc: Global, disk: &mut D) -> Result<Recovered, OpenFault>
     ensures used { IfOk result (λ r. (r.used ≤ total r.header) × (total r.header ≤ 65536)) }
-    ensures rising { IfOk result (λ r. AreRisingAfter 0 (map head_named r.commits.items)) }
-    ensures last { IfOk result (λ r. r.last ≡ last_time_after 0 (map head_named r.commits.items)) }
+    ensures rising { IfOk result (λ r. AreRisingAfter 0 (map head_of r.commits.items)) }
+    ensures last { IfOk result (λ r. r.last ≡ last_time_after 0 (map head_of r.commits.items)) }
     ensures latest { IfOk result (λ r. latest r.chains ≤ r.last) }
     ensures archived { IfOk result (λ r. r.archived ≤ r.last) }
     ensures floors { IfOk result (λ r. (relation : ℕ) → floor_at r.floors relation ≤ r.last) }
@@ -149,13 +126,12 @@ fn read_settled<D: Disk>(alloc: Global, disk: &mut D) -> Result<Recovered, OpenF
         Ok(heap) => heap,
         Err(fault) => return Err(fault),
     };
-    let commits = commit_names(alloc, &entries)?;
     let read = read_runs(alloc, &slots)?;
     check_runs(disk, &read.runs)?;
     Ok(Recovered {
         header,
         used: slots.len() as u32,
-        commits,
+        commits: entries,
         floors: read.floors,
         archived: read.archived,
         reclaimed: last_anchors(&slots).upto,
@@ -175,8 +151,8 @@ fn read_settled<D: Disk>(alloc: Global, disk: &mut D) -> Result<Recovered, OpenF
 /// Of the checks that fail, the first: `NotAStore` where no header stands in front; `Damaged` with the slot's number, the first extent of the chain or the start of the run. `Device` where the disk refused a call; `NoMemory`.
 pub fn read_image<D: Disk>(alloc: Global, disk: &mut D) -> Result<Recovered, OpenFault>
     ensures used { IfOk result (λ r. (r.used ≤ total r.header) × (total r.header ≤ 65536)) }
-    ensures rising { IfOk result (λ r. AreRisingAfter 0 (map head_named r.commits.items)) }
-    ensures last { IfOk result (λ r. r.last ≡ last_time_after 0 (map head_named r.commits.items)) }
+    ensures rising { IfOk result (λ r. AreRisingAfter 0 (map head_of r.commits.items)) }
+    ensures last { IfOk result (λ r. r.last ≡ last_time_after 0 (map head_of r.commits.items)) }
     ensures latest { IfOk result (λ r. latest r.chains ≤ r.last) }
     ensures archived { IfOk result (λ r. r.archived ≤ r.last) }
     ensures floors { IfOk result (λ r. (relation : ℕ) → floor_at r.floors relation ≤ r.last) }

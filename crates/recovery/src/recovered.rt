@@ -8,13 +8,7 @@ use chains::Frozen;
 use extents::Extents;
 use floors::Floors;
 use status::Header;
-
-/// A commit, as its slot names it: its time, in microseconds since 1970, and its label.
-#[derive(Clone, Copy, Debug, PartialEq, Eq)]
-pub struct CommitName {
-    pub time: u64,
-    pub label: u64,
-}
+use wire::Member;
 
 /// The extents of a commit's chain that the log names, in their order, and the time of the commit.
 #[derive(Drop)]
@@ -42,8 +36,8 @@ pub struct Recovered {
     pub header: Header,
     /// How many slots the log has.
     pub used: u32,
-    /// The commits of the log, in its order.
-    pub commits: Vec<CommitName>,
+    /// The commits of the log, in its order, as their slots name them.
+    pub commits: Vec<Member>,
     pub floors: Floors,
     /// The archive mark and the reclaim mark of the log, in microseconds since 1970; 0 for none.
     pub archived: u64,

@@ -7,7 +7,7 @@ use Rattle.history.specs.Machine.{Machine, opened}
 use Rattle.image.specs.Values.{Value}
 use Rattle.status.specs.Header.{new_header}
 use Rattle.recovery.specs.Format.{IsFormatted}
-use Rattle.recovery.specs.declared.recovered.CommitName.{CommitName}
+use Rattle.wire.specs.declared.slot.Member.{Member}
 use Rattle.store.specs.Heads.{head_as}
 use Rattle.store.specs.Opens.{Opens}
 use Rattle.store.specs.Values.{StoreValue}
@@ -17,7 +17,7 @@ use Rattle.opened.proofs.Opened.{open-stands}
 use Rattle.shared.specs.Counts.{told_count}
 
 -- no ticket is out of a commit that the log names
-told-as : (names : List CommitName) → told_count (map head_as names) ≡ length names
+told-as : (members : List Member) → told_count (map head_as members) ≡ length members
 told-as [] = refl
 told-as (x ∷ xs) = let rest = told-as xs in let goal : 1 + told_count (map head_as xs) ≡ suc (length xs) = omega (arith, rest) in goal
 

@@ -6,7 +6,7 @@ use Rattle.chains.specs.KeyWrites.{IsOrdered}
 use Rattle.status.specs.Header.{total}
 use Rattle.status.specs.Rules.{row_end}
 use Rattle.recovery.specs.Faults.{IsImageFault}
-use Rattle.recovery.specs.Names.{refusals_at_opening}
+use Rattle.recovery.specs.Refusals.{refusals_at_opening}
 use Rattle.recovery.specs.RunEntries.{runs_named, AreMarkedFrom}
 use Rattle.recovery.specs.ReadsImage.{IsReadFrom}
 use Rattle.recovery.specs.Settling.{Settles, CountsMore, CountsAtMost}

@@ -12,13 +12,14 @@ use archive::RunEntry;
 use disk::Disk;
 use extents::ChainTimes;
 use group::CommitHead;
-use recovery::{CommitName, LiveChain, OpenFault, Recovered, read_image};
+use recovery::{LiveChain, OpenFault, Recovered, read_image};
 use status::StatusLog;
 use std::alloc::{AllocError, Global};
 use transactions::Transactions;
+use wire::Member;
 
 // The commits of the log as they stand in the commit order.
-fn heads_of(alloc: Global, commits: &[CommitName]) -> Result<Vec<CommitHead>, AllocError>
+fn heads_of(alloc: Global, commits: &[Member]) -> Result<Vec<CommitHead>, AllocError>
     ensures { IfOk result (λ heads. heads.items ≡ map head_as commits.now) }
 {
     let mut heads = Vec::with_capacity(alloc, commits.len())?;

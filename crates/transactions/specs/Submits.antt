@@ -1,5 +1,5 @@
 -- What becomes of a submit.
-use Rattle.std.specs.Prelude.{ℕ, ◌≡◌, ◌+◌, ◌-◌, ◌^◌, true, nat_lt, nat_le, max, List, [], ◌∷◌, ◌++◌, length, map, find, Option, Some, None, Result, Ok, Err, MatchBool, if◌then◌else◌}
+use Rattle.std.specs.Prelude.{ℕ, ◌≡◌, ◌+◌, ◌-◌, ◌^◌, true, nat_lt, nat_le, List, [], ◌∷◌, ◌++◌, length, map, find, Option, Some, None, Result, Ok, Err, MatchBool, if◌then◌else◌}
 use Rattle.history.specs.declared.key.Key.{Key}
 use Rattle.history.specs.declared.key.KeyWrite.{KeyWrite}
 use Rattle.image.specs.Facts.{latest}
@@ -9,6 +9,7 @@ use Rattle.deltas.specs.Extents.{extent_bytes}
 use Rattle.deltas.specs.Records.{spelling, record_of}
 use Rattle.deltas.specs.Packing.{bodies}
 use Rattle.chains.specs.KeyWrites.{KeyWrites, writes_of, with_commit}
+use Rattle.clock.specs.Commit.{next_time}
 use Rattle.chains.specs.Writes.{last_time}
 use Rattle.extents.specs.declared.usage.Usage.{Usage}
 use Rattle.extents.specs.declared.usage.Usage.TheVariants.{Out}
@@ -43,7 +44,7 @@ free_count v = 65536 - used_count v.usages
 
 -- the time of a commit that is submitted now
 abbrev pub time_now : TransactionsValue → ℕ → ℕ
-time_now v now = max (orders.last_time v.heads + 1) now
+time_now v now = next_time (orders.last_time v.heads) now
 
 -- what a submit of these writes comes to, want of memory aside
 pub data Verdict : Type 0 where

@@ -11,13 +11,14 @@ ghost use Rattle.transactions.specs.Submits.{Submits, verdict_on_writes, Queues,
 
 use crate::transactions::Transactions;
 use chains::{Frozen, SharedValue};
+use clock::{ClockEnd, CommitClock};
 use deltas::{Body, pack};
 use extents::Extents;
 use group::{
     CommitHead, Queued, StoredExtent, SubmitFault, Submitted, Ticket, first_conflict,
     give_back_all, records_of, seal_all, take_extents,
 };
-use history::{KeyWrite, LAST_TIME};
+use history::KeyWrite;
 use snapshot::Txn;
 use std::alloc::{AllocError, Global};
 use wire::Member;
@@ -90,14 +91,10 @@ impl Transactions {
         if self.spare() <= 2 {
             return Err(SubmitFault::StatusFull);
         }
-        let last = self.order.last_assigned();
-        if last >= LAST_TIME || now > LAST_TIME {
-            return Err(SubmitFault::ClockEnd);
+        match CommitClock::new(self.order.last_assigned()).next(now) {
+            Ok(time) => Ok(Accepted { time, bodies }),
+            Err(ClockEnd) => Err(SubmitFault::ClockEnd),
         }
-        Ok(Accepted {
-            time: now.max(last + 1),
-            bodies,
-        })
     }
 }
 

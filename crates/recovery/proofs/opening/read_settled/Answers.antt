@@ -37,20 +37,20 @@ read_heap-requires g c =
 
 pub returns-clause-rising : goal.returns-clause-rising
 returns-clause-rising g c =
-    let entries : c.deref-4.result.now ≡ entries_of c.in_ok-slots.slots.items = c.deref-4.ensures.value ∙ c.in_ok-entries.ensures ∙ ap entries_of c.deref.ensures.value in
-    rw c.in_ok-commits.ensures (subst (λ (l : List Member). AreRisingAfter 0 (map head_of l)) (sym entries) (entries_rise _ _ c.in_ok-slots.ensures.slots.rules))
+    let entries : c.in_ok-entries.entries.items ≡ entries_of c.in_ok-slots.slots.items = c.in_ok-entries.ensures ∙ ap entries_of c.deref.ensures.value in
+    subst (λ (l : List Member). AreRisingAfter 0 (map head_of l)) (sym entries) (entries_rise _ _ c.in_ok-slots.ensures.slots.rules)
 
 pub returns-clause-last : goal.returns-clause-last
 returns-clause-last g c =
-    let entries : c.deref-4.result.now ≡ entries_of c.in_ok-slots.slots.items = c.deref-4.ensures.value ∙ c.in_ok-entries.ensures ∙ ap entries_of c.deref.ensures.value in
+    let entries : c.in_ok-entries.entries.items ≡ entries_of c.in_ok-slots.slots.items = c.in_ok-entries.ensures ∙ ap entries_of c.deref.ensures.value in
     c.in-Ok.ensures.last
     ∙ ap (λ (l : List Slot). last_time_after 0 (map head_of (entries_of l))) c.deref-2.ensures.value
-    ∙ ap (λ (heads : List Head). last_time_after 0 heads) (sym (c.in_ok-commits.ensures ∙ ap (λ (l : List Member). map head_of l) entries))
+    ∙ ap (λ (heads : List Head). last_time_after 0 heads) (sym (ap (λ (l : List Member). map head_of l) entries))
 
 pub returns-clause-archived : goal.returns-clause-archived
 returns-clause-archived g c =
     let slots : List Slot = c.in_ok-slots.slots.items in
-    let mark = c.in_ok-read.ensures.archived ∙ ap (λ (l : List Slot). archive_mark (log_of l)) c.deref-5.ensures.value in
+    let mark = c.in_ok-read.ensures.archived ∙ ap (λ (l : List Slot). archive_mark (log_of l)) c.deref-4.ensures.value in
     let last = c.in-Ok.ensures.last ∙ ap (λ (l : List Slot). last_time_after 0 (map head_of (entries_of l))) c.deref-2.ensures.value in
     omega (arith, mark, last, archived_upto_last _ slots c.in_ok-slots.ensures.slots.rules)
 
@@ -58,42 +58,42 @@ pub returns-clause-floors : goal.returns-clause-floors
 returns-clause-floors g c = λ relation.
     let slots : List Slot = c.in_ok-slots.slots.items in
     let floor =
-    ap (λ (f : FloorsValue). floor_at f relation) (c.in_ok-read.ensures.floors ∙ ap (λ (l : List Slot). kept_of (log_of l)) c.deref-5.ensures.value) ∙ kept-of (log_of slots) relation in
+    ap (λ (f : FloorsValue). floor_at f relation) (c.in_ok-read.ensures.floors ∙ ap (λ (l : List Slot). kept_of (log_of l)) c.deref-4.ensures.value) ∙ kept-of (log_of slots) relation in
     let last = c.in-Ok.ensures.last ∙ ap (λ (l : List Slot). last_time_after 0 (map head_of (entries_of l))) c.deref-2.ensures.value in
     omega (arith, floor, last, floor_upto_last _ slots relation c.in_ok-slots.ensures.slots.rules)
 
 pub read_runs-requires : goal.read_runs-requires
 read_runs-requires g c =
-    let slots : c.deref-5.result.now ≡ c.in_ok-slots.slots.items = c.deref-5.ensures.value in
+    let slots : c.deref-4.result.now ≡ c.in_ok-slots.slots.items = c.deref-4.ensures.value in
     subst (λ (l : List Slot). AllByRecursion IsRun (runs_of l)) (sym slots) (runs_in_range _ _ c.in_ok-slots.ensures.slots.in_range)
 
 pub returns-clause-runs : goal.returns-clause-runs
 returns-clause-runs g c =
     let slots : List Slot = c.in_ok-slots.slots.items in
-    let listed = subst (λ (l : List Slot). AreEntriesOf l c.in_ok-read.read.runs.items) c.deref-5.ensures.value c.in_ok-read.ensures.runs in
+    let listed = subst (λ (l : List Slot). AreEntriesOf l c.in_ok-read.read.runs.items) c.deref-4.ensures.value c.in_ok-read.ensures.runs in
     (subst (AreInRow 0) (sym listed.runs_are) (rules_say _ _ c.in_ok-slots.ensures.slots.rules).1, go_on slots 0 c.in_ok-read.read.runs.items listed.runs_are listed.marks_are)
 
 pub returns-clause-found : goal.returns-clause-found
 returns-clause-found g c = λ told.
     let slots : List Slot = c.in_ok-slots.slots.items in
     let log = subst (λ (s : DiskState). HoldsLog c.in_ok-header.header s.areas.status.bytes slots) c.in_ok-header.ensures.reads (c.in_ok-slots.ensures.log told) in
-    let entries : c.deref-4.result.now ≡ entries_of slots = c.deref-4.ensures.value ∙ c.in_ok-entries.ensures ∙ ap entries_of c.deref.ensures.value in
+    let entries : c.in_ok-entries.entries.items ≡ entries_of slots = c.in_ok-entries.ensures ∙ ap entries_of c.deref.ensures.value in
     let state = c.in_ok-slots.ensures.same ∙ c.in_ok-header.ensures.reads in
     let heap : HoldsSlots (g.D.Disk.state c.args.disk.now).areas.heap.bytes slots c.in-Ok.heap =
     subst (λ (l : List Slot). HoldsSlots (g.D.Disk.state c.args.disk.now).areas.heap.bytes l c.in-Ok.heap) c.deref-2.ensures.value
     (subst (λ (s : DiskState). HoldsSlots s.areas.heap.bytes c.deref-2.result.now c.in-Ok.heap) state (c.in-Ok.ensures.read told)) in
-    let listed = subst (λ (l : List Slot). AreEntriesOf l c.in_ok-read.read.runs.items) c.deref-5.ensures.value c.in_ok-read.ensures.runs in
-    let runs : runs_named c.deref-6.result.now ≡ runs_of slots = ap runs_named c.deref-6.ensures.value ∙ listed.runs_are in
+    let listed = subst (λ (l : List Slot). AreEntriesOf l c.in_ok-read.read.runs.items) c.deref-4.ensures.value c.in_ok-read.ensures.runs in
+    let runs : runs_named c.deref-5.result.now ≡ runs_of slots = ap runs_named c.deref-5.ensures.value ∙ listed.runs_are in
     let within : AllByRecursion (EndsWithin (length (g.D.Disk.state c.args.disk.now).areas.archive.bytes)) (runs_of slots) =
     subst (AllByRecursion (EndsWithin (length (g.D.Disk.state c.args.disk.now).areas.archive.bytes))) runs
-    (subst (λ (s : DiskState). AllByRecursion (EndsWithin (length s.areas.archive.bytes)) (runs_named c.deref-6.result.now)) (c.in-Ok.ensures.reads ∙ state) (c.in_ok-check_runs.ensures.within told)) in
+    (subst (λ (s : DiskState). AllByRecursion (EndsWithin (length s.areas.archive.bytes)) (runs_named c.deref-5.result.now)) (c.in-Ok.ensures.reads ∙ state) (c.in_ok-check_runs.ensures.within told)) in
     image_read (image_of (g.D.Disk.state c.args.disk.now).areas) c.in_ok-header.header slots (record { header_reads = c.in_ok-header.ensures.found told; log = log }) c.in-Ok.heap _ refl heap within
     (record {
       used = omega (arith, c.len.ensures, c.in_ok-slots.slots.ok.0);
-      commits = c.in_ok-commits.ensures ∙ ap (λ (l : List Member). map head_of l) entries;
-      floors = c.in_ok-read.ensures.floors ∙ ap (λ (l : List Slot). kept_of (log_of l)) c.deref-5.ensures.value;
-      archived = c.in_ok-read.ensures.archived ∙ ap (λ (l : List Slot). archive_mark (log_of l)) c.deref-5.ensures.value;
-      reclaimed = ap (λ (a : Anchors). a.upto) (c.last_anchors.ensures ∙ ap (λ (l : List Slot). anchors_after no_anchors l) c.deref-7.ensures.value) ∙ sym (mark_is slots);
+      commits = ap (λ (l : List Member). map head_of l) entries;
+      floors = c.in_ok-read.ensures.floors ∙ ap (λ (l : List Slot). kept_of (log_of l)) c.deref-4.ensures.value;
+      archived = c.in_ok-read.ensures.archived ∙ ap (λ (l : List Slot). archive_mark (log_of l)) c.deref-4.ensures.value;
+      reclaimed = ap (λ (a : Anchors). a.upto) (c.last_anchors.ensures ∙ ap (λ (l : List Slot). anchors_after no_anchors l) c.deref-6.ensures.value) ∙ sym (mark_is slots);
       runs = listed;
       extents = refl;
       live = refl;
@@ -115,8 +115,8 @@ pub returns-in_err-check_runs-clause-fault : goal.returns-in_err-check_runs-clau
 returns-in_err-check_runs-clause-fault g c = λ told.
     let slots : List Slot = c.in_ok-slots.slots.items in
     let log = subst (λ (s : DiskState). HoldsLog c.in_ok-header.header s.areas.status.bytes slots) c.in_ok-header.ensures.reads (c.in_ok-slots.ensures.log told) in
-    let listed = subst (λ (l : List Slot). AreEntriesOf l c.in_ok-read.read.runs.items) c.deref-5.ensures.value c.in_ok-read.ensures.runs in
-    let runs : runs_named c.deref-6.result.now ≡ runs_of slots = ap runs_named c.deref-6.ensures.value ∙ listed.runs_are in
+    let listed = subst (λ (l : List Slot). AreEntriesOf l c.in_ok-read.read.runs.items) c.deref-4.ensures.value c.in_ok-read.ensures.runs in
+    let runs : runs_named c.deref-5.result.now ≡ runs_of slots = ap runs_named c.deref-5.ensures.value ∙ listed.runs_are in
     let state = c.in_ok-slots.ensures.same ∙ c.in_ok-header.ensures.reads in
     let heap : HoldsSlots (g.D.Disk.state c.args.disk.now).areas.heap.bytes slots c.in-Ok.heap =
     subst (λ (l : List Slot). HoldsSlots (g.D.Disk.state c.args.disk.now).areas.heap.bytes l c.in-Ok.heap) c.deref-2.ensures.value
@@ -124,7 +124,7 @@ returns-in_err-check_runs-clause-fault g c = λ told.
     let fault : OpenFault = c.in_err-check_runs.field-0.0 in
     let fails : IsRunsFault (length (g.D.Disk.state c.args.disk.now).areas.archive.bytes) (runs_of slots) fault =
     subst (λ (l : List Run). IsRunsFault (length (g.D.Disk.state c.args.disk.now).areas.archive.bytes) l fault) runs
-    (subst (λ (s : DiskState). IsRunsFault (length s.areas.archive.bytes) (runs_named c.deref-6.result.now) fault) (c.in-Ok.ensures.reads ∙ state) (c.in_err-check_runs.ensures.fault told)) in
+    (subst (λ (s : DiskState). IsRunsFault (length s.areas.archive.bytes) (runs_named c.deref-5.result.now) fault) (c.in-Ok.ensures.reads ∙ state) (c.in_err-check_runs.ensures.fault told)) in
     let p = err_from_is_err_and c.from_residual-in_err-check_runs.result c.from_residual-in_err-check_runs.ensures.1 in
     rw (p.1, p.2)
     (runs_fail (image_of (g.D.Disk.state c.args.disk.now).areas) c.in_ok-header.header slots (record { header_reads = c.in_ok-header.ensures.found told; log = log }) c.in-Ok.heap fault heap fails)

@@ -1,22 +1,11 @@
--- What is named of a log's commits, and of faults.
+-- The faults of the log as those of an opening, and the refusals that are counted at one.
 use Rattle.std.specs.Prelude.{ℕ, Result, Ok, Err}
 use Rattle.disk.specs.Calls.{counted}
 use Rattle.disk.specs.declared.area.Area.TheVariants.{Status}
-use Rattle.wire.specs.declared.slot.Member.{Member}
-use Rattle.image.specs.Reading.{Head}
 use Rattle.status.specs.declared.fault.LogFault.{LogFault}
 use Rattle.status.specs.declared.fault.LogFault.TheVariants as log
-use Rattle.recovery.specs.declared.recovered.CommitName.{CommitName}
 use Rattle.recovery.specs.declared.fault.OpenFault.{OpenFault}
 use Rattle.recovery.specs.declared.fault.OpenFault.TheVariants.{NotAStore, Damaged, Device, NoMemory}
-
--- the time and label of a commit that was read
-abbrev pub head_named : CommitName → Head
-head_named name = record { time = name.time; label = name.label }
-
--- what is told of a commit that a slot names: its time and label
-abbrev pub name_of : Member → CommitName
-name_of entry = record { time = entry.time; label = entry.label }
 
 -- a fault of the log as one of the image
 abbrev pub open_fault : LogFault → OpenFault
