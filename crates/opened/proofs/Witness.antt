@@ -43,7 +43,7 @@ use Rattle.wire.specs.declared.slot.Slot.{Slot}
 use Rattle.status.specs.declared.header.Header.{Header}
 use Rattle.status.specs.Kept.{kept_of}
 use Rattle.status.specs.Rules as rules
-use Rattle.status.specs.Rules.{runs_in, runs_of}
+use Rattle.status.specs.Rules.{runs_in, runs_of, row_end}
 use Rattle.wire.specs.declared.slot.Run.{Run}
 use Rattle.layout.specs.Extents.{Extent}
 use Rattle.layout.specs.Layouts.{StoredMember, IsStoredMember, live, entries_of}
@@ -268,6 +268,7 @@ module _ (alloc : Global) (header : Header) (image : Image) (h : History Value) 
     archived = archive_mark is.reading.log;
     reclaimed = reclaim_mark is.reading.log;
     runs = vec_of alloc entries.0 runs_few;
+    runs_end = row_end 0 (runs_named entries.0);
     extents = claimed (replicate 65536 Free) (numbers_in (live is.layout));
     live = vec_of alloc (chains_live alloc is.layout.members few) members_few;
     chains = chains_from (map anchor_writes anchors) (heap_commits is.reading);

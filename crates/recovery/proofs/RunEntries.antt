@@ -5,13 +5,11 @@ use Rattle.std.specs.List.{AllByRecursion}
 use Rattle.std.proofs.lemmas.List.{map-append, take_rest}
 use Rattle.wire.specs.Spelling.{IsRun}
 use Rattle.wire.specs.declared.slot.Run.{Run}
-use Rattle.image.specs.Log.{archive_mark, archive_mark_after}
 use Rattle.floors.specs.Floors.{FloorsValue, no_floors, raised_in}
 use Rattle.wire.specs.declared.slot.Body.{Body}
 use Rattle.wire.specs.declared.slot.Body.TheVariants.{Commit, Archived, Reclaimed, Floor}
 use Rattle.wire.specs.declared.slot.Slot.{Slot}
 use Rattle.archive.specs.declared.run.RunEntry.{RunEntry}
-use Rattle.status.specs.Kept.{kept_after, kept_of}
 use Rattle.status.specs.Rules.{slot_of, log_of, runs_in, runs_of}
 use Rattle.layout.proofs.Lists.{all_of_front, all_of_back}
 use Rattle.recovery.specs.RunEntries.{runs_named, marks_before, floors_before, AreEntriesOf, AreMarkedFrom}
@@ -87,8 +85,6 @@ pub record IsReadBefore (slots rest : List Slot) (entries : List RunEntry) (arch
   pub runs_are : runs_named entries ++ runs_of rest ≡ runs_of slots
   pub marks_are : map (λ e. e.mark) entries ++ marks_before archived (log_of rest) ≡ marks_before 0 (log_of slots)
   pub floors_are : map (λ e. e.floors) entries ++ floors_before floors (log_of rest) ≡ floors_before no_floors (log_of slots)
-  pub archived_is : archive_mark_after archived (log_of rest) ≡ archive_mark (log_of slots)
-  pub kept_is : kept_after floors (log_of rest) ≡ kept_of (log_of slots)
 
 -- one run more
 one_more : {X : Type 0} (f : RunEntry → X) (entries : List RunEntry) (e : RunEntry) (x : X) (rest : List X) → f e ≡ x → map f (entries ++ e ∷ []) ++ rest ≡ map f entries ++ x ∷ rest
@@ -114,8 +110,6 @@ module _ (slots : List Slot) (entries : List RunEntry) (archived : ℕ) (floors 
     runs_are = before.runs_are;
     marks_are = before.marks_are;
     floors_are = before.floors_are;
-    archived_is = before.archived_is;
-    kept_is = before.kept_is;
   }
   other_read (Archived run) none number after before = absurd none
   other_read (Reclaimed anchors) none number after before = record {
@@ -123,8 +117,6 @@ module _ (slots : List Slot) (entries : List RunEntry) (archived : ℕ) (floors 
     runs_are = before.runs_are;
     marks_are = before.marks_are;
     floors_are = before.floors_are;
-    archived_is = before.archived_is;
-    kept_is = before.kept_is;
   }
   other_read (Floor scope new) none number after before = absurd none
 
@@ -135,8 +127,6 @@ module _ (slots : List Slot) (entries : List RunEntry) (archived : ℕ) (floors 
     runs_are = one_more (λ (x : RunEntry). x.slot) entries e run (runs_of after) slot ∙ before.runs_are;
     marks_are = one_more (λ (x : RunEntry). x.mark) entries e archived (marks_before run.upto (log_of after)) mark ∙ before.marks_are;
     floors_are = one_more (λ (x : RunEntry). x.floors) entries e floors (floors_before floors (log_of after)) own ∙ before.floors_are;
-    archived_is = before.archived_is;
-    kept_is = before.kept_is;
   }
 
   one_floor_read : (scope : Option ℕ) (new : ℕ) → Reads slots entries archived floors (Floor scope new) entries archived (raised_in scope new floors)
@@ -146,8 +136,6 @@ module _ (slots : List Slot) (entries : List RunEntry) (archived : ℕ) (floors 
     runs_are = before.runs_are;
     marks_are = before.marks_are;
     floors_are = before.floors_are;
-    archived_is = before.archived_is;
-    kept_is = before.kept_is;
   }
 
 -- so it is of the first of some slots

@@ -7,7 +7,7 @@ ghost use Rattle.disk.specs.Calls.{refusals};
 ghost use Rattle.image.specs.Log.{AreRisingAfter, last_time_after};
 ghost use Rattle.floors.specs.Floors.{floor_at};
 ghost use Rattle.status.specs.Header.{total};
-ghost use Rattle.status.specs.Rules.{head_of, AreInRow, KeepsRules};
+ghost use Rattle.status.specs.Rules.{head_of, row_end, AreInRow, KeepsRules};
 ghost use Rattle.image.specs.Reading.{Reading};
 ghost use Rattle.layout.specs.Layouts.{Layout, entries_of};
 ghost use Rattle.layout.specs.Opening.{EndsWithin, FailsRuns};
@@ -22,12 +22,12 @@ ghost use Rattle.recovery.specs.RunEntries.{runs_named, AreMarkedFrom};
 ghost use Rattle.recovery.specs.Settling.{Settles, CountsMore, CountsAtMost};
 
 use crate::fault::OpenFault;
-use crate::heap::{last_anchors, read_heap};
+use crate::heap::read_heap;
 use crate::recovered::Recovered;
 use crate::runs::read_runs;
 use archive::RunEntry;
 use disk::{Area, DeviceFault, Disk};
-use status::{Header, MOST_SLOTS, read_header, read_log};
+use status::{Header, LogRead, MOST_SLOTS, read_header, read_log};
 use std::alloc::{AllocError, Global};
 use wire::{Body, Member, Slot};
 
@@ -115,27 +115,30 @@ fn read_settled<D: Disk>(alloc: Global, disk: &mut D) -> Result<Recovered, OpenF
     ensures archived { IfOk result (λ r. r.archived ≤ r.last) }
     ensures floors { IfOk result (λ r. (relation : ℕ) → floor_at r.floors relation ≤ r.last) }
     ensures runs { IfOk result (λ r. AreInRow 0 (runs_named r.runs.items) × AreMarkedFrom 0 r.runs.items) }
+    ensures runs_end { IfOk result (λ r. r.runs_end ≡ row_end 0 (runs_named r.runs.items)) }
     ensures found { IsTrue D.tells → IfOk result (IsReadFrom (image_of (D.state disk.old).areas)) }
     ensures fault { IsTrue D.tells → IfErr result (IsImageFault (image_of (D.state disk.old).areas)) }
     ensures reads { D.state disk.new ≡ after_reads result (D.state disk.old) }
 {
     let header = find_header(disk)?;
-    let slots = read_log(alloc, disk, &header)?;
+    let log = read_log(alloc, disk, &header)?;
+    let LogRead { slots, end } = log;
     let entries = entries(alloc, &slots)?;
     let heap = match read_heap(alloc, disk, &slots, &entries) {
         Ok(heap) => heap,
         Err(fault) => return Err(fault),
     };
-    let read = read_runs(alloc, &slots)?;
-    check_runs(disk, &read.runs)?;
+    let runs = read_runs(alloc, &slots)?;
+    check_runs(disk, &runs)?;
     Ok(Recovered {
         header,
         used: slots.len() as u32,
         commits: entries,
-        floors: read.floors,
-        archived: read.archived,
-        reclaimed: last_anchors(&slots).upto,
-        runs: read.runs,
+        floors: end.floors,
+        archived: end.archived,
+        reclaimed: end.reclaimed,
+        runs,
+        runs_end: end.runs_end,
         extents: heap.extents,
         live: heap.live,
         chains: heap.chains,
@@ -157,6 +160,7 @@ pub fn read_image<D: Disk>(alloc: Global, disk: &mut D) -> Result<Recovered, Ope
     ensures archived { IfOk result (λ r. r.archived ≤ r.last) }
     ensures floors { IfOk result (λ r. (relation : ℕ) → floor_at r.floors relation ≤ r.last) }
     ensures runs { IfOk result (λ r. AreInRow 0 (runs_named r.runs.items) × AreMarkedFrom 0 r.runs.items) }
+    ensures runs_end { IfOk result (λ r. r.runs_end ≡ row_end 0 (runs_named r.runs.items)) }
 
     ensures found { IsTrue D.tells → IfOk result (IsReadFrom (image_of (D.state disk.old).areas)) }
     ensures fault { IsTrue D.tells → IfErr result (IsImageFault (image_of (D.state disk.old).areas)) }

@@ -44,6 +44,8 @@ pub struct Recovered {
     pub reclaimed: u64,
     /// The runs of the archive, in the log's order, each with the archive mark and the floors before its slot.
     pub runs: Vec<RunEntry>,
+    /// The byte of the archive at which the last run ends, 0 for none.
+    pub runs_end: u64,
     /// The extents of the live chains are kept, and the others are free.
     pub extents: Extents,
     /// The live chains of commits; that of the anchors is none of them.

@@ -80,7 +80,7 @@ pub fn log_of<D: Disk>(alloc: Global, disk: &mut D) -> Result<Vec<Slot>, LogFaul
         Err(fault) => return Err(fault),
     };
     match read_log(alloc, disk, &header) {
-        Ok(slots) => Ok(slots),
+        Ok(log) => Ok(log.slots),
         Err(fault) => Err(fault),
     }
 }

@@ -7,7 +7,7 @@ ghost use Rattle.status.specs.declared.header.Header.{Header};
 ghost use Rattle.status.specs.Header.{total};
 ghost use Rattle.status.specs.Log.{slot_start, IsOpen, HasRoom, OpensWith};
 ghost use Rattle.status.specs.Reading.{read_by, AreSlots, HoldsLog, IsLogFault, AnswersLog};
-ghost use Rattle.status.specs.Walking.{IsWalk, Takes, IsTakeFault, IsWalkFault, IsSlotsFault, Goes, IsReadOn, HasReadAll};
+ghost use Rattle.status.specs.Walking.{EndsAt, IsWalk, Takes, IsTakeFault, IsWalkFault, IsSlotsFault, Goes, IsReadOn, HasReadAll};
 
 use crate::fault::LogFault;
 use crate::header::Header;
@@ -24,6 +24,13 @@ const SLOTS_A_READ: u32 = 16;
 const BUFFER_LEN: usize = 8192;
 
 const SLOT_BYTES: usize = SLOT_LEN as usize;
+
+/// The slots of a log, and where it ends with them.
+#[derive(Drop)]
+pub struct LogRead {
+    pub slots: Vec<Slot>,
+    pub end: LogEnd,
+}
 
 // The slots read so far, and where their log ends.
 #[derive(Drop)]
@@ -178,23 +185,25 @@ fn walk_through<D: Disk>(
     alloc: Global,
     disk: &mut D,
     header: &Header,
-) -> Result<Vec<Slot>, LogFault>
+) -> Result<LogRead, LogFault>
     requires few { total header.now ≤ 65536 }
     requires room { IsTrue D.tells → HasRoom header.now (D.state disk.old).areas.status.bytes }
-    ensures slots { IfOk result (λ slots. AreSlots header.now.profile slots.items) }
-    ensures within { IfOk result (λ slots. length slots.items ≤ total header.now) }
+    ensures slots { IfOk result (λ log. AreSlots header.now.profile log.slots.items) }
+    ensures ends { IfOk result (λ log. EndsAt log.slots.items log.end) }
+    ensures within { IfOk result (λ log. length log.slots.items ≤ total header.now) }
     ensures kind { IfErr result IsSlotsFault }
-    ensures log { IsTrue D.tells → IfOk result (λ slots. HoldsLog header.now (D.state disk.old).areas.status.bytes slots.items) }
+    ensures log { IsTrue D.tells → IfOk result (λ log. HoldsLog header.now (D.state disk.old).areas.status.bytes log.slots.items) }
     ensures fault { IsTrue D.tells → IfErr result (IsLogFault header.now (D.state disk.old).areas.status.bytes) }
     ensures same { D.state disk.new ≡ read_by result (D.state disk.old) }
 {
     let mut walk = Walk::new(alloc, header.profile);
     let mut buffer = [0; BUFFER_LEN];
     read_slots(disk, header.total() as u32, &mut walk, &mut buffer)?;
-    Ok(walk.slots)
+    let Walk { slots, end, .. } = walk;
+    Ok(LogRead { slots, end })
 }
 
-/// The slots before the first closed gate, of an area with this header. It changes nothing.
+/// The slots before the first closed gate, of an area with this header, and where the log ends. It changes nothing.
 ///
 /// # Errors
 ///
@@ -205,10 +214,11 @@ pub fn read_log<D: Disk>(
     alloc: Global,
     disk: &mut D,
     header: &Header,
-) -> Result<Vec<Slot>, LogFault>
-    ensures slots { IfOk result (λ slots. AreSlots header.now.profile slots.items) }
-    ensures within { IfOk result (λ slots. length slots.items ≤ total header.now) }
-    ensures log { IsTrue D.tells → IfOk result (λ slots. HoldsLog header.now (D.state disk.old).areas.status.bytes slots.items) }
+) -> Result<LogRead, LogFault>
+    ensures slots { IfOk result (λ log. AreSlots header.now.profile log.slots.items) }
+    ensures ends { IfOk result (λ log. EndsAt log.slots.items log.end) }
+    ensures within { IfOk result (λ log. length log.slots.items ≤ total header.now) }
+    ensures log { IsTrue D.tells → IfOk result (λ log. HoldsLog header.now (D.state disk.old).areas.status.bytes log.slots.items) }
     ensures only { IsTrue D.tells → (slots : List Slot) → HoldsLog header.now (D.state disk.old).areas.status.bytes slots → AnswersLog slots result }
     ensures fault { IsTrue D.tells → IfErr result (IsLogFault header.now (D.state disk.old).areas.status.bytes) }
     ensures same { D.state disk.new ≡ read_by result (D.state disk.old) }

@@ -71,7 +71,7 @@ pub fn floors_behind(alloc: Global, floors: &Floors, body: &Body) -> Result<Floo
 
 impl LogEnd {
     /// That of a log without slots.
-    pub fn start() -> LogEnd
+    pub(crate) fn start() -> LogEnd
         ensures { EndsAt [] result }
     {
         LogEnd {
@@ -105,7 +105,7 @@ impl LogEnd {
     }
 
     /// Whether this slot may follow in a store of this profile.
-    pub fn may_be_followed(&self, profile: u32, slot: &Slot) -> bool
+    pub(crate) fn may_be_followed(&self, profile: u32, slot: &Slot) -> bool
         ensures { InRange profile slot.now.body → (before : List Slot) → EndsAt before self.now → (IsTrue result ↔ MayFollow profile before slot.now) }
     {
         if !is_built(profile, kind_of(&slot.body)) {
@@ -120,7 +120,7 @@ impl LogEnd {
     }
 
     /// Where the log ends once this slot follows, and its floors are these.
-    pub fn with(&self, slot: &Slot, floors: Floors) -> LogEnd
+    pub(crate) fn with(&self, slot: &Slot, floors: Floors) -> LogEnd
         requires in_range { (profile : ℕ) × InRange profile slot.now.body }
         requires floors { floors ≡ kept_after self.now.floors (slot_of slot.now.body ∷ []) }
         ensures { (before : List Slot) → EndsAt before self.now → EndsAt (before ++ slot.now ∷ []) result }

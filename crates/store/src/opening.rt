@@ -1,14 +1,11 @@
 //! Opening a store.
 ghost use Rattle.std.specs.Prelude.{◌≡◌, IfOk, IfErr, map};
-ghost use Rattle.status.specs.Rules.{row_end};
-ghost use Rattle.recovery.specs.RunEntries.{runs_named};
 ghost use Rattle.store.specs.Heads.{head_as};
 ghost use Rattle.extents.specs.Times.{with_times};
 ghost use Rattle.store.specs.Opens.{Opens, OpenRefuses, times_of};
 
 use crate::store::Store;
 use crate::store_archive::StoreArchive;
-use archive::RunEntry;
 use disk::Disk;
 use extents::ChainTimes;
 use group::CommitHead;
@@ -33,19 +30,6 @@ fn heads_of(alloc: Global, commits: &[Member]) -> Result<Vec<CommitHead>, AllocE
         rest = after;
     }
     Ok(heads)
-}
-
-// Where the last of these runs ends.
-fn end_of(runs: &[RunEntry]) -> u64
-    ensures { result ≡ row_end 0 (runs_named runs.now) }
-{
-    let mut end = 0;
-    let mut rest = runs;
-    while let [run, after @ ..] = rest {
-        end = run.slot.start + run.slot.len;
-        rest = after;
-    }
-    end
 }
 
 // The time of the commit whose chain has each extent, by the live chains.
@@ -101,12 +85,12 @@ impl<D: Disk> Store<D> {
             archived,
             reclaimed,
             runs,
+            runs_end,
             extents,
             live: _,
             chains,
             last: _,
         } = recovered;
-        let runs_end = end_of(&runs);
         let archive = match StoreArchive::new(alloc, runs) {
             Ok(archive) => archive,
             Err(_) => return Err((OpenFault::NoMemory, disk)),

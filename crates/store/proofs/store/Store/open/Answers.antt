@@ -1,9 +1,6 @@
 use Rattle.std.proofs.Common.{◌≡◌, ℕ, List, map, length, min, false, refl, sym, ◌∙◌, ap, subst, arith}
 use Rattle.std.proofs.lemmas.List.{length-map}
 use Rattle.status.specs.Header.{total}
-use Rattle.status.specs.Rules.{row_end}
-use Rattle.archive.specs.declared.run.RunEntry.{RunEntry}
-use Rattle.recovery.specs.RunEntries.{runs_named}
 use Rattle.recovery.specs.declared.recovered.Recovered.{Recovered}
 use Rattle.wire.specs.declared.slot.Member.{Member}
 use Rattle.store.specs.Heads.{head_as}
@@ -36,11 +33,10 @@ returns-clause-ok g c =
     let many : length (map head_as r.commits.items) ≡ length r.commits.items = length-map r.commits.items head_as in
     let slots_are : c.slots-slots.result ≡ total r.header = c.slots-slots.ensures ∙ ap (λ (l : LogState). l.slots) log_is in
     let times_are : c.in-Ok-times_of.times ≡ times_of r.live.items = c.in-Ok-times_of.ensures ∙ ap times_of c.deref-2.ensures.value in
-    let end_is : c.end_of-runs_end.result ≡ row_end 0 (runs_named r.runs.items) = c.end_of-runs_end.ensures ∙ ap (λ (runs : List RunEntry). row_end 0 (runs_named runs)) c.deref-3.ensures.value in
     record {
       recovered = r;
       read = c.in-Ok.ensures.found;
-      new_is = rw (log_is, c.of_recovered.ensures, slots_are, heads_are, many, end_is, times_are) refl;
+      new_is = rw (log_is, c.of_recovered.ensures, slots_are, heads_are, many, c.in-Ok.ensures.runs_end, times_are) refl;
       marked = c.in-Ok.ensures.runs.1;
       unread = c.in-Ok-new.ensures;
       ordered = rw c.of_recovered.ensures c.is_empty-none.ensures.ordered;
