@@ -3,7 +3,7 @@ ghost use Rattle.std.specs.Prelude.{◌≡◌};
 
 use crate::published::{SEVEN, published, put};
 use chains::Frozen;
-use deltas::{Body, pack};
+use deltas::{ExtentBody, pack};
 use extents::{Extents, Usage};
 use group::{
     CommitHead, CommitOrder, Queued, QueuedParts, StoredExtent, Ticket, TicketState,
@@ -94,7 +94,7 @@ fn the_least_key_in_conflict_is_found(rt: HostRuntime) -> Result<(), Fail> {
 fn stored_in(
     alloc: Global,
     extents: &mut Extents,
-    bodies: &[Body],
+    bodies: Vec<ExtentBody>,
 ) -> Result<Vec<StoredExtent>, Fail> {
     if (extents.free_count() as usize) < bodies.len() {
         return Err("too few extents are free".into());
@@ -140,7 +140,7 @@ fn a_commit_is_stored_and_kept(rt: HostRuntime) -> Result<(), Fail> {
         ENTRY,
         Frozen::new(),
         0,
-        stored_in(alloc, &mut extents, &bodies)?,
+        stored_in(alloc, &mut extents, bodies)?,
     );
     assert_eq!(rt; waits.reclaimed(), 0);
     assert!(rt; waits.entry() == ENTRY);

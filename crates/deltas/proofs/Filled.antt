@@ -4,13 +4,14 @@ use Rattle.std.specs.List.{flat_map}
 use borrow.Rule.Slice.PartMut.{put_mid, post_of}
 use Rattle.std.proofs.lemmas.Bool.{cases_lt, cases_eq}
 use Rattle.std.proofs.lemmas.Bool.Decides.{nat_tests}
-use Rattle.std.proofs.lemmas.List.{append-nil, nil_from_length, length-take, drop_at}
+use Rattle.std.proofs.lemmas.List.{append-nil, nil_from_length, length-take}
 use Rattle.wire.specs.Numbers.{u32_bytes}
 use Rattle.deltas.specs.Extents.{extent_bytes}
 use Rattle.deltas.specs.declared.«record».Record.{Record}
 use Rattle.deltas.specs.Records.{spelling}
 use Rattle.deltas.specs.Packing.{bodies_from, bodies}
 use Rattle.deltas.specs.Filling.{first_within, IsFirstBody}
+use Rattle.deltas.proofs.Bodies.{behind_header}
 use Rattle.deltas.proofs.Holding.{spelling-some}
 
 -- these records are written so far
@@ -164,9 +165,7 @@ pub header_in_front : (number next used : ℕ) (old body image bytes : List ℕ)
     → image ≡ u32_bytes number ++ u32_bytes next ++ u32_bytes used ++ u32_bytes 0 ++ drop 16 (put_mid 16 8176 old body) → image ≡ extent_bytes (record { number = number; next = next; body = bytes })
 unfolding extent_bytes
 header_in_front number next used old body image bytes len fits used_is body_is image_is =
-    let front : length (take 16 old) ≡ 16 = omega (arith, length-take 16 old) in
-    let behind : post_of 16 8176 old ≡ [] = nil_from_length (post_of 16 8176 old) (omega (arith, length-drop 8176 (drop 16 old), length-drop 16 old)) in
-    let part : drop 16 (put_mid 16 8176 old body) ≡ body = drop_at (take 16 old) (body ++ post_of 16 8176 old) 16 front ∙ ap (λ (l : List ℕ). body ++ l) behind ∙ append-nil body in
+    let part : drop 16 (put_mid 16 8176 old body) ≡ body = behind_header old body len in
     image_is
     ∙ ap (λ (l : List ℕ). u32_bytes number ++ u32_bytes next ++ u32_bytes used ++ u32_bytes 0 ++ l) (part ∙ body_is)
     ∙ ap (λ n. u32_bytes number ++ u32_bytes next ++ u32_bytes n ++ u32_bytes 0 ++ (bytes ++ replicate (8176 - length bytes) 0)) used_is

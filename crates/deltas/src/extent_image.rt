@@ -1,6 +1,6 @@
 //! The bytes of one extent.
 
-ghost use Rattle.std.specs.Prelude.{◌≡◌, ◌≢◌, ◌≤◌, length, MatchOption, IsTrue, ◌↔◌};
+ghost use Rattle.std.specs.Prelude.{◌≡◌, ◌≢◌, length, MatchOption, IsTrue, ◌↔◌};
 ghost use Rattle.byteorder.specs.Endian.{little_number};
 ghost use Rattle.deltas.specs.Reading.{body_of, number_of, next_of};
 
@@ -38,6 +38,14 @@ impl Image {
             return None;
         }
         Some(Image { bytes })
+    }
+
+    /// The extent with these bytes, which are 8,192.
+    pub(crate) fn of_all(bytes: Vec<u8>) -> Image
+        requires { length bytes.items ≡ 8192 }
+        ensures { result ≡ bytes.items }
+    {
+        Image { bytes }
     }
 
     /// The bytes as they stand on the disk.
@@ -79,38 +87,5 @@ impl Image {
         ensures { IsTrue result ↔ (self.now ≡ other.now) }
     {
         self.bytes() == other.bytes()
-    }
-}
-
-/// The bytes of the records that go into one extent: at most 8,176.
-#[derive(Drop)]
-pub struct Body {
-    bytes: Vec<u8>,
-}
-
-impl Model for Body {
-    ghost use Rattle.std.specs.Prelude.{◌≤◌, ℕ, List, length};
-
-    ghost Value = { List ℕ };
-
-    ghost view = { λ b. b.bytes.items };
-
-    ghost invariant = { λ b. length b.bytes.items ≤ 8176 };
-}
-
-impl Body {
-    pub(crate) fn new(bytes: Vec<u8>) -> Body
-        requires { length bytes.items ≤ 8176 }
-        ensures { result ≡ bytes.items }
-    {
-        Body { bytes }
-    }
-
-    /// The records' bytes, one record after the other.
-    pub fn bytes(&self) -> &[u8]
-        ensures is { result.now ≡ self.now }
-        ensures fits { length self.now ≤ 8176 }
-    {
-        self.bytes.as_slice()
     }
 }

@@ -61,10 +61,7 @@ fn next_image<S: RecordSource>(
 {
     let mut bytes = [0; EXTENT_LEN];
     let _filled = fill_extent(source, number, next, &mut bytes);
-    let Some(image) = Image::of(Vec::from_array(alloc, bytes)?) else {
-        unreachable!();
-    };
-    Ok(image)
+    Ok(Image::of_all(Vec::from_array(alloc, bytes)?))
 }
 
 /// The chain of all records that are left, in the extents of these numbers, which are as many as

@@ -1,7 +1,6 @@
 //! Records packed into extents, one extent at a time and in no memory of their own.
 
 ghost use Rattle.std.specs.Prelude.{◌≡◌, ◌++◌, ◌-◌, ◌+◌, ◌≤◌, ◌<◌, ◌^◌, ◌∷◌, ℕ, List, length, map, drop, replicate, option_map, IfOk, MatchOption};
-ghost use Rattle.wire.specs.Numbers.{u32_bytes};
 ghost use Rattle.deltas.specs.declared.«record».Record.{Record};
 ghost use Rattle.deltas.specs.Records.{spelling};
 ghost use Rattle.deltas.specs.Loans.{record_of_loan};
@@ -11,8 +10,7 @@ use crate::extent_image::{BODY_LEN, EXTENT_LEN};
 use crate::filled_extent::FilledExtent;
 use crate::record_ref::RecordRef;
 use crate::record_source::RecordSource;
-use crate::slice_writer::{loan_len, put_record};
-use byteorder::{ByteOrder, LittleEndian};
+use crate::slice_writer::{loan_len, put_header, put_record};
 
 // The next record, if its bytes fit there.
 fn peek_within<S: RecordSource>(source: &S, room: usize) -> Option<RecordRef<'_>>
@@ -43,17 +41,6 @@ fn fill_body<S: RecordSource>(source: &mut S, body: &mut [u8]) -> FilledExtent
         records,
         used: used as u32,
     }
-}
-
-#[tactic(auto, unfolding(wire::specs::Numbers::u32_bytes))]
-fn put_header(image: &mut [u8], number: u32, next: u32, used: u32)
-    requires { 16 ≤ length image.old }
-    ensures { image.new ≡ u32_bytes number ++ u32_bytes next ++ u32_bytes used ++ u32_bytes 0 ++ drop 16 image.old }
-{
-    LittleEndian::write_u32(image, number);
-    LittleEndian::write_u32(&mut image[4..], next);
-    LittleEndian::write_u32(&mut image[8..], used);
-    LittleEndian::write_u32(&mut image[12..], 0);
 }
 
 /// Fills all bytes of the extent of this number, before the extent `next` of its chain or the last

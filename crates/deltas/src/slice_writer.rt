@@ -1,21 +1,24 @@
 //! Records written to their place among bytes.
 
-ghost use Rattle.std.specs.Prelude.{◌≡◌, ◌++◌, ◌+◌, ◌≤◌, [], ◌∷◌, length, take};
-ghost use Rattle.wire.specs.Numbers.{u16_bytes, u64_bytes};
+ghost use Rattle.std.specs.Prelude.{◌≡◌, ◌++◌, ◌+◌, ◌≤◌, [], ◌∷◌, length, take, drop};
+ghost use Rattle.wire.specs.Numbers.{u16_bytes, u32_bytes, u64_bytes};
 ghost use Rattle.wire.specs.Values.{value_bytes};
 ghost use Rattle.deltas.specs.Records.{kind_of, rest_of, spelling};
 ghost use Rattle.deltas.specs.Loans.{content_of_loan, record_of_loan};
+ghost use Rattle.deltas.specs.Images.{IsSameFrom};
 
 use crate::record_ref::{ContentRef, RecordRef};
 use byteorder::{ByteOrder, LittleEndian};
 use history::Key;
 use wire::Value;
 
-// Writes the bytes from this place on, and tells where they end.
+// Writes the bytes from this place on, and tells where they end. As each `put_` here, it changes
+// nothing behind them.
 fn put(out: &mut [u8], at: usize, bytes: &[u8]) -> usize
     requires { at + length bytes.now ≤ length out.old }
     ensures end { result ≡ at + length bytes.now }
     ensures front { take result out.new ≡ take at out.old ++ bytes.now }
+    ensures behind { IsSameFrom result out.old out.new }
     ensures len { length out.new ≡ length out.old }
 {
     let end = at + bytes.len();
@@ -28,6 +31,7 @@ fn put_u16(out: &mut [u8], at: usize, number: u16) -> usize
     requires { at + 2 ≤ length out.old }
     ensures end { result ≡ at + 2 }
     ensures front { take result out.new ≡ take at out.old ++ u16_bytes number }
+    ensures behind { IsSameFrom result out.old out.new }
     ensures len { length out.new ≡ length out.old }
 {
     let mut bytes = [0; 2];
@@ -40,6 +44,7 @@ fn put_u64(out: &mut [u8], at: usize, number: u64) -> usize
     requires { at + 8 ≤ length out.old }
     ensures end { result ≡ at + 8 }
     ensures front { take result out.new ≡ take at out.old ++ u64_bytes number }
+    ensures behind { IsSameFrom result out.old out.new }
     ensures len { length out.new ≡ length out.old }
 {
     let mut bytes = [0; 8];
@@ -51,6 +56,7 @@ fn put_value(out: &mut [u8], at: usize, value: &Value) -> usize
     requires { at + length (value_bytes value.now) ≤ length out.old }
     ensures end { result ≡ at + length (value_bytes value.now) }
     ensures front { take result out.new ≡ take at out.old ++ value_bytes value.now }
+    ensures behind { IsSameFrom result out.old out.new }
     ensures len { length out.new ≡ length out.old }
 {
     let fields = put(out, at, &[value.len()]);
@@ -61,6 +67,7 @@ fn put_key(out: &mut [u8], at: usize, key: Key) -> usize
     requires { at + 10 ≤ length out.old }
     ensures end { result ≡ at + 10 }
     ensures front { take result out.new ≡ take at out.old ++ u16_bytes key.relation ++ u64_bytes key.record }
+    ensures behind { IsSameFrom result out.old out.new }
     ensures len { length out.new ≡ length out.old }
 {
     let number = put_u16(out, at, key.relation);
@@ -84,6 +91,7 @@ fn put_rest(out: &mut [u8], at: usize, content: ContentRef) -> usize
     requires { at + length (rest_of (content_of_loan content)) ≤ length out.old }
     ensures end { result ≡ at + length (rest_of (content_of_loan content.entry)) }
     ensures front { take result out.new ≡ take at out.old ++ rest_of (content_of_loan content.entry) }
+    ensures behind { IsSameFrom result out.old out.new }
     ensures len { length out.new ≡ length out.old }
 {
     match content {
@@ -106,6 +114,7 @@ pub fn put_record(out: &mut [u8], at: usize, one: RecordRef) -> usize
     requires { at + length (spelling (record_of_loan one)) ≤ length out.old }
     ensures end { result ≡ at + length (spelling (record_of_loan one.entry)) }
     ensures front { take result out.new ≡ take at out.old ++ spelling (record_of_loan one.entry) }
+    ensures behind { IsSameFrom result out.old out.new }
     ensures len { length out.new ≡ length out.old }
 {
     let key = put(out, at, &[kind(one.content)]);
@@ -134,4 +143,16 @@ pub fn loan_len(one: RecordRef) -> usize
     ensures short { result ≤ 4116 }
 {
     11 + rest_len(one.content)
+}
+
+/// Writes the header of an extent in front of its records, which have `used` bytes.
+#[tactic(auto, unfolding(wire::specs::Numbers::u32_bytes))]
+pub fn put_header(image: &mut [u8], number: u32, next: u32, used: u32)
+    requires { 16 ≤ length image.old }
+    ensures { image.new ≡ u32_bytes number ++ u32_bytes next ++ u32_bytes used ++ u32_bytes 0 ++ drop 16 image.old }
+{
+    LittleEndian::write_u32(image, number);
+    LittleEndian::write_u32(&mut image[4..], next);
+    LittleEndian::write_u32(&mut image[8..], used);
+    LittleEndian::write_u32(&mut image[12..], 0);
 }

@@ -6,7 +6,7 @@ ghost use Rattle.group.specs.Queued.{stored_as};
 ghost use Rattle.group.specs.Sealing.{chain_of, first_number};
 
 use crate::queued::StoredExtent;
-use deltas::{Body, Image, seal};
+use deltas::{ExtentBody, Image, seal};
 use extents::Extent;
 use std::alloc::{AllocError, Global};
 
@@ -20,19 +20,22 @@ fn next_number(extents: &[Extent]) -> u32
 }
 
 // The bytes of each extent.
-fn seal_images(alloc: Global, extents: &[Extent], bodies: &[Body]) -> Result<Vec<Image>, AllocError>
-    ensures { IfOk result (λ images. images.items ≡ map extent_bytes (chain_of extents.now bodies.now)) }
+fn seal_images(
+    alloc: Global,
+    extents: &[Extent],
+    bodies: Vec<ExtentBody>,
+) -> Result<Vec<Image>, AllocError>
+    ensures { IfOk result (λ images. images.items ≡ map extent_bytes (chain_of extents.now bodies.items)) }
 {
-    let mut images = Vec::new(alloc);
+    let mut images = Vec::with_capacity(alloc, bodies.len())?;
+    let mut bodies = bodies.into_iter();
     let mut numbers = extents;
-    let mut rest = bodies;
     while let [extent, after @ ..] = numbers {
-        let [body, behind @ ..] = rest else {
+        let Some(body) = bodies.next() else {
             return Ok(images);
         };
-        images.push(seal(alloc, extent.number(), next_number(after), body)?)?;
+        images.push(seal(extent.number(), next_number(after), body))?;
         numbers = after;
-        rest = behind;
     }
     Ok(images)
 }
@@ -61,18 +64,18 @@ fn stored_together(
 }
 
 /// Each extent with the bytes that are to be written there: its own number, that of the next one,
-/// and the body of its place.
+/// and the body of its place, of which no byte is copied.
 ///
 /// # Errors
 ///
-/// Where there is no memory for the bytes; the extents come back.
+/// Where there is no memory for the list; the extents come back.
 pub fn seal_all(
     alloc: Global,
     extents: Vec<Extent>,
-    bodies: &[Body],
+    bodies: Vec<ExtentBody>,
 ) -> Result<Vec<StoredExtent>, Vec<Extent>>
-    requires { length bodies.now ≡ length extents.items }
-    ensures ok { IfOk result (λ stored. stored.items ≡ stored_as extents.items (map extent_bytes (chain_of extents.items bodies.now))) }
+    requires { length bodies.items ≡ length extents.items }
+    ensures ok { IfOk result (λ stored. stored.items ≡ stored_as extents.items (map extent_bytes (chain_of extents.items bodies.items))) }
     ensures err { IfErr result (λ back. back.items ≡ extents.items) }
 {
     let images = match seal_images(alloc, &extents, bodies) {

@@ -1,7 +1,7 @@
 //! Records that are packed into extents, and read from them again.
 
 use crate::table::{Scale, nanoseconds, print_flow};
-use deltas::{Body, ChainName, Content, Image, Kinds, Record, pack, seal, unpack};
+use deltas::{ChainName, Content, ExtentBody, Image, Kinds, Record, pack, seal, unpack};
 use history::Key;
 use std::alloc::{AllocError, Global};
 use std::io;
@@ -35,7 +35,7 @@ fn records(alloc: Global) -> Result<Vec<Record>, AllocError> {
 }
 
 /// How many bytes the records have.
-fn bytes_of(bodies: &[Body]) -> u64 {
+fn bytes_of(bodies: &[ExtentBody]) -> u64 {
     let mut bytes = 0u64;
     for body in bodies {
         bytes = bytes.saturating_add(body.bytes().len() as u64);
@@ -44,14 +44,15 @@ fn bytes_of(bodies: &[Body]) -> u64 {
 }
 
 /// The extents with these records, from the first on.
-fn seal_all(alloc: Global, bodies: &[Body]) -> Result<Vec<Image>, AllocError> {
-    let mut images = Vec::with_capacity(alloc, bodies.len())?;
+fn seal_all(alloc: Global, bodies: Vec<ExtentBody>) -> Result<Vec<Image>, AllocError> {
+    let count = bodies.len();
+    let mut images = Vec::with_capacity(alloc, count)?;
     let mut number = 1u32;
     for body in bodies {
         let following = number.wrapping_add(1);
-        let is_last = following as usize > bodies.len();
+        let is_last = following as usize > count;
         let next = if is_last { 0 } else { following };
-        images.push(seal(alloc, number, next, body)?)?;
+        images.push(seal(number, next, body))?;
         number = following;
     }
     Ok(images)
@@ -97,19 +98,19 @@ fn measure_sealing<R: Print + Clock>(
     rt: &R,
     alloc: Global,
     scale: Scale,
-    bodies: &[Body],
+    records: &[Record],
 ) -> io::Result<()> {
     let rounds = scale.rounds(2_000);
+    let bytes = bytes_of(&pack(alloc, records)?).saturating_mul(rounds);
     let start = Instant::now(rt)?;
     for _ in 0..rounds {
-        seal_all(alloc, bodies)?;
+        seal_all(alloc, pack(alloc, records)?)?;
     }
     let time = nanoseconds(rt, &start)?;
-    let bytes = bytes_of(bodies).saturating_mul(rounds);
     print_flow(
         rt,
         scale,
-        "deltas: sealed, records",
+        "deltas: packed and sealed, records",
         RECORDS as u64,
         time,
         bytes,
@@ -120,9 +121,11 @@ fn measure_unpacking<R: Print + Clock>(
     rt: &R,
     alloc: Global,
     scale: Scale,
-    bodies: &[Body],
+    records: &[Record],
 ) -> io::Result<()> {
     let rounds = scale.rounds(2_000);
+    let bodies = pack(alloc, records)?;
+    let bytes = bytes_of(&bodies).saturating_mul(rounds);
     let images = seal_all(alloc, bodies)?;
     if unpacked(alloc, &images)? != RECORDS as usize {
         return println!(rt; "deltas: the records were not read again");
@@ -132,7 +135,6 @@ fn measure_unpacking<R: Print + Clock>(
         unpacked(alloc, &images)?;
     }
     let time = nanoseconds(rt, &start)?;
-    let bytes = bytes_of(bodies).saturating_mul(rounds);
     print_flow(
         rt,
         scale,
@@ -146,7 +148,6 @@ fn measure_unpacking<R: Print + Clock>(
 pub(crate) fn measure<R: Print + Clock>(rt: &R, alloc: Global, scale: Scale) -> io::Result<()> {
     let records = records(alloc)?;
     measure_packing(rt, alloc, scale, &records)?;
-    let bodies = pack(alloc, &records)?;
-    measure_sealing(rt, alloc, scale, &bodies)?;
-    measure_unpacking(rt, alloc, scale, &bodies)
+    measure_sealing(rt, alloc, scale, &records)?;
+    measure_unpacking(rt, alloc, scale, &records)
 }

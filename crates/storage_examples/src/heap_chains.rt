@@ -3,7 +3,7 @@ use crate::area_bytes::{begin_with, put};
 use crate::list_cursor::ListCursor;
 use crate::worked_bytes::{ANCHOR, EXTENT_FRONT};
 use deltas::{
-    Body, ChainName, Content, EXTENT_LEN, Image, Kinds, Record, RecordSource, count_extents,
+    ChainName, Content, EXTENT_LEN, ExtentBody, Image, Kinds, Record, RecordSource, count_extents,
     fill_chain, fill_extent, laws, pack, seal, unpack,
 };
 use history::Key;
@@ -62,9 +62,10 @@ fn a_record_that_does_not_fit_begins_an_extent(rt: HostRuntime) -> Result<(), Fa
 }
 
 /// The bodies in extents 3 and 4.
-fn sealed(alloc: Global, bodies: &[Body]) -> Result<[Image; 2], Fail> {
-    match bodies {
-        [first, second] => Ok([seal(alloc, 3, 4, first)?, seal(alloc, 4, 0, second)?]),
+fn sealed(bodies: Vec<ExtentBody>) -> Result<[Image; 2], Fail> {
+    let mut bodies = bodies.into_iter();
+    match (bodies.next(), bodies.next(), bodies.next()) {
+        (Some(first), Some(second), None) => Ok([seal(3, 4, first), seal(4, 0, second)]),
         _ => Err("two bodies".into()),
     }
 }
@@ -72,7 +73,7 @@ fn sealed(alloc: Global, bodies: &[Body]) -> Result<[Image; 2], Fail> {
 /// The chain of 1,024 records of 14 bytes.
 fn chain_of_two(alloc: Global) -> Result<[Image; 2], Fail> {
     laws::packed_is_held();
-    sealed(alloc, &pack(alloc, &many(alloc, 1024)?)?)
+    sealed(pack(alloc, &many(alloc, 1024)?)?)
 }
 
 const TWO_EXTENTS: ChainName = ChainName {

@@ -12,7 +12,7 @@ ghost use Rattle.transactions.specs.Submits.{Submits, verdict_on_writes, Queues,
 use crate::transactions::Transactions;
 use chains::{Frozen, SharedValue};
 use clock::{ClockEnd, CommitClock};
-use deltas::{Body, pack};
+use deltas::{ExtentBody, pack};
 use extents::Extents;
 use group::{
     CommitHead, Queued, StoredExtent, SubmitFault, Submitted, Ticket, first_conflict,
@@ -27,7 +27,7 @@ use wire::Member;
 #[derive(Drop)]
 struct Accepted {
     time: u64,
-    bodies: Vec<Body>,
+    bodies: Vec<ExtentBody>,
 }
 
 impl Transactions {
@@ -127,14 +127,15 @@ impl Transactions {
         if self.queue.reserve(1).is_err() || self.order.reserve(1).is_err() {
             return Err(AllocError);
         }
-        match store(alloc, &mut self.extents, &bodies) {
+        let extents = bodies.len() as u32;
+        match store(alloc, &mut self.extents, bodies) {
             Err(AllocError) => Err(AllocError),
             Ok(stored) => {
                 let entry = Member {
                     label,
                     time,
                     first: first_number(&stored),
-                    extents: bodies.len() as u32,
+                    extents,
                     records: writes.len() as u32,
                 };
                 let queued = Queued::new(entry, after, reclaimed, stored);
@@ -171,7 +172,7 @@ fn packed(
     alloc: Global,
     versions: &Frozen,
     writes: &[KeyWrite<SharedValue>],
-) -> Result<Vec<Body>, AllocError>
+) -> Result<Vec<ExtentBody>, AllocError>
     ensures { IfOk result (λ packed. packed.items ≡ bodies_over versions.now writes.now) }
 {
     let records = records_of(alloc, versions, writes)?;
@@ -182,10 +183,10 @@ fn packed(
 fn store(
     alloc: Global,
     extents: &mut Extents,
-    bodies: &[Body],
+    bodies: Vec<ExtentBody>,
 ) -> Result<Vec<StoredExtent>, AllocError>
-    requires { used_count extents.old + length bodies.now ≤ 65536 }
-    ensures ok { IfOk result (λ stored. IsStored extents.old bodies.now stored.items extents.new) }
+    requires { used_count extents.old + length bodies.items ≤ 65536 }
+    ensures ok { IfOk result (λ stored. IsStored extents.old bodies.items stored.items extents.new) }
     ensures err { OnErr result (extents.new ≡ extents.old) }
 {
     let taken = match take_extents(alloc, extents, bodies.len()) {
