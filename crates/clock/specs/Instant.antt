@@ -37,12 +37,17 @@ instant_of m = (day_number m * 86_400 + second_of_day m) * 1_000_000
 abbrev pub two_digits : ℕ → List ℕ
 two_digits n = (48 + n / 10) ∷ (48 + n % 10) ∷ []
 
+-- YYYY-MM-DD
+abbrev pub date_spelling : ℕ → ℕ → ℕ → List ℕ
+date_spelling year month day = two_digits (year / 100) ++ two_digits (year % 100) ++ codes "-" ++ two_digits month ++ codes "-" ++ two_digits day
+
+-- THH:MM:SSZ
+abbrev pub time_spelling : ℕ → ℕ → ℕ → List ℕ
+time_spelling hour minute second = codes "T" ++ two_digits hour ++ codes ":" ++ two_digits minute ++ codes ":" ++ two_digits second ++ codes "Z"
+
 -- YYYY-MM-DDTHH:MM:SSZ
 abbrev pub spelling : Moment → List ℕ
-spelling m = two_digits (m.year / 100) ++ two_digits (m.year % 100)
-    ++ codes "-" ++ two_digits m.month ++ codes "-" ++ two_digits m.day
-    ++ codes "T" ++ two_digits m.hour ++ codes ":" ++ two_digits m.minute
-    ++ codes ":" ++ two_digits m.second ++ codes "Z"
+spelling m = date_spelling m.year m.month m.day ++ time_spelling m.hour m.minute m.second
 
 -- a text spells an instant, which begins a second
 pub record Spells (text : List ℕ) (t : ℕ) : Type 0 where

@@ -1,7 +1,7 @@
 //! The text of an instant, `YYYY-MM-DDTHH:MM:SSZ`.
 ghost use Rattle.std.specs.Prelude.{◌≡◌, ℕ, List, [], ◌∷◌, ◌++◌, OnOk, ◌+◌, ◌*◌, ◌<◌, ◌≤◌, ◌↔◌, IfOk, IfSome, IfNone, IsSome, IsNone, Ok, None, Some, string_bytes};
 ghost use Rattle.clock.specs.declared.instant.Moment.{Moment};
-ghost use Rattle.clock.specs.Instant.{IsMoment, FitsText, Spells, instant_of, second_at, spelling, two_digits};
+ghost use Rattle.clock.specs.Instant.{IsMoment, FitsText, Spells, date_spelling, instant_of, second_at, spelling, time_spelling, two_digits};
 
 use jiff::civil::Date;
 use jiff_core::civil::Date as PlainDate;
@@ -34,44 +34,43 @@ fn number(tens: u8, units: u8) -> Option<u8>
     }
 }
 
-/// The parts that a text spells, in range or not.
-fn parts(bytes: &[u8]) -> Option<Moment>
-    ensures found { IfSome result (λ m. FitsText m × (bytes.now ≡ spelling m)) }
-    ensures none { IfNone result ((m : Moment) → FitsText m → bytes.now ≡ spelling m → ⊥) }
+/// The year, the month and the day that a text spells, in range or not.
+fn date_parts(bytes: &[u8]) -> Option<(u16, u8, u8)>
+    ensures found { IfSome result (λ (year, month, day). (year < 10_000) × (month < 100) × (day < 100) × (bytes.now ≡ date_spelling year month day)) }
+    ensures none { IfNone result ((year month day : ℕ) → year < 10_000 → month < 100 → day < 100 → bytes.now ≡ date_spelling year month day → ⊥) }
 {
-    let &[
-        y3,
-        y2,
-        y1,
-        y0,
-        b'-',
-        m1,
-        m0,
-        b'-',
-        d1,
-        d0,
-        b'T',
-        h1,
-        h0,
-        b':',
-        n1,
-        n0,
-        b':',
-        s1,
-        s0,
-        b'Z',
-    ] = bytes
-    else {
+    let &[y3, y2, y1, y0, b'-', m1, m0, b'-', d1, d0] = bytes else {
         return None;
     };
     let century = number(y3, y2)?;
     let year = number(y1, y0)?;
     let month = number(m1, m0)?;
     let day = number(d1, d0)?;
-    let hour = number(h1, h0)?;
-    let minute = number(n1, n0)?;
-    let second = number(s1, s0)?;
-    let year = u16::from(century) * 100 + u16::from(year);
+    Some((u16::from(century) * 100 + u16::from(year), month, day))
+}
+
+/// The hour, the minute and the second that a text spells, in range or not.
+fn time_parts(bytes: &[u8]) -> Option<(u8, u8, u8)>
+    ensures found { IfSome result (λ (hour, minute, second). (hour < 100) × (minute < 100) × (second < 100) × (bytes.now ≡ time_spelling hour minute second)) }
+    ensures none { IfNone result ((hour minute second : ℕ) → hour < 100 → minute < 100 → second < 100 → bytes.now ≡ time_spelling hour minute second → ⊥) }
+{
+    let &[b'T', h1, h0, b':', m1, m0, b':', s1, s0, b'Z'] = bytes else {
+        return None;
+    };
+    Some((number(h1, h0)?, number(m1, m0)?, number(s1, s0)?))
+}
+
+/// The parts that a text spells, in range or not.
+fn parts(bytes: &[u8]) -> Option<Moment>
+    ensures found { IfSome result (λ m. FitsText m × (bytes.now ≡ spelling m)) }
+    ensures none { IfNone result ((m : Moment) → FitsText m → bytes.now ≡ spelling m → ⊥) }
+{
+    if bytes.len() != 20 {
+        return None;
+    }
+    let (date, time) = bytes.split_at(10);
+    let (year, month, day) = date_parts(date)?;
+    let (hour, minute, second) = time_parts(time)?;
     Some(Moment {
         year,
         month,

@@ -85,18 +85,10 @@ abbrev pub alone : Line → List Text → Option Line
 alone found [] = Some found
 alone found _ = None
 
--- what these words ask for: a command and what belongs to it, or nothing where they have no such form
-abbrev pub line_of : List Text → Option Line
-line_of [] = None
-line_of (command ∷ rest) =
-    if bytes_eq command (codes "begin") then option_map (λ n. line.Begin n) (only_name rest)
-    else (if bytes_eq command (codes "put") then put_of rest
-    else (if bytes_eq command (codes "del") then option_map (λ (n, k). line.Delete n k) (name_and_key rest)
-    else (if bytes_eq command (codes "get") then option_map (λ (n, k). line.Get n k) (name_and_key rest)
-    else (if bytes_eq command (codes "submit") then submit_of rest
-    else (if bytes_eq command (codes "abort") then option_map (λ n. line.Abort n) (only_name rest)
-    else (if bytes_eq command (codes "redeem") then option_map (λ n. line.Redeem n) (only_name rest)
-    else (if bytes_eq command (codes "pump") then alone line.Pump rest
+-- what a command and the words behind it ask for that name no transaction and no ticket
+abbrev pub store_line_of : Text → List Text → Option Line
+store_line_of command rest =
+    if bytes_eq command (codes "pump") then alone line.Pump rest
     else (if bytes_eq command (codes "flush") then alone line.Flush rest
     else (if bytes_eq command (codes "at") then at_of rest
     else (if bytes_eq command (codes "between") then between_of rest
@@ -110,7 +102,20 @@ line_of (command ∷ rest) =
     else (if bytes_eq command (codes "job") then alone line.Job rest
     else (if bytes_eq command (codes "finish") then alone line.Finish rest
     else (if bytes_eq command (codes "reopen") then alone line.Reopen rest
-    else None))))))))))))))))))))
+    else None)))))))))))))
+
+-- what these words ask for: a command and what belongs to it, or nothing where they have no such form
+abbrev pub line_of : List Text → Option Line
+line_of [] = None
+line_of (command ∷ rest) =
+    if bytes_eq command (codes "begin") then option_map (λ n. line.Begin n) (only_name rest)
+    else (if bytes_eq command (codes "put") then put_of rest
+    else (if bytes_eq command (codes "del") then option_map (λ (n, k). line.Delete n k) (name_and_key rest)
+    else (if bytes_eq command (codes "get") then option_map (λ (n, k). line.Get n k) (name_and_key rest)
+    else (if bytes_eq command (codes "submit") then submit_of rest
+    else (if bytes_eq command (codes "abort") then option_map (λ n. line.Abort n) (only_name rest)
+    else (if bytes_eq command (codes "redeem") then option_map (λ n. line.Redeem n) (only_name rest)
+    else store_line_of command rest))))))
 
 -- what a line of the script asks for, if it has such a form
 abbrev pub said : Text → Option Line

@@ -226,7 +226,16 @@ fn read<'a>(command: &[u8], words: Words<'a>) -> Option<Line<'a>>
         Some(Line::Abort(only_name(words)?))
     } else if is(command, "redeem") {
         Some(Line::Redeem(only_name(words)?))
-    } else if is(command, "pump") {
+    } else {
+        read_of_store(command, words)
+    }
+}
+
+/// What a line's words ask for that names no transaction and no ticket.
+fn read_of_store<'a>(command: &[u8], words: Words<'a>) -> Option<Line<'a>>
+    ensures { result ≡ told.store_line_of command.now words.entry }
+{
+    if is(command, "pump") {
         alone(Line::Pump, words)
     } else if is(command, "flush") {
         alone(Line::Flush, words)
