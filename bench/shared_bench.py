@@ -5,15 +5,18 @@
 
 SHARED_BENCH is the built program of crates/shared_bench, which says what each verb does. FOLDER is where
 stores are made (a temporary folder if left out: name one on the disk that you mean to measure, since /tmp
-may be memory). S makes each count smaller or larger.
+may be memory). S makes each count smaller or larger. Where a C compiler is there, as many callers of raw
+groups in C (bench/peers/callers.c), who sleep as those of the store do, run in the same rounds.
 """
 import argparse
+import json
 import os
 import platform
+import subprocess
 import sys
 import tempfile
 
-from store_bench import LEAST_IN_GATES, LEAST_OF_RAW, load, measured, median, medium, processor, shown
+from store_bench import HERE, LEAST_IN_GATES, LEAST_OF_RAW, load, measured, median, medium, processor, shown
 
 # Each verb, what its value is, and how often it is done in a round.
 VERBS = {
@@ -24,12 +27,37 @@ VERBS = {
 }
 
 
-def all_rounds(program, verbs, share, rounds, base):
+# How long a caller in C holds its lock, in microseconds: about what the store does of one commit under its own.
+LOCKED = "4"
+
+
+def built_callers(folder):
+    """The callers of raw groups in C, if they can be built here."""
+    out = os.path.join(folder, "callers")
+    try:
+        done = subprocess.run(["cc", "-O2", "-pthread", os.path.join(HERE, "peers", "callers.c"), "-o", out], stderr=subprocess.DEVNULL)
+    except FileNotFoundError:
+        return None
+    return out if done.returncode == 0 else None
+
+
+def called(callers, verb, count, base):
+    """What as many callers in C reach of raw groups, if they were built."""
+    if callers is None or verb[0] != "c":
+        return {}
+    writers = verb[1:]
+    with tempfile.TemporaryDirectory(dir=base) as folder:
+        ran = subprocess.run([callers, folder, writers, str(max(2, count // int(writers))), LOCKED], stdout=subprocess.PIPE, check=True)
+    return {f"callers_{name}": value for name, value in json.loads(ran.stdout).items()}
+
+
+def all_rounds(program, callers, verbs, share, rounds, base):
     """Of each verb the answers of all rounds; every second round goes backwards."""
     found = {verb: [] for verb in verbs}
     for turn in range(rounds):
         for verb in verbs if turn % 2 == 0 else reversed(verbs):
-            found[verb].append(measured(program, verb, max(1, int(VERBS[verb][1] * share)), base))
+            count = max(1, int(VERBS[verb][1] * share))
+            found[verb].append({**measured(program, verb, count, base), **called(callers, verb, count, base)})
     return found
 
 
@@ -38,7 +66,10 @@ def beside(verb, answers):
     if verb[0] == "c":
         raw = f"raw {shown(median(answers, 'raw'))}: {median(answers, 'of_raw'):.2f} of it; {median(answers, 'members'):.1f} a group"
         parts = ", ".join(f"{kind} {median(answers, kind + '_us'):,.0f}" for kind in ("gathering", "writing", "syncing"))
-        return f"{raw}; µs a group: {parts}; raw {median(answers, 'raw_us'):,.0f}"
+        callers = ""
+        if "callers_value" in answers[0]:
+            callers = f"; callers in C {shown(median(answers, 'callers_value'))}: {median(answers, 'callers_of_raw'):.2f} of raw, gathering {median(answers, 'callers_gathering_us'):,.0f}"
+        return f"{raw}; µs a group: {parts}; raw {median(answers, 'raw_us'):,.0f}{callers}"
     if verb[0] in "rq":
         return f"the writer's commits {shown(median(answers, 'commits_s'))} /s"
     kinds = ("begin", "submit", "redeem", "view", "write", "job", "start")
@@ -75,7 +106,7 @@ def main():
         print(f"`{' '.join(sys.argv)}`")
         print(f"{os.cpu_count()} cores ({processor()}), Linux {platform.release()}, {medium(base)}; "
               f"load {load()} at the beginning; medians of {asked.rounds} rounds")
-        found = all_rounds(os.path.abspath(asked.bench), verbs, asked.share, asked.rounds, base)
+        found = all_rounds(os.path.abspath(asked.bench), built_callers(base), verbs, asked.share, asked.rounds, base)
         print("\n| Verb | Value | Count | Store | Beside it | Aimed at |\n" + "|---" * 6 + "|")
         for verb in verbs:
             count = max(1, int(VERBS[verb][1] * asked.share))
