@@ -56,6 +56,19 @@ fn set_chain(times: &mut ChainTimes, numbers: &[u32], time: u64)
     }
 }
 
+// The commits of the log as they stand in the commit order, and the times of the live chains' extents.
+fn commits_of(
+    alloc: Global,
+    recovered: &Recovered,
+) -> Result<(Vec<CommitHead>, ChainTimes), AllocError>
+    ensures heads { IfOk result (λ r. r.0.items ≡ map head_as recovered.now.commits.items) }
+    ensures times { IfOk result (λ r. r.1 ≡ times_of recovered.now.live.items) }
+{
+    let heads = heads_of(alloc, &recovered.commits)?;
+    let times = times_of(alloc, &recovered.live)?;
+    Ok((heads, times))
+}
+
 impl<D: Disk> Store<D> {
     /// Opens the store that the disk holds. It first syncs the three areas, and then only reads. The
     /// mark is a number of the caller's, which the store's transactions, tickets and views carry.
@@ -69,27 +82,21 @@ impl<D: Disk> Store<D> {
             Ok(recovered) => recovered,
             Err(fault) => return Err((fault, disk)),
         };
-        let heads = match heads_of(alloc, &recovered.commits) {
-            Ok(heads) => heads,
-            Err(_) => return Err((OpenFault::NoMemory, disk)),
-        };
-        let times = match times_of(alloc, &recovered.live) {
-            Ok(times) => times,
+        let (heads, times) = match commits_of(alloc, &recovered) {
+            Ok(commits) => commits,
             Err(_) => return Err((OpenFault::NoMemory, disk)),
         };
         let Recovered {
             header,
             used,
-            commits: _,
             floors,
             archived,
             reclaimed,
             runs,
             runs_end,
             extents,
-            live: _,
             chains,
-            last: _,
+            ..
         } = recovered;
         let archive = match StoreArchive::new(alloc, runs) {
             Ok(archive) => archive,

@@ -13,11 +13,11 @@ use Rattle.store.proofs.store.Store.open.Goals as goal
 
 pub of_recovered-requires-clause-rising : goal.of_recovered-requires-clause-rising
 of_recovered-requires-clause-rising g c =
-    subst (λ (heads : List CommitHead). IsRisingAfter 0 heads) (sym (c.in-Ok-heads_of.ensures ∙ ap (λ (members : List Member). map head_as members) c.deref.ensures.value)) (rising-opened 0 c.in-Ok.recovered.commits.items c.in-Ok.ensures.rising)
+    subst (λ (heads : List CommitHead). IsRisingAfter 0 heads) (sym c.in-Ok-commits_of.ensures.heads) (rising-opened 0 c.in-Ok.recovered.commits.items c.in-Ok.ensures.rising)
 
 pub of_recovered-requires-clause-latest : goal.of_recovered-requires-clause-latest
 of_recovered-requires-clause-latest g c =
-    let last = ap last_time (c.in-Ok-heads_of.ensures ∙ ap (λ (members : List Member). map head_as members) c.deref.ensures.value) ∙ last-opened 0 c.in-Ok.recovered.commits.items in
+    let last = ap last_time c.in-Ok-commits_of.ensures.heads ∙ last-opened 0 c.in-Ok.recovered.commits.items in
     omega (arith, last, c.in-Ok.ensures.latest, c.in-Ok.ensures.last)
 
 pub of_recovered-requires-clause-room : goal.of_recovered-requires-clause-room
@@ -26,13 +26,13 @@ of_recovered-requires-clause-room g c = omega (arith, c.slots-slots.ensures, ap 
 pub returns-clause-ok : goal.returns-clause-ok
 returns-clause-ok g c =
     let r = c.in-Ok.recovered in
-    let heads_are : c.in-Ok-heads_of.heads.items ≡ map head_as r.commits.items = c.in-Ok-heads_of.ensures ∙ ap (λ (members : List Member). map head_as members) c.deref.ensures.value in
+    let heads_are : c.in-Ok-commits_of.commits.0.items ≡ map head_as r.commits.items = c.in-Ok-commits_of.ensures.heads in
     let all : min (total r.header) 65536 ≡ total r.header = omega (arith, c.in-Ok.ensures.used.1) in
     let few : min r.header.pieces 256 ≡ r.header.pieces = omega (arith, c.in-Ok.ensures.used.1) in
     let log_is : c.new-log.result ≡ logged r (total r.header) r.header.pieces = c.new-log.ensures ∙ (λ i. logged r (all i) (few i)) in
     let many : length (map head_as r.commits.items) ≡ length r.commits.items = length-map r.commits.items head_as in
     let slots_are : c.slots-slots.result ≡ total r.header = c.slots-slots.ensures ∙ ap (λ (l : LogState). l.slots) log_is in
-    let times_are : c.in-Ok-times_of.times ≡ times_of r.live.items = c.in-Ok-times_of.ensures ∙ ap times_of c.deref-2.ensures.value in
+    let times_are : c.in-Ok-commits_of.commits.1 ≡ times_of r.live.items = c.in-Ok-commits_of.ensures.times in
     record {
       recovered = r;
       read = c.in-Ok.ensures.found;
