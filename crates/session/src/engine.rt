@@ -112,12 +112,12 @@ fn next_line<R: LineInput, W: Write>(
     }
 }
 
-/// Runs the script of these lines, and gives the store's disk back. Where the input may wait, the
+/// Answers the lines of a script, one after another, and gives the store's disk back. Where the input may wait, the
 /// answers so far are given out first; the last ones may still be in the writer at the end.
 ///
 /// It ends before its last line only at a line of no form, at a `reopen` that the store refuses, and
 /// where the input or the output is refused, of which each says so.
-pub fn run<D: Disk, R: LineInput, W: Write>(
+pub fn answer_lines<D: Disk, R: LineInput, W: Write>(
     session: Session<D>,
     alloc: Global,
     input: &mut Lines<R>,

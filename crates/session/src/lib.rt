@@ -14,7 +14,7 @@ mod session;
 mod text;
 
 pub use ending::Ending;
-pub use engine::run;
+pub use engine::answer_lines;
 pub use fault::Fault;
 pub use input::{LineInput, Lines};
 pub use output::{Answers, write_numbered, write_reply};

@@ -19,8 +19,8 @@ use history::Key;
 use recovery::{OpenFault, format};
 use script::{Line, read_time};
 use session::{
-    Answers, Ending, Fault, LineInput, Lines, MARK, Refused, Reply, Session, run, write_numbered,
-    write_reply,
+    Answers, Ending, Fault, LineInput, Lines, MARK, Refused, Reply, Session, answer_lines,
+    write_numbered, write_reply,
 };
 use status::{Header, LogFault, read_header, read_log};
 use std::alloc::Global;
@@ -82,7 +82,7 @@ fn run_script<D: Disk, R: LineInput, W: Write>(
         Ok(session) => session,
         Err(store) => return (refuse(output, Fault::NoMemory), store.close()),
     };
-    let (ending, disk) = run(session, alloc, input, output);
+    let (ending, disk) = answer_lines(session, alloc, input, output);
     (status_of_ending(ending), disk)
 }
 

@@ -17,12 +17,12 @@ pub returns : goal.returns
 returns g c = inr (inr (record {
   opened = c.in-Ok.store;
   opens = c.in-Ok.ensures.ok;
-  lines = c.run-ending.ensures.ran.0;
-  are = c.run-ending.ensures.ran.2;
-  out = c.run-ending.ensures.ran.1;
-  end = c.run-ending.result.0;
-  run = subst (λ (s : State). Run g.D.Disk.tells (lines_read c.args.input.now + 1) s c.run-ending.ensures.ran.0 c.run-ending.ensures.ran.1 (c.run-ending.result.0, g.D.Disk.state c.run-ending.result.1)) c.in-Ok-new.ensures.ok c.run-ending.ensures.ran.3;
-  said = c.run-ending.ensures.ran.4;
-  ends = c.run-ending.ensures.refused;
-  status = has-status c.run-ending.result.0 (told g.W.Write.contents c.status_of_ending.result c.args.output.now c.run-ending.new.output) c.status_of_ending.ensures;
+  lines = c.answer_lines-ending.ensures.ran.0;
+  are = c.answer_lines-ending.ensures.ran.2;
+  out = c.answer_lines-ending.ensures.ran.1;
+  end = c.answer_lines-ending.result.0;
+  run = subst (λ (s : State). Run g.D.Disk.tells (lines_read c.args.input.now + 1) s c.answer_lines-ending.ensures.ran.0 c.answer_lines-ending.ensures.ran.1 (c.answer_lines-ending.result.0, g.D.Disk.state c.answer_lines-ending.result.1)) c.in-Ok-new.ensures.ok c.answer_lines-ending.ensures.ran.3;
+  said = c.answer_lines-ending.ensures.ran.4;
+  ends = c.answer_lines-ending.ensures.refused;
+  status = has-status c.answer_lines-ending.result.0 (told g.W.Write.contents c.status_of_ending.result c.args.output.now c.answer_lines-ending.new.output) c.status_of_ending.ensures;
 }))

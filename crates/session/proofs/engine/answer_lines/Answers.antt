@@ -2,7 +2,7 @@ use Rattle.std.proofs.Common.{refl, sym, ap, ◌∙◌, ◌+◌, ℕ, Ok, Err}
 use Rattle.session.proofs.RunLemmas.{counted, not_taken, ran-cut, ran-end, ran-whole, reopen-turn, so_far_kept, so_far_next, so_far_start, taken}
 use Rattle.session.specs.Streams.{lines_read}
 use Rattle.session.specs.declared.ending.Ending.TheVariants as ending
-use Rattle.session.proofs.engine.run.Goals as goal
+use Rattle.session.proofs.engine.answer_lines.Goals as goal
 
 pub loop-session-init : goal.loop-session-init
 loop-session-init g c = so_far_start g.D.Disk.tells (g.R.Read.remaining c.args.input.now.reader) (g.W.Write.contents c.args.output.now.writer) (lines_read c.args.input.now + 1) c.args.session

@@ -1,7 +1,7 @@
 use Rattle.std.proofs.Common.{◌+◌, ◌-◌, ◌^◌}
 use Rattle.session.proofs.RunLemmas.{SoFar}
 use Rattle.session.specs.Streams.{lines_read, text_left, text_said}
-use Rattle.session.proofs.engine.run.Given as goal
+use Rattle.session.proofs.engine.answer_lines.Given as goal
 
 abbrev pub invariant-loop-session : goal.invariant-loop-session
 invariant-loop-session g l = SoFar g.D.Disk.tells (text_left g.R.Read.remaining l.initial.input) (text_left g.R.Read.remaining l.input) (lines_read l.initial.input + 1) (lines_read l.input + 1)
