@@ -27,7 +27,7 @@ invariant_of-self-in-Ok-store c =
     let stored_is : c.in-Ok-store.stored.items ≡ stored_as numbers (map extent_bytes (chain_of numbers (bodies_for v writes))) = its.stored_is ∙ ap (λ (bs : List (List ℕ)). stored_as numbers (map extent_bytes (chain_of numbers bs))) packed in
     let after_is : c.in-Ok.after ≡ with_commit (ordered v) time writes = c.in-Ok.ensures.is ∙ ap (λ (m : List KeyWrites). with_commit m time writes) (c.ordered.ensures.is ∙ ap (λ (w : TransactionsValue). ordered w) (sym c.self.view_is)) in
     let first_is : c.first_number.result ≡ first_number numbers = c.first_number.ensures ∙ ap (λ (ss : List StoredExtent). first_number (map (λ s. s.extent) ss)) (c.deref.ensures.value ∙ stored_is) ∙ ap first_number (numbers-stored numbers _ sealed) in
-    let extents_is : c.len.result ≡ length numbers = omega (arith, c.len.ensures, c.args.accepted.bodies.ok.0, its.many) in
+    let extents_is : c.len-extents.result ≡ length numbers = omega (arith, c.len-extents.ensures, c.args.accepted.bodies.ok.0, its.many) in
     let mark_is : c.ordered_mark-reclaimed.result ≡ ordered_mark v = c.ordered_mark-reclaimed.ensures ∙ ap (λ (w : TransactionsValue). ordered_mark w) (sym c.self.view_is) in
     let q_is : c.new-queued.result ≡ queued_as v c.args.label time writes numbers = c.new-queued.ensures ∙ queued-is v c.args.label time _ _ _ _ _ _ writes numbers first_is extents_is refl after_is mark_is stored_is in
     let later : last_time v.heads ≤ time = (let low = c.requires.later in let heads_same = ap (λ (w : TransactionsValue). last_time w.heads) c.self.view_is in omega (arith, low, heads_same)) in
