@@ -181,11 +181,7 @@ fn has_room<D: Disk>(disk: &mut D, header: &Header) -> Result<bool, DeviceFault>
     Ok(all <= MOST_TOTAL && FRONT_LEN + SLOT_LEN * all <= len)
 }
 
-fn walk_through<D: Disk>(
-    alloc: Global,
-    disk: &mut D,
-    header: &Header,
-) -> Result<LogRead, LogFault>
+fn walk_through<D: Disk>(alloc: Global, disk: &mut D, header: &Header) -> Result<LogRead, LogFault>
     requires few { total header.now ≤ 65536 }
     requires room { IsTrue D.tells → HasRoom header.now (D.state disk.old).areas.status.bytes }
     ensures slots { IfOk result (λ log. AreSlots header.now.profile log.slots.items) }
@@ -210,11 +206,7 @@ fn walk_through<D: Disk>(
 /// `NotAStore` where the area is too short for the header's slots; `Damaged(n)` where slot n is
 /// the first that is open and that breaks the grammar, may not follow the slots before it, or is
 /// of a kind that is not built; `Device` where the device refused a call; `NoMemory`.
-pub fn read_log<D: Disk>(
-    alloc: Global,
-    disk: &mut D,
-    header: &Header,
-) -> Result<LogRead, LogFault>
+pub fn read_log<D: Disk>(alloc: Global, disk: &mut D, header: &Header) -> Result<LogRead, LogFault>
     ensures slots { IfOk result (λ log. AreSlots header.now.profile log.slots.items) }
     ensures ends { IfOk result (λ log. EndsAt log.slots.items log.end) }
     ensures within { IfOk result (λ log. length log.slots.items ≤ total header.now) }
