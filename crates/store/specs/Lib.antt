@@ -1,6 +1,7 @@
 pub mod Values
 pub mod Heads
 pub mod Calls
+pub mod SlotCalls
 pub mod Pumps
 pub mod Opens
 pub mod Archives

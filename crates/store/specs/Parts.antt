@@ -1,8 +1,6 @@
 -- A store by its parts.
 use Rattle.std.specs.Prelude.{◌≡◌, ◌+◌, ◌<◌, ◌≤◌, ◌^◌, ℕ, Option, MatchOption}
 use Rattle.disk.specs.Calls.{DiskState}
-use Rattle.status.specs.SlotCalls.{SlotStage}
-use Rattle.status.specs.SlotCalls as slots
 use Rattle.status.specs.TurnState.{TurnState, LogState}
 use Rattle.transactions.specs.Values.{TransactionsValue}
 use Rattle.store.specs.Values.{ArchiveValue, StoreValue}
@@ -13,18 +11,18 @@ use Rattle.store.specs.declared.job.JobStage.{JobStage}
 use Rattle.store.specs.declared.job.JobStage.TheVariants.{Writing, Stored, Turning}
 use Rattle.store.specs.declared.job.JobDid.{JobDid}
 use Rattle.store.specs.declared.job.JobDid.TheVariants as did
+use Rattle.store.specs.declared.slot_calls.SlotCall.{SlotCall}
+use Rattle.store.specs.declared.slot_calls.SlotCall.TheVariants as calls
 
 -- a store of these parts
 abbrev pub parts_of : TransactionsValue → LogState → Option TurnState → Option Job → ℕ → ℕ → ArchiveValue → DiskState → StoreValue
 parts_of transactions log turn job archived runs_end archive disk = record { transactions = transactions; log = log; turn = turn; job = job; archived = archived; runs_end = runs_end; archive = archive; disk = disk }
 
--- what was done of a job's slot that is at this stage
-abbrev pub job_did_at : SlotStage → JobDid
-job_did_at slots.Begun = did.BodyWritten
-job_did_at slots.BodyWritten = did.BodyWritten
-job_did_at slots.BodySynced = did.BodySynced
-job_did_at slots.GateWritten = did.GateWritten
-job_did_at slots.Opened = did.JobDone
+-- what a step of a job did that made this call of its slot
+abbrev pub job_did_of : SlotCall → JobDid
+job_did_of calls.BodyWritten = did.BodyWritten
+job_did_of calls.BodySynced = did.BodySynced
+job_did_of calls.GateWritten = did.GateWritten
 
 -- a run ends before the greatest place
 abbrev pub IsInPlace : JobWork → Type 0

@@ -21,6 +21,8 @@ use Rattle.transactions.specs.declared.stage.GroupStage.TheVariants as stages
 use Rattle.transactions.specs.declared.stage.NextStep.{NextStep}
 use Rattle.transactions.specs.declared.stage.NextStep.TheVariants as step
 use Rattle.store.specs.Values.{StoreValue, KeepsJob, turn_of}
+use Rattle.store.specs.declared.slot_calls.SlotCall.{SlotCall}
+use Rattle.store.specs.declared.slot_calls.SlotCall.TheVariants as calls
 
 -- what the disk answered in a step that was done, and in one that was not
 abbrev pub disk_answer : {T : Type 0} → Result T PumpFault → Result (Unit {0}) DeviceFault
@@ -55,13 +57,11 @@ pub record SyncsHeap (tells : Bool) (old : StoreValue) (result : Result Did Pump
 abbrev pub store_of : TransactionsValue → LogState → Option TurnState → DiskState → StoreValue
 store_of transactions log turn disk = record { transactions = transactions; log = log; turn = turn; job = None; archived = 0; runs_end = 0; archive = record { runs = []; next = []; kept = [] }; disk = disk }
 
--- what was done of a slot that is at this stage
-abbrev pub did_at : SlotStage → Did
-did_at slots.Begun = did.BodyWritten
-did_at slots.BodyWritten = did.BodyWritten
-did_at slots.BodySynced = did.BodySynced
-did_at slots.GateWritten = did.GateWritten
-did_at slots.Opened = did.GateWritten
+-- what a step of a group did that made this call of its slot
+abbrev pub did_of : SlotCall → Did
+did_of calls.BodyWritten = did.BodyWritten
+did_of calls.BodySynced = did.BodySynced
+did_of calls.GateWritten = did.GateWritten
 
 -- what a device call of a slot leads to: the last one publishes the group
 abbrev pub IsTurned : SlotStage → TurnState → StoreValue → Did → StoreValue → Type 0

@@ -6,11 +6,12 @@ ghost use Rattle.deltas.specs.Chains.{first_number};
 ghost use Rattle.store.specs.Jobs.{PumpsJob, TakesJobStep, Stores, writing, Grows, growing, WritesOrSyncs, WritesRun, WritesAnchors, AnchorsOrSync, SyncsStored, BeginsJobSlot, TurnsJob, slot_body, made_ready, work_done, TakesMemory};
 ghost use Rattle.disk.specs.Calls.{DiskState};
 ghost use Rattle.transactions.specs.Values.{KeepsSlots};
-ghost use Rattle.store.specs.Parts.{parts_of, job_did_at, IsInPlace, IsStageOf, GrowsBehind};
+ghost use Rattle.store.specs.Parts.{parts_of, job_did_of, IsInPlace, IsStageOf, GrowsBehind};
 ghost use Rattle.store.specs.Values.{ArchiveValue, lent_by};
 ghost use Rattle.store.specs.declared.job.Job.{Job};
 
 use crate::job::{Job, JobDid, JobStage, JobWork, put_job};
+use crate::slot_calls::{SlotCall, SlotStep, advance_slot};
 use crate::starting::first_number;
 use crate::store::Store;
 use crate::store_archive::StoreArchive;
@@ -19,7 +20,7 @@ use deltas::{EXTENT_LEN, fill_extent};
 use disk::{Area, DeviceFault, Disk};
 use extents::Extent;
 use group::PumpFault;
-use status::{Grew, Growth, PIECE_SLOTS, SlotTurn, Stage, StatusLog, Step};
+use status::{Grew, Growth, PIECE_SLOTS, SlotTurn, StatusLog};
 use std::alloc::{AllocError, Global};
 use std::mem;
 use transactions::Transactions;
@@ -469,31 +470,28 @@ fn turn_slot<D: Disk>(
     ensures { (other : Option TurnState) (before : Option Job)
         → TurnsJob D.tells job turn (parts_of transactions.old log.old other before archived.old runs_end.old archive.old (D.state disk.old)) result.0 (parts_of transactions.new log.new other result.1 archived.new runs_end.new archive.new (D.state disk.new)) }
 {
-    match log.advance(turn, disk) {
-        Err(DeviceFault) => {
-            transactions.fail();
-            (Err(PumpFault::Failed), Some(job))
-        }
-        Ok(Step::Open(_)) => {
+    match advance_slot(transactions, log, disk, turn) {
+        Err(fault) => (Err(fault), Some(job)),
+        Ok(SlotStep::Opened) => {
             let work = job.into_work();
             finish(alloc, transactions, archived, runs_end, archive, work);
             transactions.slot_used();
             (Ok(JobDid::JobDone), None)
         }
-        Ok(Step::More(next)) => {
-            let did = did_before(&next);
+        Ok(SlotStep::More(call, next)) => {
+            let did = job_did_of(call);
             (Ok(did), Some(at_stage(job, JobStage::Turning(next))))
         }
     }
 }
 
-// What was done of a slot that is to go on.
-fn did_before(turn: &SlotTurn) -> JobDid
-    ensures { result ≡ job_did_at turn.now.stage }
+// What a step of a job did that made this call of its slot.
+fn job_did_of(call: SlotCall) -> JobDid
+    ensures { result ≡ job_did_of call }
 {
-    match turn.stage() {
-        Stage::Begun | Stage::BodyWritten => JobDid::BodyWritten,
-        Stage::BodySynced => JobDid::BodySynced,
-        Stage::GateWritten => JobDid::GateWritten,
+    match call {
+        SlotCall::BodyWritten => JobDid::BodyWritten,
+        SlotCall::BodySynced => JobDid::BodySynced,
+        SlotCall::GateWritten => JobDid::GateWritten,
     }
 }

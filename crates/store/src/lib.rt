@@ -7,6 +7,7 @@ mod opening;
 mod over;
 mod pump;
 mod queries;
+mod slot_calls;
 mod starting;
 mod store;
 mod store_archive;

@@ -3,14 +3,15 @@ ghost use Rattle.std.specs.Prelude.{◌≡◌, ◌<◌, false, is_some, IsTrue, 
 ghost use Rattle.store.specs.Values.{turn_of};
 ghost use Rattle.disk.specs.Areas.{AreSound};
 ghost use Rattle.transactions.specs.Steps.{due, next_extent};
-ghost use Rattle.store.specs.Pumps.{Pumps, TakesStep, SyncsHeap, MayBeginSlot, TakesSlot, TurnsSlot, store_of, did_at};
+ghost use Rattle.store.specs.Pumps.{Pumps, TakesStep, SyncsHeap, MayBeginSlot, TakesSlot, TurnsSlot, store_of, did_of};
 
 use crate::job::JobStage;
 use crate::job_pump::EXTENT_BYTES;
+use crate::slot_calls::{SlotCall, SlotStep, advance_slot};
 use crate::store::Store;
 use disk::{Area, DeviceFault, Disk};
 use group::{Did, PumpFault};
-use status::{SlotTurn, Stage, StatusLog, Step};
+use status::{SlotTurn, StatusLog};
 use std::mem;
 use transactions::{NextStep, Transactions};
 use wire::Body;
@@ -169,30 +170,27 @@ fn turn_slot<D: Disk>(
     requires { due transactions.old ≡ NextStep.AdvanceSlot }
     ensures { TurnsSlot D.tells turn (store_of transactions.old log.old None (D.state disk.old)) result.0 (store_of transactions.new log.new result.1 (D.state disk.new)) }
 {
-    match log.advance(turn, disk) {
-        Err(DeviceFault) => {
-            transactions.fail();
-            (Err(PumpFault::Failed), None)
-        }
-        Ok(Step::Open(_)) => {
+    match advance_slot(transactions, log, disk, turn) {
+        Err(fault) => (Err(fault), None),
+        Ok(SlotStep::Opened) => {
             let count = transactions.publish();
             (Ok(Did::Published(count)), None)
         }
-        Ok(Step::More(next)) => {
-            let did = did_before(&next);
+        Ok(SlotStep::More(call, next)) => {
+            let did = did_of(call);
             (Ok(did), Some(next))
         }
     }
 }
 
-// What was done of a slot that is to go on.
-fn did_before(turn: &SlotTurn) -> Did
-    ensures { result ≡ did_at turn.now.stage }
+// What a step of a group did that made this call of its slot.
+fn did_of(call: SlotCall) -> Did
+    ensures { result ≡ did_of call }
 {
-    match turn.stage() {
-        Stage::Begun | Stage::BodyWritten => Did::BodyWritten,
-        Stage::BodySynced => Did::BodySynced,
-        Stage::GateWritten => Did::GateWritten,
+    match call {
+        SlotCall::BodyWritten => Did::BodyWritten,
+        SlotCall::BodySynced => Did::BodySynced,
+        SlotCall::GateWritten => Did::GateWritten,
     }
 }
 
