@@ -1,4 +1,4 @@
-use Rattle.std.proofs.Common.{◌≡◌, List, ℕ, ap, ◌∙◌}
+use Rattle.std.proofs.Common.{List, ℕ, ap, ◌∙◌}
 use Rattle.script.specs.Lines.{time_in}
 use Rattle.command_line.proofs.read.time_of.Goals as goal
 
