@@ -187,12 +187,9 @@ fn ask_between<D: Disk, W: Write>(
         (λ a. MatchOption to (RefusesTime (D.state disk) (told W.contents result.0 output.old output.new) (D.state result.1))
         (λ b. Asks D.tells (D.state disk) (Between key a b) (told W.contents result.0 output.old output.new) (D.state result.1))) }
 {
-    match from {
-        Some(a) => match to {
-            Some(b) => ask(alloc, disk, Line::Between(key, a, b), output),
-            None => (refuse(output, Fault::Time), disk),
-        },
-        None => (refuse(output, Fault::Time), disk),
+    match (from, to) {
+        (Some(a), Some(b)) => ask(alloc, disk, Line::Between(key, a, b), output),
+        _ => (refuse(output, Fault::Time), disk),
     }
 }
 

@@ -1,5 +1,5 @@
 //! Which folder an action needs.
-ghost use Rattle.std.specs.Prelude.{◌≡◌, ◌&&◌, is_some, if◌then◌else◌};
+ghost use Rattle.std.specs.Prelude.{◌≡◌, if◌then◌else◌};
 ghost use Rattle.shell.specs.declared.needs.Need.TheVariants.{Change, Make, Nothing};
 ghost use Rattle.shell.specs.Needs.{is_slot_count, need_of};
 
@@ -23,12 +23,6 @@ fn is_slot_count(slots: u32) -> bool
     ensures { result ≡ is_slot_count slots }
 {
     slots >= LEAST_SLOTS && slots <= MOST_SLOTS
-}
-
-fn are_times(from: Option<u64>, to: Option<u64>) -> bool
-    ensures { result ≡ (is_some from && is_some to) }
-{
-    from.is_some() && to.is_some()
 }
 
 /// The folder, where what is asked of its store can be.
@@ -66,7 +60,7 @@ pub fn folder_need<'a>(action: &Action<'a>) -> Need<'a>
             key: _,
             from,
             to,
-        } => change_if(are_times(from, to), dir),
+        } => change_if(from.is_some() && to.is_some(), dir),
         Action::Vacuum { dir, time } => change_if(time.is_some(), dir),
         Action::Grow { dir } => Need::Change(dir),
         Action::Dump { dir } => Need::Read(dir),
