@@ -58,14 +58,14 @@ fn run_has_a_folder(rt: HostRuntime) -> Result<(), Fail> {
 }
 
 #[test]
-fn at_has_a_key_and_a_time_as_text(rt: HostRuntime) -> Result<(), Fail> {
+fn at_has_a_key_and_a_time(rt: HostRuntime) -> Result<(), Fail> {
     let words = [
         "timestore",
         "at",
         "d",
         "65535",
         "18446744073709551615",
-        "soon",
+        "2001-09-09T01:46:40Z",
     ];
     let at = Action::At {
         dir: "d",
@@ -73,14 +73,14 @@ fn at_has_a_key_and_a_time_as_text(rt: HostRuntime) -> Result<(), Fail> {
             relation: u16::MAX,
             record: u64::MAX,
         },
-        time: "soon",
+        time: Some(1_000_000_000_000_000),
     };
     assert_eq!(rt; asked(rt.alloc(), &words)?, at);
     Ok(())
 }
 
 #[test]
-fn between_has_a_key_and_two_times_as_text(rt: HostRuntime) -> Result<(), Fail> {
+fn between_has_a_key_and_two_times(rt: HostRuntime) -> Result<(), Fail> {
     let words = ["timestore", "between", "d", "1", "7", "0", "later"];
     let between = Action::Between {
         dir: "d",
@@ -88,19 +88,19 @@ fn between_has_a_key_and_two_times_as_text(rt: HostRuntime) -> Result<(), Fail> 
             relation: 1,
             record: 7,
         },
-        from: "0",
-        to: "later",
+        from: Some(0),
+        to: None,
     };
     assert_eq!(rt; asked(rt.alloc(), &words)?, between);
     Ok(())
 }
 
 #[test]
-fn vacuum_has_a_folder_and_a_time_as_text(rt: HostRuntime) -> Result<(), Fail> {
-    let words = ["timestore", "vacuum", "d", "yesterday"];
+fn vacuum_has_a_folder_and_a_time(rt: HostRuntime) -> Result<(), Fail> {
+    let words = ["timestore", "vacuum", "d", "120"];
     let vacuum = Action::Vacuum {
         dir: "d",
-        time: "yesterday",
+        time: Some(120),
     };
     assert_eq!(rt; asked(rt.alloc(), &words)?, vacuum);
     Ok(())

@@ -4,12 +4,17 @@ use Rattle.std.specs.Str.{bytes_eq}
 use Rattle.std.specs.Str.Parse.{ParsesUnsigned}
 use Rattle.clap.specs.Words.{Row, Text, first_of, one_of}
 use Rattle.history.specs.declared.key.Key.{Key}
+use Rattle.script.specs.Lines.{time_in}
 use Rattle.command_line.specs.declared.action.Action.{Action}
 use Rattle.command_line.specs.declared.action.Action.TheVariants as action
 
 -- the argument has a text, which spells n in digits, n below 2 ^ bits
 abbrev pub HasNumber : ℕ → Text → List Row → ℕ → Type 0
 HasNumber bits id rows n = (t : Text) × (one_of id rows ≡ Some t) × ParsesUnsigned {E = ℕ} bits 10 t (Ok n)
+
+-- the argument has a text, and this is the time that it spells, or none where it spells none
+abbrev pub HasTime : Text → List Row → Option ℕ → Type 0
+HasTime id rows time = (t : Text) × (first_of id rows ≡ Some t) × (time ≡ time_in t)
 
 -- the arguments name this key, by relation and record
 abbrev pub HasKey : List Row → Key → Type 0
@@ -25,21 +30,21 @@ abbrev pub AsksRun : List Row → Action → Type 0
 AsksRun rows (action.Run dir) = first_of (codes "DIR") rows ≡ Some dir.now
 AsksRun rows _ = ⊥
 
--- `at` is asked for, of this key; the time is the text that was given, not yet read
+-- `at` is asked for, of this key and at the time that the words spell
 abbrev pub AsksAt : List Row → Action → Type 0
 AsksAt rows (action.At dir key time) = (first_of (codes "DIR") rows ≡ Some dir.now)
-    × HasKey rows key × (first_of (codes "TIME") rows ≡ Some time.now)
+    × HasKey rows key × HasTime (codes "TIME") rows time
 AsksAt rows _ = ⊥
 
--- `between` is asked for, of this key; both times are the texts that were given, not yet read
+-- `between` is asked for, of this key and from and to the times that the words spell
 abbrev pub AsksBetween : List Row → Action → Type 0
 AsksBetween rows (action.Between dir key from to) = (first_of (codes "DIR") rows ≡ Some dir.now)
-    × HasKey rows key × (first_of (codes "FROM") rows ≡ Some from.now) × (first_of (codes "TO") rows ≡ Some to.now)
+    × HasKey rows key × HasTime (codes "FROM") rows from × HasTime (codes "TO") rows to
 AsksBetween rows _ = ⊥
 
--- `vacuum` is asked for, up to a time, which is the text that was given, not yet read
+-- `vacuum` is asked for, up to the time that the words spell
 abbrev pub AsksVacuum : List Row → Action → Type 0
-AsksVacuum rows (action.Vacuum dir time) = (first_of (codes "DIR") rows ≡ Some dir.now) × (first_of (codes "TIME") rows ≡ Some time.now)
+AsksVacuum rows (action.Vacuum dir time) = (first_of (codes "DIR") rows ≡ Some dir.now) × HasTime (codes "TIME") rows time
 AsksVacuum rows _ = ⊥
 
 -- `grow` is asked for, of the store in this directory

@@ -1,7 +1,7 @@
 //! What the words of a command line ask for.
 use history::Key;
 
-/// What to do.
+/// What to do. A time is in microseconds since 1970, and `None` where its word spells none.
 #[derive(Clone, Copy, Debug, PartialEq, Eq)]
 pub enum Action<'a> {
     /// No word: the script of standard input, on a new store of 16 slots in memory.
@@ -15,24 +15,23 @@ pub enum Action<'a> {
     Run {
         dir: &'a str,
     },
-    /// Asks the store in a folder for a key's value at a time, which is as the words spell it.
+    /// Asks the store in a folder for a key's value at a time.
     At {
         dir: &'a str,
         key: Key,
-        time: &'a str,
+        time: Option<u64>,
     },
-    /// Asks the store in a folder for a key's rows from one time up to another, which are as the words spell them.
+    /// Asks the store in a folder for a key's rows from one time up to another.
     Between {
         dir: &'a str,
         key: Key,
-        from: &'a str,
-        to: &'a str,
+        from: Option<u64>,
+        to: Option<u64>,
     },
-    /// Archives what ended in the store in a folder by a time, which is as the words spell it, and
-    /// reclaims its space.
+    /// Archives what ended in the store in a folder by a time, and reclaims its space.
     Vacuum {
         dir: &'a str,
-        time: &'a str,
+        time: Option<u64>,
     },
     /// Makes 256 slots more in the store in a folder.
     Grow {

@@ -18,7 +18,7 @@ fn dir<'a>(alloc: Global) -> Arg<'a>
         .help("The folder of the store's three files")
 }
 
-/// A time, which is read when the command is done.
+/// A time, which `clap` takes as any text.
 fn time<'a>(alloc: Global) -> Arg<'a>
     ensures { told.IsArg result told.time }
 {

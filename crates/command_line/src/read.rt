@@ -2,6 +2,7 @@
 ghost use Rattle.std.specs.Prelude.{◌≡◌, ℕ, IfOk, IfErr, IfSome, IfNone, Some, None, map};
 ghost use Rattle.clap.specs.Words.{first_of, found_of, rows_of, subcommand_of, subcommand_rows_of};
 ghost use Rattle.history.specs.declared.key.Key.{Key as AnyKey};
+ghost use Rattle.script.specs.Lines.{time_in};
 ghost use Rattle.command_line.specs.declared.action.Action.{Action as Asked};
 ghost use Rattle.command_line.specs.Commands as told;
 ghost use Rattle.command_line.specs.Asked.{HasKey, HasNumber, Asks, AsksFormat, AsksNothing, AsksRun, AsksAt, AsksBetween, AsksVacuum, AsksGrow, AsksDump, AsksStress};
@@ -11,6 +12,7 @@ use crate::action::Action;
 use crate::command;
 use clap::{ArgMatches, Error};
 use history::Key;
+use script::read_time;
 use std::alloc::Global;
 
 /// The words are no command line.
@@ -28,6 +30,13 @@ fn text<'a>(matches: &ArgMatches<'a>, name: &str) -> Option<&'a str>
     ensures none { IfNone result (first_of name.now (rows_of (found_of matches.now)) ≡ None) }
 {
     matches.get_str(name)
+}
+
+/// The time that a text spells.
+fn time_of(text: &str) -> Option<u64>
+    ensures { result ≡ time_in text.now }
+{
+    read_time(text.as_bytes())
 }
 
 fn u8_of(matches: &ArgMatches<'_>, name: &str) -> Option<u8>
@@ -95,7 +104,7 @@ fn at<'a>(matches: &ArgMatches<'a>) -> Option<Action<'a>>
     Some(Action::At {
         dir: text(matches, "DIR")?,
         key: key(matches)?,
-        time: text(matches, "TIME")?,
+        time: time_of(text(matches, "TIME")?),
     })
 }
 
@@ -106,8 +115,8 @@ fn between<'a>(matches: &ArgMatches<'a>) -> Option<Action<'a>>
     Some(Action::Between {
         dir: text(matches, "DIR")?,
         key: key(matches)?,
-        from: text(matches, "FROM")?,
-        to: text(matches, "TO")?,
+        from: time_of(text(matches, "FROM")?),
+        to: time_of(text(matches, "TO")?),
     })
 }
 
@@ -115,7 +124,7 @@ fn vacuum<'a>(matches: &ArgMatches<'a>) -> Option<Action<'a>>
     ensures some { IfSome result (AsksVacuum (rows_of (found_of matches.now))) }
     ensures none { IfNone result ((a : Asked) → AsksVacuum (rows_of (found_of matches.now)) a → ⊥) }
 {
-    let time = text(matches, "TIME")?;
+    let time = time_of(text(matches, "TIME")?);
     Some(Action::Vacuum {
         dir: text(matches, "DIR")?,
         time,

@@ -11,7 +11,6 @@ use Rattle.status.specs.declared.header.Header.{Header}
 use Rattle.status.specs.Header.{new_header}
 use Rattle.refinement.specs.OnDisk.{IsImageOf}
 use Rattle.opened.proofs.Opened.{open-stands}
-use Rattle.script.specs.Lines.{time_in}
 use Rattle.script.specs.declared.line.Line.{Line}
 use Rattle.script.specs.declared.line.Line.TheVariants as line
 use Rattle.session.specs.Session.{State, Closes, Step}
@@ -206,7 +205,7 @@ keeps-acts tells (action.Run dir) old new input output told sound acts = λ head
 keeps-acts tells (action.Format dir slots) old new input output told sound acts = tt
 keeps-acts tells (action.At dir key time) old new input output told sound acts = tt
 keeps-acts tells (action.Between dir key from to) old new input output told sound acts = tt
-keeps-acts tells (action.Vacuum dir time) old new input output told sound acts = upto-keeps tells old new (time_in time.now) output told sound acts
+keeps-acts tells (action.Vacuum dir time) old new input output told sound acts = upto-keeps tells old new time output told sound acts
 keeps-acts tells (action.Grow dir) old new input output told sound acts = growth-keeps tells old new output told sound acts
 keeps-acts tells (action.Dump dir) old new input output told sound acts = tt
 keeps-acts tells (action.Stress writers readers rounds) old new input output told sound acts = tt

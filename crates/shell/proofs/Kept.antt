@@ -6,7 +6,6 @@ use Rattle.std.proofs.KnownBytes.{Appends-kept}
 use Rattle.disk.specs.Calls.{DiskState}
 use Rattle.script.specs.declared.line.Line.{Line}
 use Rattle.script.specs.declared.line.Line.TheVariants as line
-use Rattle.script.specs.Lines.{time_in}
 use Rattle.session.specs.Streams.{AppendsFront}
 use Rattle.session.specs.Texts.{Text, text_of}
 use Rattle.session.specs.declared.ending.Ending.{Ending}
@@ -206,9 +205,9 @@ pub acts-kept : (tells : Bool) (a : Action) (old new : DiskState) (input : Input
 acts-kept tells action.Example old new input o v gives acts = runs_new-kept tells old new input o v gives acts
 acts-kept tells (action.Format dir slots) old new input o v gives acts = makes-kept tells old new slots o v gives acts
 acts-kept tells (action.Run dir) old new input o v gives acts = runs-kept tells old new input o v gives acts
-acts-kept tells (action.At dir key time) old new input o v gives acts = at-kept tells old new (time_in time.now) (λ t. line.At key t) o v gives acts
-acts-kept tells (action.Between dir key from to) old new input o v gives acts = between-kept tells old new (time_in from.now) (time_in to.now) (λ s t. line.Between key s t) o v gives acts
-acts-kept tells (action.Vacuum dir time) old new input o v gives acts = upto-kept tells old new (time_in time.now) o v gives acts
+acts-kept tells (action.At dir key time) old new input o v gives acts = at-kept tells old new time (λ t. line.At key t) o v gives acts
+acts-kept tells (action.Between dir key from to) old new input o v gives acts = between-kept tells old new from to (λ s t. line.Between key s t) o v gives acts
+acts-kept tells (action.Vacuum dir time) old new input o v gives acts = upto-kept tells old new time o v gives acts
 acts-kept tells (action.Grow dir) old new input o v gives acts = grows-kept tells old new o v gives acts
 acts-kept tells (action.Dump dir) old new input o v gives acts = dumps-kept tells old new o v gives acts
 acts-kept tells (action.Stress writers readers rounds) old new input o v gives acts = (acts.0, refused-kept o v [] gives acts.1)

@@ -2,7 +2,6 @@
 use Rattle.std.proofs.Common.{◌≡◌, ◌≢◌, ◌≤◌, ◌⊎◌, ◌∙◌, inl, inr, ℕ, ◌++◌, [], ap, Bool, true, false, Option, Some, None, Result, Ok, Err, refl, sym, subst, arith, append_assoc}
 use Rattle.std.specs.Prelude.{MatchBool, MatchOption, MatchResult}
 use Rattle.disk.specs.Calls.{DiskState}
-use Rattle.script.specs.Lines.{time_in}
 use Rattle.script.specs.declared.line.Line.{Line}
 use Rattle.script.specs.declared.line.Line.TheVariants as line
 use Rattle.std.specs.Io.KnownBytes.{Appends}
@@ -142,9 +141,9 @@ pub acts-status : (tells : Bool) (a : Action) (old new : DiskState) (input : Inp
 acts-status tells action.Example old new input o acts = runs_new-status tells old new input o acts
 acts-status tells (action.Format dir slots) old new input o acts = makes-status tells old new slots o acts
 acts-status tells (action.Run dir) old new input o acts = runs-status tells old new input o acts
-acts-status tells (action.At dir key time) old new input o acts = at-status tells old new (time_in time.now) (λ t. line.At key t) o acts
-acts-status tells (action.Between dir key from to) old new input o acts = between-status tells old new (time_in from.now) (time_in to.now) (λ s t. line.Between key s t) o acts
-acts-status tells (action.Vacuum dir time) old new input o acts = upto-status tells old new (time_in time.now) o acts
+acts-status tells (action.At dir key time) old new input o acts = at-status tells old new time (λ t. line.At key t) o acts
+acts-status tells (action.Between dir key from to) old new input o acts = between-status tells old new from to (λ s t. line.Between key s t) o acts
+acts-status tells (action.Vacuum dir time) old new input o acts = upto-status tells old new time o acts
 acts-status tells (action.Grow dir) old new input o acts = grows-status tells old new o acts
 acts-status tells (action.Dump dir) old new input o (inl (inl lacks)) = refused-status o _ lacks.said
 acts-status tells (action.Dump dir) old new input o (inl (inr lacks)) = refused-status o _ lacks.said

@@ -17,7 +17,6 @@ use Rattle.status.specs.Header.{total}
 use Rattle.wire.specs.declared.slot.Slot.{Slot}
 use Rattle.store.specs.Values.{StoreValue}
 use Rattle.store.specs.Opens.{Opens, OpenRefuses}
-use Rattle.script.specs.Lines.{time_in}
 use Rattle.script.specs.declared.line.Line.{Line}
 use Rattle.script.specs.declared.line.Line.TheVariants as line
 use Rattle.session.specs.Lines.{AreLines}
@@ -290,10 +289,10 @@ abbrev pub Acts : Bool → Action → DiskState → Input → Output → DiskSta
 Acts tells action.Example old input output new = RunsNew tells old input output new
 Acts tells (action.Format dir slots) old input output new = Makes tells old slots output new
 Acts tells (action.Run dir) old input output new = RunsScript tells old input output new
-Acts tells (action.At dir key time) old input output new = MatchOption (time_in time.now) (RefusesTime old output new) (λ t. Asks tells old (line.At key t) output new)
+Acts tells (action.At dir key time) old input output new = MatchOption time (RefusesTime old output new) (λ t. Asks tells old (line.At key t) output new)
 Acts tells (action.Between dir key from to) old input output new =
-    MatchOption (time_in from.now) (RefusesTime old output new) (λ a. MatchOption (time_in to.now) (RefusesTime old output new) (λ b. Asks tells old (line.Between key a b) output new))
-Acts tells (action.Vacuum dir time) old input output new = MatchOption (time_in time.now) (RefusesTime old output new) (λ t. Vacuums tells old t output new)
+    MatchOption from (RefusesTime old output new) (λ a. MatchOption to (RefusesTime old output new) (λ b. Asks tells old (line.Between key a b) output new))
+Acts tells (action.Vacuum dir time) old input output new = MatchOption time (RefusesTime old output new) (λ t. Vacuums tells old t output new)
 Acts tells (action.Grow dir) old input output new = Grows tells old output new
 Acts tells (action.Dump dir) old input output new = Dumps tells old output new
 Acts tells (action.Stress writers readers rounds) old input output new = DoesNothing old output new

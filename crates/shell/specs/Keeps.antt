@@ -18,7 +18,6 @@ use Rattle.session.specs.Lines.{AreLines}
 use Rattle.session.specs.declared.reply.Reply.{Reply}
 use Rattle.session.specs.Texts.{Text}
 use Rattle.session.specs.declared.ending.Ending.{Ending}
-use Rattle.script.specs.Lines.{time_in}
 use Rattle.script_promise.specs.Keeps.{Closed, LineKeeps}
 use Rattle.script_promise.specs.ScriptMoments.{ScriptMoment, first_script_moment}
 use Rattle.script_promise.specs.Promise.{ScriptKeeps}
@@ -100,7 +99,7 @@ KeepsPromise tells (action.Run dir) old input output new = (header : Header) (h 
 KeepsPromise tells (action.Format dir slots) old input output new = Unit {0}
 KeepsPromise tells (action.At dir key time) old input output new = Unit {0}
 KeepsPromise tells (action.Between dir key from to) old input output new = Unit {0}
-KeepsPromise tells (action.Vacuum dir time) old input output new = MatchOption (time_in time.now) (new ≡ old) (λ t. VacuumingKeeps tells old t output new)
+KeepsPromise tells (action.Vacuum dir time) old input output new = MatchOption time (new ≡ old) (λ t. VacuumingKeeps tells old t output new)
 KeepsPromise tells (action.Grow dir) old input output new = GrowingKeeps tells old output new
 KeepsPromise tells (action.Dump dir) old input output new = Unit {0}
 KeepsPromise tells (action.Stress writers readers rounds) old input output new = Unit {0}

@@ -1,6 +1,5 @@
 -- Which folder an action needs.
 use Rattle.std.specs.Prelude.{ℕ, Bool, ◌&&◌, is_some, nat_le, if◌then◌else◌}
-use Rattle.script.specs.Lines.{time_in}
 use Rattle.command_line.specs.declared.action.Action.{Action}
 use Rattle.command_line.specs.declared.action.Action.TheVariants as action
 use Rattle.shell.specs.declared.needs.Need.{Need}
@@ -15,9 +14,9 @@ abbrev pub need_of : Action → Need
 need_of action.Example = need.Nothing
 need_of (action.Format dir slots) = if is_slot_count slots then need.Make dir else need.Nothing
 need_of (action.Run dir) = need.Change dir
-need_of (action.At dir key time) = if is_some (time_in time.now) then need.Change dir else need.Nothing
-need_of (action.Between dir key from to) = if is_some (time_in from.now) && is_some (time_in to.now) then need.Change dir else need.Nothing
-need_of (action.Vacuum dir time) = if is_some (time_in time.now) then need.Change dir else need.Nothing
+need_of (action.At dir key time) = if is_some time then need.Change dir else need.Nothing
+need_of (action.Between dir key from to) = if is_some from && is_some to then need.Change dir else need.Nothing
+need_of (action.Vacuum dir time) = if is_some time then need.Change dir else need.Nothing
 need_of (action.Grow dir) = need.Change dir
 need_of (action.Dump dir) = need.Read dir
 need_of (action.Stress writers readers rounds) = need.Nothing

@@ -1,7 +1,6 @@
 //! What an action does.
 ghost use Rattle.std.specs.Prelude.{◌++◌, codes, ◌≡◌, ◌≢◌, ◌≤◌, ◌⊎◌, Option, IfOk, IsTrue, MatchOption, MatchResult};
 ghost use Rattle.std.specs.Fmt.{decimal};
-ghost use Rattle.script.specs.Lines.{time_in};
 ghost use Rattle.script.specs.declared.line.Line.TheVariants.{At, Between, Grow, Reopen};
 ghost use Rattle.session.specs.Streams.{Says, is_output_refused, text_said};
 ghost use Rattle.session.specs.Texts.{Text, open_line, refusal_line, text_of};
@@ -17,7 +16,7 @@ use command_line::Action;
 use disk::{Area, Disk};
 use history::Key;
 use recovery::{OpenFault, format};
-use script::{Line, read_time};
+use script::Line;
 use session::{
     Answers, Ending, Fault, LineInput, Lines, MARK, Refused, Reply, Session, answer_lines,
     write_numbered, write_reply,
@@ -158,42 +157,39 @@ fn ask<D: Disk, W: Write>(
     }
 }
 
-/// Asks for the value of a key at the time that a text spells.
+/// Asks for the value of a key at a time, if the words spelled one.
 fn ask_at<D: Disk, W: Write>(
     alloc: Global,
     disk: D,
     key: Key,
-    time: &str,
+    time: Option<u64>,
     output: &mut Answers<W>,
 ) -> (u8, D)
-    ensures { MatchOption (time_in time.now) (RefusesTime (D.state disk) (told W.contents result.0 output.old output.new) (D.state result.1))
+    ensures { MatchOption time (RefusesTime (D.state disk) (told W.contents result.0 output.old output.new) (D.state result.1))
         (λ t. Asks D.tells (D.state disk) (At key t) (told W.contents result.0 output.old output.new) (D.state result.1)) }
 {
-    match read_time(time.as_bytes()) {
+    match time {
         Some(time) => ask(alloc, disk, Line::At(key, time), output),
         None => (refuse(output, Fault::Time), disk),
     }
 }
 
-/// Asks for the rows of a key between the times that two texts spell.
+/// Asks for the rows of a key from one time up to another, if the words spelled both.
 fn ask_between<D: Disk, W: Write>(
     alloc: Global,
     disk: D,
     key: Key,
-    from: &str,
-    to: &str,
+    from: Option<u64>,
+    to: Option<u64>,
     output: &mut Answers<W>,
 ) -> (u8, D)
-    ensures { MatchOption (time_in from.now) (RefusesTime (D.state disk) (told W.contents result.0 output.old output.new) (D.state result.1))
-        (λ a. MatchOption (time_in to.now) (RefusesTime (D.state disk) (told W.contents result.0 output.old output.new) (D.state result.1))
+    ensures { MatchOption from (RefusesTime (D.state disk) (told W.contents result.0 output.old output.new) (D.state result.1))
+        (λ a. MatchOption to (RefusesTime (D.state disk) (told W.contents result.0 output.old output.new) (D.state result.1))
         (λ b. Asks D.tells (D.state disk) (Between key a b) (told W.contents result.0 output.old output.new) (D.state result.1))) }
 {
-    match read_time(from.as_bytes()) {
-        Some(a) => match read_time(to.as_bytes()) {
-            Some(b) => ask(alloc, disk, Line::Between(key, a, b), output),
-            None => (refuse(output, Fault::Time), disk),
-        },
-        None => (refuse(output, Fault::Time), disk),
+    match (from, to) {
+        (Some(a), Some(b)) => ask(alloc, disk, Line::Between(key, a, b), output),
+        _ => (refuse(output, Fault::Time), disk),
     }
 }
 
@@ -315,17 +311,17 @@ fn vacuum<D: Disk, W: Write>(alloc: Global, disk: D, upto: u64, output: &mut Ans
     (status, disk)
 }
 
-/// Vacuums up to the time that a text spells.
+/// Vacuums up to a time, if the words spelled one.
 fn vacuum_upto<D: Disk, W: Write>(
     alloc: Global,
     disk: D,
-    time: &str,
+    time: Option<u64>,
     output: &mut Answers<W>,
 ) -> (u8, D)
-    ensures { MatchOption (time_in time.now) (RefusesTime (D.state disk) (told W.contents result.0 output.old output.new) (D.state result.1))
+    ensures { MatchOption time (RefusesTime (D.state disk) (told W.contents result.0 output.old output.new) (D.state result.1))
         (λ t. Vacuums D.tells (D.state disk) t (told W.contents result.0 output.old output.new) (D.state result.1)) }
 {
-    match read_time(time.as_bytes()) {
+    match time {
         Some(upto) => vacuum(alloc, disk, upto, output),
         None => (refuse(output, Fault::Time), disk),
     }

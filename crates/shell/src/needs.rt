@@ -1,11 +1,9 @@
 //! Which folder an action needs.
-ghost use Rattle.std.specs.Prelude.{◌≡◌, ◌&&◌, is_some, if◌then◌else◌};
-ghost use Rattle.script.specs.Lines.{time_in};
+ghost use Rattle.std.specs.Prelude.{◌≡◌, if◌then◌else◌};
 ghost use Rattle.shell.specs.declared.needs.Need.TheVariants.{Change, Make, Nothing};
 ghost use Rattle.shell.specs.Needs.{is_slot_count, need_of};
 
 use command_line::Action;
-use script::read_time;
 use status::{LEAST_SLOTS, MOST_SLOTS};
 
 /// What an action needs of the files of a folder.
@@ -25,18 +23,6 @@ fn is_slot_count(slots: u32) -> bool
     ensures { result ≡ is_slot_count slots }
 {
     slots >= LEAST_SLOTS && slots <= MOST_SLOTS
-}
-
-fn is_time(text: &str) -> bool
-    ensures { result ≡ is_some (time_in text.now) }
-{
-    read_time(text.as_bytes()).is_some()
-}
-
-fn are_times(from: &str, to: &str) -> bool
-    ensures { result ≡ (is_some (time_in from.now) && is_some (time_in to.now)) }
-{
-    is_time(from) && is_time(to)
 }
 
 /// The folder, where what is asked of its store can be.
@@ -68,14 +54,14 @@ pub fn folder_need<'a>(action: &Action<'a>) -> Need<'a>
         Action::Example => Need::Nothing,
         Action::Format { dir, slots } => make_if(is_slot_count(slots), dir),
         Action::Run { dir } => Need::Change(dir),
-        Action::At { dir, key: _, time } => change_if(is_time(time), dir),
+        Action::At { dir, key: _, time } => change_if(time.is_some(), dir),
         Action::Between {
             dir,
             key: _,
             from,
             to,
-        } => change_if(are_times(from, to), dir),
-        Action::Vacuum { dir, time } => change_if(is_time(time), dir),
+        } => change_if(from.is_some() && to.is_some(), dir),
+        Action::Vacuum { dir, time } => change_if(time.is_some(), dir),
         Action::Grow { dir } => Need::Change(dir),
         Action::Dump { dir } => Need::Read(dir),
         Action::Stress {

@@ -2,6 +2,7 @@
 use crate::bytes::change;
 use disk::{Area, Disk, MemDisk};
 use history::Key;
+use script::read_time;
 use session::{Answers, Lines};
 use shell::{Action, act};
 use std::alloc::{AllocError, Global};
@@ -171,22 +172,30 @@ pub fn new_store(alloc: Global, slots: u32, profile: u8) -> Result<MemDisk, Fail
     Ok(disk)
 }
 
-/// The question for the example's key at a time.
-pub fn at(time: &str) -> Action<'_> {
+/// The question for the example's key at the time that a text spells.
+pub fn at(time: &str) -> Action<'static> {
     Action::At {
         dir: "",
         key: KEY,
-        time,
+        time: read_time(time.as_bytes()),
     }
 }
 
-/// The question for the rows of the example's key from one time up to another.
-pub fn rows<'a>(from: &'a str, to: &'a str) -> Action<'a> {
+/// The question for the rows of the example's key from one time up to another, as texts spell them.
+pub fn rows(from: &str, to: &str) -> Action<'static> {
     Action::Between {
         dir: "",
         key: KEY,
-        from,
-        to,
+        from: read_time(from.as_bytes()),
+        to: read_time(to.as_bytes()),
+    }
+}
+
+/// A vacuum up to the time that a text spells.
+pub fn vacuum(time: &str) -> Action<'static> {
+    Action::Vacuum {
+        dir: "",
+        time: read_time(time.as_bytes()),
     }
 }
 

@@ -406,8 +406,8 @@ const DOINGS: &[Doing] = &[
         Action::Between {
             dir: "",
             key: KEY,
-            from: "0",
-            to: "111",
+            from: Some(0),
+            to: Some(111),
         },
         "",
         "100 110 61\n110 111 62\nrows 2\n",

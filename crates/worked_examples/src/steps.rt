@@ -2,7 +2,7 @@
 use crate::bytes::{change, cut, has_extents, is_long, put, spells, stopped};
 use crate::dialogue::{
     OLDER, PROFILES, SCRIPT, answers, converses, converses_by_parts, dumps, ends_well, is_refused,
-    new_store, of_profile, rows, says,
+    new_store, of_profile, rows, says, vacuum,
 };
 use disk::{Area, MemDisk};
 use shell::Action;
@@ -83,7 +83,7 @@ fn done(alloc: Global, disk: MemDisk, step: &Step, profile: u8) -> Result<MemDis
         Step::Runs(script, lines, status) => (SCRIPT, script, lines, status),
         Step::Does(action, input, lines, status) => (action, input, lines, status),
         Step::Formats(slots, line, status) => (Action::Format { dir, slots }, "", line, status),
-        Step::Vacuums(time, lines, status) => (Action::Vacuum { dir, time }, "", lines, status),
+        Step::Vacuums(time, lines, status) => (vacuum(time), "", lines, status),
         Step::Rows(from, to, lines, status) => (rows(from, to), "", lines, status),
         _ => (SCRIPT, "", "no such step", 0),
     };

@@ -249,7 +249,7 @@ const SAID: [(Action<'static>, &str); 4] = [
         Action::At {
             dir: "",
             key: KEY,
-            time: "100",
+            time: Some(100),
         },
         "value 61\n",
     ),
@@ -257,7 +257,7 @@ const SAID: [(Action<'static>, &str); 4] = [
         Action::At {
             dir: "",
             key: KEY,
-            time: "99",
+            time: Some(99),
         },
         "none\n",
     ),
@@ -265,8 +265,8 @@ const SAID: [(Action<'static>, &str); 4] = [
         Action::Between {
             dir: "",
             key: KEY,
-            from: "0",
-            to: "101",
+            from: Some(0),
+            to: Some(101),
         },
         "100 101 61\nrows 1\n",
     ),

@@ -134,7 +134,7 @@ const VACUUM: Trial<'static> = Trial {
     before: &[New(16), Says(FOUR_COMMITS)],
     action: Action::Vacuum {
         dir: "",
-        time: "120",
+        time: Some(120),
     },
     script: "",
     write_reaches: false,

@@ -1,13 +1,8 @@
-use Rattle.std.proofs.Common.{◌≡◌, ℕ, List, Some, None, ap, sym, refl, ◌∙◌}
-use Rattle.script.specs.Lines.{time_in}
+use Rattle.std.proofs.Common.{refl}
 use Rattle.shell.proofs.actions.ask_at.Goals as goal
 
 pub returns-in-Some : goal.returns-in-Some
-returns-in-Some g c =
-    let found : time_in c.args.time.now ≡ Some c.in-Some.time = ap (λ (text : List ℕ). time_in text) (sym c.as_bytes.ensures.value) ∙ sym c.in-Some.ensures in
-    rw found c.ask.ensures
+returns-in-Some g c = rw c.in-Some.is c.ask.ensures
 
 pub returns-in-None : goal.returns-in-None
-returns-in-None g c =
-    let none : time_in c.args.time.now ≡ None = ap (λ (text : List ℕ). time_in text) (sym c.as_bytes.ensures.value) ∙ sym c.in-None.ensures in
-    rw none (refl, c.refuse.ensures)
+returns-in-None g c = rw c.in-None.is (refl, c.refuse.ensures)
