@@ -27,7 +27,7 @@ use crate::recovered::Recovered;
 use crate::runs::read_runs;
 use archive::RunEntry;
 use disk::{Area, DeviceFault, Disk};
-use status::{Header, LogRead, MOST_SLOTS, read_header, read_log};
+use status::{Header, LogRead, MOST_SLOTS, read_header, read_to_end};
 use std::alloc::{AllocError, Global};
 use wire::{Body, Member, Slot};
 
@@ -121,7 +121,7 @@ fn read_settled<D: Disk>(alloc: Global, disk: &mut D) -> Result<Recovered, OpenF
     ensures reads { D.state disk.new ≡ after_reads result (D.state disk.old) }
 {
     let header = find_header(disk)?;
-    let log = read_log(alloc, disk, &header)?;
+    let log = read_to_end(alloc, disk, &header)?;
     let LogRead { slots, end } = log;
     let entries = entries(alloc, &slots)?;
     let heap = match read_heap(alloc, disk, &slots, &entries) {

@@ -406,11 +406,11 @@ fn dump<D: Disk, W: Write>(alloc: Global, disk: D, output: &mut Answers<W>) -> (
         Ok(header) => header,
         Err(fault) => return (refuse_log(output, fault), disk),
     };
-    let log = match read_log(alloc, &mut disk, &header) {
-        Ok(log) => log,
+    let slots = match read_log(alloc, &mut disk, &header) {
+        Ok(slots) => slots,
         Err(fault) => return (refuse_log(output, fault), disk),
     };
-    match dump_text(alloc, &header, log.slots.as_slice()) {
+    match dump_text(alloc, &header, slots.as_slice()) {
         Ok(text) => (status_of(output.say(text.as_slice())), disk),
         Err(_) => (refuse(output, Fault::NoMemory), disk),
     }

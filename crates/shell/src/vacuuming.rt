@@ -80,7 +80,7 @@ pub fn log_of<D: Disk>(alloc: Global, disk: &mut D) -> Result<Vec<Slot>, LogFaul
         Err(fault) => return Err(fault),
     };
     match read_log(alloc, disk, &header) {
-        Ok(log) => Ok(log.slots),
+        Ok(slots) => Ok(slots),
         Err(fault) => Err(fault),
     }
 }

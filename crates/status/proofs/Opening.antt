@@ -1,7 +1,7 @@
 -- There is one log, and what answers its reading.
 use Rattle.std.proofs.Common.{◌≡◌, inl, inr, ℕ, zero, suc, ◌^◌, ◌<◌, List, [], ◌∷◌, length, take, Some, Result, Ok, Err, refl, sym, ap, ◌∙◌, subst, arith}
-use Rattle.status.specs.declared.log.LogRead.{LogRead}
-use Rattle.std.specs.Prelude.{slice_get, IfOk, IfErr}
+use Rattle.std.specs.Prelude.{slice_get, IfOk, IfErr, Vec}
+use Rattle.std.specs.declared.alloc.Global.{Global}
 use Rattle.std.proofs.lemmas.Bool.{cases_order}
 use Rattle.std.proofs.lemmas.Option.{slice_get_within}
 use Rattle.wire.specs.Spelling.{IsSpelled}
@@ -75,7 +75,7 @@ module _ (one_spelling : OneSpelling) (header : Header) (bytes : List ℕ) where
         bad.bad.no_slot slot.0 (log.opens.each_spelled n slot.0 slot.1) (subst (λ (before : List Slot). MayFollow header.profile before slot.0) (sym (ap (λ (m : ℕ). take m slots) bad.number) ∙ front) may)
   ]
 
-  pub only_log : (r : Result LogRead LogFault) (slots : List Slot)
-      → IfOk r (λ found. HoldsLog header bytes found.slots.items) → IfErr r (IsLogFault header bytes) → HoldsLog header bytes slots → AnswersLog slots r
-  only_log (Ok found) slots ok err log = one_log slots found.slots.items log ok
+  pub only_log : (r : Result (Vec Slot Global) LogFault) (slots : List Slot)
+      → IfOk r (λ found. HoldsLog header bytes found.items) → IfErr r (IsLogFault header bytes) → HoldsLog header bytes slots → AnswersLog slots r
+  only_log (Ok found) slots ok err log = one_log slots found.items log ok
   only_log (Err fault) slots ok err log = no_fault slots log fault err

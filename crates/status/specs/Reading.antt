@@ -1,11 +1,11 @@
 -- What reading a status area answers.
-use Rattle.std.specs.Prelude.{◌≡◌, ◌<◌, ◌≤◌, ℕ, IsTrue, List, length, slice_get, Option, None, Some, Result, Ok, Err}
+use Rattle.std.specs.Prelude.{◌≡◌, ◌<◌, ◌≤◌, ℕ, IsTrue, List, length, slice_get, Option, None, Some, Result, Ok, Err, Vec}
+use Rattle.std.specs.declared.alloc.Global.{Global}
 use Rattle.disk.specs.Calls.{DiskState, counted}
 use Rattle.wire.specs.Spelling.{InRange, IsSpelled}
 use Rattle.wire.specs.declared.slot.Slot.{Slot}
 use Rattle.status.specs.declared.header.Header.{Header}
 use Rattle.status.specs.declared.fault.LogFault.{LogFault}
-use Rattle.status.specs.declared.log.LogRead.{LogRead}
 use Rattle.status.specs.declared.fault.LogFault.TheVariants.{NotAStore, Damaged, Device, NoMemory}
 use Rattle.status.specs.Header.{total, IsFront}
 use Rattle.status.specs.Log.{slot_start, body_at, IsOpen, HasRoom, HasHeader, OpensWith}
@@ -94,8 +94,8 @@ IsLogFault header bytes Device = Unit {0}
 IsLogFault header bytes NoMemory = Unit {0}
 
 -- the answer is this log, unless the device or memory gave out
-abbrev pub AnswersLog : List Slot → Result LogRead LogFault → Type 0
-AnswersLog slots (Ok found) = found.slots.items ≡ slots
+abbrev pub AnswersLog : List Slot → Result (Vec Slot Global) LogFault → Type 0
+AnswersLog slots (Ok found) = found.items ≡ slots
 AnswersLog slots (Err NotAStore) = ⊥
 AnswersLog slots (Err (Damaged n)) = ⊥
 AnswersLog slots (Err Device) = Unit {0}

@@ -203,22 +203,48 @@ fn walk_through<D: Disk>(alloc: Global, disk: &mut D, header: &Header) -> Result
 ///
 /// # Errors
 ///
-/// `NotAStore` where the area is too short for the header's slots; `Damaged(n)` where slot n is
-/// the first that is open and that breaks the grammar, may not follow the slots before it, or is
-/// of a kind that is not built; `Device` where the device refused a call; `NoMemory`.
-pub fn read_log<D: Disk>(alloc: Global, disk: &mut D, header: &Header) -> Result<LogRead, LogFault>
+/// As `read_log`.
+pub fn read_to_end<D: Disk>(
+    alloc: Global,
+    disk: &mut D,
+    header: &Header,
+) -> Result<LogRead, LogFault>
     ensures slots { IfOk result (λ log. AreSlots header.now.profile log.slots.items) }
     ensures ends { IfOk result (λ log. EndsAt log.slots.items log.end) }
     ensures within { IfOk result (λ log. length log.slots.items ≤ total header.now) }
     ensures log { IsTrue D.tells → IfOk result (λ log. HoldsLog header.now (D.state disk.old).areas.status.bytes log.slots.items) }
+    ensures fault { IsTrue D.tells → IfErr result (IsLogFault header.now (D.state disk.old).areas.status.bytes) }
+    ensures same { D.state disk.new ≡ read_by result (D.state disk.old) }
+{
+    match has_room(disk, header) {
+        Ok(true) => walk_through(alloc, disk, header),
+        Ok(false) => Err(LogFault::NotAStore),
+        Err(_) => Err(LogFault::Device),
+    }
+}
+
+/// The slots before the first closed gate, of an area with this header. It changes nothing.
+///
+/// # Errors
+///
+/// `NotAStore` where the area is too short for the header's slots; `Damaged(n)` where slot n is
+/// the first that is open and that breaks the grammar, may not follow the slots before it, or is
+/// of a kind that is not built; `Device` where the device refused a call; `NoMemory`.
+pub fn read_log<D: Disk>(
+    alloc: Global,
+    disk: &mut D,
+    header: &Header,
+) -> Result<Vec<Slot>, LogFault>
+    ensures slots { IfOk result (λ slots. AreSlots header.now.profile slots.items) }
+    ensures within { IfOk result (λ slots. length slots.items ≤ total header.now) }
+    ensures log { IsTrue D.tells → IfOk result (λ slots. HoldsLog header.now (D.state disk.old).areas.status.bytes slots.items) }
     ensures only { IsTrue D.tells → (slots : List Slot) → HoldsLog header.now (D.state disk.old).areas.status.bytes slots → AnswersLog slots result }
     ensures fault { IsTrue D.tells → IfErr result (IsLogFault header.now (D.state disk.old).areas.status.bytes) }
     ensures same { D.state disk.new ≡ read_by result (D.state disk.old) }
 {
     one_spelling();
-    match has_room(disk, header) {
-        Ok(true) => walk_through(alloc, disk, header),
-        Ok(false) => Err(LogFault::NotAStore),
-        Err(_) => Err(LogFault::Device),
+    match read_to_end(alloc, disk, header) {
+        Ok(log) => Ok(log.slots),
+        Err(fault) => Err(fault),
     }
 }

@@ -72,8 +72,8 @@ fn a_slot_is_written_byte_for_byte(rt: HostRuntime) -> Result<(), Fail> {
     assert_eq!(rt; write_slot(&mut log, one_commit(), &mut disk)?, 0);
     let status = bytes_of(rt.alloc(), &mut disk, Area::Status)?;
     assert!(rt; begin_with(status.get(512..).unwrap_or(&[]), &COMMIT_SLOT));
-    let read = read_log(rt.alloc(), &mut disk, &SIXTEEN)?;
-    assert_eq!(rt; (read.slots.len(), read.end.last), (1, 100));
+    let slots = read_log(rt.alloc(), &mut disk, &SIXTEEN)?;
+    assert_eq!(rt; slots.len(), 1);
     Ok(())
 }
 
@@ -116,7 +116,7 @@ fn read_behind(
         write_slot(&mut log, Body::Reclaimed(*anchors), &mut disk)?;
     }
     match read_log(alloc, &mut disk, &SIXTEEN) {
-        Ok(log) => Ok(Ok(log.slots.len())),
+        Ok(slots) => Ok(Ok(slots.len())),
         Err(fault) => Ok(Err(fault)),
     }
 }
@@ -334,7 +334,7 @@ fn floors_keep_their_rules(rt: HostRuntime) -> Result<(), Fail> {
             write_slot(&mut log, body, &mut disk)?;
         }
         let read = read_log(alloc, &mut disk, &SIXTEEN);
-        assert_eq!(rt; read.map(|log| log.slots.len()), row.want, "{}", row.what);
+        assert_eq!(rt; read.map(|slots| slots.len()), row.want, "{}", row.what);
     }
     Ok(())
 }
@@ -400,7 +400,7 @@ fn floors_of_relations_keep_their_rules(rt: HostRuntime) -> Result<(), Fail> {
             write_slot(&mut log, body, &mut disk)?;
         }
         let read = read_log(alloc, &mut disk, &header);
-        assert_eq!(rt; read.map(|log| log.slots.len()), row.want, "{}", row.what);
+        assert_eq!(rt; read.map(|slots| slots.len()), row.want, "{}", row.what);
     }
     Ok(())
 }

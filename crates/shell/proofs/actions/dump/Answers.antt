@@ -29,9 +29,9 @@ returns-in-Ok-dump_text g c =
     let kept = c.in-Ok.ensures.same in
     inr (inl (record {
       header = c.in-Ok.header;
-      slots = c.in-Ok-read_log.log.slots.items;
+      slots = c.in-Ok-read_log.slots.items;
       reads = c.in-Ok.ensures.found;
-      log = λ tells. subst (λ (s : DiskState). HoldsLog c.in-Ok.header s.areas.status.bytes c.in-Ok-read_log.log.slots.items) kept (c.in-Ok-read_log.ensures.log tells);
+      log = λ tells. subst (λ (s : DiskState). HoldsLog c.in-Ok.header s.areas.status.bytes c.in-Ok-read_log.slots.items) kept (c.in-Ok-read_log.ensures.log tells);
       text = c.in-Ok-dump_text.text.items;
       dump = subst (λ (slots : List Slot). IsDump c.in-Ok.header slots c.in-Ok-dump_text.text.items) c.as_slice.ensures.value c.in-Ok-dump_text.ensures;
       said = said-by (told g.W.Write.contents c.status_of.result c.args.output.now c.say.new.self) c.in-Ok-dump_text.text.items c.say.result
