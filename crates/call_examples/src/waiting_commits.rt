@@ -3,11 +3,11 @@ ghost use Rattle.std.specs.Prelude.{◌≡◌};
 
 use crate::published::{SEVEN, published, put};
 use chains::Frozen;
-use deltas::{ExtentBody, pack};
+use deltas::{ExtentBody, pack_all};
 use extents::{Extents, Usage};
 use group::{
-    CommitHead, CommitOrder, Queued, QueuedParts, StoredExtent, Ticket, TicketState,
-    first_conflict, give_back_all, keep_all, records_of, seal_all, take_extents,
+    CommitHead, CommitOrder, Queued, QueuedParts, StoredExtent, Ticket, TicketState, WriteRecords,
+    first_conflict, give_back_all, keep_all, seal_all, take_extents,
 };
 use std::alloc::Global;
 use std::test::Fail;
@@ -134,8 +134,8 @@ const ENTRY: Member = Member {
 fn a_commit_is_stored_and_kept(rt: HostRuntime) -> Result<(), Fail> {
     let alloc = rt.alloc();
     let mut extents = Extents::new(alloc)?;
-    let records = records_of(alloc, &Frozen::new(), &[put(alloc, 7, b"a")?])?;
-    let bodies = pack(alloc, &records)?;
+    let writes = [put(alloc, 7, b"a")?];
+    let bodies = pack_all(alloc, &mut WriteRecords::new(&Frozen::new(), &writes))?;
     let waits = Queued::new(
         ENTRY,
         Frozen::new(),

@@ -145,7 +145,7 @@ all_counted before [] extents records used end so_far =
 all_counted before (r ∷ rest) extents records used end so_far = cc
 
 -- the record that comes next
-next_is : (left : List Record) (r : Record) → Some r ≡ slice_get left 0 → left ≡ r ∷ drop 1 left
+pub next_is : (left : List Record) (r : Record) → Some r ≡ slice_get left 0 → left ≡ r ∷ drop 1 left
 next_is [] r is = cc
 next_is (x ∷ rest) r is = let same : x ≡ r = cc in ap (λ y. y ∷ rest) same
 

@@ -2,10 +2,11 @@
 
 ghost use Rattle.std.specs.Prelude.{◌≡◌, ◌++◌, ◌+◌, ◌≤◌, [], length, IfOk};
 ghost use Rattle.deltas.specs.Records.{spelling};
+ghost use Rattle.deltas.specs.Loans.{record_of_loan};
 ghost use Rattle.deltas.specs.Extents.{extent_bytes};
 
 use crate::extent_image::{EXTENT_LEN, Image};
-use crate::record::Record;
+use crate::record_ref::RecordRef;
 use crate::slice_writer::{put_header, put_record};
 use std::alloc::{AllocError, Global};
 use std::marker::Model;
@@ -50,11 +51,11 @@ impl ExtentBody {
     }
 
     /// One more record, which fits there.
-    pub(crate) fn push(&mut self, one: &Record)
-        requires { length self.old + length (spelling one.now) ≤ 8176 }
-        ensures { self.new ≡ self.old ++ spelling one.now }
+    pub(crate) fn push(&mut self, one: RecordRef)
+        requires { length self.old + length (spelling (record_of_loan one)) ≤ 8176 }
+        ensures { self.new ≡ self.old ++ spelling (record_of_loan one.entry) }
     {
-        self.used = put_record(&mut self.image[16..], self.used, one.as_ref());
+        self.used = put_record(&mut self.image[16..], self.used, one);
     }
 
     /// The records' bytes, one record after the other.

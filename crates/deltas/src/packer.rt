@@ -2,11 +2,15 @@
 
 ghost use Rattle.std.specs.Prelude.{◌≡◌, ◌++◌, ◌+◌, ◌≤◌, ◌<◌, ℕ, [], ◌∷◌, length, map, IfOk};
 ghost use Rattle.deltas.specs.Records.{spelling};
+ghost use Rattle.deltas.specs.Loans.{record_of_loan};
 ghost use Rattle.deltas.specs.Packing.{bodies, bodies_from};
 
 use crate::extent_body::ExtentBody;
 use crate::extent_image::BODY_LEN;
 use crate::record::Record;
+use crate::record_list::RecordList;
+use crate::record_ref::RecordRef;
+use crate::record_source::RecordSource;
 use crate::slice_writer::loan_len;
 use std::alloc::{AllocError, Global};
 
@@ -15,45 +19,41 @@ use std::alloc::{AllocError, Global};
 pub fn pack(alloc: Global, records: &[Record]) -> Result<Vec<ExtentBody>, AllocError>
     ensures { IfOk result (λ packed. packed.items ≡ bodies (map spelling records.now)) }
 {
-    let [first, rest @ ..] = records else {
-        return Ok(Vec::new(alloc));
-    };
-    pack_from(alloc, first, rest)
+    pack_all(alloc, &mut RecordList::new(records))
 }
 
-fn pack_from(alloc: Global, first: &Record, rest: &[Record]) -> Result<Vec<ExtentBody>, AllocError>
-    ensures { IfOk result (λ packed. packed.items ≡ bodies_from (spelling first.now) (map spelling rest.now)) }
+/// The same of all records that are left.
+pub fn pack_all<S: RecordSource>(
+    alloc: Global,
+    source: &mut S,
+) -> Result<Vec<ExtentBody>, AllocError>
+    ensures { IfOk result (λ packed. packed.items ≡ bodies (map spelling (S.left source.old))) }
 {
     let mut packed = Vec::new(alloc);
+    let Some(first) = source.peek() else {
+        return Ok(packed);
+    };
     let mut body = begun(alloc, first)?;
-    let mut left = rest;
-    while let [record, after @ ..] = left {
-        if body.len() + record_len(record) > BODY_LEN {
+    source.advance();
+    while let Some(record) = source.peek() {
+        if body.len() + loan_len(record) > BODY_LEN {
             packed.push(body)?;
             body = begun(alloc, record)?;
         } else {
             body.push(record);
         }
-        left = after;
+        source.advance();
     }
     packed.push(body)?;
     Ok(packed)
 }
 
 // An extent that this record begins.
-fn begun(alloc: Global, first: &Record) -> Result<ExtentBody, AllocError>
-    ensures { IfOk result (λ body. body ≡ spelling first.now) }
+fn begun(alloc: Global, first: RecordRef) -> Result<ExtentBody, AllocError>
+    ensures { IfOk result (λ body. body ≡ spelling (record_of_loan first.entry)) }
 {
-    let _len = record_len(first);
+    let _len = loan_len(first);
     let mut body = ExtentBody::new(alloc)?;
     body.push(first);
     Ok(body)
-}
-
-// How many bytes the spelling of a record has.
-fn record_len(one: &Record) -> usize
-    ensures is { result ≡ length (spelling one.now) }
-    ensures short { result ≤ 4116 }
-{
-    loan_len(one.as_ref())
 }

@@ -11,6 +11,8 @@ use wire::{Fields, Value};
 pub enum ContentRef<'a> {
     Anchor(&'a Value),
     Delta { mask: u16, changed: &'a Fields },
+    /// The delta of a value over an old one, which has as many fields.
+    Changed { old: &'a Value, new: &'a Value },
     Gone,
     Old { from: u64, value: &'a Value },
 }

@@ -2,15 +2,18 @@
 
 ghost use Rattle.std.specs.Prelude.{◌≡◌, ◌++◌, ◌+◌, ◌≤◌, [], ◌∷◌, length, take, drop};
 ghost use Rattle.wire.specs.Numbers.{u16_bytes, u32_bytes, u64_bytes};
+ghost use Rattle.wire.specs.Fields.{field_bytes, fields_bytes};
 ghost use Rattle.wire.specs.Values.{value_bytes};
+ghost use Rattle.image.specs.Facts.{mask_of, changed_of};
 ghost use Rattle.deltas.specs.Records.{kind_of, rest_of, spelling};
 ghost use Rattle.deltas.specs.Loans.{content_of_loan, record_of_loan};
 ghost use Rattle.deltas.specs.Images.{IsSameFrom};
 
+use crate::changes::{changed_len, mask};
 use crate::record_ref::{ContentRef, RecordRef};
 use byteorder::{ByteOrder, LittleEndian};
 use history::Key;
-use wire::Value;
+use wire::{FieldsIter, Value};
 
 // Writes the bytes from this place on, and tells where they end. As each `put_` here, it changes
 // nothing behind them.
@@ -74,13 +77,66 @@ fn put_key(out: &mut [u8], at: usize, key: Key) -> usize
     put_u64(out, number, key.record)
 }
 
+fn put_field(out: &mut [u8], at: usize, field: &[u8]) -> usize
+    requires short { length field.now ≤ 255 }
+    requires room { at + length (field_bytes field.now) ≤ length out.old }
+    ensures end { result ≡ at + length (field_bytes field.now) }
+    ensures front { take result out.new ≡ take at out.old ++ field_bytes field.now }
+    ensures behind { IsSameFrom result out.old out.new }
+    ensures len { length out.new ≡ length out.old }
+{
+    let behind = put(out, at, &[field.len() as u8]);
+    put(out, behind, field)
+}
+
+fn put_changed(out: &mut [u8], at: usize, olds: FieldsIter, news: FieldsIter) -> usize
+    requires { at + length (fields_bytes (changed_of olds news)) ≤ length out.old }
+    ensures end { result ≡ at + length (fields_bytes (changed_of olds.entry news.entry)) }
+    ensures front { take result out.new ≡ take at out.old ++ fields_bytes (changed_of olds.entry news.entry) }
+    ensures behind { IsSameFrom result out.old out.new }
+    ensures len { length out.new ≡ length out.old }
+{
+    let mut olds = olds;
+    let mut news = news;
+    let (Some(a), Some(b)) = (olds.take_field(), news.take_field()) else {
+        return at;
+    };
+    if a == b {
+        return put_changed(out, at, olds, news);
+    }
+    let behind = put_field(out, at, b);
+    put_changed(out, behind, olds, news)
+}
+
+#[tactic(auto, unfolding(wire::specs::Numbers::u16_bytes))]
+fn put_delta(out: &mut [u8], at: usize, old: &Value, new: &Value) -> usize
+    requires { at + (2 + length (fields_bytes (changed_of old.now new.now))) ≤ length out.old }
+    ensures end { result ≡ at + (2 + length (fields_bytes (changed_of old.now new.now))) }
+    ensures front { take result out.new ≡ take at out.old ++ u16_bytes (mask_of old.now new.now) ++ fields_bytes (changed_of old.now new.now) }
+    ensures behind { IsSameFrom result out.old out.new }
+    ensures len { length out.new ≡ length out.old }
+{
+    let _few = old.len();
+    let fields = put_u16(out, at, mask(old.iter(), new.iter()));
+    put_changed(out, fields, old.iter(), new.iter())
+}
+
+// How many bytes a mask has and the fields that it names.
+fn delta_len(old: &Value, new: &Value) -> usize
+    ensures is { result ≡ 2 + length (fields_bytes (changed_of old.now new.now)) }
+    ensures short { result ≤ 4098 }
+{
+    let _few = old.len();
+    2 + changed_len(old.iter(), new.iter())
+}
+
 /// The byte that a record of this content begins with.
 pub fn kind(content: ContentRef) -> u8
     ensures { result ≡ kind_of (content_of_loan content.entry) }
 {
     match content {
         ContentRef::Anchor(_) => 1,
-        ContentRef::Delta { .. } => 2,
+        ContentRef::Delta { .. } | ContentRef::Changed { .. } => 2,
         ContentRef::Gone => 3,
         ContentRef::Old { .. } => 4,
     }
@@ -100,6 +156,7 @@ fn put_rest(out: &mut [u8], at: usize, content: ContentRef) -> usize
             let fields = put_u16(out, at, mask);
             put(out, fields, changed.spelled())
         }
+        ContentRef::Changed { old, new } => put_delta(out, at, old, new),
         ContentRef::Gone => at,
         ContentRef::Old { from, value } => {
             let behind = put_u64(out, at, from);
@@ -130,6 +187,7 @@ fn rest_len(content: ContentRef) -> usize
     match content {
         ContentRef::Anchor(value) => 1 + value.fields().spelled().len(),
         ContentRef::Delta { changed, .. } => 2 + changed.spelled().len(),
+        ContentRef::Changed { old, new } => delta_len(old, new),
         ContentRef::Gone => 0,
         ContentRef::Old { value, .. } => 9 + value.fields().spelled().len(),
     }

@@ -14,7 +14,7 @@ pub use answers::{BeginFault, Did, PumpFault, Redeemed, SubmitFault, Submitted};
 pub use commit_order::{CommitHead, CommitOrder, TicketState};
 pub use conflict::first_conflict;
 pub use queued::{Queued, QueuedParts, StoredExtent};
-pub use records::records_of;
+pub use records::WriteRecords;
 pub use sealing::seal_all;
 pub use taking::{give_back_all, keep_all, keep_taken, take_extents};
 pub use ticket::Ticket;

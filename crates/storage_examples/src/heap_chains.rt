@@ -1,10 +1,9 @@
 //! Chains of extents: packed, sealed, filled one by one, and changed.
 use crate::area_bytes::{begin_with, put};
-use crate::list_cursor::ListCursor;
 use crate::worked_bytes::{ANCHOR, EXTENT_FRONT};
 use deltas::{
-    ChainName, Content, EXTENT_LEN, ExtentBody, Image, Kinds, Record, RecordSource, count_extents,
-    fill_chain, fill_extent, laws, pack, seal, unpack,
+    ChainName, Content, EXTENT_LEN, ExtentBody, Image, Kinds, Record, RecordList, RecordSource,
+    count_extents, fill_chain, fill_extent, laws, pack, seal, unpack,
 };
 use history::Key;
 use std::alloc::Global;
@@ -130,7 +129,7 @@ fn is_extent_one(bytes: &[u8]) -> bool {
 
 /// Whether the extent that is filled from a source is this one, with so many records and bytes.
 fn is_filled(
-    source: &mut ListCursor<'_>,
+    source: &mut RecordList<'_>,
     image: &Image,
     buffer: &mut [u8; EXTENT_LEN],
     want: (u32, u32),
@@ -145,7 +144,7 @@ fn an_extent_is_sealed_and_filled_byte_for_byte(rt: HostRuntime) -> Result<(), F
     assert_eq!(rt; (image.number(), image.next()), (1, 0));
     assert!(rt; is_extent_one(image.bytes()));
     let records = record_seven(rt.alloc())?;
-    let mut source = ListCursor::new(&records);
+    let mut source = RecordList::new(&records);
     let mut buffer = [0xff; EXTENT_LEN];
     assert!(rt; is_filled(&mut source, &image, &mut buffer, (1, 14)));
     assert!(rt; source.peek().is_none());
@@ -155,7 +154,7 @@ fn an_extent_is_sealed_and_filled_byte_for_byte(rt: HostRuntime) -> Result<(), F
 #[test]
 fn an_extent_is_filled_with_no_record(rt: HostRuntime) {
     let mut image = [0xff; EXTENT_LEN];
-    let filled = fill_extent(&mut ListCursor::new(&[]), 5, 0, &mut image);
+    let filled = fill_extent(&mut RecordList::new(&[]), 5, 0, &mut image);
     assert_eq!(rt; (filled.records, filled.used), (0, 0));
     assert!(rt; begin_with(&image, &[5]));
 }
@@ -204,7 +203,7 @@ fn extents_filled_one_by_one_are_the_packed_chain(rt: HostRuntime) -> Result<(),
     let alloc = rt.alloc();
     let records = many(alloc, 1024)?;
     let images = chain_of_two(alloc)?;
-    let mut source = ListCursor::new(&records);
+    let mut source = RecordList::new(&records);
     let mut buffer = [0xff; EXTENT_LEN];
     assert!(rt; is_filled(&mut source, &images[0], &mut buffer, (584, 8176)));
     assert!(rt; is_filled(&mut source, &images[1], &mut buffer, (440, 6160)));
@@ -219,9 +218,9 @@ fn filled_chain(
     records: &[Record],
     numbers: &[u32],
 ) -> Result<Option<Vec<Image>>, Fail> {
-    match count_extents(&mut ListCursor::new(records)) {
+    match count_extents(&mut RecordList::new(records)) {
         Some(count) if count.extents as usize == numbers.len() => {
-            let mut source = ListCursor::new(records);
+            let mut source = RecordList::new(records);
             Ok(Some(fill_chain(alloc, &mut source, numbers)?))
         }
         _ => Ok(None),
@@ -243,7 +242,7 @@ fn a_filled_chain_is_held(rt: HostRuntime) -> Result<(), Fail> {
 
 /// How many extents a chain of these records needs, and how many these are.
 fn counted(records: &[Record]) -> Option<(u32, u32)> {
-    let count = count_extents(&mut ListCursor::new(records))?;
+    let count = count_extents(&mut RecordList::new(records))?;
     Some((count.extents, count.records))
 }
 

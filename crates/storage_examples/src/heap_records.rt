@@ -1,8 +1,9 @@
 //! Records of the heap: what a write is stored as, and what a stored record writes.
 use crate::area_bytes::begin_with;
-use crate::list_cursor::ListCursor;
 use crate::worked_bytes::KEY;
-use deltas::{Content, EXTENT_LEN, Record, apply, encode_write, fill_extent, laws, pack};
+use deltas::{
+    Content, EXTENT_LEN, Record, RecordList, apply, encode_write, fill_extent, laws, pack,
+};
 use std::alloc::Global;
 use std::test::Fail;
 use wire::Value;
@@ -29,7 +30,7 @@ fn stored(
 /// Whether the one record of this content fills an extent with these bytes alone.
 fn fills(records: &[Record], bytes: &[u8]) -> bool {
     let mut image = [0xff; EXTENT_LEN];
-    let filled = fill_extent(&mut ListCursor::new(records), 1, 0, &mut image);
+    let filled = fill_extent(&mut RecordList::new(records), 1, 0, &mut image);
     filled.records == 1 && filled.used as usize == bytes.len() && begin_with(&image[16..], bytes)
 }
 

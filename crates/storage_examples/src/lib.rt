@@ -21,7 +21,6 @@ mod heap_records;
 #[cfg(test)]
 mod images;
 #[cfg(test)]
-mod list_cursor;
 #[cfg(test)]
 mod list_walk;
 #[cfg(test)]

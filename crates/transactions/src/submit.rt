@@ -12,11 +12,11 @@ ghost use Rattle.transactions.specs.Submits.{Submits, verdict_on_writes, Queues,
 use crate::transactions::Transactions;
 use chains::{Frozen, SharedValue};
 use clock::{ClockEnd, CommitClock};
-use deltas::{ExtentBody, pack};
+use deltas::{ExtentBody, pack_all};
 use extents::Extents;
 use group::{
-    CommitHead, Queued, StoredExtent, SubmitFault, Submitted, Ticket, first_conflict,
-    give_back_all, records_of, seal_all, take_extents,
+    CommitHead, Queued, StoredExtent, SubmitFault, Submitted, Ticket, WriteRecords, first_conflict,
+    give_back_all, seal_all, take_extents,
 };
 use history::KeyWrite;
 use snapshot::Txn;
@@ -175,8 +175,7 @@ fn packed(
 ) -> Result<Vec<ExtentBody>, AllocError>
     ensures { IfOk result (λ packed. packed.items ≡ bodies_over versions.now writes.now) }
 {
-    let records = records_of(alloc, versions, writes)?;
-    pack(alloc, &records)
+    pack_all(alloc, &mut WriteRecords::new(versions, writes))
 }
 
 // Takes an extent for each of these bodies. Where memory is refused none is taken.

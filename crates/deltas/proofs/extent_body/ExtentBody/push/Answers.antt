@@ -8,21 +8,19 @@ pub invariant_of-self : goal.invariant_of-self
 invariant_of-self c =
     let b = c.self.inside in
     let put = c.put_record-self-inside in
-    let bytes = spelling (record_of_loan c.as_ref.result) in
-    let same : length bytes ≡ length (spelling c.args.one.now) = ap (λ r. length (spelling r)) c.as_ref.ensures in
+    let bytes = spelling (record_of_loan c.args.one) in
     let used = length-records b.image.items b.used c.self.invariant in
     let many = ap length c.self.view_is in
     let room = c.requires in
-    (pushed b.image.items c.deref_mut.result.now put.new.out bytes b.image.len b.used put.result c.self.invariant b.image.ok.0 c.deref_mut.ensures.value put.ensures.end (omega (arith, room, same, used, many)) put.ensures.front put.ensures.behind put.ensures.len).begun
+    (pushed b.image.items c.deref_mut.result.now put.new.out bytes b.image.len b.used put.result c.self.invariant b.image.ok.0 c.deref_mut.ensures.value put.ensures.end (omega (arith, room, used, many)) put.ensures.front put.ensures.behind put.ensures.len).begun
 
 pub returns : goal.returns
 returns c =
     let b = c.self.inside in
     let put = c.put_record-self-inside in
-    let bytes = spelling (record_of_loan c.as_ref.result) in
-    let same : length bytes ≡ length (spelling c.args.one.now) = ap (λ r. length (spelling r)) c.as_ref.ensures in
+    let bytes = spelling (record_of_loan c.args.one) in
     let used = length-records b.image.items b.used c.self.invariant in
     let many = ap length c.self.view_is in
     let room = c.requires in
-    (pushed b.image.items c.deref_mut.result.now put.new.out bytes b.image.len b.used put.result c.self.invariant b.image.ok.0 c.deref_mut.ensures.value put.ensures.end (omega (arith, room, same, used, many)) put.ensures.front put.ensures.behind put.ensures.len).records
-    ∙ (λ i. c.self.view_is i ++ spelling (c.as_ref.ensures i))
+    (pushed b.image.items c.deref_mut.result.now put.new.out bytes b.image.len b.used put.result c.self.invariant b.image.ok.0 c.deref_mut.ensures.value put.ensures.end (omega (arith, room, used, many)) put.ensures.front put.ensures.behind put.ensures.len).records
+    ∙ ap (λ l. l ++ bytes) c.self.view_is

@@ -1,24 +1,27 @@
-//! Records of a list, one after the other.
+//! The records of a list as a source.
+
 ghost use Rattle.std.specs.Prelude.{◌≡◌};
 
-use deltas::{Record, RecordRef, RecordSource};
+use crate::record::Record;
+use crate::record_ref::RecordRef;
+use crate::record_source::RecordSource;
 
 /// Goes over the records of a list.
 #[derive(Drop)]
-pub struct ListCursor<'a> {
+pub struct RecordList<'a> {
     left: &'a [Record],
 }
 
-impl<'a> ListCursor<'a> {
+impl<'a> RecordList<'a> {
     /// All records of the list are left.
-    pub fn new(records: &'a [Record]) -> ListCursor<'a>
+    pub fn new(records: &'a [Record]) -> RecordList<'a>
         ensures { result.left.now ≡ records.now }
     {
-        ListCursor { left: records }
+        RecordList { left: records }
     }
 }
 
-impl<'a> RecordSource for ListCursor<'a> {
+impl<'a> RecordSource for RecordList<'a> {
     ghost left = { λ c. c.left.now };
 
     fn peek(&self) -> Option<RecordRef<'_>> {
