@@ -13,7 +13,7 @@ use Rattle.timequery.specs.declared.fault.QueryFault.{QueryFault}
 use Rattle.timequery.specs.declared.fault.QueryFault.TheVariants as query
 use Rattle.script.specs.declared.line.Line.{Line}
 use Rattle.script.specs.declared.line.Line.TheVariants as line
-use Rattle.session.specs.Session.{State, KeepsNames, StepsGroup, StepsJob, PumpStep, TakesSteps, Flushes, JobStep, TakesJobSteps, Finishes, ArchiveStep, ReclaimStep, GrowStep, FloorStep, AtStep, ScanStep, BetweenStep, TimesStep}
+use Rattle.session.specs.Session.{State, KeepsNames, StepsGroup, StepsJob, PumpStep, TakesSteps, Flushes, JobStep, Finishes, ArchiveStep, ReclaimStep, GrowStep, FloorStep, AtStep, ScanStep, BetweenStep, TimesStep}
 use Rattle.session.specs.Session as session
 use Rattle.session.specs.Texts.{Text}
 use Rattle.session.specs.declared.fault.Fault.TheVariants as fault
@@ -77,7 +77,7 @@ pub record Stepped (tells : Bool) (calls : List Call) (answers : List Answer) (a
   pub among : Among xs held
   pub done : end.done ≡ at.done
 
-group-chain : (tells : Bool) (steps : List Did) (v mid v' : StoreValue) (ended : Result Did PumpFault) (xs : List Held) (at : Moment) → IsAtMoment tells v xs at → TakesSteps tells v steps mid → StepsGroup tells mid ended v'
+group-chain : (tells : Bool) (steps : List Did) (v mid v' : StoreValue) (ended : Result Did PumpFault) (xs : List Held) (at : Moment) → IsAtMoment tells v xs at → TakesSteps (StepsGroup tells) did.Idle v steps mid → StepsGroup tells mid ended v'
     → Stepped tells (group_calls steps) (group_answers steps ended) at v' xs
 group-chain tells [] v mid v' ended xs at is takes last =
     let first : StepsGroup tells v ended v' = subst (λ (s : StoreValue). StepsGroup tells s ended v') takes last in
@@ -90,16 +90,17 @@ group-chain tells (step ∷ steps) v mid v' ended xs at is takes last =
     let rest = group-chain tells steps next mid v' ended ys did.0 did.2 takes.3 last in
     record { end = rest.end; held = rest.held; chain = (did.0, did.1, rest.chain); is = rest.is; among = through xs ys rest.held (front-of xs (held.Nothing ∷ [])) rest.among; done = rest.done ∙ did.1.acknowledges }
 
-group-go_on : (tells : Bool) (steps : List Did) (v mid : StoreValue) → TakesSteps tells v steps mid → AllByRecursion (λ (step : Did). step ≢ did.Idle) steps
-group-go_on tells [] v mid takes = tt
-group-go_on tells (step ∷ steps) v mid takes = (takes.2, group-go_on tells steps takes.0 mid takes.3)
+-- none of the steps that were taken was the last
+none-idle : {S : Type 0} (takes : StoreValue → Result S PumpFault → StoreValue → Type 0) (idle : S) (steps : List S) (v mid : StoreValue) → TakesSteps takes idle v steps mid → AllByRecursion (λ (step : S). step ≢ idle) steps
+none-idle takes idle [] v mid taken = tt
+none-idle takes idle (step ∷ steps) v mid taken = (taken.2, none-idle takes idle steps taken.0 mid taken.3)
 
 pub flush-line : (tells : Bool) (m : ScriptMoment) → IsScriptMoment tells m → (r : Reply) (new : State) → Flushes tells m.state.store r new.store → KeepsNames m.state new → LeadsTo tells line.Flush r m new
 flush-line tells m is r new f names =
     let xs = held_of m.state in
     let did = group-chain tells f.steps m.state.store f.mid new.store f.answer xs (moment_of m) is f.before f.last in
     by-chain tells m is line.Flush r (record { calls = group_calls f.steps; answers = group_answers f.steps f.answer })
-    (record { steps = f.steps; ended = f.answer; calls = refl; answers = refl; go_on = group-go_on tells f.steps m.state.store f.mid f.before; ends = f.ends; reply = f.reply })
+    (record { steps = f.steps; ended = f.answer; calls = refl; answers = refl; go_on = none-idle (StepsGroup tells) did.Idle f.steps m.state.store f.mid f.before; ends = f.ends; reply = f.reply })
     did.end did.chain new.store did.held did.is (did.done ∙ silent r _ m.done f.reply (pumped-silent f.answer m.done)) new refl (through (held_of new) xs did.held (kept m new names) did.among)
 
 -- ---- jobs
@@ -143,7 +144,7 @@ job_calls steps = map (λ (step : JobDid). call.JobPump) steps ++ call.JobPump �
 abbrev job_answers : List JobDid → Result JobDid PumpFault → List Answer
 job_answers steps ended = map (λ (step : JobDid). answer.JobPump (Ok step)) steps ++ answer.JobPump ended ∷ []
 
-job-chain : (tells : Bool) (steps : List JobDid) (v mid v' : StoreValue) (ended : Result JobDid PumpFault) (xs : List Held) (at : Moment) → IsAtMoment tells v xs at → TakesJobSteps tells v steps mid → StepsJob tells mid ended v'
+job-chain : (tells : Bool) (steps : List JobDid) (v mid v' : StoreValue) (ended : Result JobDid PumpFault) (xs : List Held) (at : Moment) → IsAtMoment tells v xs at → TakesSteps (StepsJob tells) job_did.Idle v steps mid → StepsJob tells mid ended v'
     → Stepped tells (job_calls steps) (job_answers steps ended) at v' xs
 job-chain tells [] v mid v' ended xs at is takes last =
     let first : StepsJob tells v ended v' = subst (λ (s : StoreValue). StepsJob tells s ended v') takes last in
@@ -156,16 +157,12 @@ job-chain tells (step ∷ steps) v mid v' ended xs at is takes last =
     let rest = job-chain tells steps next mid v' ended ys did.0 did.2 takes.3 last in
     record { end = rest.end; held = rest.held; chain = (did.0, did.1, rest.chain); is = rest.is; among = through xs ys rest.held (front-of xs (held.Nothing ∷ [])) rest.among; done = rest.done ∙ did.1.acknowledges }
 
-job-go_on : (tells : Bool) (steps : List JobDid) (v mid : StoreValue) → TakesJobSteps tells v steps mid → AllByRecursion (λ (step : JobDid). step ≢ job_did.Idle) steps
-job-go_on tells [] v mid takes = tt
-job-go_on tells (step ∷ steps) v mid takes = (takes.2, job-go_on tells steps takes.0 mid takes.3)
-
 pub finish-line : (tells : Bool) (m : ScriptMoment) → IsScriptMoment tells m → (r : Reply) (new : State) → Finishes tells m.state.store r new.store → KeepsNames m.state new → LeadsTo tells line.Finish r m new
 finish-line tells m is r new f names =
     let xs = held_of m.state in
     let did = job-chain tells f.steps m.state.store f.mid new.store f.answer xs (moment_of m) is f.before f.last in
     by-chain tells m is line.Finish r (record { calls = job_calls f.steps; answers = job_answers f.steps f.answer })
-    (record { steps = f.steps; ended = f.answer; calls = refl; answers = refl; go_on = job-go_on tells f.steps m.state.store f.mid f.before; ends = f.ends; reply = f.reply })
+    (record { steps = f.steps; ended = f.answer; calls = refl; answers = refl; go_on = none-idle (StepsJob tells) job_did.Idle f.steps m.state.store f.mid f.before; ends = f.ends; reply = f.reply })
     did.end did.chain new.store did.held did.is (did.done ∙ silent r _ m.done f.reply (worked-silent f.answer m.done)) new refl (through (held_of new) xs did.held (kept m new names) did.among)
 
 -- ---- queries

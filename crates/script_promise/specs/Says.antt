@@ -22,7 +22,7 @@ use Rattle.store.specs.declared.job.JobDid.TheVariants as job_did
 use Rattle.store.specs.declared.job.StartFault.{StartFault}
 use Rattle.script.specs.declared.line.Line.{Line}
 use Rattle.script.specs.declared.line.Line.TheVariants as line
-use Rattle.session.specs.Session.{txn_place, ticket_place, IfTest, is_taken, EndsFlush, EndsFinish}
+use Rattle.session.specs.Session.{txn_place, ticket_place, IfTest, is_taken, IsLast}
 use Rattle.session.specs.Session as session
 use Rattle.session.specs.Texts.{Text}
 use Rattle.session.specs.declared.fault.Fault.TheVariants as fault
@@ -128,7 +128,7 @@ pub record SaysFlush (made : Exchange) (r : Reply) : Type 0 where
   pub calls : made.calls ≡ map (λ (step : Did). call.Pump) steps ++ call.Pump ∷ []
   pub answers : made.answers ≡ map (λ (step : Did). answer.Pump (Ok step)) steps ++ answer.Pump ended ∷ []
   pub go_on : AllByRecursion (λ (step : Did). step ≢ did.Idle) steps
-  pub ends : EndsFlush ended
+  pub ends : IsLast did.Idle ended
   pub reply : r ≡ session.pumped ended
 
 -- a view of now is asked, or there is no memory for it
@@ -184,7 +184,7 @@ pub record SaysFinish (made : Exchange) (r : Reply) : Type 0 where
   pub calls : made.calls ≡ map (λ (step : JobDid). call.JobPump) steps ++ call.JobPump ∷ []
   pub answers : made.answers ≡ map (λ (step : JobDid). answer.JobPump (Ok step)) steps ++ answer.JobPump ended ∷ []
   pub go_on : AllByRecursion (λ (step : JobDid). step ≢ job_did.Idle) steps
-  pub ends : EndsFinish ended
+  pub ends : IsLast job_did.Idle ended
   pub reply : r ≡ session.worked ended
 
 -- At this moment a line makes these calls, and what is replied is what their answers say. A name stands for its place; one that stands for nothing, or is taken, is refused. A `reopen` is no call.

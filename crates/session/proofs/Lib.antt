@@ -3,4 +3,5 @@ mod JobLemmas
 mod LineLemmas
 mod RunLemmas
 mod SayLemmas
+mod StepLemmas
 mod TextLemmas

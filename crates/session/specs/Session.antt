@@ -44,6 +44,8 @@ use Rattle.session.specs.declared.names.OpenName.{OpenName}
 use Rattle.session.specs.declared.names.TicketName.{TicketName}
 use Rattle.session.specs.declared.reply.Reply.{Reply}
 use Rattle.session.specs.declared.reply.Reply.TheVariants as reply
+use Rattle.session.specs.declared.session.Work.{Work}
+use Rattle.session.specs.declared.session.Work.TheVariants as work
 use Rattle.session.specs.Texts.{Text}
 
 -- what a session is: its store, and what each name in use stands for
@@ -209,6 +211,30 @@ RedeemStep old i r new = (e : TicketName) × (answer : Redeemed) × (slice_get o
     × store.Redeems old.store e.ticket answer new.store × (r ≡ redeemed answer)
     × (new.tickets ≡ with_redeemed e.name (remove old.tickets i) answer) × (new.opened ≡ old.opened)
 
+-- a step is the last: it found nothing to do, or was refused
+abbrev pub IsLast : {S : Type 0} → S → Result S PumpFault → Type 0
+IsLast idle (Ok step) = step ≡ idle
+IsLast idle (Err f) = Unit {0}
+
+-- a step is taken and replied, and it is told whether it is the last
+abbrev pub TakesOne : {S : Type 0} → (StoreValue → Result S PumpFault → StoreValue → Type 0) → S → (Result S PumpFault → Reply) → StoreValue → Reply → Bool → StoreValue → Type 0
+TakesOne takes idle reply_of old r last new = (answer : Result _ PumpFault) × takes old answer new × (r ≡ reply_of answer) × (IsTrue last ↔ IsLast idle answer)
+
+-- these steps are taken, and none of them is the last
+abbrev pub TakesSteps : {S : Type 0} → (StoreValue → Result S PumpFault → StoreValue → Type 0) → S → StoreValue → List S → StoreValue → Type 0
+TakesSteps takes idle old [] new = new ≡ old
+TakesSteps takes idle old (step ∷ steps) new = (mid : StoreValue) × takes old (Ok step) mid × (step ≢ idle) × TakesSteps takes idle mid steps new
+
+-- steps are taken until the last, which alone is replied
+pub record TakesAll {S : Type 0} (takes : StoreValue → Result S PumpFault → StoreValue → Type 0) (idle : S) (reply_of : Result S PumpFault → Reply) (old : StoreValue) (r : Reply) (new : StoreValue) : Type 0 where
+  pub steps : List S
+  pub mid : StoreValue
+  pub before : TakesSteps takes idle old steps mid
+  pub answer : Result S PumpFault
+  pub last : takes mid answer new
+  pub ends : IsLast idle answer
+  pub reply : r ≡ reply_of answer
+
 -- the answer to a step of the group: what it did, or why it is refused
 abbrev pub pumped : Result Did PumpFault → Reply
 pumped (Ok step) = reply.Did step
@@ -223,25 +249,9 @@ pub record StepsGroup (tells : Bool) (old : StoreValue) (answer : Result Did Pum
 abbrev pub PumpStep : Bool → StoreValue → Reply → StoreValue → Type 0
 PumpStep tells old r new = (answer : Result Did PumpFault) × StepsGroup tells old answer new × (r ≡ pumped answer)
 
--- nothing is left to do, or the step was refused
-abbrev pub EndsFlush : Result Did PumpFault → Type 0
-EndsFlush (Ok step) = step ≡ did.Idle
-EndsFlush (Err f) = Unit {0}
-
--- these steps are taken, and none of them ends the flush
-abbrev pub TakesSteps : Bool → StoreValue → List Did → StoreValue → Type 0
-TakesSteps tells old [] new = new ≡ old
-TakesSteps tells old (step ∷ steps) new = (mid : StoreValue) × StepsGroup tells old (Ok step) mid × (step ≢ did.Idle) × TakesSteps tells mid steps new
-
--- steps are taken until one ends the flush, which alone is answered
-pub record Flushes (tells : Bool) (old : StoreValue) (r : Reply) (new : StoreValue) : Type 0 where
-  pub steps : List Did
-  pub mid : StoreValue
-  pub before : TakesSteps tells old steps mid
-  pub answer : Result Did PumpFault
-  pub last : StepsGroup tells mid answer new
-  pub ends : EndsFlush answer
-  pub reply : r ≡ pumped answer
+-- `flush`: steps of the commits that are queued are taken until the last
+abbrev pub Flushes : Bool → StoreValue → Reply → StoreValue → Type 0
+Flushes tells old r new = TakesAll (StepsGroup tells) did.Idle pumped old r new
 
 -- the answer to a line that begins a job: it has begun, or why it has not
 abbrev pub started : Result (Unit {0}) StartFault → Reply
@@ -278,25 +288,19 @@ pub record StepsJob (tells : Bool) (old : StoreValue) (answer : Result JobDid Pu
 abbrev pub JobStep : Bool → StoreValue → Reply → StoreValue → Type 0
 JobStep tells old r new = (answer : Result JobDid PumpFault) × StepsJob tells old answer new × (r ≡ worked answer)
 
--- no job is left, or its step was refused
-abbrev pub EndsFinish : Result JobDid PumpFault → Type 0
-EndsFinish (Ok step) = step ≡ job_did.Idle
-EndsFinish (Err f) = Unit {0}
+-- `finish`: steps of the job are taken until the last
+abbrev pub Finishes : Bool → StoreValue → Reply → StoreValue → Type 0
+Finishes tells old r new = TakesAll (StepsJob tells) job_did.Idle worked old r new
 
--- these steps of a job are taken, and none of them ends the finish
-abbrev pub TakesJobSteps : Bool → StoreValue → List JobDid → StoreValue → Type 0
-TakesJobSteps tells old [] new = new ≡ old
-TakesJobSteps tells old (step ∷ steps) new = (mid : StoreValue) × StepsJob tells old (Ok step) mid × (step ≢ job_did.Idle) × TakesJobSteps tells mid steps new
+-- a step of this work is taken
+abbrev pub StepsWork : Bool → Work → StoreValue → Reply → Bool → StoreValue → Type 0
+StepsWork tells work.Commits old r last new = TakesOne (StepsGroup tells) did.Idle pumped old r last new
+StepsWork tells work.Job old r last new = TakesOne (StepsJob tells) job_did.Idle worked old r last new
 
--- steps of a job are taken until one ends the finish, which alone is answered
-pub record Finishes (tells : Bool) (old : StoreValue) (r : Reply) (new : StoreValue) : Type 0 where
-  pub steps : List JobDid
-  pub mid : StoreValue
-  pub before : TakesJobSteps tells old steps mid
-  pub answer : Result JobDid PumpFault
-  pub last : StepsJob tells mid answer new
-  pub ends : EndsFinish answer
-  pub reply : r ≡ worked answer
+-- steps of this work are taken until the last
+abbrev pub EndsWork : Bool → Work → StoreValue → Reply → StoreValue → Type 0
+EndsWork tells work.Commits old r new = Flushes tells old r new
+EndsWork tells work.Job old r new = Finishes tells old r new
 
 -- a view is taken, asked and ended; without memory for the view nothing is asked
 abbrev pub Asks : Bool → StoreValue → Key → ℕ → Result (Option (List Text)) QueryFault → StoreValue → Type 0

@@ -1,5 +1,5 @@
 //! A store and the names in use.
-ghost use Rattle.std.specs.Prelude.{◌≡◌, ◌↔◌, ◌<◌, ◌+◌, ◌≤◌, ◌||◌, ◌++◌, ◌∷◌, [], not, nat_lt, length, map, position, MatchOption, MatchResult, IfOk, IfErr, IfSome, IsTrue, Ok, Err, Some, slice_get, remove, vec_capacity};
+ghost use Rattle.std.specs.Prelude.{◌≡◌, ◌<◌, ◌+◌, ◌≤◌, ◌||◌, ◌++◌, ◌∷◌, [], not, nat_lt, length, map, position, MatchOption, MatchResult, IfOk, IfErr, IfSome, Ok, Err, Some, slice_get, remove, vec_capacity};
 ghost use Rattle.snapshot.specs.Txn.{seen_by};
 ghost use Rattle.script.specs.declared.line.Line.TheVariants.{Reopen};
 ghost use Rattle.session.specs.Session as told;
@@ -91,48 +91,39 @@ fn seen(txn: &Txn, key: Key) -> Result<Option<SharedValue>, AllocError>
     }
 }
 
-/// Whether a step found nothing to do.
-fn is_idle(step: Did) -> bool
-    ensures { IsTrue result ↔ (step ≡ Did.Idle) }
-{
-    matches!(step, Did::Idle)
+/// What a store takes steps of.
+#[derive(Clone, Copy)]
+enum Work {
+    /// The commits that are queued.
+    Commits,
+    /// The job that runs.
+    Job,
 }
 
-/// Takes steps until nothing is left to do, or one is refused.
-fn flush<D: Disk>(store: &mut Store<D>) -> Reply
-    ensures { told.Flushes D.tells store.old result store.new }
+/// Takes a step, and tells whether it was the last: it found nothing to do, or was refused.
+fn take_step<D: Disk>(store: &mut Store<D>, work: Work) -> (Reply, bool)
+    ensures { told.StepsWork D.tells work store.old result.0 result.1 store.new }
 {
-    loop {
-        match store.pump() {
-            Ok(step) => {
-                if is_idle(step) {
-                    return Reply::Did(step);
-                }
-            }
-            Err(fault) => return Reply::Refused(Fault::Pump(fault)),
-        }
+    match work {
+        Work::Commits => match store.pump() {
+            Ok(step) => (Reply::Did(step), matches!(step, Did::Idle)),
+            Err(fault) => (Reply::Refused(Fault::Pump(fault)), true),
+        },
+        Work::Job => match store.job_pump() {
+            Ok(step) => (Reply::JobDid(step), matches!(step, JobDid::Idle)),
+            Err(fault) => (Reply::Refused(Fault::Pump(fault)), true),
+        },
     }
 }
 
-/// Whether a step found no job to go on with.
-fn is_job_idle(step: JobDid) -> bool
-    ensures { IsTrue result ↔ (step ≡ JobDid.Idle) }
-{
-    matches!(step, JobDid::Idle)
-}
-
-/// Takes steps of the job that runs until nothing is left to do, or one is refused.
-fn finish<D: Disk>(store: &mut Store<D>) -> Reply
-    ensures { told.Finishes D.tells store.old result store.new }
+/// Takes steps until the last, which alone is answered.
+fn take_steps<D: Disk>(store: &mut Store<D>, work: Work) -> Reply
+    ensures { told.EndsWork D.tells work store.old result store.new }
 {
     loop {
-        match store.job_pump() {
-            Ok(step) => {
-                if is_job_idle(step) {
-                    return Reply::JobDid(step);
-                }
-            }
-            Err(fault) => return Reply::Refused(Fault::Pump(fault)),
+        let (reply, is_last) = take_step(store, work);
+        if is_last {
+            return reply;
         }
     }
 }
@@ -471,10 +462,7 @@ impl<D: Disk> Session<D> {
         ensures steps { told.PumpStep D.tells self.old.store result self.new.store }
         ensures names { told.KeepsNames self.old self.new }
     {
-        match self.store.pump() {
-            Ok(step) => Reply::Did(step),
-            Err(fault) => Reply::Refused(Fault::Pump(fault)),
-        }
+        take_step(&mut self.store, Work::Commits).0
     }
 
     fn at(&mut self, key: Key, time: u64) -> Reply
@@ -520,7 +508,7 @@ impl<D: Disk> Session<D> {
         ensures steps { told.Flushes D.tells self.old.store result self.new.store }
         ensures names { told.KeepsNames self.old self.new }
     {
-        flush(&mut self.store)
+        take_steps(&mut self.store, Work::Commits)
     }
 
     fn archive(&mut self, upto: u64) -> Reply
@@ -567,17 +555,14 @@ impl<D: Disk> Session<D> {
         ensures steps { told.JobStep D.tells self.old.store result self.new.store }
         ensures names { told.KeepsNames self.old self.new }
     {
-        match self.store.job_pump() {
-            Ok(step) => Reply::JobDid(step),
-            Err(fault) => Reply::Refused(Fault::Pump(fault)),
-        }
+        take_step(&mut self.store, Work::Job).0
     }
 
     fn finish(&mut self) -> Reply
         ensures steps { told.Finishes D.tells self.old.store result self.new.store }
         ensures names { told.KeepsNames self.old self.new }
     {
-        finish(&mut self.store)
+        take_steps(&mut self.store, Work::Job)
     }
 
     /// Answers a line. A `reopen` has no answer here, and nothing happens: see

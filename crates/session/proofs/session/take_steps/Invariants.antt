@@ -1,0 +1,13 @@
+use Rattle.std.proofs.Common.{◌+◌, ◌-◌, nat_lt, if◌then◌else◌}
+use Rattle.disk.specs.Calls.{top}
+use Rattle.session.specs.Session as told
+use Rattle.session.specs.declared.reply.Reply.{Reply}
+use Rattle.session.proofs.session.take_steps.Given as goal
+
+-- what takes the rest has taken all
+abbrev pub invariant-loop-work : goal.invariant-loop-work
+invariant-loop-work g l = (r : Reply) (end : told.Stored) → told.EndsWork g.D.Disk.tells l.work l.store r end → told.EndsWork g.D.Disk.tells l.initial.work l.initial.store r end
+
+-- each step makes a device call, and there are not so many
+abbrev pub decreases-loop-work : goal.decreases-loop-work
+decreases-loop-work g l = if nat_lt top l.store.disk.made then top + 1 else top - l.store.disk.made
