@@ -4,7 +4,6 @@ ghost use Rattle.std.specs.Prelude.{◌≡◌};
 use archive::RunWriter;
 use floors::Floors;
 use status::{Growth, SlotTurn};
-use std::mem;
 use vacuum::{AnchorSource, ArchiveWalk};
 use wire::{Anchors, Run};
 
@@ -64,20 +63,6 @@ impl Job {
             JobStage::Turning(turn) => turn.give_up(),
         }
         work
-    }
-
-    /// Gives the job up: what it has of a slot stays in the writing.
-    pub(crate) fn give_up(self) {
-        let _work = self.into_work();
-    }
-}
-
-/// Puts a job into its place, and gives up the one that stood there.
-pub(crate) fn put_job(place: &mut Option<Job>, job: Option<Job>)
-    ensures { place.new ≡ job }
-{
-    if let Some(before) = mem::replace(place, job) {
-        before.give_up();
     }
 }
 

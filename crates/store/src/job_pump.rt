@@ -10,7 +10,8 @@ ghost use Rattle.store.specs.Parts.{parts_of, job_did_of, IsInPlace, IsStageOf, 
 ghost use Rattle.store.specs.Values.{ArchiveValue, lent_by};
 ghost use Rattle.store.specs.declared.job.Job.{Job};
 
-use crate::job::{Job, JobDid, JobStage, JobWork, put_job};
+use crate::giving_up::{GiveUp, put_in_place};
+use crate::job::{Job, JobDid, JobStage, JobWork};
 use crate::slot_calls::{SlotCall, SlotStep, advance_slot};
 use crate::starting::first_number;
 use crate::store::Store;
@@ -63,7 +64,7 @@ impl<D: Disk> Store<D> {
                     is_turning,
                     job,
                 );
-                put_job(&mut self.job, next);
+                put_in_place(&mut self.job, next);
                 answer
             }
         }

@@ -1,6 +1,7 @@
 //! A store of records that keeps every version. One event is one call; no call waits.
 #![tactic(auto)]
 
+mod giving_up;
 mod job;
 mod job_pump;
 mod opening;

@@ -5,6 +5,7 @@ ghost use Rattle.disk.specs.Areas.{AreSound};
 ghost use Rattle.transactions.specs.Steps.{due, next_extent};
 ghost use Rattle.store.specs.Pumps.{Pumps, TakesStep, SyncsHeap, MayBeginSlot, TakesSlot, TurnsSlot, store_of, did_of};
 
+use crate::giving_up::put_in_place;
 use crate::job::JobStage;
 use crate::job_pump::EXTENT_BYTES;
 use crate::slot_calls::{SlotCall, SlotStep, advance_slot};
@@ -130,7 +131,7 @@ impl<D: Disk> Store<D> {
                     &mut self.disk,
                     turn,
                 );
-                put_turn(&mut self.turn, next);
+                put_in_place(&mut self.turn, next);
                 answer
             }
         }
@@ -152,7 +153,7 @@ impl<D: Disk> Store<D> {
                     &mut self.disk,
                     turn,
                 );
-                put_turn(&mut self.turn, next);
+                put_in_place(&mut self.turn, next);
                 answer
             }
         }
@@ -191,13 +192,5 @@ fn did_of(call: SlotCall) -> Did
         SlotCall::BodyWritten => Did::BodyWritten,
         SlotCall::BodySynced => Did::BodySynced,
         SlotCall::GateWritten => Did::GateWritten,
-    }
-}
-
-fn put_turn(place: &mut Option<SlotTurn>, turn: Option<SlotTurn>)
-    ensures { place.new ≡ turn }
-{
-    if let Some(before) = mem::replace(place, turn) {
-        before.give_up();
     }
 }

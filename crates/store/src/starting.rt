@@ -8,7 +8,8 @@ ghost use Rattle.store.specs.Floors.{StartsFloor, IsRelation, floor_refusal, is_
 ghost use Rattle.store.specs.Growths.{StartsGrowth, refusal_to_grow};
 ghost use Rattle.history.specs.Floors.{covered};
 
-use crate::job::{Job, JobStage, JobWork, StartFault, put_job};
+use crate::giving_up::put_in_place;
+use crate::job::{Job, JobStage, JobWork, StartFault};
 use crate::store::Store;
 use archive::RunEntry;
 use deltas::count_extents;
@@ -54,7 +55,7 @@ impl<D: Disk> Store<D> {
                     work: JobWork::Archive { run, writer },
                     stage: JobStage::Writing,
                 };
-                put_job(&mut self.job, Some(job));
+                put_in_place(&mut self.job, Some(job));
                 Ok(())
             }
         }
@@ -133,7 +134,7 @@ impl<D: Disk> Store<D> {
                     },
                     stage: JobStage::Writing,
                 };
-                put_job(&mut self.job, Some(job));
+                put_in_place(&mut self.job, Some(job));
                 Ok(())
             }
         }
@@ -192,7 +193,7 @@ impl<D: Disk> Store<D> {
             },
             stage: JobStage::Stored,
         };
-        put_job(&mut self.job, Some(job));
+        put_in_place(&mut self.job, Some(job));
         Ok(())
     }
 
@@ -236,7 +237,7 @@ impl<D: Disk> Store<D> {
             work: JobWork::Grow { growth },
             stage: JobStage::Writing,
         };
-        put_job(&mut self.job, Some(job));
+        put_in_place(&mut self.job, Some(job));
         Ok(())
     }
 

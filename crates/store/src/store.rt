@@ -2,6 +2,7 @@
 ghost use Rattle.std.specs.Prelude.{◌≡◌, IfOk};
 ghost use Rattle.store.specs.Calls.{Begins, Aborts, Submits, Redeems, IsViewOf, IsTimesOf, last, floors};
 
+use crate::giving_up::GiveUp;
 use crate::job::Job;
 use crate::store_archive::StoreArchive;
 use disk::Disk;
