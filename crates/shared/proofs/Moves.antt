@@ -1,6 +1,7 @@
 -- What one call of the store leaves under the lock.
-use Rattle.std.proofs.Common.{◌≡◌, ℕ, ◌+◌, ◌<◌, ◌^◌, ◌≤◌, Bool, true, false, cond, is_some, List, [], ◌++◌, length, Option, None, Some, Result, Ok, Err, MatchBool, MatchOption, refl, sym, ap, ◌∙◌, subst, arith}
+use Rattle.std.proofs.Common.{◌≡◌, ℕ, ◌+◌, ◌<◌, ◌^◌, ◌≤◌, ◌==◌, nat_le, nat_lt, Bool, true, false, cond, is_some, List, [], ◌++◌, length, Option, None, Some, Result, Ok, Err, MatchBool, MatchOption, refl, sym, ap, ◌∙◌, subst, arith}
 use Rattle.std.specs.Prelude.{IsTrue}
+use Rattle.std.proofs.lemmas.Bool.Decides.{nat_tests}
 use Rattle.std.proofs.lemmas.List.{append-nil}
 use Rattle.atomic_table.specs.Seated.{TableId}
 use Rattle.disk.specs.Areas.{AreSound}
@@ -27,7 +28,8 @@ use Rattle.group.specs.declared.answers.Submitted.{Submitted}
 use Rattle.group.specs.declared.answers.Submitted.TheVariants as submitted
 use Rattle.group.specs.declared.answers.SubmitFault.{SubmitFault}
 use Rattle.group.specs.declared.answers.SubmitFault.TheVariants as refused
-use Rattle.transactions.specs.Values.{TransactionsValue, is_own, over}
+use Rattle.transactions.specs.Reclaims.{oldest}
+use Rattle.transactions.specs.Values.{TransactionsValue, is_own, over, spare}
 use Rattle.transactions.specs.Submits.{SubmitsOwn}
 use Rattle.status.specs.Growth.{next_piece}
 use Rattle.status.specs.GrowthState.{GrowthState}
@@ -38,8 +40,8 @@ use Rattle.store.specs.Values.{StoreValue}
 use Rattle.store.specs.Calls as stores
 use Rattle.store.specs.Calls.{Finds, OrStranger}
 use Rattle.store.specs.Pumps.{Pumps}
-use Rattle.store.specs.Archives.{StartsArchive}
-use Rattle.store.specs.Reclaims.{StartsReclaim}
+use Rattle.store.specs.Archives.{StartsArchive, BeginsRun}
+use Rattle.store.specs.Reclaims.{StartsReclaim, BeginsReclaim, below, refusal_for_use}
 use Rattle.store.specs.Floors.{StartsFloor}
 use Rattle.store.specs.Growths.{StartsGrowth, BeginsPiece}
 use Rattle.store.specs.Jobs.{PumpsJob}
@@ -69,7 +71,7 @@ use Rattle.shared.specs.Archives.{ArchiveSeen, IsArchiveLater, archive_seen, no_
 use Rattle.shared.specs.Counts.{told_count, told_after}
 use Rattle.shared.specs.Reached.{Reached, opened, stepped}
 use Rattle.shared.specs.Seen.{Seen, SightValue, seen_of, IsLater}
-use Rattle.shared.specs.Shared.{IsShared, Submits, SubmitSays, SubmitHappens, FloorSays, FloorHappens, GrowthSays, GrowthHappens, queued_seen, job_seen, noted, done_in}
+use Rattle.shared.specs.Shared.{IsShared, Submits, SubmitSays, SubmitHappens, FloorSays, FloorHappens, ArchiveSays, ArchiveHappens, ReclaimSays, ReclaimHappens, GrowthSays, GrowthHappens, queued_seen, job_seen, noted, done_in}
 use Rattle.shared.proofs.Archives.{archive-same, archive-then, archive-first, archive-on}
 use Rattle.shared.proofs.Counting.{told-push, after-push, told-redeemed, after-redeemed, after-later, none-after}
 use Rattle.shared.proofs.Fronts.{last-seen, later-same}
@@ -384,17 +386,99 @@ pump-publishes tells start brand table old new shares at at' pass pass' r h p ce
       writes = on;
     }
 
-pub start-keeps : (tells : Bool) (start : Machine Value) (brand : ℕ) (table : TableId) (old new : StoreValue) (shares : ℕ) (at : TableId) (pass : SightValue) (upto : ℕ) (r : Result (Unit {0}) StartFault) → IsShared tells start brand table old shares at pass → StartsArchive old upto r new
-    → IsShared tells start brand table new shares at pass
-start-keeps tells start brand table old new shares at pass upto r h starts =
-    let left = start-leaves old new upto r starts in
-    quiet tells start brand table old new shares at pass h h.state (archive-start-stands tells old new upto r h.state h.stands starts) (archive-start-goes tells old new upto r h.state h.stands starts) h.reached refl left.mark left.heads
+-- what the beginning of an archive answers
+archive-says : (old new : StoreValue) (upto : ℕ) (m : Machine Value) (r : Result (Unit {0}) StartFault) → StandsInMemory old.transactions m → StartsArchive old upto r new → ArchiveSays m upto r
+archive-says old new upto m r stands starts = by-tests old.transactions.failed refl (is_some old.job) (nat_le upto old.archived) (nat_lt (stores.last old) upto) refl (spare old.transactions == 0) starts
+  where
+    said : (x : Result (Unit {0}) StartFault) → r ≡ x → ArchiveSays m upto x → ArchiveSays m upto r
+    said x is says = subst (λ (y : Result (Unit {0}) StartFault). ArchiveSays m upto y) (sym is) says
 
-pub reclaim-keeps : (tells : Bool) (start : Machine Value) (brand : ℕ) (table : TableId) (old new : StoreValue) (shares : ℕ) (at : TableId) (pass : SightValue) (r : Result (Unit {0}) StartFault) → IsShared tells start brand table old shares at pass → StartsReclaim old r new
-    → IsShared tells start brand table new shares at pass
-reclaim-keeps tells start brand table old new shares at pass r h starts =
-    let left = reclaim-leaves old new r starts in
-    quiet tells start brand table old new shares at pass h h.state (reclaim-start-stands tells old new r h.state h.stands starts) (reclaim-start-goes tells old new r h.state h.stands starts) h.reached refl left.mark left.heads
+    last-of : stores.last old ≡ last m.published
+    last-of = last-is old.transactions m stands
+
+    by-run : m.failed ≡ false → upto ≤ last m.published → (x : Result (Unit {0}) StartFault) → BeginsRun old upto x new → ArchiveSays m upto x
+    by-run works by-last (Ok done) is = (works, by-last)
+    by-run works by-last (Err fault.ArchiveFull) is = (works, by-last)
+    by-run works by-last (Err fault.NoMemory) is = (works, by-last)
+    by-run works by-last (Err fault.Failed) is = absurd is.0
+    by-run works by-last (Err fault.WrongProfile) is = absurd is.0
+    by-run works by-last (Err fault.JobBusy) is = absurd is.0
+    by-run works by-last (Err fault.NothingToDo) is = absurd is.0
+    by-run works by-last (Err (fault.NotYet time)) is = absurd is.0
+    by-run works by-last (Err (fault.InUse time)) is = absurd is.0
+    by-run works by-last (Err fault.StatusFull) is = absurd is.0
+    by-run works by-last (Err fault.HeapFull) is = absurd is.0
+    by-run works by-last (Err fault.NotGrowable) is = absurd is.0
+
+    by-tests : (a : Bool) → old.transactions.failed ≡ a → (b c d : Bool) → nat_lt (stores.last old) upto ≡ d → (e : Bool)
+        → MatchOption (cond a (Some fault.Failed) (cond b (Some fault.JobBusy) (cond c (Some fault.NothingToDo) (cond d (Some (fault.NotYet (stores.last old))) (cond e (Some fault.StatusFull) None))))) (BeginsRun old upto r new) (λ why. (r ≡ Err why) × (new ≡ old))
+        → ArchiveSays m upto r
+    by-tests true failed b c d late e is = said (Err fault.Failed) is.0 (sym stands.failed ∙ failed)
+    by-tests false works true c d late e is = said (Err fault.JobBusy) is.0 (sym stands.failed ∙ works)
+    by-tests false works false true d late e is = said (Err fault.NothingToDo) is.0 (sym stands.failed ∙ works)
+    by-tests false works false false true late e is =
+        let later : stores.last old < upto = grind (arith, nat_tests) in
+        said (Err (fault.NotYet (stores.last old))) is.0 (sym stands.failed ∙ works, omega (arith, later, last-of), last-of)
+    by-tests false works false false false late true is =
+        let by-last : upto ≤ stores.last old = grind (arith, nat_tests) in
+        said (Err fault.StatusFull) is.0 (sym stands.failed ∙ works, omega (arith, by-last, last-of))
+    by-tests false works false false false late false is =
+        let by-last : upto ≤ stores.last old = grind (arith, nat_tests) in
+        by-run (sym stands.failed ∙ works) (omega (arith, by-last, last-of)) r is
+
+-- an archive begins, or is refused
+pub archive-begins : (tells : Bool) (start : Machine Value) (brand : ℕ) (table : TableId) (old new : StoreValue) (shares : ℕ) (at : TableId) (pass : SightValue) (upto : ℕ) (r : Result (Unit {0}) StartFault) → IsShared tells start brand table old shares at pass → StartsArchive old upto r new
+    → IsShared tells start brand table new shares at pass × ArchiveHappens start upto r
+archive-begins tells start brand table old new shares at pass upto r h starts =
+    let left = start-leaves old new upto r starts in (
+      quiet tells start brand table old new shares at pass h h.state (archive-start-stands tells old new upto r h.state h.stands starts) (archive-start-goes tells old new upto r h.state h.stands starts) h.reached refl left.mark left.heads,
+      (h.state, h.reached, archive-says old new upto h.state r h.stands.memory starts),
+    )
+
+-- what the beginning of a reclaim answers
+reclaim-says : (old new : StoreValue) (m : Machine Value) (r : Result (Unit {0}) StartFault) → old.transactions.failed ≡ m.failed → StartsReclaim old r new → ReclaimSays m r
+reclaim-says old new m r same starts = by-tests old.transactions.failed refl (is_some old.job) (old.archived == old.transactions.reclaimed) (below (oldest old.transactions) old.archived) starts
+  where
+    said : (x : Result (Unit {0}) StartFault) → r ≡ x → ReclaimSays m x → ReclaimSays m r
+    said x is says = subst (λ (y : Result (Unit {0}) StartFault). ReclaimSays m y) (sym is) says
+
+    by-anchors : m.failed ≡ false → (x : Result (Unit {0}) StartFault) → BeginsReclaim old x new → ReclaimSays m x
+    by-anchors works (Ok done) is = works
+    by-anchors works (Err fault.HeapFull) is = works
+    by-anchors works (Err fault.NoMemory) is = works
+    by-anchors works (Err fault.Failed) is = absurd is.0
+    by-anchors works (Err fault.WrongProfile) is = absurd is.0
+    by-anchors works (Err fault.JobBusy) is = absurd is.0
+    by-anchors works (Err fault.NothingToDo) is = absurd is.0
+    by-anchors works (Err (fault.NotYet time)) is = absurd is.0
+    by-anchors works (Err (fault.InUse time)) is = absurd is.0
+    by-anchors works (Err fault.StatusFull) is = absurd is.0
+    by-anchors works (Err fault.ArchiveFull) is = absurd is.0
+    by-anchors works (Err fault.NotGrowable) is = absurd is.0
+
+    by-room : m.failed ≡ false → (e : Bool) → MatchOption (cond e (Some fault.StatusFull) None) (BeginsReclaim old r new) (λ why. (r ≡ Err why) × (new ≡ old)) → ReclaimSays m r
+    by-room works true is = said (Err fault.StatusFull) is.0 works
+    by-room works false is = by-anchors works r is
+
+    by-use : m.failed ≡ false → (o : Option ℕ) → MatchOption (refusal_for_use old o) (BeginsReclaim old r new) (λ why. (r ≡ Err why) × (new ≡ old)) → ReclaimSays m r
+    by-use works (Some snapshot) is = said (Err (fault.InUse snapshot)) is.0 works
+    by-use works None is = by-room works (spare old.transactions == 0) is
+
+    by-tests : (a : Bool) → old.transactions.failed ≡ a → (b c : Bool) (o : Option ℕ)
+        → MatchOption (cond a (Some fault.Failed) (cond b (Some fault.JobBusy) (cond c (Some fault.NothingToDo) (refusal_for_use old o)))) (BeginsReclaim old r new) (λ why. (r ≡ Err why) × (new ≡ old)) → ReclaimSays m r
+    by-tests true failed b c o is = said (Err fault.Failed) is.0 (sym same ∙ failed)
+    by-tests false works true c o is = said (Err fault.JobBusy) is.0 (sym same ∙ works)
+    by-tests false works false true o is = said (Err fault.NothingToDo) is.0 (sym same ∙ works)
+    by-tests false works false false o is = by-use (sym same ∙ works) o is
+
+-- a reclaim begins, or is refused
+pub reclaim-begins : (tells : Bool) (start : Machine Value) (brand : ℕ) (table : TableId) (old new : StoreValue) (shares : ℕ) (at : TableId) (pass : SightValue) (r : Result (Unit {0}) StartFault) → IsShared tells start brand table old shares at pass → StartsReclaim old r new
+    → IsShared tells start brand table new shares at pass × ReclaimHappens start r
+reclaim-begins tells start brand table old new shares at pass r h starts =
+    let left = reclaim-leaves old new r starts in (
+      quiet tells start brand table old new shares at pass h h.state (reclaim-start-stands tells old new r h.state h.stands starts) (reclaim-start-goes tells old new r h.state h.stands starts) h.reached refl left.mark left.heads,
+      (h.state, h.reached, reclaim-says old new h.state r h.stands.memory.failed starts),
+    )
 
 -- a floor begins, or is refused
 pub floor-begins : (tells : Bool) (start : Machine Value) (brand : ℕ) (table : TableId) (old new : StoreValue) (shares : ℕ) (at : TableId) (pass : SightValue) (scope : Option ℕ) (floor : ℕ) (r : Result (Unit {0}) StartFault) → IsShared tells start brand table old shares at pass → StartsFloor old scope floor r new

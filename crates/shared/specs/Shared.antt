@@ -1,5 +1,5 @@
 -- What the value under the lock keeps, and what the calls of a shared store answer.
-use Rattle.std.specs.Prelude.{◌≡◌, ℕ, ◌+◌, ◌++◌, Bool, true, false, List, [], ◌∷◌, length, map, take, drop, is_some, IsSome, Contains, Option, None, Some, Result, Ok, Err, MatchBool, if◌then◌else◌}
+use Rattle.std.specs.Prelude.{◌≡◌, ℕ, ◌+◌, ◌<◌, ◌≤◌, ◌++◌, Bool, true, false, List, [], ◌∷◌, length, map, take, drop, is_some, IsSome, Contains, Option, None, Some, Result, Ok, Err, MatchBool, if◌then◌else◌}
 use Rattle.atomic_table.specs.Seated.{TableId}
 use Rattle.history.specs.declared.key.Key.{Key}
 use Rattle.history.specs.declared.key.KeyWrite.{KeyWrite}
@@ -193,6 +193,46 @@ FloorSays m r (Err start_fault.NoMemory) = IsSome r.scope
 -- at a state that steps lead to the machine does this
 abbrev pub FloorHappens : Machine Value → Option ℕ → ℕ → Result (Unit {0}) StartFault → Type 0
 FloorHappens start scope floor result = (m : Machine Value) × Reached start m × FloorSays m (raising_to scope floor) result
+
+-- ---- archives and reclaims
+
+-- an archive begins up to a time that is not later than the last commit; or the store has failed, another job runs, nothing more has ended by then, the time is later than the last commit, which is told, the log has no slot for it, or the run finds no room in the archive or no memory
+abbrev pub ArchiveSays : Machine Value → ℕ → Result (Unit {0}) StartFault → Type 0
+ArchiveSays m upto (Ok done) = (m.failed ≡ false) × (upto ≤ last m.published)
+ArchiveSays m upto (Err start_fault.Failed) = m.failed ≡ true
+ArchiveSays m upto (Err start_fault.JobBusy) = m.failed ≡ false
+ArchiveSays m upto (Err start_fault.NothingToDo) = m.failed ≡ false
+ArchiveSays m upto (Err (start_fault.NotYet time)) = (m.failed ≡ false) × (last m.published < upto) × (time ≡ last m.published)
+ArchiveSays m upto (Err start_fault.StatusFull) = (m.failed ≡ false) × (upto ≤ last m.published)
+ArchiveSays m upto (Err start_fault.ArchiveFull) = (m.failed ≡ false) × (upto ≤ last m.published)
+ArchiveSays m upto (Err start_fault.NoMemory) = (m.failed ≡ false) × (upto ≤ last m.published)
+ArchiveSays m upto (Err start_fault.WrongProfile) = ⊥
+ArchiveSays m upto (Err (start_fault.InUse snapshot)) = ⊥
+ArchiveSays m upto (Err start_fault.HeapFull) = ⊥
+ArchiveSays m upto (Err start_fault.NotGrowable) = ⊥
+
+-- at a state that steps lead to it is so, and nothing of the machine's happens
+abbrev pub ArchiveHappens : Machine Value → ℕ → Result (Unit {0}) StartFault → Type 0
+ArchiveHappens start upto result = (m : Machine Value) × Reached start m × ArchiveSays m upto result
+
+-- a reclaim begins where the store works; or it has failed, another job runs, nothing was archived since the last one, a transaction reads what would go, the log has no slot for it, or its anchors find no extents or no memory
+abbrev pub ReclaimSays : Machine Value → Result (Unit {0}) StartFault → Type 0
+ReclaimSays m (Ok done) = m.failed ≡ false
+ReclaimSays m (Err start_fault.Failed) = m.failed ≡ true
+ReclaimSays m (Err start_fault.JobBusy) = m.failed ≡ false
+ReclaimSays m (Err start_fault.NothingToDo) = m.failed ≡ false
+ReclaimSays m (Err (start_fault.InUse snapshot)) = m.failed ≡ false
+ReclaimSays m (Err start_fault.StatusFull) = m.failed ≡ false
+ReclaimSays m (Err start_fault.HeapFull) = m.failed ≡ false
+ReclaimSays m (Err start_fault.NoMemory) = m.failed ≡ false
+ReclaimSays m (Err start_fault.WrongProfile) = ⊥
+ReclaimSays m (Err (start_fault.NotYet time)) = ⊥
+ReclaimSays m (Err start_fault.ArchiveFull) = ⊥
+ReclaimSays m (Err start_fault.NotGrowable) = ⊥
+
+-- at a state that steps lead to it is so, and nothing of the machine's happens
+abbrev pub ReclaimHappens : Machine Value → Result (Unit {0}) StartFault → Type 0
+ReclaimHappens start result = (m : Machine Value) × Reached start m × ReclaimSays m result
 
 -- ---- growths
 

@@ -14,7 +14,7 @@ ghost use Rattle.shared.specs.Counts.{told_count, unredeemed};
 ghost use Rattle.shared.specs.Moments.{OfSeen};
 ghost use Rattle.shared.specs.Reached.{Reached};
 ghost use Rattle.shared.specs.Seen.{IsLater, seen_of};
-ghost use Rattle.shared.specs.Shared.{BeginHappens, SubmitHappens, SeenReached, PumpHappens, JobHappens, FloorHappens, GrowthHappens, RedeemSays, done_in};
+ghost use Rattle.shared.specs.Shared.{BeginHappens, SubmitHappens, SeenReached, PumpHappens, JobHappens, FloorHappens, ArchiveHappens, ReclaimHappens, GrowthHappens, RedeemSays, done_in};
 
 use crate::cell::{PublishedCell, WriterPass};
 use crate::moment::Moment;
@@ -145,11 +145,15 @@ impl<D: Disk, L: Opening> Locked<D, L> {
         did
     }
 
-    pub(crate) fn archive_start(&mut self, upto: u64) -> Result<(), StartFault> {
+    pub(crate) fn archive_start(&mut self, upto: u64) -> Result<(), StartFault>
+        ensures { ArchiveHappens L.start upto result }
+    {
         self.store.archive_start(upto)
     }
 
-    pub(crate) fn reclaim_start(&mut self) -> Result<(), StartFault> {
+    pub(crate) fn reclaim_start(&mut self) -> Result<(), StartFault>
+        ensures { ReclaimHappens L.start result }
+    {
         self.store.reclaim_start()
     }
 

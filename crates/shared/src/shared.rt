@@ -12,7 +12,7 @@ ghost use Rattle.shared.specs.Counts.{unredeemed};
 ghost use Rattle.shared.specs.Moments.{OfSeen, begun_txn};
 ghost use Rattle.shared.specs.Reached.{Reached};
 ghost use Rattle.shared.specs.Seen.{IsLater};
-ghost use Rattle.shared.specs.Shared.{BeginHappens, SubmitHappens, SeenReached, PumpHappens, JobHappens, FloorHappens, GrowthHappens, RedeemSays, WaitSays, CommitHappens, changed, done_in, commits_in};
+ghost use Rattle.shared.specs.Shared.{BeginHappens, SubmitHappens, SeenReached, PumpHappens, JobHappens, FloorHappens, ArchiveHappens, ReclaimHappens, GrowthHappens, RedeemSays, WaitSays, CommitHappens, changed, done_in, commits_in};
 
 use crate::cell::PublishedCell;
 use crate::change::Change;
@@ -180,12 +180,16 @@ impl<D: Disk, L: Opening> SharedStore<D, L> {
     }
 
     /// Begins an archive of the versions that ended by `upto`, in microseconds since 1970.
-    pub fn archive_start<R: Wait>(&self, rt: &R, upto: u64) -> Result<(), StartFault> {
+    pub fn archive_start<R: Wait>(&self, rt: &R, upto: u64) -> Result<(), StartFault>
+        ensures { ArchiveHappens L.start upto result }
+    {
         self.locked.lock(rt).archive_start(upto)
     }
 
     /// Begins a reclaim: the heap and memory are to hold only what ended after the archive mark.
-    pub fn reclaim_start<R: Wait>(&self, rt: &R) -> Result<(), StartFault> {
+    pub fn reclaim_start<R: Wait>(&self, rt: &R) -> Result<(), StartFault>
+        ensures { ReclaimHappens L.start result }
+    {
         self.locked.lock(rt).reclaim_start()
     }
 
