@@ -1,5 +1,6 @@
 //! Lists of calls.
 ghost use Rattle.std.specs.Prelude.{◌≡◌, ◌≤◌, ◌+◌, ◌++◌, ◌∷◌, [], length, IfOk, OnErr};
+ghost use Rattle.run.specs.Kinds.{IsInTransaction, IsOfView, IsOfStore};
 ghost use Rattle.run.specs.Runs.{Goes, MakesFew};
 ghost use Rattle.run.specs.Promise.{KeepsPromise, LinksOne};
 
@@ -102,67 +103,108 @@ fn answer_call<D: Disk>(
 {
     match call {
         Call::Begin => begin(store, places),
-        Call::Put {
-            transaction,
-            key,
-            fields,
-        } => (
-            put(alloc, store, places, transaction, key, fields),
-            Held::Nothing,
-        ),
-        Call::Delete { transaction, key } => {
-            (delete(store, places, transaction, key), Held::Nothing)
-        }
-        Call::Get { transaction, key } => (get(store, places, transaction, key), Held::Nothing),
-        Call::Scan {
-            transaction,
-            relation,
-        } => (
-            scan(alloc, store, places, transaction, relation),
-            Held::Nothing,
-        ),
         Call::Submit {
             transaction,
             label,
             now,
         } => submit(store, places, transaction, label, now),
-        Call::Abort { transaction } => (abort(store, places, transaction), Held::Nothing),
-        Call::Pump => (pump(store, places), Held::Nothing),
-        Call::Redeem { ticket } => (redeem(store, places, ticket), Held::Nothing),
-        Call::GiveUp { ticket } => (give_up(store, places, ticket), Held::Nothing),
         Call::View => view(store, places),
+        Call::Put { .. }
+        | Call::Delete { .. }
+        | Call::Get { .. }
+        | Call::Scan { .. }
+        | Call::Abort { .. } => (
+            answer_in_transaction(alloc, store, places, call),
+            Held::Nothing,
+        ),
+        Call::At { .. }
+        | Call::ScanAt { .. }
+        | Call::Between { .. }
+        | Call::ScanBetween { .. }
+        | Call::End { .. } => (answer_by_view(store, places, call), Held::Nothing),
+        _ => (answer_by_store(store, places, call), Held::Nothing),
+    }
+}
+
+// The answer to a call that names a transaction and leaves nothing in its place.
+fn answer_in_transaction<D: Disk>(
+    alloc: Global,
+    store: &mut Store<D>,
+    places: &mut [Held],
+    call: Call<'_>,
+) -> Answer
+    requires { IsInTransaction call }
+    ensures goes { Goes D.tells store.old places.old call.entry result store.new (places.new ++ Held.Nothing ∷ []) }
+    ensures made { MakesFew store.old store.new }
+{
+    match call {
+        Call::Put {
+            transaction,
+            key,
+            fields,
+        } => put(alloc, store, places, transaction, key, fields),
+        Call::Delete { transaction, key } => delete(store, places, transaction, key),
+        Call::Get { transaction, key } => get(store, places, transaction, key),
+        Call::Scan {
+            transaction,
+            relation,
+        } => scan(alloc, store, places, transaction, relation),
+        Call::Abort { transaction } => abort(store, places, transaction),
+        _ => unreachable!(),
+    }
+}
+
+// The answer to a call that names a view.
+fn answer_by_view<D: Disk>(store: &mut Store<D>, places: &mut [Held], call: Call<'_>) -> Answer
+    requires { IsOfView call }
+    ensures goes { Goes D.tells store.old places.old call.entry result store.new (places.new ++ Held.Nothing ∷ []) }
+    ensures made { MakesFew store.old store.new }
+{
+    match call {
         Call::At {
             view: place,
             key,
             time,
-        } => (at(store, places, place, key, time), Held::Nothing),
+        } => at(store, places, place, key, time),
         Call::ScanAt {
             view: place,
             relation,
             time,
-        } => (scan_at(store, places, place, relation, time), Held::Nothing),
+        } => scan_at(store, places, place, relation, time),
         Call::Between {
             view: place,
             key,
             a,
             b,
-        } => (between(store, places, place, key, a, b), Held::Nothing),
+        } => between(store, places, place, key, a, b),
         Call::ScanBetween {
             view: place,
             relation,
             a,
             b,
-        } => (
-            scan_between(store, places, place, relation, a, b),
-            Held::Nothing,
-        ),
-        Call::End { view: place } => (end(store, places, place), Held::Nothing),
-        Call::TimesOf { label } => (times_of(store, places, label), Held::Nothing),
-        Call::Archive { upto } => (archive(store, places, upto), Held::Nothing),
-        Call::Reclaim => (reclaim(store, places), Held::Nothing),
-        Call::Floor { scope, floor } => (raise_floor(store, places, scope, floor), Held::Nothing),
-        Call::Grow => (grow(store, places), Held::Nothing),
-        Call::JobPump => (job_pump(store, places), Held::Nothing),
+        } => scan_between(store, places, place, relation, a, b),
+        Call::End { view: place } => end(store, places, place),
+        _ => unreachable!(),
+    }
+}
+
+// The answer to a call of a group, a ticket, a label or a job.
+fn answer_by_store<D: Disk>(store: &mut Store<D>, places: &mut [Held], call: Call<'_>) -> Answer
+    requires { IsOfStore call }
+    ensures goes { Goes D.tells store.old places.old call.entry result store.new (places.new ++ Held.Nothing ∷ []) }
+    ensures made { MakesFew store.old store.new }
+{
+    match call {
+        Call::Pump => pump(store, places),
+        Call::Redeem { ticket } => redeem(store, places, ticket),
+        Call::GiveUp { ticket } => give_up(store, places, ticket),
+        Call::TimesOf { label } => times_of(store, places, label),
+        Call::Archive { upto } => archive(store, places, upto),
+        Call::Reclaim => reclaim(store, places),
+        Call::Floor { scope, floor } => raise_floor(store, places, scope, floor),
+        Call::Grow => grow(store, places),
+        Call::JobPump => job_pump(store, places),
+        _ => unreachable!(),
     }
 }
 
