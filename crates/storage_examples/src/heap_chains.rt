@@ -116,8 +116,9 @@ fn a_chain_is_held_by_its_name_and_kind(rt: HostRuntime) -> Result<(), Fail> {
 
 /// The extent of one commit of one record.
 fn extent(alloc: Global) -> Result<Image, Fail> {
-    match pack(alloc, &record_seven(alloc)?)?.as_slice() {
-        [body] => Ok(seal(alloc, 1, 0, body)?),
+    let mut bodies = pack(alloc, &record_seven(alloc)?)?.into_iter();
+    match (bodies.next(), bodies.next()) {
+        (Some(body), None) => Ok(seal(1, 0, body)),
         _ => Err("one body".into()),
     }
 }
