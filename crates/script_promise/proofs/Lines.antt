@@ -98,10 +98,10 @@ none-idle takes idle (step ∷ steps) v mid taken = (taken.2, none-idle takes id
 pub flush-line : (tells : Bool) (m : ScriptMoment) → IsScriptMoment tells m → (r : Reply) (new : State) → Flushes tells m.state.store r new.store → KeepsNames m.state new → LeadsTo tells line.Flush r m new
 flush-line tells m is r new f names =
     let xs = held_of m.state in
-    let did = group-chain tells f.steps m.state.store f.mid new.store f.answer xs (moment_of m) is f.before f.last in
+    let taken = group-chain tells f.steps m.state.store f.mid new.store f.answer xs (moment_of m) is f.before f.last in
     by-chain tells m is line.Flush r (record { calls = group_calls f.steps; answers = group_answers f.steps f.answer })
     (record { steps = f.steps; ended = f.answer; calls = refl; answers = refl; go_on = none-idle (StepsGroup tells) did.Idle f.steps m.state.store f.mid f.before; ends = f.ends; reply = f.reply })
-    did.end did.chain new.store did.held did.is (did.done ∙ silent r _ m.done f.reply (pumped-silent f.answer m.done)) new refl (through (held_of new) xs did.held (kept m new names) did.among)
+    taken.end taken.chain new.store taken.held taken.is (taken.done ∙ silent r _ m.done f.reply (pumped-silent f.answer m.done)) new refl (through (held_of new) xs taken.held (kept m new names) taken.among)
 
 -- ---- jobs
 
