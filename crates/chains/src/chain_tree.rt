@@ -1,5 +1,5 @@
 //! A tree of chains in the order of their keys.
-ghost use Rattle.std.specs.Prelude.{◌≡◌, ◌∷◌, ◌++◌, [], IfOk, IsTrue, find};
+ghost use Rattle.std.specs.Prelude.{◌≡◌, ◌∷◌, ◌++◌, [], IfOk, MatchOption, find};
 ghost use Rattle.std.specs.Option.{option_copied, option_or};
 ghost use Rattle.chains.specs.Bounds.{is_in};
 ghost use Rattle.chains.specs.KeyWrites.{is_of, forgotten, IsOrdered};
@@ -70,35 +70,41 @@ impl Tree<Chain> {
         Tree::levelled(alloc, shared)
     }
 
-    /// Whether every write says something of times from the mark on.
-    fn is_kept(&self, mark: u64) -> bool
-        ensures { IsTrue result → forgotten mark self.now.pieces ≡ self.now.pieces }
-    {
-        let Some(node) = self.top() else {
-            return true;
-        };
-        if node.left.is_kept(mark) && node.piece.is_kept(mark) {
-            node.right.is_kept(mark)
-        } else {
-            false
-        }
-    }
-
-    /// The tree without what says nothing of times from the mark on.
+    /// The tree without what says nothing of times from the mark on. What is kept whole is shared.
     pub(crate) fn forget(&self, alloc: Global, mark: u64) -> Result<Self, AllocError>
         ensures { IfOk result (λ t. t.pieces ≡ forgotten mark self.now.pieces) }
     {
+        let shorter = self.shorter(alloc, mark)?;
+        self.or_other(shorter)
+    }
+
+    /// The tree without what says nothing of times from the mark on; none where all of it says something.
+    fn shorter(&self, alloc: Global, mark: u64) -> Result<Option<Self>, AllocError>
+        ensures { IfOk result (λ o. MatchOption o (forgotten mark self.now.pieces ≡ self.now.pieces) (λ t. t.pieces ≡ forgotten mark self.now.pieces)) }
+    {
         let Some(node) = self.top() else {
-            return Ok(Tree::new());
+            return Ok(None);
         };
-        if self.is_kept(mark) {
-            return self.share();
+        let left = node.left.shorter(alloc, mark)?;
+        let right = node.right.shorter(alloc, mark)?;
+        if left.is_none() && right.is_none() && node.piece.is_kept(mark) {
+            return Ok(None);
         }
-        let left = node.left.forget(alloc, mark)?;
-        let right = node.right.forget(alloc, mark)?;
+        let left = node.left.or_other(left)?;
+        let right = node.right.or_other(right)?;
         match node.piece.kept(alloc, mark)? {
-            Some(chain) => Tree::join(alloc, left, chain, right),
-            None => Tree::concat(alloc, &left, right),
+            Some(chain) => Ok(Some(Tree::join(alloc, left, chain, right)?)),
+            None => Ok(Some(Tree::concat(alloc, &left, right)?)),
+        }
+    }
+
+    /// The other tree, or where there is none one more holder of this one.
+    fn or_other(&self, other: Option<Self>) -> Result<Self, AllocError>
+        ensures { IfOk result (λ t. MatchOption other (t ≡ self.now) (λ o. t ≡ o)) }
+    {
+        match other {
+            None => self.share(),
+            Some(other) => Ok(other),
         }
     }
 }
