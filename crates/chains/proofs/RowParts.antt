@@ -46,7 +46,7 @@ versions-parts xs ys =
 
 -- ---- where there are no rows
 
-no-row_early : (from to a b : ℕ) (o : Option Value) → to ≤ a → rows (version_of from to o) a b ≡ []
+pub no-row_early : (from to a b : ℕ) (o : Option Value) → to ≤ a → rows (version_of from to o) a b ≡ []
 no-row_early from to a b None early = refl
 no-row_early from to a b (Some v) early =
     let none : lasts (cut a b (record { from = from; to = to; value = v })) ≡ false = grind (arith, nat_tests) in

@@ -1,5 +1,5 @@
 -- The rows of an interval: of one key's writes, and of a relation.
-use Rattle.std.specs.Prelude.{ℕ, ◌==◌, List, [], ◌∷◌, ◌++◌, map, if◌then◌else◌}
+use Rattle.std.specs.Prelude.{ℕ, ◌≡◌, ◌<◌, ◌==◌, List, [], ◌∷◌, ◌++◌, map, if◌then◌else◌}
 use Rattle.std.specs.Borrow.{Bor}
 use Rattle.history.specs.declared.key.Key.{Key}
 use Rattle.history.specs.declared.time.TimedWrite.{TimedWrite}
@@ -17,6 +17,16 @@ first_time_or end (w ∷ ws) = w.time
 abbrev pub versions_upto : {V : Type 0} → ℕ → List (TimedWrite V) → List (Version V)
 versions_upto end [] = []
 versions_upto end (w ∷ ws) = version_of w.time (first_time_or end ws) w.write ++ versions_upto end ws
+
+-- the rows of versions from a time on are those of a part of them, and behind those the rows from a later time on
+pub record IsFront (time upto : ℕ) (all part : List (Version Value)) : Type 0 where
+  pub later : time < upto
+  pub rows_are : (b : ℕ) → rows all time b ≡ rows part time b ++ rows all upto b
+
+-- writes of a piece are those from which the rows of all from a time on go on
+pub record IsNextPiece (time upto : ℕ) (all : List (Version Value)) (ws : List (TimedWrite Value)) (end : ℕ) : Type 0 where
+  pub before : time < upto
+  pub front : IsFront time end all (versions_upto end ws)
 
 -- a version of a value in a loan, as the version of the value
 abbrev pub version_of_loan : Version (Bor Value) → Version Value

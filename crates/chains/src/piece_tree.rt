@@ -1,12 +1,12 @@
 //! A tree of pieces of one key's writes, in the order of their times.
-ghost use Rattle.std.specs.Prelude.{◌≡◌, ◌++◌, IfOk, IsTrue, OnOk, find, option_map, option_to_list};
+ghost use Rattle.std.specs.Prelude.{◌≡◌, ◌<◌, ◌≤◌, ◌++◌, [], IfOk, IsTrue, MatchOption, OnOk, find, option_map, option_to_list};
 ghost use Rattle.std.specs.Option.{option_copied};
 ghost use Rattle.history.specs.Time.{value_at, value_after, IsRisingAfter};
 ghost use Rattle.history.specs.Versions.{rows, ends_after};
 ghost use Rattle.chains.specs.Found.{IsFound};
 ghost use Rattle.chains.specs.Pieces.{all_writes, held};
-ghost use Rattle.chains.specs.Rows.{first_time_or, versions_upto, version_of_loan};
-ghost use Rattle.chains.specs.Writes.{kept_after, is_after};
+ghost use Rattle.chains.specs.Rows.{first_time_or, versions_upto, version_of_loan, IsFront};
+ghost use Rattle.chains.specs.Writes.{kept_after, is_after, last_time};
 
 use crate::part::Part;
 use crate::piece::Piece;
@@ -110,6 +110,35 @@ impl Tree<Piece> {
         match node.left.part_after(before, first, time, near)? {
             Some(part) => Ok(Some(part)),
             None => node.right.part_after(Some(&node.piece), end, time, near),
+        }
+    }
+
+    /// The writes of the last piece that begins by the time, of these and of the piece before them, or else
+    /// of the first one, and when their last version ends; the last of all ends at `end`.
+    pub(crate) fn piece_at<'a>(
+        &'a self,
+        before: Option<&'a Piece>,
+        end: u64,
+        time: u64,
+    ) -> Option<(&'a [TimedWrite<SharedValue>], u64)>
+        requires rising { IsRisingAfter 0 (held (option_copied before) ++ all_writes self.now.pieces) }
+        requires ended { last_time (held (option_copied before) ++ all_writes self.now.pieces) ≤ end }
+        requires later { time < end }
+        ensures { MatchOption result (held (option_copied before.entry) ++ all_writes self.now.pieces ≡ []) (λ found. IsFront time found.1 (versions_upto end (held (option_copied before.entry) ++ all_writes self.now.pieces)) (versions_upto found.1 found.0.now) × (found.1 ≤ end)) }
+    {
+        let Some(node) = self.top() else {
+            return match before {
+                None => None,
+                Some(piece) => Some((piece.as_slice(), end)),
+            };
+        };
+        let first = node.piece.first_time();
+        if first <= time {
+            return node.right.piece_at(Some(&node.piece), end, time);
+        }
+        match node.left.piece_at(before, first, time) {
+            Some(found) => Some(found),
+            None => node.right.piece_at(Some(&node.piece), end, time),
         }
     }
 

@@ -1,5 +1,5 @@
 //! The rows of an interval among one key's writes.
-ghost use Rattle.std.specs.Prelude.{◌≡◌, ◌++◌, OnOk, map};
+ghost use Rattle.std.specs.Prelude.{◌≡◌, ◌++◌, OnOk, map, option_map, option_to_list};
 ghost use Rattle.history.specs.Versions as spans;
 ghost use Rattle.chains.specs.Rows as specs;
 
@@ -11,6 +11,26 @@ use std::alloc::AllocError;
 /// Rows, each a part of a version: the value, and from which time on and up to which it stands.
 pub(crate) type Rows = Vec<Version<SharedValue>>;
 
+/// The part from `a` to `b` of a version that ends at `to`, if there is one.
+pub(crate) fn row_of(
+    write: &TimedWrite<SharedValue>,
+    to: u64,
+    a: u64,
+    b: u64,
+) -> Option<Version<&SharedValue>>
+    ensures { option_to_list (option_map specs.version_of_loan result) ≡ spans.rows (spans.version_of write.now.time to write.now.write) a b }
+{
+    let Some(value) = &write.write else {
+        return None;
+    };
+    let from = write.time.max(a);
+    let to = to.min(b);
+    if to <= from {
+        return None;
+    }
+    Some(Version { from, to, value })
+}
+
 /// Puts behind the rows the part from `a` to `b` of a version that ends at `to`, if there is one.
 fn add_row(
     rows: &mut Rows,
@@ -21,15 +41,12 @@ fn add_row(
 ) -> Result<(), AllocError>
     ensures { OnOk result (rows.new.items ≡ rows.old.items ++ spans.rows (spans.version_of write.now.time to write.now.write) a b) }
 {
-    let Some(value) = &write.write else {
+    let Some(row) = row_of(write, to, a, b) else {
         return Ok(());
     };
-    let from = write.time.max(a);
-    let to = to.min(b);
-    if from < to {
-        let value = value.share()?;
-        rows.push(Version { from, to, value })?;
-    }
+    let Version { from, to, value } = row;
+    let value = value.share()?;
+    rows.push(Version { from, to, value })?;
     Ok(())
 }
 

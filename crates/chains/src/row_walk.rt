@@ -1,0 +1,109 @@
+//! A walk over the rows of a key, in a loan.
+ghost use Rattle.std.specs.Prelude.{◌≡◌, ◌<◌, ◌++◌, ◌∷◌, [], ℕ, MatchOption};
+ghost use Rattle.std.specs.Option.{option_copied};
+ghost use Rattle.history.specs.Versions.{versions, rows};
+ghost use Rattle.chains.specs.KeyWrites.{writes_in};
+ghost use Rattle.chains.specs.Rows.{versions_upto, version_of_loan, IsNextPiece};
+
+use crate::chain::Chain;
+use crate::rows::row_of;
+use crate::shared_value::SharedValue;
+use crate::write::first_time_or;
+use history::{TimedWrite, Version};
+use std::marker::Model;
+
+/// The rows that are left of a key's from one time up to another, by rising time: the part of each
+/// version that lies in between. The values stay where they are: it takes no memory, and is no holder of
+/// a value.
+#[derive(Drop)]
+pub struct RowWalk<'a> {
+    chain: Option<&'a Chain>,
+    // The writes that are left of one piece, whose rows begin at `from` and whose last version ends at
+    // `end`; the rows of the chain from then on come behind them.
+    left: &'a [TimedWrite<SharedValue>],
+    from: u64,
+    end: u64,
+    upto: u64,
+}
+
+impl<'a> Model for RowWalk<'a> {
+    ghost use Rattle.std.specs.Prelude.{◌++◌, List};
+    ghost use Rattle.std.specs.Option.{option_copied};
+    ghost use Rattle.history.specs.Versions.{versions, rows};
+    ghost use Rattle.chains.specs.Found.{Versions};
+    ghost use Rattle.chains.specs.KeyWrites.{writes_in};
+    ghost use Rattle.chains.specs.Rows.{versions_upto};
+
+    ghost Value = { Versions };
+
+    ghost view = { λ w. rows (versions_upto w.end w.left.now) w.from w.upto ++ rows (versions (writes_in (option_copied w.chain))) w.end w.upto };
+}
+
+/// The first row of these writes, and the writes behind it; the last version ends at `end`.
+fn next_row(
+    writes: &[TimedWrite<SharedValue>],
+    end: u64,
+    from: u64,
+    upto: u64,
+) -> Option<(Version<&SharedValue>, &[TimedWrite<SharedValue>])>
+    ensures { MatchOption result (rows (versions_upto end writes.now) from upto ≡ []) (λ found. rows (versions_upto end writes.now) from upto ≡ version_of_loan found.0 ∷ rows (versions_upto end found.1.now) from upto) }
+{
+    let mut rest = writes;
+    while let [first, after @ ..] = rest {
+        if let Some(row) = row_of(first, first_time_or(after, end), from, upto) {
+            return Some((row, after));
+        }
+        rest = after;
+    }
+    None
+}
+
+/// The writes of the piece of a chain from which rows go on at a time, and when its last version ends;
+/// none where no rows are left.
+fn next_piece<'a>(
+    chain: Option<&'a Chain>,
+    time: u64,
+    upto: u64,
+) -> Option<(&'a [TimedWrite<SharedValue>], u64)>
+    ensures { MatchOption result (rows (versions (writes_in (option_copied chain.entry))) time upto ≡ []) (λ found. IsNextPiece time upto (versions (writes_in (option_copied chain.entry))) found.0.now found.1) }
+{
+    if upto <= time {
+        return None;
+    }
+    match chain {
+        None => None,
+        Some(chain) => chain.piece_at(time),
+    }
+}
+
+impl<'a> RowWalk<'a> {
+    /// All rows of a chain from `from` up to `upto`, in microseconds since 1970; none where there is no
+    /// chain.
+    pub(crate) fn new(chain: Option<&'a Chain>, from: u64, upto: u64) -> RowWalk<'a>
+        ensures { result ≡ rows (versions (writes_in (option_copied chain.entry))) from upto }
+    {
+        RowWalk {
+            chain,
+            left: &[],
+            from,
+            end: from,
+            upto,
+        }
+    }
+
+    /// The next row, with its value in a loan; none at the end.
+    pub fn next(&mut self) -> Option<Version<&'a SharedValue>>
+        ensures { MatchOption result ((self.old ≡ []) × (self.new ≡ [])) (λ row. self.old ≡ version_of_loan row ∷ self.new) }
+    {
+        loop {
+            if let Some((row, left)) = next_row(self.left, self.end, self.from, self.upto) {
+                self.left = left;
+                return Some(row);
+            }
+            let (left, end) = next_piece(self.chain, self.end, self.upto)?;
+            self.left = left;
+            self.from = self.end;
+            self.end = end;
+        }
+    }
+}
