@@ -30,6 +30,7 @@ VERBS = {
     "w3": ("records in commits of 1,024, /s", 200),
     "w4": ("values of a key as of a random time, /s", 300_000),
     "w5": ("rows of all versions of a key, /s", 20_000),
+    "w5w": ("the same, walked over in a loan, /s", 20_000),
     "w6": ("scans of 1,000 records as of a random time, /s", 2_000),
     "w7": ("opening after so many commits, ms", 3_000),
     "w8": ("bytes on disk a version", 1),
@@ -38,10 +39,12 @@ VERBS = {
 MOST_TIMES_RAW = 1.15
 LEAST_IN_GATES = 40_000
 LEAST_OF_RAW = 0.8
-LEAST = {"w3": 500_000, "w4": 2_000_000, "w5": 20_000_000, "w6": 5_000}
+LEAST = {"w3": 500_000, "w4": 2_000_000, "w5": 20_000_000, "w5w": 20_000_000, "w6": 5_000}
 # Of a vacuum: megabytes a second, where a plain copy of the file reaches as much.
 LEAST_MB = 200
 VACUUMS = "100000x1,100000x10,100000x100,1000000x1,1000000x10,1000000x100,100000k,500000k"
+# What a peer is asked that has one verb for both.
+PEERS_VERBS = {"w5w": "w5"}
 PEERS = {"SQLite": ("sqlite.c", "-lsqlite3"), "LMDB": ("lmdb.c", "-llmdb")}
 
 
@@ -83,7 +86,8 @@ def all_rounds(contenders, verbs, share, rounds, base):
         calls = list(found)
         for name, verb in calls if turn % 2 == 0 else reversed(calls):
             count = max(1, int(VERBS[verb][1] * share))
-            found[name, verb].append(measured(contenders[name], verb, count, base))
+            asked = verb if name == "timestore" else PEERS_VERBS.get(verb, verb)
+            found[name, verb].append(measured(contenders[name], asked, count, base))
     return found
 
 
@@ -106,7 +110,7 @@ def beside(verb, answers):
     if verb in ("w1", "w2g", "w3"):
         raw = f"raw {shown(median(answers, 'raw'))} ({median(answers, 'raw_median_us'):,.0f} µs)"
         return f"{raw}: {median(answers, 'times_raw'):.2f} times"
-    if verb in ("w4", "w5", "w6"):
+    if verb in ("w4", "w5", "w5w", "w6"):
         return f"copies {shown(median(answers, 'copies'))}; opening {median(answers, 'opening_ms'):.0f} ms"
     if verb == "w7":
         return f"reading {median(answers, 'reading_ms'):.1f} ms for {median(answers, 'bytes') / 1e6:.1f} MB"

@@ -13,6 +13,7 @@ mod starting;
 mod store;
 mod store_archive;
 
+pub use chains::RowWalk;
 pub use group::{BeginFault, Did, PumpFault, Redeemed, SubmitFault, Submitted, Ticket};
 pub use job::{JobDid, StartFault};
 pub use recovery::OpenFault;

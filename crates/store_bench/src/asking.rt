@@ -17,7 +17,7 @@ use std::alloc::Global;
 use std::fs::File;
 use std::rt::Files;
 use std::time::{Clock, Instant};
-use store::Store;
+use store::{QueryFault, Store, View};
 
 /// The slots of a store that `format` makes where it isn't told otherwise.
 const SLOTS: u32 = 1_024;
@@ -91,6 +91,31 @@ fn ask_rows(store: &mut Store<FileDisk>, record: u64) -> Result<(), Fault> {
     }
 }
 
+/// Whether a walk goes over all versions of a key.
+fn walks_versions(view: &View, record: u64) -> Result<bool, QueryFault> {
+    let mut walk = view.recent_rows(key(record), FIRST_TIME, FIRST_TIME + SPAN + 1)?;
+    let mut version = 0u64;
+    while let Some(row) = walk.next() {
+        if !is_version(row.value, record, version) {
+            return Ok(false);
+        }
+        version = version.wrapping_add(1);
+    }
+    Ok(version == VERSIONS)
+}
+
+/// Asks for all versions of a key, in a loan.
+fn ask_walk(store: &mut Store<FileDisk>, record: u64) -> Result<(), Fault> {
+    let view = store.view()?;
+    let found = walks_versions(&view, record);
+    store.end(view);
+    if found? {
+        Ok(())
+    } else {
+        Err(Fault::Wrong("other rows"))
+    }
+}
+
 /// Whether these are all keys with this version.
 fn are_records(found: &[(u64, SharedValue)], version: u64) -> bool {
     let mut record = 0u64;
@@ -125,6 +150,7 @@ pub(crate) fn ask(
     match question {
         Question::Value => ask_value(store, record, after),
         Question::Rows => ask_rows(store, record),
+        Question::Walk => ask_walk(store, record),
         Question::Scan => ask_scan(store, after),
     }
 }
@@ -152,7 +178,7 @@ pub(crate) fn time_questions<R: Clock>(
 fn sizes(question: Question) -> (u64, u64) {
     match question {
         Question::Value => (1, 1),
-        Question::Rows => (VERSIONS, VERSIONS),
+        Question::Rows | Question::Walk => (VERSIONS, VERSIONS),
         Question::Scan => (KEYS, 1),
     }
 }

@@ -41,6 +41,7 @@ w2g  commits a second of one record each, 16 under one gate
 w3   records a second, in commits of 1,024
 w4   values a second, each of a key as of a random time
 w5   rows a second, of all versions of a key
+w5w  the same, walked over in a loan
 w6   scans a second of 1,000 records as of a random time
 w7   milliseconds of opening after COUNT commits, with a first answer
 w8   bytes on disk a version

@@ -37,6 +37,8 @@ pub(crate) enum Question {
     Value,
     /// All versions of a key.
     Rows,
+    /// The same, walked over in a loan.
+    Walk,
     /// All records as of a time.
     Scan,
 }
@@ -97,6 +99,7 @@ fn known(name: &str) -> Option<(Verb, u64)> {
         "w3" => Some((Verb::Commits(LARGE), 200)),
         "w4" => Some((Verb::Queries(Question::Value), 1_000_000)),
         "w5" => Some((Verb::Queries(Question::Rows), 50_000)),
+        "w5w" => Some((Verb::Queries(Question::Walk), 50_000)),
         "w6" => Some((Verb::Queries(Question::Scan), 3_000)),
         "w7" => Some((Verb::Opening, 3_000)),
         "w8" => Some((Verb::Size, 1)),

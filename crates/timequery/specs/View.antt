@@ -105,6 +105,11 @@ pub record AnswersBetween {V : Type 0} (v : ViewValue) (relation a b : ℕ) (ans
   pub kept : IsInView v relation a b
   pub is : answer ≡ expected
 
+-- an interval that is kept is refused where memory lacks versions alone
+abbrev pub RefusesRecentWalk : ViewValue → ℕ → ℕ → ℕ → QueryFault → Type 0
+RefusesRecentWalk v relation a b NeedsDisk = IsInView v relation a b × (a < v.reclaimed)
+RefusesRecentWalk v relation a b fault = RefusesBounds v relation a b fault
+
 -- an interval that is kept is refused where memory lacks versions, or where room for what is found was refused
 abbrev pub RefusesRecentRows : ViewValue → ℕ → ℕ → ℕ → QueryFault → Type 0
 RefusesRecentRows v relation a b NeedsDisk = IsInView v relation a b × (a < v.reclaimed)

@@ -5,12 +5,12 @@ ghost use Rattle.history.specs.Time.{value_at};
 ghost use Rattle.chains.specs.KeyWrites.{writes_of};
 ghost use Rattle.chains.specs.Rows.{rows_in, scanned_rows};
 ghost use Rattle.chains.specs.Scans.{scanned};
-ghost use Rattle.timequery.specs.View.{RefusesRecent, RefusesRecentScan, RefusesRecentRows, NeedsRuns, AnswersAt, AnswersBetween};
+ghost use Rattle.timequery.specs.View.{RefusesRecent, RefusesRecentScan, RefusesRecentRows, RefusesRecentWalk, NeedsRuns, AnswersAt, AnswersBetween};
 
 use crate::fault::QueryFault;
 use crate::runs::Runs;
 use crate::view::View;
-use chains::SharedValue;
+use chains::{RowWalk, SharedValue};
 use history::{Key, Version};
 use std::alloc::Global;
 
@@ -87,6 +87,16 @@ impl View {
         self.check_interval(key.relation, a, b)?;
         self.check_memory(a)?;
         Ok(self.state.rows(alloc, key, a, b)?)
+    }
+
+    /// The same rows in a loan of the view: a walk over them, which takes no memory, and is no holder of
+    /// their values.
+    pub fn recent_rows(&self, key: Key, a: u64, b: u64) -> Result<RowWalk<'_>, QueryFault>
+        ensures { MatchResult result (λ walk. (self.now.reclaimed ≤ a) × AnswersBetween self.now key.relation a b walk (rows_in self.now.state a b key)) (RefusesRecentWalk self.now key.relation a b) }
+    {
+        self.check_interval(key.relation, a, b)?;
+        self.check_memory(a)?;
+        Ok(self.state.row_walk(key, a, b))
     }
 
     /// The rows of a relation's records from `a` up to `b`, by record and then by time, each with its
