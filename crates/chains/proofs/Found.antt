@@ -81,7 +81,7 @@ found-from t end ws n first some = record {
   some = some;
 }
 
-no-versions : (vs : List (Version Value)) → 0 ≡ length vs → vs ≡ []
+pub no-versions : (vs : List (Version Value)) → 0 ≡ length vs → vs ≡ []
 no-versions [] none = refl
 no-versions (v ∷ vs) none = absurd (omega arith)
 

@@ -8,7 +8,7 @@ ghost use Rattle.chains.specs.Rows.{versions_upto, version_of_loan, IsNextPiece}
 use crate::chain::Chain;
 use crate::rows::row_of;
 use crate::shared_value::SharedValue;
-use crate::write::first_time_or;
+use crate::write::{first_time_or, value_count};
 use history::{TimedWrite, Version};
 use std::marker::Model;
 
@@ -58,6 +58,28 @@ fn next_row(
     None
 }
 
+/// Whether there are some, and all of them were made from `from` on and before `upto`.
+fn are_between(writes: &[TimedWrite<SharedValue>], from: u64, upto: u64) -> bool {
+    if let Some(first) = writes.first()
+        && let Some(last) = writes.last()
+    {
+        from <= first.time && last.time < upto
+    } else {
+        false
+    }
+}
+
+/// The same writes; none where none of them has a value. Where all of them are between the two times it
+/// looks at each value in turn, so that they are at hand when they are asked for.
+fn looked_at(writes: &[TimedWrite<SharedValue>], from: u64, upto: u64) -> &[TimedWrite<SharedValue>]
+    ensures { (end : ℕ) → versions_upto end result.now ≡ versions_upto end writes.now }
+{
+    if are_between(writes, from, upto) && value_count(writes) == 0 {
+        return &[];
+    }
+    writes
+}
+
 /// The writes of the piece of a chain from which rows go on at a time, and when its last version ends;
 /// none where no rows are left.
 fn next_piece<'a>(
@@ -101,7 +123,7 @@ impl<'a> RowWalk<'a> {
                 return Some(row);
             }
             let (left, end) = next_piece(self.chain, self.end, self.upto)?;
-            self.left = left;
+            self.left = looked_at(left, self.end, self.upto);
             self.from = self.end;
             self.end = end;
         }
