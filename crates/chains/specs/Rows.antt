@@ -4,6 +4,7 @@ use Rattle.std.specs.Borrow.{Bor}
 use Rattle.history.specs.declared.key.Key.{Key}
 use Rattle.history.specs.declared.time.TimedWrite.{TimedWrite}
 use Rattle.history.specs.declared.time.Version.{Version}
+use Rattle.history.specs.Time.{IsRisingAfter}
 use Rattle.history.specs.Versions.{version_of, versions, rows}
 use Rattle.chains.specs.Writes.{Value}
 use Rattle.chains.specs.KeyWrites.{KeyWrites, writes_of}
@@ -26,6 +27,7 @@ pub record IsFront (time upto : ℕ) (all part : List (Version Value)) : Type 0 
 -- writes of a piece are those from which the rows of all from a time on go on
 pub record IsNextPiece (time upto : ℕ) (all : List (Version Value)) (ws : List (TimedWrite Value)) (end : ℕ) : Type 0 where
   pub before : time < upto
+  pub rising : IsRisingAfter 0 ws
   pub front : IsFront time end all (versions_upto end ws)
 
 -- a version of a value in a loan, as the version of the value

@@ -1,5 +1,5 @@
 //! A tree of pieces of one key's writes, in the order of their times.
-ghost use Rattle.std.specs.Prelude.{◌≡◌, ◌<◌, ◌≤◌, ◌++◌, [], IfOk, IsTrue, MatchOption, OnOk, find, option_map, option_to_list};
+ghost use Rattle.std.specs.Prelude.{◌≡◌, ◌<◌, ◌≤◌, ◌++◌, [], IfOk, IfSome, IsTrue, MatchOption, OnOk, find, option_map, option_to_list};
 ghost use Rattle.std.specs.Option.{option_copied};
 ghost use Rattle.history.specs.Time.{value_at, value_after, IsRisingAfter};
 ghost use Rattle.history.specs.Versions.{rows, ends_after};
@@ -124,7 +124,8 @@ impl Tree<Piece> {
         requires rising { IsRisingAfter 0 (held (option_copied before) ++ all_writes self.now.pieces) }
         requires ended { last_time (held (option_copied before) ++ all_writes self.now.pieces) ≤ end }
         requires later { time < end }
-        ensures { MatchOption result (held (option_copied before.entry) ++ all_writes self.now.pieces ≡ []) (λ found. IsFront time found.1 (versions_upto end (held (option_copied before.entry) ++ all_writes self.now.pieces)) (versions_upto found.1 found.0.now) × (found.1 ≤ end)) }
+        ensures rising { IfSome result (λ found. IsRisingAfter 0 found.0.now) }
+        ensures is { MatchOption result (held (option_copied before.entry) ++ all_writes self.now.pieces ≡ []) (λ found. IsFront time found.1 (versions_upto end (held (option_copied before.entry) ++ all_writes self.now.pieces)) (versions_upto found.1 found.0.now) × (found.1 ≤ end)) }
     {
         let Some(node) = self.top() else {
             return match before {

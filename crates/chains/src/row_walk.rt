@@ -1,6 +1,7 @@
 //! A walk over the rows of a key, in a loan.
-ghost use Rattle.std.specs.Prelude.{◌≡◌, ◌<◌, ◌++◌, ◌∷◌, [], ℕ, MatchOption};
+ghost use Rattle.std.specs.Prelude.{◌≡◌, ◌<◌, ◌++◌, ◌∷◌, [], ℕ, IfSome, MatchOption};
 ghost use Rattle.std.specs.Option.{option_copied};
+ghost use Rattle.history.specs.Time.{IsRisingAfter};
 ghost use Rattle.history.specs.Versions.{versions, rows};
 ghost use Rattle.chains.specs.KeyWrites.{writes_in};
 ghost use Rattle.chains.specs.Rows.{versions_upto, version_of_loan, IsNextPiece};
@@ -37,19 +38,29 @@ impl<'a> Model for RowWalk<'a> {
     ghost Value = { Versions };
 
     ghost view = { λ w. rows (versions_upto w.end w.left.now) w.from w.upto ++ rows (versions (writes_in (option_copied w.chain))) w.end w.upto };
+
+    ghost use Rattle.history.specs.Time.{IsRisingAfter};
+
+    ghost invariant = { λ w. IsRisingAfter 0 w.left.now };
 }
 
-/// The first row of these writes, and the writes behind it; the last version ends at `end`.
+/// The first row of these writes, and the writes behind it; the last version ends at `end`. It goes no
+/// further than the interval.
 fn next_row(
     writes: &[TimedWrite<SharedValue>],
     end: u64,
     from: u64,
     upto: u64,
 ) -> Option<(Version<&SharedValue>, &[TimedWrite<SharedValue>])>
-    ensures { MatchOption result (rows (versions_upto end writes.now) from upto ≡ []) (λ found. rows (versions_upto end writes.now) from upto ≡ version_of_loan found.0 ∷ rows (versions_upto end found.1.now) from upto) }
+    requires { IsRisingAfter 0 writes.now }
+    ensures rising { IfSome result (λ found. IsRisingAfter 0 found.1.now) }
+    ensures is { MatchOption result (rows (versions_upto end writes.now) from upto ≡ []) (λ found. rows (versions_upto end writes.now) from upto ≡ version_of_loan found.0 ∷ rows (versions_upto end found.1.now) from upto) }
 {
     let mut rest = writes;
     while let [first, after @ ..] = rest {
+        if upto <= first.time {
+            return None;
+        }
         if let Some(row) = row_of(first, first_time_or(after, end), from, upto) {
             return Some((row, after));
         }
@@ -72,7 +83,8 @@ fn are_between(writes: &[TimedWrite<SharedValue>], from: u64, upto: u64) -> bool
 /// The same writes; none where none of them has a value. Where all of them are between the two times it
 /// looks at each value in turn, so that they are at hand when they are asked for.
 fn looked_at(writes: &[TimedWrite<SharedValue>], from: u64, upto: u64) -> &[TimedWrite<SharedValue>]
-    ensures { (end : ℕ) → versions_upto end result.now ≡ versions_upto end writes.now }
+    ensures is { (end : ℕ) → versions_upto end result.now ≡ versions_upto end writes.now }
+    ensures rising { IsRisingAfter 0 writes.now → IsRisingAfter 0 result.now }
 {
     if are_between(writes, from, upto) && value_count(writes) == 0 {
         return &[];
