@@ -8,7 +8,7 @@ ghost use Rattle.chains.specs.Rows.{versions_upto, version_of_loan};
 ghost use Rattle.chains.specs.Writes.{last_time, kept_after, is_after};
 
 use crate::ending::ending_in;
-use crate::rows::{Rows, add_rows_of};
+use crate::rows::{Rows, add_rows_of, near_count};
 use crate::shared_value::SharedValue;
 use crate::tree::Share;
 use crate::write::{ended_by, first_time_or, next_in, share_timed, value_count, value_in};
@@ -200,7 +200,7 @@ impl Piece {
     {
         let writes = self.as_slice();
         if a <= self.first && self.last_time() < b {
-            found.reserve(value_count(writes))?;
+            found.reserve(near_count(writes))?;
         }
         add_rows_of(found, writes, end, a, b)
     }

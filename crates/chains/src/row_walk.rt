@@ -7,15 +7,15 @@ ghost use Rattle.chains.specs.KeyWrites.{writes_in};
 ghost use Rattle.chains.specs.Rows.{versions_upto, version_of_loan, IsNextPiece};
 
 use crate::chain::Chain;
-use crate::rows::row_of;
+use crate::rows::{near_count, row_of};
 use crate::shared_value::SharedValue;
-use crate::write::{first_time_or, value_count};
+use crate::write::first_time_or;
 use history::{TimedWrite, Version};
 use std::marker::Model;
 
-/// The rows that are left of a key's from one time up to another, by rising time: the part of each
-/// version that lies in between. The values stay where they are: it takes no memory, and is no holder of
-/// a value.
+/// The rows that are left of a key's from one time up to another, in microseconds since 1970, by rising
+/// time: the part of each version that lies in between. The values stay where they are: it takes no
+/// memory, and is no holder of a value.
 #[derive(Drop)]
 pub struct RowWalk<'a> {
     chain: Option<&'a Chain>,
@@ -86,7 +86,7 @@ fn looked_at(writes: &[TimedWrite<SharedValue>], from: u64, upto: u64) -> &[Time
     ensures is { (end : ℕ) → versions_upto end result.now ≡ versions_upto end writes.now }
     ensures rising { IsRisingAfter 0 writes.now → IsRisingAfter 0 result.now }
 {
-    if are_between(writes, from, upto) && value_count(writes) == 0 {
+    if are_between(writes, from, upto) && near_count(writes) == 0 {
         return &[];
     }
     writes

@@ -1,5 +1,5 @@
 //! The rows of an interval among one key's writes.
-ghost use Rattle.std.specs.Prelude.{◌≡◌, ◌++◌, OnOk, map, option_map, option_to_list};
+ghost use Rattle.std.specs.Prelude.{◌≡◌, ◌≤◌, ◌++◌, ℕ, OnOk, length, map, option_map, option_to_list};
 ghost use Rattle.history.specs.Versions as spans;
 ghost use Rattle.chains.specs.Rows as specs;
 
@@ -10,6 +10,38 @@ use std::alloc::AllocError;
 
 /// Rows, each a part of a version: the value, and from which time on and up to which it stands.
 pub(crate) type Rows = Vec<Version<SharedValue>>;
+
+/// 1 where the write has a value, at which it looks in front and where its second field begins, and else
+/// 0.
+fn one_if_near(write: &TimedWrite<SharedValue>) -> usize
+    ensures is { (from to : ℕ) → result ≡ length (spans.version_of from to write.now.write) }
+    ensures most { result ≤ 1 }
+{
+    let Some(shared) = &write.write else {
+        return 0;
+    };
+    let value = shared.value();
+    let second = match value.field(1) {
+        None => 0,
+        Some(field) => field.len(),
+    };
+    (value.len() as usize).max(second).min(1)
+}
+
+/// How many of these writes have a value. It looks at each value in turn, at two places that lie apart, with
+/// nothing to be done between, so that a processor fetches many at once; who then goes over their rows
+/// has them near.
+pub(crate) fn near_count(writes: &[TimedWrite<SharedValue>]) -> usize
+    ensures is { (end : ℕ) → result ≡ length (specs.versions_upto end writes.now) }
+{
+    let mut count = 0;
+    let mut rest = writes;
+    while let [first, after @ ..] = rest {
+        count += one_if_near(first);
+        rest = after;
+    }
+    count
+}
 
 /// The part from `a` to `b` of a version that ends at `to`, if there is one.
 pub(crate) fn row_of(

