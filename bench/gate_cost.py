@@ -1,14 +1,16 @@
 #!/usr/bin/env python3
 """Runs a command and prints what processor time each crate took in it: its proof, its tests, the first of its must-fail edits and the others;
-and the most memory that one check of the crate held. It only reads /proc, twice a second. Its exit status is the command's.
+the dearest edits; and the most memory that one check of the crate held. It only reads /proc, twice a second. Its exit status is the command's.
 
-usage: bench/gate_cost.py [--limit MINUTES] [COMMAND ..]
+usage: bench/gate_cost.py [--limit MINUTES] [--edits FILE] [COMMAND ..]
 
-With no command it runs rt ci. With --limit the status is 1 too where the sum is above so many processor minutes.
+With no command it runs rt ci. With --limit the status is 1 too where the sum is above so many processor minutes. --edits adds a line for each
+edit that was tried to the file: its seconds, its crate and its name.
 """
 import collections
 import dataclasses
 import os
+import pathlib
 import re
 import signal
 import subprocess
@@ -18,6 +20,7 @@ import time
 TICKS_A_SECOND = os.sysconf("SC_CLK_TCK")
 SECONDS_BETWEEN_LOOKS = 0.5
 PHASES = ("proof", "tests", "code", "edits", "edit alone")
+DEAREST_SHOWN = 12
 
 
 @dataclasses.dataclass
@@ -42,6 +45,11 @@ class Process:
             return "code"
         return "proof" if "-o" in self.words else "edit alone"
 
+    def edit(self):
+        """The edit's number among those of its crate, where the check is a try of one over what the crate's own check left."""
+        found = [re.search(r"rt-edits-[^/]*/(\d+)$", it) for it in self.words]
+        return next((int(it[1]) for it in found if it), None)
+
 
 @dataclasses.dataclass
 class Check:
@@ -49,6 +57,7 @@ class Check:
 
     crate: str
     phase: str
+    edit: int | None
     seconds: float = 0
     peak: int = 0  # kilobytes
 
@@ -95,7 +104,7 @@ def look(top, checks):
             first = now[first].parent
         held[first] += peak_of(pid)
         if first == pid:
-            check = checks.setdefault((process.began, pid), Check(process.crate(), process.phase()))
+            check = checks.setdefault((process.began, pid), Check(process.crate(), process.phase(), process.edit()))
             check.seconds = max(check.seconds, process.seconds)
     for pid, kilobytes in held.items():
         check = checks[now[pid].began, pid]
@@ -121,6 +130,17 @@ def longest_chain(seconds):
     return max(((chain(it)[0] + sum(seconds[it].values()) - seconds[it]["proof"], chain(it)[1]) for it in below), default=(0, []))
 
 
+def edits_by_cost(checks):
+    """The edits that were tried: the seconds of each, its crate and its name, dearest first."""
+    seconds = collections.Counter()
+    for check in checks.values():
+        if check.edit is not None:
+            seconds[check.crate, check.edit] += check.seconds
+    names = {crate: sorted(it.name for it in pathlib.Path("crates", crate, "must-fail").glob("*.edit")) for crate, _ in seconds}
+    found = [(cost, crate, names[crate][number]) for (crate, number), cost in seconds.items() if number < len(names[crate])]
+    return sorted(found, reverse=True)
+
+
 def table(checks, wall):
     """Prints the table and returns the processor minutes."""
     seconds, first, others = collections.defaultdict(collections.Counter), {}, collections.defaultdict(list)
@@ -137,6 +157,8 @@ def table(checks, wall):
         mine, rest = seconds[crate], others[crate]
         mean = sum(rest) / len(rest) if rest else 0
         print(f"{crate:18}{sum(mine.values()):9.0f}{mine['proof']:8.0f}{mine['tests']:8.0f}{mine['code']:7.0f}{first.get(crate, 0):8.0f}{len(rest):6}{mean:9.1f}{peaks[crate] / 1024:9.0f}")
+    for cost, crate, name in edits_by_cost(checks)[:DEAREST_SHOWN]:
+        print(f"edit {crate}/{name}: {cost:.0f} s")
     length, names = longest_chain(seconds)
     print(f"longest chain: {length / 60:.0f} processor minutes: {' '.join(names)}")
     sums = {it: sum(mine[it] for mine in seconds.values()) / 60 for it in PHASES}
@@ -147,12 +169,14 @@ def table(checks, wall):
 
 
 def main(words):
-    limit = None
+    limit = listed = None
     if words[:1] in (["-h"], ["--help"]):
         print(__doc__, end="")
         return 0
     if words[:1] == ["--limit"]:
         limit, words = float(words[1]), words[2:]
+    if words[:1] == ["--edits"]:
+        listed, words = words[1], words[2:]
     signal.signal(signal.SIGTERM, lambda *_: sys.exit(128 + signal.SIGTERM))
     started, checks = time.time(), {}
     ran = subprocess.Popen(words or ["rt", "ci"])
@@ -166,6 +190,9 @@ def main(words):
             ran.wait()
     total = table(checks, time.time() - started)
     sys.stdout.flush()
+    if listed is not None:
+        with open(listed, "a", encoding="utf-8") as it:
+            it.writelines(f"{cost:.1f} {crate} {name}\n" for cost, crate, name in edits_by_cost(checks))
     if ran.returncode:
         return ran.returncode if ran.returncode > 0 else 128 - ran.returncode
     if limit is not None and total > limit:

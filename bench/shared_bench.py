@@ -6,7 +6,7 @@
 SHARED_BENCH is the built program of crates/shared_bench, which says what each verb does. FOLDER is where
 stores are made (a temporary folder if left out: name one on the disk that you mean to measure, since /tmp
 may be memory). S makes each count smaller or larger. Where a C compiler is there, as many callers of raw
-groups in C (bench/peers/callers.c), who sleep as those of the store do, run in the same rounds.
+groups in C (bench/peers/callers.c), who sleep as those of the store do, run in the same rounds, in both of its forms.
 """
 import argparse
 import json
@@ -29,6 +29,8 @@ VERBS = {
 
 # How long a caller in C holds its lock, in microseconds: about what the store does of one commit under its own.
 LOCKED = "4"
+# The forms of the callers in C, and the word that asks for each.
+FORMS = {"callers": [], "posted": ["posted"]}
 
 
 def built_callers(folder):
@@ -42,13 +44,15 @@ def built_callers(folder):
 
 
 def called(callers, verb, count, base):
-    """What as many callers in C reach of raw groups, if they were built."""
+    """What as many callers in C reach of raw groups, in each form, if they were built."""
     if callers is None or verb[0] != "c":
         return {}
-    writers = verb[1:]
-    with tempfile.TemporaryDirectory(dir=base) as folder:
-        ran = subprocess.run([callers, folder, writers, str(max(2, count // int(writers))), LOCKED], stdout=subprocess.PIPE, check=True)
-    return {f"callers_{name}": value for name, value in json.loads(ran.stdout).items()}
+    writers, found = verb[1:], {}
+    for form, word in FORMS.items():
+        with tempfile.TemporaryDirectory(dir=base) as folder:
+            ran = subprocess.run([callers, folder, writers, str(max(2, count // int(writers))), LOCKED, *word], stdout=subprocess.PIPE, check=True)
+        found.update({f"{form}_{name}": value for name, value in json.loads(ran.stdout).items()})
+    return found
 
 
 def all_rounds(program, callers, verbs, share, rounds, base):
@@ -66,10 +70,12 @@ def beside(verb, answers):
     if verb[0] == "c":
         raw = f"raw {shown(median(answers, 'raw'))}: {median(answers, 'of_raw'):.2f} of it; {median(answers, 'members'):.1f} a group"
         parts = ", ".join(f"{kind} {median(answers, kind + '_us'):,.0f}" for kind in ("gathering", "writing", "syncing"))
-        callers = ""
-        if "callers_value" in answers[0]:
-            callers = f"; callers in C {shown(median(answers, 'callers_value'))}: {median(answers, 'callers_of_raw'):.2f} of raw, gathering {median(answers, 'callers_gathering_us'):,.0f}"
-        return f"{raw}; µs a group: {parts}; raw {median(answers, 'raw_us'):,.0f}{callers}"
+        told = [
+            f"; {form} in C {shown(median(answers, form + '_value'))}: {median(answers, form + '_of_raw'):.2f} of raw, gathering {median(answers, form + '_gathering_us'):,.0f}"
+            for form in FORMS
+            if form + "_value" in answers[0]
+        ]
+        return f"{raw}; µs a group: {parts}; raw {median(answers, 'raw_us'):,.0f}{''.join(told)}"
     if verb[0] in "rq":
         return f"the writer's commits {shown(median(answers, 'commits_s'))} /s"
     kinds = ("begin", "submit", "redeem", "view", "write", "job", "start")

@@ -36,7 +36,7 @@ next_joins before left after r packed more body next there behind room more_is n
     ∙ ap (λ (l : List Record). packed ++ bodies_from body (map spelling l)) (sym (next_is left r there))
     ∙ so_far
 
-none_next : (left : List Record) → None ≡ slice_get left 0 → left ≡ []
+pub none_next : (left : List Record) → None ≡ slice_get left 0 → left ≡ []
 none_next [] none = refl
 none_next (r ∷ rest) none = cc
 

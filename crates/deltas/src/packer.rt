@@ -22,12 +22,13 @@ pub fn pack(alloc: Global, records: &[Record]) -> Result<Vec<ExtentBody>, AllocE
     pack_all(alloc, &mut RecordList::new(records))
 }
 
-/// The same of all records that are left.
+/// The same of all records that are left. None is left then.
 pub fn pack_all<S: RecordSource>(
     alloc: Global,
     source: &mut S,
 ) -> Result<Vec<ExtentBody>, AllocError>
-    ensures { IfOk result (λ packed. packed.items ≡ bodies (map spelling (S.left source.old))) }
+    ensures packed { IfOk result (λ packed. packed.items ≡ bodies (map spelling (S.left source.old))) }
+    ensures none { IfOk result (λ _. S.left source.new ≡ []) }
 {
     let mut packed = Vec::new(alloc);
     let Some(first) = source.peek() else {
