@@ -6,6 +6,7 @@ ghost use Rattle.store.specs.Jobs.{Stores, writing, Grows, growing, WritesOrSync
 ghost use Rattle.store.specs.Parts.{parts_of, IsStageOf, GrowsBehind};
 ghost use Rattle.store.specs.Values.{ArchiveValue, lent_by};
 
+use crate::giving_up::GiveUp;
 use crate::job::{Job, JobDid, JobStage, JobWork, Stepped};
 use crate::starting::first_number;
 use archive::RunWriter;
