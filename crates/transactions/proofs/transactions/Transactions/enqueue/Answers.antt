@@ -13,8 +13,8 @@ use Rattle.transactions.proofs.Queueing.{keeps-queued, queued-is}
 use Rattle.transactions.proofs.Publishing.{numbers-stored}
 use Rattle.transactions.proofs.transactions.Transactions.enqueue.Goals as goal
 
-pub invariant_of-self-in-Ok-store : goal.invariant_of-self-in-Ok-store
-invariant_of-self-in-Ok-store c =
+pub invariant_of-self-2 : goal.invariant_of-self-2
+invariant_of-self-2 c =
     let i = c.self.inside in
     let v : TransactionsValue = record { mark = i.mark; opened = i.opened; heads = i.order.heads; published = i.order.published; versions = i.versions; pending = i.pending; queue = i.queue.items; usages = i.extents; times = i.times; reserved = i.reserved.items; slots = i.slots; used = i.used; group = i.group; stage = i.stage; floors = i.floors; reclaimed = i.reclaimed; failed = i.failed } in
     let time = c.args.accepted.time in
