@@ -121,9 +121,7 @@ impl Transactions {
     {
         let Accepted { time, bodies } = accepted;
         let reclaimed = self.ordered_mark();
-        let Ok(after) = self.ordered().with_commit(alloc, time, writes) else {
-            return Err(AllocError);
-        };
+        let after = self.ordered().with_commit(alloc, time, writes)?;
         if self.queue.reserve(1).is_err() || self.order.reserve(1).is_err() {
             return Err(AllocError);
         }
