@@ -2,7 +2,6 @@ use Rattle.std.proofs.Common.{◌≡◌, ℕ, List, map, length, min, false, ref
 use Rattle.std.proofs.lemmas.List.{length-map}
 use Rattle.status.specs.Header.{total}
 use Rattle.recovery.specs.declared.recovered.Recovered.{Recovered}
-use Rattle.wire.specs.declared.slot.Member.{Member}
 use Rattle.store.specs.Heads.{head_as}
 use Rattle.store.specs.Opens.{times_of}
 use Rattle.group.specs.declared.commit_order.CommitHead.{CommitHead}
