@@ -1,18 +1,15 @@
 -- Texts of which the writer may refuse the rest.
-use Rattle.std.proofs.Common.{◌≡◌, ℕ, ◌+◌, ◌<◌, List, [], ◌++◌, length, take, drop, get_or, refl, sym, ap, ◌∙◌, Bool, Option, Result, Ok, Err, append_assoc, append-nil, take-append-drop}
+use Rattle.std.proofs.Common.{◌≡◌, ℕ, ◌+◌, ◌<◌, List, [], ◌++◌, length, take, drop, get_or, refl, sym, ap, ◌∙◌, Option, append_assoc, take-append-drop}
 use Rattle.std.specs.List.{flat_map}
-use Rattle.std.specs.Io.KnownBytes.{Appends, Keeps}
-use Rattle.std.proofs.KnownBytes.{Appends-kept, Appends-nil, Appends-trans}
+use Rattle.std.specs.Io.KnownBytes.{Appends}
+use Rattle.std.proofs.KnownBytes.{Appends-nil, Appends-trans}
 use Rattle.std.proofs.lemmas.List.Concat.{flat_map-append}
-use Rattle.session.specs.Streams.{AppendsFront, Says, Writes}
+use Rattle.session.specs.Streams.{AppendsFront, Writes}
 use Rattle.session.specs.Texts.{Text}
 use Rattle.session.proofs.TextLemmas.{flat_map-more}
 
 pub writes-start : (a : Option Text) (text : Text) → Writes a a text text
 writes-start a text = ([], refl, Appends-nil a)
-
-pub writes-all : (a b : Option Text) (text rest : Text) → rest ≡ [] → Writes a b text rest → Appends a b text
-writes-all a b text rest none w = rw (w.1 ∙ ap (λ (t : Text). w.0 ++ t) none ∙ append-nil w.0) w.2
 
 pub writes-more : (a b c : Option Text) (text rest left : Text) → Writes a b text rest → Writes b c rest left → Writes a c text left
 writes-more a b c text rest left w more = (w.0 ++ more.0, w.1 ∙ ap (λ (t : Text). w.0 ++ t) more.1 ∙ sym (append_assoc w.0 more.0 left), Appends-trans a b c w.0 more.0 w.2 more.2)
@@ -23,28 +20,12 @@ writes-front a b c text rest w front = (w.0 ++ front.0, (front.1.0, w.1 ∙ ap (
 pub writes-some : (a b : Option Text) (text rest : Text) → Writes a b text rest → AppendsFront a b text
 writes-some a b text rest w = (w.0, (rest, w.1), w.2)
 
--- one call took n bytes, or was interrupted
-pub writes-taken : (a b : Option Text) (text : Text) (n : ℕ) → Appends a b (take n text) → Writes a b text (drop n text)
-writes-taken a b text n more = (take n text, sym (take-append-drop n text), more)
-
-pub writes-kept : (a b : Option Text) (text : Text) → Keeps a b → Writes a b text text
-writes-kept a b text kept = ([], refl, Appends-kept a a b [] (Appends-nil a) kept)
-
--- nothing of a text was written
-pub front-none : (a : Option Text) (text : Text) → AppendsFront a a text
-front-none a text = ([], (text, refl), Appends-nil a)
-
 -- a front of the second text follows the whole first
 front-after : (a b c : Option Text) (x y : Text) → Appends a b x → AppendsFront b c y → AppendsFront a c (x ++ y)
 front-after a b c x y first front = (x ++ front.0, (front.1.0, ap (λ (t : Text). x ++ t) front.1.1 ∙ sym (append_assoc x front.0 front.1.0)), Appends-trans a b c x front.0 first front.2)
 
 pub front-before : (a b : Option Text) (x y : Text) → AppendsFront a b x → AppendsFront a b (x ++ y)
 front-before a b x y front = (front.0, (front.1.0 ++ y, ap (λ (t : Text). t ++ y) front.1.1 ∙ append_assoc front.0 front.1.0 y), front.2)
-
--- one text is said after another
-pub says-after : {T E : Type 0} (a b c : Option Text) (x y : Text) (r : Result T E) (refused : Bool) → Appends a b x → Says b y r c refused → Says a (x ++ y) r c refused
-says-after a b c x y (Ok u) refused first says = Appends-trans a b c x y first says
-says-after a b c x y (Err e) refused first says = (front-after a b c x y first says.0, says.1)
 
 flat_map-cut : {X : Type 0} (f : X → Text) (xs : List X) (i : ℕ) → flat_map f xs ≡ flat_map f (take i xs) ++ flat_map f (drop i xs)
 flat_map-cut f xs i = ap (flat_map f) (sym (take-append-drop i xs)) ∙ flat_map-append f (take i xs) (drop i xs)

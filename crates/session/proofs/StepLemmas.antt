@@ -7,8 +7,8 @@ use Rattle.store.specs.Values.{StoreValue}
 use Rattle.store.specs.declared.job.JobDid.TheVariants as job_did
 use Rattle.session.specs.Session.{IsLast, StepsGroup, StepsJob, TakesOne, TakesAll, StepsWork, EndsWork, pumped, worked}
 use Rattle.session.specs.declared.reply.Reply.{Reply}
-use Rattle.session.specs.declared.session.Work.{Work}
-use Rattle.session.specs.declared.session.Work.TheVariants as work
+use Rattle.session.specs.declared.stepping.Work.{Work}
+use Rattle.session.specs.declared.stepping.Work.TheVariants as work
 use Rattle.session.proofs.JobLemmas.{group-fewer, pump-fewer}
 
 -- what a step did that was not the last

@@ -1,12 +1,11 @@
 -- Texts that are written in several calls.
-use Rattle.std.proofs.Common.{◌≡◌, ℕ, ◌+◌, ◌<◌, List, [], ◌∷◌, ◌++◌, length, take, get_or, sym, ap, ◌∙◌, Option, append_assoc, append-nil}
+use Rattle.std.proofs.Common.{◌≡◌, ℕ, ◌+◌, ◌<◌, List, [], ◌∷◌, ◌++◌, length, take, get_or, sym, ap, ◌∙◌, Option, append-nil}
 use Rattle.std.specs.List.{flat_map}
 use Rattle.std.proofs.lemmas.List.{take_more}
 use Rattle.std.proofs.lemmas.List.Concat.{flat_map-append}
 use Rattle.std.specs.Io.KnownBytes.{Appends}
 use Rattle.std.proofs.KnownBytes.{Appends-trans}
-use Rattle.std.specs.Prelude.{codes}
-use Rattle.session.specs.Texts.{Text, field_text, fields_text}
+use Rattle.session.specs.Texts.{Text}
 
 pub flat_map-more : {X : Type 0} (f : X → Text) (xs : List X) (i : ℕ) (d : X) → i < length xs
     → flat_map f (take (i + 1) xs) ≡ flat_map f (take i xs) ++ f (get_or xs i d)
@@ -18,14 +17,3 @@ pub written_more : {X : Type 0} (f : X → Text) (a b c : Option Text) (xs : Lis
     → Appends a b (flat_map f (take i xs)) → Appends b c piece → piece ≡ f (get_or xs i d) → Appends a c (flat_map f (take (i + 1) xs))
 written_more f a b c xs i d piece lt before here is =
     rw (flat_map-more f xs i d lt) (rw (sym is) (Appends-trans a b c _ piece before here))
-
--- a field more is written, after a space
-pub fields_more : (a b c d : Option Text) (done field : Text) (all left rest : List Text) → Appends a b done → fields_text all ≡ done ++ fields_text left
-    → left ≡ field ∷ rest → Appends b c (codes " ") → Appends c d (field_text field)
-    → (text : Text) × Appends a d text × (fields_text all ≡ text ++ fields_text rest)
-fields_more a b c d done field all left rest before whole cut space here =
-    let piece : Text = codes " " ++ field_text field in (
-      done ++ piece,
-      Appends-trans a b d done piece before (Appends-trans b c d (codes " ") (field_text field) space here),
-      whole ∙ ap (λ (l : List Text). done ++ fields_text l) cut ∙ sym (append_assoc done piece (fields_text rest)),
-    )

@@ -44,8 +44,8 @@ use Rattle.session.specs.declared.names.OpenName.{OpenName}
 use Rattle.session.specs.declared.names.TicketName.{TicketName}
 use Rattle.session.specs.declared.reply.Reply.{Reply}
 use Rattle.session.specs.declared.reply.Reply.TheVariants as reply
-use Rattle.session.specs.declared.session.Work.{Work}
-use Rattle.session.specs.declared.session.Work.TheVariants as work
+use Rattle.session.specs.declared.stepping.Work.{Work}
+use Rattle.session.specs.declared.stepping.Work.TheVariants as work
 use Rattle.session.specs.Texts.{Text}
 
 -- what a session is: its store, and what each name in use stands for

@@ -8,10 +8,14 @@ mod fault;
 mod input;
 mod names;
 mod output;
+mod queries;
 mod refused;
 mod reply;
 mod session;
+mod starting;
+mod stepping;
 mod text;
+mod transacting;
 
 pub use ending::Ending;
 pub use engine::answer_lines;

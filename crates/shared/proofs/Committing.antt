@@ -1,12 +1,12 @@
 -- What was submitted is what is published.
-use Rattle.std.proofs.Common.{◌≡◌, ℕ, ◌<◌, ◌^◌, nat_lt, Bool, true, false, cond, List, [], ◌∷◌, ◌++◌, Option, Some, None, is_some, Result, Ok, Err, refl, sym, ap, ◌∙◌, subst, ⊎_elim, arith, map}
+use Rattle.std.proofs.Common.{◌≡◌, ℕ, ◌<◌, cond, List, [], ◌∷◌, ◌++◌, Option, Some, None, is_some, Result, Ok, Err, refl, sym, ap, ◌∙◌, subst, ⊎_elim, arith, map}
 use Rattle.std.specs.Prelude.{Contains}
 use Rattle.std.proofs.lemmas.List.Elements.{Contains-append_left, Contains-append_right}
 use Rattle.history.specs.declared.key.Key.{Key}
 use Rattle.history.specs.declared.key.KeyWrite.{KeyWrite}
 use Rattle.history.specs.Histories.{Commit, History, IsHistory, HasRisingTimes, last, state}
 use Rattle.history.specs.Machine.{Machine}
-use Rattle.history.specs.Submissions.{Submission, Decision, Queues, Ends, decision_on, unless_conflict, conflict_of, commit_made}
+use Rattle.history.specs.Submissions.{commit_made}
 use Rattle.history.proofs.Histories.{rising-from_following}
 use Rattle.history.proofs.Members.{Contains-cons_cases, Contains-head, Contains-nil}
 use Rattle.image.specs.Values.{Value, IsValue}
@@ -23,7 +23,6 @@ use Rattle.shared.specs.declared.committed.CommitFault.{CommitFault}
 use Rattle.shared.specs.Seen.{Seen, seen_of, order_of, IsLater}
 use Rattle.shared.specs.Shared.{Submits, HasCommitAt, WaitSays, CommitHappens, changed, queued_seen}
 use Rattle.shared.specs.Shared as shared
-use Rattle.history.specs.Submissions as submissions
 use Rattle.shared.proofs.Fronts.{later-then}
 use Rattle.shared.proofs.Stepping.{submit-seen}
 
@@ -92,21 +91,3 @@ commit-waits start brand begun txn label now changes ticket first before after (
 )
 commit-waits start brand begun txn label now changes ticket first before after (Ok (committed.ReadOnly time)) r is early s later says = absurd says
 commit-waits start brand begun txn label now changes ticket first before after (Err why) r is early s later says = tt
-
-reads-nothing : (m : Machine Value) (s : Submission Value) (ws : List (KeyWrite Value)) → Path (Decision Value) submissions.Reads (decision_on m s ws) → ws ≡ []
-reads-nothing m s [] is = refl
-reads-nothing m s (w ∷ ws) is = absurd (none (conflict_of m s) (nat_lt (commit_made m s).time (2 ^ 63)) is)
-  where
-    none : (o : Option Key) (b : Bool) → Path (Decision Value) submissions.Reads (unless_conflict o (cond b (Queues (commit_made m s)) Ends)) → ⊥
-    none (Some key) b is = absurd cc
-    none None true is = absurd cc
-    none None false is = absurd cc
-
-pub commit-reads : (start : Machine Value) (brand : ℕ) (begun txn : TxnValue) (label now time : ℕ) (changes : List Change) (first after : Seen) → shared.Reads start brand begun first
-    → txn.snapshot ≡ begun.snapshot → txn.writes ≡ changed (at_snapshot begun.state begun.snapshot) begun.writes changes → IsLater first after → Submits start brand txn label now (Ok (submitted.ReadOnly time)) after → CommitHappens changes label (Ok (committed.ReadOnly time)) after
-commit-reads start brand begun txn label now time changes first after r at is later s = (
-  first.published,
-  later.published,
-  s.says ∙ at ∙ r.snapshot ∙ ap (λ (x : Seen). last x.published) (sym r.seen_is),
-  sym (begun-writes start brand begun first changes txn.writes r is) ∙ reads-nothing s.before (submission_of txn label now) txn.writes s.step.2,
-)

@@ -14,7 +14,6 @@ use Rattle.history.specs.Submissions.{commit_made}
 use Rattle.image.specs.Values.{Value, IsValue}
 use Rattle.snapshot.specs.Txn.{TxnValue, AreTxnWrites}
 use Rattle.group.specs.CommitOrder as orders
-use Rattle.group.specs.CommitOrder.{last_time, is_awaited, last_published}
 use Rattle.group.specs.Tickets.{TicketValue}
 use Rattle.group.specs.declared.commit_order.CommitHead.{CommitHead}
 use Rattle.group.specs.declared.answers.BeginFault.{BeginFault}
@@ -128,9 +127,6 @@ quiet tells start brand table old new shares at pass h after stands goes reached
   archive = archive-then pass.archive (archive_seen tells old) (archive_seen tells new) h.archive (archive-on tells old new goes);
   writes = h.writes;
 }
-
-pub same-store : (tells : Bool) (start : Machine Value) (brand : ℕ) (table : TableId) (old new : StoreValue) (shares : ℕ) (at : TableId) (pass : SightValue) → IsShared tells start brand table old shares at pass → new ≡ old → IsShared tells start brand table new shares at pass
-same-store tells start brand table old new shares at pass h same = subst (λ (v : StoreValue). IsShared tells start brand table v shares at pass) (sym same) h
 
 -- ---- opening
 

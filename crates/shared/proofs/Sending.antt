@@ -44,7 +44,7 @@ use Rattle.vacuum.specs.contracts.anchor_source.AnchorSource.TheInside as source
 use Rattle.vacuum.specs.contracts.archive_walk.ArchiveWalk as ArchiveWalk
 use Rattle.vacuum.specs.contracts.archive_walk.ArchiveWalk.TheInside as walk
 use Rattle.store.proofs.job.JobStage.TheSendSync as job_stage
-use Rattle.store.proofs.store_archive.StoreArchive.TheSendSync as store_archive
+use Rattle.store.proofs.store_archive.Archived.TheSendSync as archived
 use Rattle.store.specs.contracts.job.Job as Job
 use Rattle.store.specs.contracts.job.JobWork as JobWork
 use Rattle.store.specs.contracts.store.Store as Store
@@ -166,14 +166,8 @@ module _ (D : RattleType) (disk : devices.Ghosts D.Denot) (crossing : IsSend D) 
           (
             search (sendable, option.the_send, job_send),
             (
-              search sendable,
-              (
-                search sendable,
-                (
-                  search (sendable, store_archive.the_send),
-                  (search (sendable, crossing), tt),
-                ),
-              ),
+              search (sendable, archived.the_send),
+              (search (sendable, crossing), tt),
             ),
           ),
         ),

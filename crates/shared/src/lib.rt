@@ -3,14 +3,18 @@
 
 mod cell;
 mod change;
+mod commits;
 mod committed;
+mod committer;
 mod comparing;
+mod jobs;
 mod locked;
 mod moment;
 mod naming;
 mod noting;
 mod observer;
 mod opening;
+mod queries;
 mod shared;
 mod shared_txn;
 mod shared_view;

@@ -40,6 +40,10 @@ use Rattle.store.specs.declared.job.JobDid.TheVariants as did
 abbrev pub writing : JobWork → Job
 writing work = record { work = work; stage = stages.Writing }
 
+-- the job once that is written and synced
+abbrev pub stored : JobWork → Job
+stored work = record { work = work; stage = stages.Stored }
+
 -- the store with another job, after a call of the disk
 abbrev pub with_job : StoreValue → Job → StoreValue → StoreValue
 with_job old job new = record old { job = Some job; disk = new.disk }

@@ -3,6 +3,7 @@ ghost use Rattle.std.specs.Prelude.{◌≡◌};
 
 use archive::RunWriter;
 use floors::Floors;
+use group::PumpFault;
 use status::{Growth, SlotTurn};
 use vacuum::{AnchorSource, ArchiveWalk};
 use wire::{Anchors, Run};
@@ -115,3 +116,6 @@ pub enum JobDid {
     /// The job's slot is open, or the piece is.
     JobDone,
 }
+
+/// What a step of a job answers, and the job after it.
+pub(crate) type Stepped = (Result<JobDid, PumpFault>, Option<Job>);

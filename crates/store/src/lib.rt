@@ -3,7 +3,9 @@
 
 mod giving_up;
 mod job;
+mod job_pieces;
 mod job_pump;
+mod job_slot;
 mod opening;
 mod over;
 mod pump;

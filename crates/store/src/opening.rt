@@ -5,7 +5,7 @@ ghost use Rattle.extents.specs.Times.{with_times};
 ghost use Rattle.store.specs.Opens.{Opens, OpenRefuses, times_of};
 
 use crate::store::Store;
-use crate::store_archive::StoreArchive;
+use crate::store_archive::Archived;
 use disk::Disk;
 use extents::ChainTimes;
 use group::CommitHead;
@@ -82,9 +82,8 @@ impl<D: Disk> Store<D> {
             Ok(recovered) => recovered,
             Err(fault) => return Err((fault, disk)),
         };
-        let (heads, times) = match commits_of(alloc, &recovered) {
-            Ok(commits) => commits,
-            Err(_) => return Err((OpenFault::NoMemory, disk)),
+        let Ok((heads, times)) = commits_of(alloc, &recovered) else {
+            return Err((OpenFault::NoMemory, disk));
         };
         let Recovered {
             header,
@@ -98,9 +97,8 @@ impl<D: Disk> Store<D> {
             chains,
             ..
         } = recovered;
-        let archive = match StoreArchive::new(alloc, runs) {
-            Ok(archive) => archive,
-            Err(_) => return Err((OpenFault::NoMemory, disk)),
+        let Ok(archived) = Archived::new(alloc, archived, runs_end, runs) else {
+            return Err((OpenFault::NoMemory, disk));
         };
         let log = StatusLog::new(&header, used);
         let slots = log.slots();
@@ -115,8 +113,6 @@ impl<D: Disk> Store<D> {
             turn: None,
             job: None,
             archived,
-            runs_end,
-            archive,
             disk,
         })
     }

@@ -25,8 +25,6 @@ impl<D: Disk> Store<D> {
             turn,
             job,
             archived,
-            runs_end,
-            archive,
             disk: before,
         } = self;
         let store = Store {
@@ -36,8 +34,6 @@ impl<D: Disk> Store<D> {
             turn,
             job,
             archived,
-            runs_end,
-            archive,
             disk,
         };
         (store, before)

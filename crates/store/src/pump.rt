@@ -7,7 +7,7 @@ ghost use Rattle.store.specs.Pumps.{Pumps, TakesStep, SyncsHeap, MayBeginSlot, T
 
 use crate::giving_up::put_in_place;
 use crate::job::JobStage;
-use crate::job_pump::EXTENT_BYTES;
+use crate::job_pieces::EXTENT_BYTES;
 use crate::slot_calls::{SlotCall, SlotStep, advance_slot};
 use crate::store::Store;
 use disk::{Area, DeviceFault, Disk};

@@ -16,7 +16,7 @@ impl<D: Disk> Store<D> {
         ensures { result ≡ is_own self.now view.now }
     {
         view.mark() == self.transactions.mark()
-            && is_front(view.runs(), self.archive.runs.as_slice())
+            && is_front(view.runs(), self.archived.archive.runs.as_slice())
     }
 
     /// The value of a key at a time in microseconds since 1970, as the view's moment knows it. Only below
@@ -33,7 +33,7 @@ impl<D: Disk> Store<D> {
         if !self.is_own(view) {
             return Err(QueryFault::Stranger);
         }
-        let reader = &mut self.archive.reader;
+        let reader = &mut self.archived.archive.reader;
         view.value_at(self.alloc, reader, &mut self.disk, key, time)
     }
 
@@ -50,7 +50,7 @@ impl<D: Disk> Store<D> {
         if !self.is_own(view) {
             return Err(QueryFault::Stranger);
         }
-        let reader = &mut self.archive.reader;
+        let reader = &mut self.archived.archive.reader;
         view.values_at(self.alloc, reader, &mut self.disk, relation, time)
     }
 
@@ -69,7 +69,7 @@ impl<D: Disk> Store<D> {
         if !self.is_own(view) {
             return Err(QueryFault::Stranger);
         }
-        let reader = &mut self.archive.reader;
+        let reader = &mut self.archived.archive.reader;
         view.rows_between(self.alloc, reader, &mut self.disk, key, a, b)
     }
 
@@ -87,7 +87,7 @@ impl<D: Disk> Store<D> {
         if !self.is_own(view) {
             return Err(QueryFault::Stranger);
         }
-        let reader = &mut self.archive.reader;
+        let reader = &mut self.archived.archive.reader;
         view.scan_rows_between(self.alloc, reader, &mut self.disk, relation, a, b)
     }
 }

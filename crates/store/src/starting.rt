@@ -39,15 +39,15 @@ impl<D: Disk> Store<D> {
         let Ok(floors) = self.transactions.floors().share() else {
             return Err(StartFault::NoMemory);
         };
-        match archive_run(versions, since, upto, self.runs_end) {
+        match archive_run(versions, since, upto, self.archived.runs_end) {
             None => Err(StartFault::ArchiveFull),
             Some((run, writer)) => {
                 let entry = RunEntry {
                     slot: run,
-                    mark: self.archived,
+                    mark: self.archived.upto,
                     floors,
                 };
-                let Ok(()) = self.archive.make_place(self.alloc, entry) else {
+                let Ok(()) = self.archived.archive.make_place(self.alloc, entry) else {
                     return Err(StartFault::NoMemory);
                 };
                 self.transactions.lend_slot();
@@ -66,7 +66,7 @@ impl<D: Disk> Store<D> {
         ensures { IfOk result (λ since. since ≡ since_now self.now) }
     {
         Ok(Since {
-            mark: self.archived,
+            mark: self.archived.upto,
             floors: self.transactions.floors().share()?,
         })
     }
@@ -82,7 +82,7 @@ impl<D: Disk> Store<D> {
         if self.job.is_some() {
             return Some(StartFault::JobBusy);
         }
-        if upto <= self.archived {
+        if upto <= self.archived.upto {
             return Some(StartFault::NothingToDo);
         }
         let last = self.transactions.last();
@@ -111,7 +111,7 @@ impl<D: Disk> Store<D> {
         let Ok(counted) = self.transactions.versions() else {
             return Err(StartFault::NoMemory);
         };
-        let mut counter = AnchorSource::new(counted, self.archived);
+        let mut counter = AnchorSource::new(counted, self.archived.upto);
         let Some(count) = count_extents(&mut counter) else {
             return Err(StartFault::HeapFull);
         };
@@ -121,7 +121,7 @@ impl<D: Disk> Store<D> {
             Ok(()) => {
                 self.transactions.lend_slot();
                 let anchors = Anchors {
-                    upto: self.archived,
+                    upto: self.archived.upto,
                     first: first_number(self.transactions.reserved()),
                     extents: count.extents,
                     records: count.records,
@@ -129,7 +129,7 @@ impl<D: Disk> Store<D> {
                 let job = Job {
                     work: JobWork::Reclaim {
                         anchors,
-                        source: AnchorSource::new(versions, self.archived),
+                        source: AnchorSource::new(versions, self.archived.upto),
                         written: 0,
                     },
                     stage: JobStage::Writing,
@@ -150,10 +150,10 @@ impl<D: Disk> Store<D> {
         if self.job.is_some() {
             return Some(StartFault::JobBusy);
         }
-        if self.archived == self.transactions.reclaimed() {
+        if self.archived.upto == self.transactions.reclaimed() {
             return Some(StartFault::NothingToDo);
         }
-        self.refusal_for_use(self.archived)
+        self.refusal_for_use(self.archived.upto)
     }
 
     /// Begins to raise the floor of every relation to a time in microseconds since 1970: before it nothing

@@ -4,7 +4,7 @@ ghost use Rattle.store.specs.Calls.{Begins, Aborts, Submits, Redeems, IsViewOf, 
 
 use crate::giving_up::GiveUp;
 use crate::job::Job;
-use crate::store_archive::StoreArchive;
+use crate::store_archive::Archived;
 use disk::Disk;
 use floors::Floors;
 use group::{BeginFault, Redeemed, SubmitFault, Submitted, Ticket};
@@ -23,10 +23,7 @@ pub struct Store<D: Disk> {
     pub(crate) log: StatusLog,
     pub(crate) turn: Option<SlotTurn>,
     pub(crate) job: Option<Job>,
-    // The archive mark, and where the last run of the log ends.
-    pub(crate) archived: u64,
-    pub(crate) runs_end: u64,
-    pub(crate) archive: StoreArchive,
+    pub(crate) archived: Archived,
     pub(crate) disk: D,
 }
 
@@ -36,10 +33,10 @@ impl<D: Disk> Model for Store<D> {
 
     ghost Value = { StoreValue };
 
-    ghost view = { λ s. parts_of s.transactions s.log s.turn s.job s.archived s.runs_end s.archive (D.state s.disk) };
+    ghost view = { λ s. parts_of s.transactions s.log s.turn s.job s.archived.upto s.archived.runs_end s.archived.archive (D.state s.disk) };
 
-    ghost invariant = { λ s. IsInStep (parts_of s.transactions s.log s.turn s.job s.archived s.runs_end s.archive (D.state s.disk))
-        × IsInRange (parts_of s.transactions s.log s.turn s.job s.archived s.runs_end s.archive (D.state s.disk)) };
+    ghost invariant = { λ s. IsInStep (parts_of s.transactions s.log s.turn s.job s.archived.upto s.archived.runs_end s.archived.archive (D.state s.disk))
+        × IsInRange (parts_of s.transactions s.log s.turn s.job s.archived.upto s.archived.runs_end s.archived.archive (D.state s.disk)) };
 }
 
 impl<D: Disk> Store<D> {
@@ -54,8 +51,6 @@ impl<D: Disk> Store<D> {
             turn,
             job,
             archived: _,
-            runs_end: _,
-            archive: _,
             disk,
         } = self;
         transactions.spend();
@@ -131,7 +126,7 @@ impl<D: Disk> Store<D> {
     pub fn view(&self) -> Result<View, AllocError>
         ensures { IfOk result (IsViewOf self.now) }
     {
-        let runs = self.archive.runs.share()?;
+        let runs = self.archived.archive.runs.share()?;
         let view = self.transactions.view()?;
         Ok(view.with_archive(self.transactions.reclaimed(), runs))
     }

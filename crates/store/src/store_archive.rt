@@ -28,6 +28,16 @@ impl Model for StoreArchive {
     ghost view = { λ a. record { runs = a.runs; next = a.next; kept = kept_of a.reader } };
 }
 
+/// What of a store is archived.
+#[derive(Drop)]
+pub(crate) struct Archived {
+    /// The archive mark, in microseconds since 1970.
+    pub(crate) upto: u64,
+    /// Where the last run of the log ends, in bytes.
+    pub(crate) runs_end: u64,
+    pub(crate) archive: StoreArchive,
+}
+
 fn is_same_run(a: &RunEntry, b: &RunEntry) -> bool
     ensures { result ≡ same_run a.now b.now }
 {
@@ -58,9 +68,28 @@ pub(crate) fn is_front(runs: &[RunEntry], others: &[RunEntry]) -> bool
     true
 }
 
-impl StoreArchive {
+impl Archived {
     /// That of a log with these runs, of which nothing is read.
-    pub(crate) fn new(alloc: Global, runs: Vec<RunEntry>) -> Result<Self, AllocError>
+    pub(crate) fn new(
+        alloc: Global,
+        upto: u64,
+        runs_end: u64,
+        runs: Vec<RunEntry>,
+    ) -> Result<Self, AllocError>
+        ensures upto { IfOk result (λ a. a.upto ≡ upto) }
+        ensures end { IfOk result (λ a. a.runs_end ≡ runs_end) }
+        ensures unread { IfOk result (λ a. IsUnread runs.items a.archive) }
+    {
+        Ok(Archived {
+            upto,
+            runs_end,
+            archive: StoreArchive::new(alloc, runs)?,
+        })
+    }
+}
+
+impl StoreArchive {
+    fn new(alloc: Global, runs: Vec<RunEntry>) -> Result<Self, AllocError>
         ensures { IfOk result (IsUnread runs.items) }
     {
         Ok(StoreArchive {

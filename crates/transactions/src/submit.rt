@@ -121,33 +121,29 @@ impl Transactions {
     {
         let Accepted { time, bodies } = accepted;
         let reclaimed = self.ordered_mark();
-        let Ok(after) = self.ordered().with_commit(alloc, time, writes) else {
-            return Err(AllocError);
-        };
+        let after = self.ordered().with_commit(alloc, time, writes)?;
         if self.queue.reserve(1).is_err() || self.order.reserve(1).is_err() {
             return Err(AllocError);
         }
         let extents = bodies.len() as u32;
-        match store(alloc, &mut self.extents, bodies) {
-            Err(AllocError) => Err(AllocError),
-            Ok(stored) => {
-                let entry = Member {
-                    label,
-                    time,
-                    first: first_number(&stored),
-                    extents,
-                    records: writes.len() as u32,
-                };
-                let queued = Queued::new(entry, after, reclaimed, stored);
-                self.queue.push_back_reserved(queued);
-                self.order.push_reserved(CommitHead {
-                    time,
-                    label,
-                    awaited: true,
-                });
-                Ok(())
-            }
-        }
+        let Ok(stored) = store(alloc, &mut self.extents, bodies) else {
+            return Err(AllocError);
+        };
+        let entry = Member {
+            label,
+            time,
+            first: first_number(&stored),
+            extents,
+            records: writes.len() as u32,
+        };
+        let queued = Queued::new(entry, after, reclaimed, stored);
+        self.queue.push_back_reserved(queued);
+        self.order.push_reserved(CommitHead {
+            time,
+            label,
+            awaited: true,
+        });
+        Ok(())
     }
 }
 

@@ -2,7 +2,6 @@ use Rattle.std.proofs.Common.{◌≡◌, ℕ, List, map, length, min, false, ref
 use Rattle.std.proofs.lemmas.List.{length-map}
 use Rattle.status.specs.Header.{total}
 use Rattle.recovery.specs.declared.recovered.Recovered.{Recovered}
-use Rattle.wire.specs.declared.slot.Member.{Member}
 use Rattle.store.specs.Heads.{head_as}
 use Rattle.store.specs.Opens.{times_of}
 use Rattle.group.specs.declared.commit_order.CommitHead.{CommitHead}
@@ -26,19 +25,19 @@ of_recovered-requires-clause-room g c = omega (arith, c.slots-slots.ensures, ap 
 pub returns-clause-ok : goal.returns-clause-ok
 returns-clause-ok g c =
     let r = c.in-Ok.recovered in
-    let heads_are : c.in-Ok-commits_of.commits.0.items ≡ map head_as r.commits.items = c.in-Ok-commits_of.ensures.heads in
+    let heads_are : c.in-Ok-commits_of.heads.items ≡ map head_as r.commits.items = c.in-Ok-commits_of.ensures.heads in
     let all : min (total r.header) 65536 ≡ total r.header = omega (arith, c.in-Ok.ensures.used.1) in
     let few : min r.header.pieces 256 ≡ r.header.pieces = omega (arith, c.in-Ok.ensures.used.1) in
     let log_is : c.new-log.result ≡ logged r (total r.header) r.header.pieces = c.new-log.ensures ∙ (λ i. logged r (all i) (few i)) in
     let many : length (map head_as r.commits.items) ≡ length r.commits.items = length-map r.commits.items head_as in
     let slots_are : c.slots-slots.result ≡ total r.header = c.slots-slots.ensures ∙ ap (λ (l : LogState). l.slots) log_is in
-    let times_are : c.in-Ok-commits_of.commits.1 ≡ times_of r.live.items = c.in-Ok-commits_of.ensures.times in
+    let times_are : c.in-Ok-commits_of.times ≡ times_of r.live.items = c.in-Ok-commits_of.ensures.times in
     record {
       recovered = r;
       read = c.in-Ok.ensures.found;
-      new_is = rw (log_is, c.of_recovered.ensures, slots_are, heads_are, many, c.in-Ok.ensures.runs_end, times_are) refl;
+      new_is = rw (log_is, c.of_recovered.ensures, slots_are, heads_are, many, c.in-Ok-new.ensures.upto, c.in-Ok-new.ensures.end, c.in-Ok.ensures.runs_end, times_are) refl;
       marked = c.in-Ok.ensures.runs.1;
-      unread = c.in-Ok-new.ensures;
+      unread = c.in-Ok-new.ensures.unread;
       ordered = rw c.of_recovered.ensures c.is_empty-none.ensures.ordered;
       settled = c.in-Ok.ensures.settled;
       left = c.in-Ok.ensures.left;

@@ -1,7 +1,7 @@
 use Rattle.std.proofs.Common.{Some, sym, subst}
 use Rattle.store.specs.Calls.{AnswersScanAt}
 use Rattle.store.specs.Values.{StoreValue}
-use Rattle.session.proofs.session.scan_at.Goals as goal
+use Rattle.session.proofs.queries.scan_at.Goals as goal
 
 pub returns : goal.returns
 returns g c =

@@ -2,7 +2,7 @@ use Rattle.std.proofs.Common.{◌≡◌, List, map, ap, subst, ◌∙◌, inr, B
 use Rattle.std.specs.declared.alloc.Global.{Global}
 use Rattle.session.specs.Session as told
 use Rattle.session.specs.Texts.{Text}
-use Rattle.session.proofs.session.put_fields.Goals as goal
+use Rattle.session.proofs.transacting.put_fields.Goals as goal
 
 pub returns : goal.returns
 returns c =

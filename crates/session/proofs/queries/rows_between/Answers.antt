@@ -1,7 +1,7 @@
 use Rattle.std.proofs.Common.{Some, sym, subst}
 use Rattle.store.specs.Calls.{AnswersRows}
 use Rattle.store.specs.Values.{StoreValue}
-use Rattle.session.proofs.session.rows_between.Goals as goal
+use Rattle.session.proofs.queries.rows_between.Goals as goal
 
 pub returns : goal.returns
 returns g c =

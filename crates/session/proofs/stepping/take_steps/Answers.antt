@@ -1,5 +1,5 @@
 use Rattle.session.proofs.StepLemmas.{work-ends, work-fewer, work-goes_on}
-use Rattle.session.proofs.session.take_steps.Goals as goal
+use Rattle.session.proofs.stepping.take_steps.Goals as goal
 
 pub returns-then-is_last : goal.returns-then-is_last
 returns-then-is_last g c = c.loop-work.invariant _ _ (work-ends g.D.Disk.tells c.args.work c.loop-work.store _ _ _ c.if-is_last.true c.take_step-reply.ensures)

@@ -2,7 +2,7 @@ use Rattle.std.proofs.Common.{arith}
 use Rattle.store.specs.declared.job.JobWork.TheVariants.{Archive}
 use Rattle.store.specs.Jobs.{writing}
 use Rattle.store.proofs.JobSteps.{synced-all, wrote-some}
-use Rattle.store.proofs.job_pump.store_run.Goals as goal
+use Rattle.store.proofs.job_pieces.store_run.Goals as goal
 
 pub returns-then-left-eq0 : goal.returns-then-left-eq0
 returns-then-left-eq0 g c = λ log turn archived runs_end archive.

@@ -2,7 +2,7 @@ use Rattle.std.proofs.Common.{◌+◌, ◌-◌, nat_lt, if◌then◌else◌}
 use Rattle.disk.specs.Calls.{top}
 use Rattle.session.specs.Session as told
 use Rattle.session.specs.declared.reply.Reply.{Reply}
-use Rattle.session.proofs.session.take_steps.Given as goal
+use Rattle.session.proofs.stepping.take_steps.Given as goal
 
 -- what takes the rest has taken all
 abbrev pub invariant-loop-work : goal.invariant-loop-work

@@ -1,7 +1,7 @@
 use Rattle.std.proofs.Common.{Some, sym, subst}
 use Rattle.store.specs.Calls.{AnswersAtView}
 use Rattle.store.specs.Values.{StoreValue}
-use Rattle.session.proofs.session.value_at.Goals as goal
+use Rattle.session.proofs.queries.value_at.Goals as goal
 
 pub returns : goal.returns
 returns g c =

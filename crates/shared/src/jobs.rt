@@ -1,0 +1,76 @@
+//! Jobs: how each is begun, and their steps.
+ghost use Rattle.std.specs.Prelude.{None, Some};
+ghost use Rattle.shared.specs.Shared.{JobHappens, FloorHappens, ArchiveHappens, ReclaimHappens, GrowthHappens};
+
+use crate::naming::Opening;
+use crate::shared::SharedStore;
+use disk::Disk;
+use std::sync::Wait;
+use store::{JobDid, PumpFault, StartFault};
+
+impl<D: Disk, L: Opening> SharedStore<D, L> {
+    /// Begins an archive of the versions that ended by `upto`, in microseconds since 1970.
+    pub fn archive_start<R: Wait>(&self, rt: &R, upto: u64) -> Result<(), StartFault>
+        ensures { ArchiveHappens L.start upto result }
+    {
+        self.locked.lock(rt).archive_start(upto)
+    }
+
+    /// Begins a reclaim: the heap and memory are to hold only what ended after the archive mark.
+    pub fn reclaim_start<R: Wait>(&self, rt: &R) -> Result<(), StartFault>
+        ensures { ReclaimHappens L.start result }
+    {
+        self.locked.lock(rt).reclaim_start()
+    }
+
+    /// Begins to raise the floor of all relations to a time in microseconds since 1970: views that are
+    /// taken once it is raised answer `BeforeKept` below it, and those that were taken before answer as
+    /// they did.
+    pub fn floor_start<R: Wait>(&self, rt: &R, floor: u64) -> Result<(), StartFault>
+        ensures { FloorHappens L.start None floor result }
+    {
+        self.locked.lock(rt).start_floor(None, floor)
+    }
+
+    /// Begins to raise the floor of one relation, as `floor_start` that of all. A store that has one
+    /// floor for all of its relations answers `WrongProfile`.
+    pub fn floor_of_start<R: Wait>(
+        &self,
+        rt: &R,
+        relation: u16,
+        floor: u64,
+    ) -> Result<(), StartFault>
+        ensures { FloorHappens L.start (Some relation) floor result }
+    {
+        self.locked.lock(rt).start_floor(Some(relation), floor)
+    }
+
+    /// Begins to make 256 slots more, which the store has once the job is done. It takes no slot and no
+    /// memory, and no commit waits for it. A store of profile 1, or of more than 65,280 slots, answers
+    /// `NotGrowable`.
+    pub fn grow_start<R: Wait>(&self, rt: &R) -> Result<(), StartFault>
+        ensures { GrowthHappens L.start result }
+    {
+        self.locked.lock(rt).grow_start()
+    }
+
+    /// One step of the job that runs.
+    pub fn job_pump<R: Wait>(&self, rt: &R) -> Result<JobDid, PumpFault>
+        ensures { JobHappens L.start result }
+    {
+        let mut locked = self.locked.lock(rt);
+        let did = locked.job_pump(rt, &self.cell);
+        let after = locked.signals();
+        drop(locked);
+        if is_job_move(&did) {
+            self.settled.notify_one();
+            self.tell_moved(after);
+        }
+        did
+    }
+}
+
+// Whether a step of a group may now have another answer, or some ticket.
+fn is_job_move(did: &Result<JobDid, PumpFault>) -> bool {
+    matches!(did, Ok(JobDid::JobDone) | Err(PumpFault::Failed))
+}
