@@ -4,13 +4,17 @@
 mod cell;
 mod change;
 mod committed;
+mod committing;
 mod comparing;
+mod copied;
 mod locked;
 mod moment;
 mod naming;
 mod noting;
 mod observer;
 mod opening;
+mod posts;
+mod served;
 mod shared;
 mod shared_txn;
 mod shared_view;

@@ -1,10 +1,9 @@
 //! The store that threads share.
-ghost use Rattle.std.specs.Prelude.{◌≡◌, ◌≤◌, ◌+◌, ◌<◌, length, IfOk, None, OnOk, Some};
+ghost use Rattle.std.specs.Prelude.{◌≡◌, ◌≤◌, ◌+◌, ◌<◌, length, IfOk, None, Some};
 ghost use Rattle.history.specs.Answers as answers;
 ghost use Rattle.history.specs.Histories.{last};
 ghost use Rattle.history.specs.Machine.{Machine};
 ghost use Rattle.image.specs.Values.{Value};
-ghost use Rattle.snapshot.specs.Txn.{at_snapshot};
 ghost use Rattle.refinement.specs.Homes.{IsSure};
 ghost use Rattle.refinement.specs.Laws.{SaysAt, SaysScanAt, SaysBetween, SaysScanBetween};
 ghost use Rattle.refinement.specs.Stands.{Stands};
@@ -12,39 +11,41 @@ ghost use Rattle.shared.specs.Counts.{unredeemed};
 ghost use Rattle.shared.specs.Moments.{OfSeen, begun_txn};
 ghost use Rattle.shared.specs.Reached.{Reached};
 ghost use Rattle.shared.specs.Seen.{IsLater};
-ghost use Rattle.shared.specs.Shared.{BeginHappens, SubmitHappens, SeenReached, PumpHappens, JobHappens, FloorHappens, ArchiveHappens, ReclaimHappens, GrowthHappens, RedeemSays, WaitSays, CommitHappens, changed, done_in, commits_in};
+ghost use Rattle.shared.specs.Shared.{BeginHappens, SubmitHappens, SeenReached, PumpHappens, JobHappens, FloorHappens, ArchiveHappens, ReclaimHappens, GrowthHappens, RedeemSays, done_in};
 
 use crate::cell::PublishedCell;
-use crate::change::Change;
-use crate::committed::{CommitFault, Committed};
 use crate::locked::Locked;
 use crate::naming::Opening;
 use crate::observer::Observer;
+use crate::posts::Posts;
 use crate::shared_txn::SharedTxn;
 use crate::shared_view::SharedView;
 use crate::signals::Signals;
 use chains::SharedValue;
+use crossbeam_utils::sync::EventCount;
 use disk::Disk;
 use history::{Key, Version};
 use std::alloc::{AllocError, Global};
 use std::sync::ledger::Share;
-use std::sync::{Condvar, Mutex, MutexGuard, Wait};
+use std::sync::{Condvar, Mutex, Wait};
 use store::{
     BeginFault, Did, JobDid, PumpFault, QueryFault, Redeemed, StartFault, Store, SubmitFault,
-    Submitted, Ticket, Txn, TxnFault,
+    Submitted, Ticket, Txn,
 };
 
 /// A store under a lock, and beside it the cell of its published time. One holding of the lock makes
-/// at most one call of the store.
+/// at most one call of the store. Beside the lock, too, are the posts of those who call `commit`.
 pub struct SharedStore<D: Disk, L: Opening> {
-    alloc: Global,
-    locked: Mutex<Locked<D, L>>,
-    // The committer sleeps on the first, commits that wait on the second, and the vacuum on the last. Of
-    // the commits one is woken, which wakes the next once it has asked.
-    queued: Condvar,
-    settled: Condvar,
-    moved: Condvar,
-    cell: PublishedCell,
+    pub(crate) alloc: Global,
+    pub(crate) locked: Mutex<Locked<D, L>>,
+    pub(crate) posts: Mutex<Posts<L>>,
+    // The committer sleeps on the first, callers of `commit` on the second until they are answered, on the
+    // third one whose ticket still waits, and the vacuum on the last.
+    pub(crate) queued: EventCount,
+    pub(crate) answered: Condvar,
+    pub(crate) settled: Condvar,
+    pub(crate) moved: Condvar,
+    pub(crate) cell: PublishedCell,
     ghost named: { cell.table.shared.table_id ≡ L.table },
 }
 
@@ -55,7 +56,9 @@ impl<D: Disk, L: Opening> SharedStore<D, L> {
         SharedStore {
             alloc,
             locked: Mutex::new(locked),
-            queued: Condvar::new(),
+            posts: Mutex::new(Posts::new(alloc)),
+            queued: EventCount::new(),
+            answered: Condvar::new(),
             settled: Condvar::new(),
             moved: Condvar::new(),
             cell,
@@ -101,8 +104,7 @@ impl<D: Disk, L: Opening> SharedStore<D, L> {
 
     /// Gives the transaction's snapshot up.
     pub fn abort<R: Wait>(&self, rt: &R, txn: SharedTxn<L>) {
-        self.locked.lock(rt).abort(txn.spend());
-        self.moved.notify_all();
+        self.abort_txn(rt, txn.spend());
     }
 
     /// Ends a transaction: its writes are queued as a commit, or it is refused.
@@ -120,14 +122,19 @@ impl<D: Disk, L: Opening> SharedStore<D, L> {
         self.submit_txn(rt, txn.spend(), label, now, me)
     }
 
-    fn begin_txn<R: Wait>(&self, rt: &R, me: &mut Observer<L>) -> Result<Txn, BeginFault>
+    pub(crate) fn abort_txn<R: Wait>(&self, rt: &R, txn: Txn) {
+        self.locked.lock(rt).abort(txn);
+        self.moved.notify_all();
+    }
+
+    pub(crate) fn begin_txn<R: Wait>(&self, rt: &R, me: &mut Observer<L>) -> Result<Txn, BeginFault>
         ensures happens { BeginHappens L.start L.mark result me.new }
         ensures later { IsLater me.old me.new }
     {
         self.locked.lock(rt).begin(rt, &self.cell, me)
     }
 
-    fn submit_txn<R: Wait>(
+    pub(crate) fn submit_txn<R: Wait>(
         &self,
         rt: &R,
         txn: Txn,
@@ -138,21 +145,27 @@ impl<D: Disk, L: Opening> SharedStore<D, L> {
         ensures happens { SubmitHappens L.start L.mark txn label now result me.new }
         ensures later { IsLater me.old me.new }
     {
-        let mut locked = self.locked.lock(rt);
-        let submitted = locked.submit(rt, &self.cell, txn, label, now, me);
-        let after = locked.signals();
-        drop(locked);
-        self.tell_moved(after);
+        let submitted = self
+            .locked
+            .lock(rt)
+            .submit(rt, &self.cell, txn, label, now, me);
+        self.tell_moved();
         submitted
     }
 
-    // A transaction ended, or a job was done: the vacuum may go on, and the committer, unless commits are
-    // on their way.
-    fn tell_moved(&self, after: Signals) {
+    // A transaction ended, or a job was done: the vacuum may go on, and the committer.
+    fn tell_moved(&self) {
         self.moved.notify_all();
-        if after.lets_begin() {
-            self.queued.notify_all();
+        self.queued.notify_all();
+    }
+
+    // Commits are published, or the store has failed: those who wait for it may go on.
+    fn tell_settled<R: Wait>(&self, rt: &R, after: Signals) {
+        let answered = self.posts.lock(rt).settle(after);
+        if answered {
+            self.answered.notify_all();
         }
+        self.settled.notify_all();
     }
 
     /// One step of the group that is written. A step that publishes writes the published time before
@@ -165,7 +178,7 @@ impl<D: Disk, L: Opening> SharedStore<D, L> {
     }
 
     // One step of the group, and what the signals are then.
-    fn step<R: Wait>(&self, rt: &R, after: &mut Signals) -> Result<Did, PumpFault>
+    pub(crate) fn step<R: Wait>(&self, rt: &R, after: &mut Signals) -> Result<Did, PumpFault>
         ensures { PumpHappens L.start result }
     {
         let mut locked = self.locked.lock(rt);
@@ -173,8 +186,8 @@ impl<D: Disk, L: Opening> SharedStore<D, L> {
         *after = locked.signals();
         drop(locked);
         if is_move(&did) {
-            self.settled.notify_one();
-            self.tell_moved(*after);
+            self.tell_settled(rt, *after);
+            self.tell_moved();
         }
         did
     }
@@ -233,8 +246,8 @@ impl<D: Disk, L: Opening> SharedStore<D, L> {
         let after = locked.signals();
         drop(locked);
         if is_job_move(&did) {
-            self.settled.notify_one();
-            self.tell_moved(after);
+            self.tell_settled(rt, after);
+            self.tell_moved();
         }
         did
     }
@@ -348,164 +361,6 @@ impl<D: Disk, L: Opening> SharedStore<D, L> {
         view.spend().spend();
     }
 
-    /// Commits these changes, and waits until they are published. With Done the caller has seen the
-    /// commit published, and it counts once in the caller's share.
-    pub fn commit<R: Wait>(
-        &self,
-        rt: &R,
-        changes: &[Change<'_>],
-        label: u64,
-        now: u64,
-        share: &mut Share<L>,
-        me: &mut Observer<L>,
-    ) -> Result<Committed, CommitFault>
-        requires { 0 < share.old.parts }
-        ensures happens { CommitHappens changes.now label result me.new }
-        ensures parts { share.new.parts ≡ share.old.parts }
-        ensures amount { share.new.amount ≡ share.old.amount + commits_in result }
-        ensures later { IsLater me.old me.new }
-    {
-        let mut txn = match self.enter(rt, me) {
-            Ok(txn) => txn,
-            Err(fault) => return Err(CommitFault::Begin(fault)),
-        };
-        match apply(self.alloc, &mut txn, changes) {
-            Ok(()) => {}
-            Err(fault) => {
-                self.leave(rt, txn);
-                return Err(CommitFault::Txn(fault));
-            }
-        }
-        let mut after = Signals::new();
-        match self.submit_awaited(rt, txn, label, now, me, &mut after) {
-            Ok(Submitted::Queued(ticket)) => self.wait_for(rt, ticket, share, me, after),
-            Ok(Submitted::ReadOnly(snapshot)) => Ok(Committed::ReadOnly(snapshot)),
-            Err(fault) => Err(CommitFault::Submit(fault)),
-        }
-    }
-
-    // As `begin_txn`, `abort` and `submit_txn`, for a commit.
-    fn enter<R: Wait>(&self, rt: &R, me: &mut Observer<L>) -> Result<Txn, BeginFault>
-        ensures happens { BeginHappens L.start L.mark result me.new }
-        ensures later { IsLater me.old me.new }
-    {
-        self.locked.lock(rt).enter(rt, &self.cell, me)
-    }
-
-    fn leave<R: Wait>(&self, rt: &R, txn: Txn) {
-        let mut locked = self.locked.lock(rt);
-        locked.leave(txn);
-        let after = locked.signals();
-        drop(locked);
-        self.tell_moved(after);
-    }
-
-    fn submit_awaited<R: Wait>(
-        &self,
-        rt: &R,
-        txn: Txn,
-        label: u64,
-        now: u64,
-        me: &mut Observer<L>,
-        after: &mut Signals,
-    ) -> Result<Submitted, SubmitFault>
-        ensures happens { SubmitHappens L.start L.mark txn label now result me.new }
-        ensures later { IsLater me.old me.new }
-    {
-        let mut locked = self.locked.lock(rt);
-        let submitted = locked.submit_awaited(rt, &self.cell, txn, label, now, me);
-        *after = locked.signals();
-        drop(locked);
-        self.tell_moved(*after);
-        submitted
-    }
-
-    // The lock, once tickets may have another answer than when so many groups had ended. Who is woken for
-    // nothing wakes the next, as long as one of those that sleep is to ask.
-    fn lock_settled<R: Wait>(&self, rt: &R, settled: u64) -> MutexGuard<'_, Locked<D, L>> {
-        let mut locked = self.locked.lock(rt);
-        let mut woken = false;
-        for _ in rt.forever() {
-            let signals = locked.signals();
-            if signals.settled() != settled {
-                return locked;
-            }
-            if woken && signals.has_due() {
-                self.settled.notify_one();
-            }
-            locked = self.settled.wait(rt, locked);
-            woken = true;
-        }
-        locked
-    }
-
-    // A commit's caller has asked for its ticket: the next who is to ask is woken, one at a time, so that
-    // they do not meet at the lock; and the committer, unless commits are on their way.
-    fn tell_asked(&self, after: Signals) {
-        if after.has_due() {
-            self.settled.notify_one();
-        }
-        if after.lets_begin() {
-            self.queued.notify_all();
-        }
-    }
-
-    // As `redeem`, for a commit, once its ticket may have another answer than after this.
-    fn redeem_settled<R: Wait>(
-        &self,
-        rt: &R,
-        ticket: Ticket,
-        share: &mut Share<L>,
-        me: &mut Observer<L>,
-        after: &mut Signals,
-    ) -> Redeemed
-        requires { 0 < share.old.parts }
-        ensures says { RedeemSays ticket result me.new }
-        ensures reached { SeenReached L.start me.new }
-        ensures parts { share.new.parts ≡ share.old.parts }
-        ensures amount { share.new.amount ≡ share.old.amount + done_in result }
-        ensures later { IsLater me.old me.new }
-    {
-        let mut locked = self.lock_settled(rt, after.settled());
-        let redeemed = locked.redeem_awaited(rt, &self.cell, ticket, share, me);
-        *after = locked.signals();
-        drop(locked);
-        self.tell_asked(*after);
-        redeemed
-    }
-
-    // Asks for a ticket each time that commits were published or the store has failed.
-    fn wait_for<R: Wait>(
-        &self,
-        rt: &R,
-        ticket: Ticket,
-        share: &mut Share<L>,
-        me: &mut Observer<L>,
-        since: Signals,
-    ) -> Result<Committed, CommitFault>
-        requires { 0 < share.old.parts }
-        ensures says { WaitSays ticket result me.new }
-        ensures parts { share.new.parts ≡ share.old.parts }
-        ensures amount { share.new.amount ≡ share.old.amount + commits_in result }
-        ensures later { IsLater me.old me.new }
-    {
-        let mut ticket = ticket;
-        let mut since = since;
-        for _ in rt.forever() {
-            match self.redeem_settled(rt, ticket, share, me, &mut since) {
-                Redeemed::Done(time) => {
-                    me.legal();
-                    return Ok(Committed::Done(time));
-                }
-                Redeemed::InDoubt => return Err(CommitFault::InDoubt),
-                Redeemed::Stranger => return Err(CommitFault::Stranger),
-                Redeemed::Waiting(again) => ticket = again,
-            }
-        }
-        ticket.give_up();
-        unreachable!()
-    }
-
     // The moves so far, and whether the loops are to end.
     pub(crate) fn signals<R: Wait>(&self, rt: &R) -> (u64, bool) {
         let signals = self.locked.lock(rt).signals();
@@ -517,48 +372,6 @@ impl<D: Disk, L: Opening> SharedStore<D, L> {
         self.moved.wait_while(rt, self.locked.lock(rt), |locked| {
             locked.signals().moves() == moves
         });
-    }
-
-    // Sleeps until no commit is on its way to the next group.
-    fn wait_gathered<R: Wait>(&self, rt: &R) {
-        self.queued.wait_while(rt, self.locked.lock(rt), |locked| {
-            !locked.signals().lets_begin()
-        });
-    }
-
-    // The same, and until something else than these moves happened.
-    fn wait_queued<R: Wait>(&self, rt: &R, moves: u64) {
-        self.queued.wait_while(rt, self.locked.lock(rt), |locked| {
-            let signals = locked.signals();
-            signals.moves() == moves || !signals.lets_begin()
-        });
-    }
-
-    /// Pumps until it is told to stop and the queue is empty, or the store has failed. After each
-    /// answer, with the lock given up, it calls `pause`. Where there is nothing to do it sleeps, and
-    /// before it begins a group, as long as calls of `commit` are on their way to it, so that one gate
-    /// has the commits of all who call.
-    pub fn run_committer<R: Wait, F: FnMut(&R, &Result<Did, PumpFault>)>(
-        &self,
-        rt: &R,
-        mut pause: F,
-    )
-        requires { F.IsAlwaysCallable pause }
-    {
-        let mut after = Signals::new();
-        for _ in rt.forever() {
-            let did = self.step(rt, &mut after);
-            pause(rt, &did);
-            if is_over(after.is_stopping(), &did) {
-                return;
-            }
-            if has_to_wait(&did) {
-                self.wait_queued(rt, after.moves());
-            } else if !after.lets_begin() {
-                self.wait_gathered(rt);
-            }
-        }
-        unreachable!()
     }
 
     /// Tells both loops to end.
@@ -578,34 +391,14 @@ impl<D: Disk, L: Opening> SharedStore<D, L> {
         let SharedStore {
             alloc: _,
             locked,
+            posts: _,
             queued: _,
+            answered: _,
             settled: _,
             moved: _,
             cell: _,
         } = self;
         locked.into_inner().into_store(all)
-    }
-}
-
-// Makes the changes in turn.
-fn apply(alloc: Global, txn: &mut Txn, changes: &[Change<'_>]) -> Result<(), TxnFault>
-    ensures ok { OnOk result (txn.new.writes ≡ changed (at_snapshot txn.old.state txn.old.snapshot) txn.old.writes changes.now) }
-    ensures snapshot { OnOk result (txn.new.snapshot ≡ txn.old.snapshot) }
-{
-    for change in changes {
-        match *change {
-            Change::Put { key, fields } => txn.put(alloc, key, fields)?,
-            Change::Delete { key } => txn.delete(key)?,
-        }
-    }
-    Ok(())
-}
-
-fn is_over(stopping: bool, did: &Result<Did, PumpFault>) -> bool {
-    match did {
-        Ok(Did::Idle) => stopping,
-        Err(PumpFault::Failed) => true,
-        _ => false,
     }
 }
 
@@ -617,9 +410,4 @@ fn is_move(did: &Result<Did, PumpFault>) -> bool {
 // Whether a step of a group may now have another answer, or some ticket.
 fn is_job_move(did: &Result<JobDid, PumpFault>) -> bool {
     matches!(did, Ok(JobDid::JobDone) | Err(PumpFault::Failed))
-}
-
-// Whether nothing can be done before something else happens.
-fn has_to_wait(did: &Result<Did, PumpFault>) -> bool {
-    matches!(did, Ok(Did::Idle) | Err(PumpFault::Busy))
 }
