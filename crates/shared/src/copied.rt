@@ -1,5 +1,5 @@
 //! Changes with memory of their own, and what a transaction makes of them.
-ghost use Rattle.std.specs.Prelude.{◌≡◌, ◌≤◌, map, take, length, IfOk, OnOk, IsTrue};
+ghost use Rattle.std.specs.Prelude.{◌≡◌, ◌≤◌, ◌↔◌, map, take, length, IfOk, OnOk, IsTrue};
 ghost use Rattle.image.specs.Values.{IsValue};
 ghost use Rattle.snapshot.specs.Txn.{at_snapshot, with_put};
 ghost use Rattle.shared.specs.Posted.{write_of, written};
@@ -72,6 +72,12 @@ fn is_copy(change: &Change<'_>, write: &KeyWrite<Value>) -> bool
     }
 }
 
+fn are_same(a: &[u8], b: &[u8]) -> bool
+    ensures { IsTrue result ↔ (a.now ≡ b.now) }
+{
+    a == b
+}
+
 // Whether the value has these fields and no others.
 fn has_fields(value: &Value, fields: &[&[u8]]) -> bool
     ensures { IsTrue result → map (λ field. field.now) fields.now ≡ value.now }
@@ -82,7 +88,7 @@ fn has_fields(value: &Value, fields: &[&[u8]]) -> bool
         let Some(found) = left.take_field() else {
             return false;
         };
-        if found != *field {
+        if !are_same(found, field) {
             return false;
         }
         rest = after;
