@@ -4,7 +4,6 @@
 mod cell;
 mod change;
 mod committed;
-mod committing;
 mod comparing;
 mod copied;
 mod locked;
@@ -13,6 +12,7 @@ mod naming;
 mod noting;
 mod observer;
 mod opening;
+mod posting;
 mod posts;
 mod served;
 mod shared;
