@@ -1,6 +1,6 @@
 //! Commits that callers post, and the committer that works for them.
-ghost use Rattle.std.specs.Prelude.{◌≡◌, ◌+◌, ◌<◌};
-ghost use Rattle.shared.specs.Posted.{ServedSays};
+ghost use Rattle.std.specs.Prelude.{◌≡◌, ◌+◌, ◌<◌, map, IsTrue};
+ghost use Rattle.shared.specs.Posted.{ServedSays, write_of};
 ghost use Rattle.shared.specs.Seen.{IsLater};
 ghost use Rattle.shared.specs.Shared.{SeenReached, RedeemSays, WaitSays, CommitHappens, done_in, commits_in};
 
@@ -110,17 +110,21 @@ impl<D: Disk, L: Opening> SharedStore<D, L> {
     {
         let (writes, asked, outcome, seen) = served.spend();
         me.learn(rt, &self.cell, seen);
-        let ours = asked == label && are_copies(changes, &writes);
+        let ours = is_answer(asked, &writes, label, changes);
         match outcome {
             Ok(Submitted::Queued(ticket)) => {
-                if !ours {
-                    ticket.give_up();
-                    return Err(CommitFault::InDoubt);
+                if ours {
+                    return self.wait_for(rt, ticket, share, me);
                 }
-                self.wait_for(rt, ticket, share, me)
+                ticket.give_up();
+                Err(CommitFault::InDoubt)
             }
-            Ok(Submitted::ReadOnly(snapshot)) if ours => Ok(Committed::ReadOnly(snapshot)),
-            Ok(Submitted::ReadOnly(_)) => Err(CommitFault::InDoubt),
+            Ok(Submitted::ReadOnly(snapshot)) => {
+                if ours {
+                    return Ok(Committed::ReadOnly(snapshot));
+                }
+                Err(CommitFault::InDoubt)
+            }
             Err(fault) => Err(fault),
         }
     }
@@ -305,6 +309,13 @@ impl<D: Disk, L: Opening> SharedStore<D, L> {
         }
         unreachable!()
     }
+}
+
+// Whether these are the copies of the changes, and the label is theirs.
+fn is_answer(asked: u64, writes: &[KeyWrite<Value>], label: u64, changes: &[Change<'_>]) -> bool
+    ensures { IsTrue result → (asked ≡ label) × (map write_of changes.now ≡ writes.now) }
+{
+    asked == label && are_copies(changes, writes)
 }
 
 fn is_over(stopping: bool, did: &Result<Did, PumpFault>) -> bool {
