@@ -190,9 +190,10 @@ impl<D: Disk, L: Opening> SharedStore<D, L> {
         });
     }
 
-    // Works for all requests that there are.
+    // Works for the requests that there are.
     fn serve<R: Wait>(&self, rt: &R) {
-        for _ in rt.forever() {
+        let asked = self.posts.lock(rt).asked();
+        for _ in 0..asked {
             let taken = self.posts.lock(rt).take_asked();
             let Some((number, request)) = taken else {
                 return;
@@ -262,8 +263,10 @@ impl<D: Disk, L: Opening> SharedStore<D, L> {
         }
     }
 
-    // Works for the requests until a step of a group is to be made.
+    // Works for the requests that there are, and then for those that come, until a step of a group is to
+    // be made.
     fn gather<R: Wait>(&self, rt: &R, waits: bool, moves: u64) {
+        self.serve(rt);
         for _ in rt.forever() {
             match self.next(rt, waits, moves) {
                 Doing::Serves => self.serve(rt),

@@ -8,10 +8,13 @@ use std::mem;
 /// The members of a full group.
 const FULL_GROUP: u64 = 16;
 
+/// How often a committer goes through the posts before it begins a group, as long as requests come.
+const MOST_ROUNDS: u64 = 64;
+
 /// What a committer is to do.
 #[derive(Clone, Copy, Debug, PartialEq, Eq)]
 pub(crate) enum Doing {
-    /// It works for a request.
+    /// It works for the requests.
     Serves,
     /// It makes a step of a group.
     Steps,
@@ -41,6 +44,8 @@ pub(crate) struct Posts<L: Opening> {
     asked: u64,
     // The answers that are to be taken.
     due: u64,
+    // How often a committer went through the posts since its last step.
+    rounds: u64,
     // The loops of committers that run.
     committers: u64,
     // Up to this time commits are published, in microseconds since 1970.
@@ -100,6 +105,7 @@ impl<L: Opening> Posts<L> {
             posts: Vec::new(alloc),
             asked: 0,
             due: 0,
+            rounds: 0,
             committers: 0,
             upto: 0,
             failed: false,
@@ -121,6 +127,11 @@ impl<L: Opening> Posts<L> {
         self.posts.push(Post::Asked(request))?;
         self.asked = self.asked.wrapping_add(1);
         Ok(number)
+    }
+
+    /// How many requests are to be worked for.
+    pub(crate) fn asked(&self) -> u64 {
+        self.asked
     }
 
     /// A request that is to be worked for, with the number of its post.
@@ -200,14 +211,19 @@ impl<L: Opening> Posts<L> {
         true
     }
 
-    /// What a committer is to do. It begins no group as long as an answer is to be taken, since then a
-    /// caller may be on its way with the next request, unless a full group waits.
+    /// What a committer is to do. It begins no group as long as requests come, or an answer is to be
+    /// taken, since then a caller may be on its way with the next request, unless a full group waits.
     pub(crate) fn next(&mut self, signals: Signals, waits: bool) -> Doing {
-        if self.asked != 0 {
+        let urgent = signals.is_urgent() || signals.queued() >= FULL_GROUP;
+        let has_work = signals.is_urgent() || signals.queued() != 0;
+        let lets_step = has_work && !waits && (urgent || self.rounds >= MOST_ROUNDS);
+        if self.asked != 0 && !lets_step {
+            self.rounds = self.rounds.wrapping_add(1);
             return Doing::Serves;
         }
-        let gathered = self.due == 0 || signals.is_urgent() || signals.queued() >= FULL_GROUP;
-        let idle = waits || !(signals.is_urgent() || signals.queued() != 0);
+        self.rounds = 0;
+        let gathered = self.due == 0 || lets_step;
+        let idle = waits || !has_work;
         self.held = !idle && !gathered;
         if idle || !gathered {
             return Doing::Sleeps;
