@@ -1,18 +1,19 @@
 -- What was submitted is what is published.
-use Rattle.std.proofs.Common.{◌≡◌, ℕ, ◌<◌, cond, List, [], ◌∷◌, ◌++◌, Option, Some, None, is_some, Result, Ok, Err, refl, sym, ap, ◌∙◌, subst, ⊎_elim, arith, map}
+use Rattle.std.proofs.Common.{◌≡◌, ℕ, ◌<◌, ◌^◌, nat_lt, Bool, true, false, cond, List, [], ◌∷◌, ◌++◌, Option, Some, None, is_some, Result, Ok, Err, refl, sym, ap, ◌∙◌, subst, ⊎_elim, arith, map}
 use Rattle.std.specs.Prelude.{Contains}
 use Rattle.std.proofs.lemmas.List.Elements.{Contains-append_left, Contains-append_right}
 use Rattle.history.specs.declared.key.Key.{Key}
 use Rattle.history.specs.declared.key.KeyWrite.{KeyWrite}
 use Rattle.history.specs.Histories.{Commit, History, IsHistory, HasRisingTimes, last, state}
 use Rattle.history.specs.Machine.{Machine}
-use Rattle.history.specs.Submissions.{commit_made}
+use Rattle.history.specs.Submissions.{Submission, Decision, Queues, Ends, decision_on, unless_conflict, conflict_of, commit_made}
 use Rattle.history.proofs.Histories.{rising-from_following}
 use Rattle.history.proofs.Members.{Contains-cons_cases, Contains-head, Contains-nil}
 use Rattle.image.specs.Values.{Value, IsValue}
 use Rattle.snapshot.specs.Txn.{TxnValue, at_snapshot}
 use Rattle.snapshot.specs.WriteSets.{with_write, without}
 use Rattle.group.specs.Tickets.{TicketValue}
+use Rattle.group.specs.declared.answers.Submitted.{Submitted}
 use Rattle.group.specs.declared.answers.Submitted.TheVariants as submitted
 use Rattle.refinement.specs.Laws.{submission_of}
 use Rattle.shared.specs.declared.change.Change.{Change}
@@ -21,9 +22,11 @@ use Rattle.shared.specs.declared.committed.Committed.{Committed}
 use Rattle.shared.specs.declared.committed.Committed.TheVariants as committed
 use Rattle.shared.specs.declared.committed.CommitFault.{CommitFault}
 use Rattle.shared.specs.Seen.{Seen, seen_of, order_of, IsLater}
-use Rattle.shared.specs.Shared.{Submits, HasCommitAt, WaitSays, CommitHappens, changed, queued_seen}
+use Rattle.shared.specs.Posted.{Waits, ServedSays, write_of, wrote, written}
+use Rattle.shared.specs.Shared.{Submits, SubmitHappens, HasCommitAt, WaitSays, CommitHappens, changed, queued_seen}
 use Rattle.shared.specs.Shared as shared
-use Rattle.shared.proofs.Fronts.{later-then}
+use Rattle.history.specs.Submissions as submissions
+use Rattle.shared.proofs.Fronts.{front-then, later-then}
 use Rattle.shared.proofs.Stepping.{submit-seen}
 
 later-time : (t : ℕ) (h : History Value) (c : Commit Value) → HasRisingTimes t h → Contains h c → t < c.time
@@ -64,30 +67,82 @@ commit-stands start brand txn label now ticket before after time s later legal a
 
 -- ---- changes
 
-changed-same : (f g : Key → Option Value) (writes : List (KeyWrite Value)) (changes : List Change) → ((key : Key) → f key ≡ g key) → changed f writes changes ≡ changed g writes changes
-changed-same f g writes [] same = refl
-changed-same f g writes (change.Put key fields ∷ changes) same = changed-same f g (with_write writes (record { key = key; write = Some (map (λ field. field.now) fields.now) })) changes same
-changed-same f g writes (change.Delete key ∷ changes) same =
-    changed-same f g (cond (is_some (f key)) (with_write writes (record { key = key; write = None })) (without writes key)) changes same
-    ∙ ap (λ (o : Option Value). changed g (cond (is_some o) (with_write writes (record { key = key; write = None })) (without writes key)) changes) (same key)
+-- the writes of changes are those of their copies
+changed-written : (before : Key → Option Value) (writes : List (KeyWrite Value)) (changes : List Change) → changed before writes changes ≡ written before writes (map write_of changes)
+changed-written before writes [] = refl
+changed-written before writes (change.Put key fields ∷ changes) = changed-written before (with_write writes (record { key = key; write = Some (map (λ field. field.now) fields.now) })) changes
+changed-written before writes (change.Delete key ∷ changes) = changed-written before (cond (is_some (before key)) (with_write writes (record { key = key; write = None })) (without writes key)) changes
+
+wrote-same : (f g : Key → Option Value) (writes : List (KeyWrite Value)) (key : Key) (value : Option Value) → f key ≡ g key → wrote f writes key value ≡ wrote g writes key value
+wrote-same f g writes key (Some value) same = refl
+wrote-same f g writes key None same = ap (λ (o : Option Value). cond (is_some o) (with_write writes (record { key = key; write = None })) (without writes key)) same
+
+written-same : (f g : Key → Option Value) (writes changes : List (KeyWrite Value)) → ((key : Key) → f key ≡ g key) → written f writes changes ≡ written g writes changes
+written-same f g writes [] same = refl
+written-same f g writes (w ∷ ws) same = written-same f g (wrote f writes w.key w.write) ws same ∙ ap (λ (l : List (KeyWrite Value)). written g l ws) (wrote-same f g writes w.key w.write (same w.key))
 
 -- what a transaction wrote that began on what was seen
-begun-writes : (start : Machine Value) (brand : ℕ) (begun : TxnValue) (seen : Seen) (changes : List Change) (writes : List (KeyWrite Value)) → shared.Reads start brand begun seen → writes ≡ changed (at_snapshot begun.state begun.snapshot) begun.writes changes
-    → writes ≡ changed (state seen.published (last seen.published)) [] changes
+begun-writes : (start : Machine Value) (brand : ℕ) (begun : TxnValue) (seen : Seen) (changes writes : List (KeyWrite Value)) → shared.Reads start brand begun seen → writes ≡ written (at_snapshot begun.state begun.snapshot) begun.writes changes
+    → writes ≡ written (state seen.published (last seen.published)) [] changes
 begun-writes start brand begun seen changes writes r is =
     let at : begun.snapshot ≡ last seen.published = r.snapshot ∙ ap (λ (s : Seen). last s.published) (sym r.seen_is) in
     let reads : (key : Key) → at_snapshot begun.state begun.snapshot key ≡ state seen.published (last seen.published) key = λ key.
     r.reads key ∙ ap (λ (s : Seen). state s.published begun.snapshot key) (sym r.seen_is) ∙ ap (λ (t : ℕ). state seen.published t key) at in
-    is ∙ ap (λ (ws : List (KeyWrite Value)). changed (at_snapshot begun.state begun.snapshot) ws changes) r.writes
-    ∙ changed-same (at_snapshot begun.state begun.snapshot) (state seen.published (last seen.published)) [] changes reads
+    is ∙ ap (λ (ws : List (KeyWrite Value)). written (at_snapshot begun.state begun.snapshot) ws changes) r.writes
+    ∙ written-same (at_snapshot begun.state begun.snapshot) (state seen.published (last seen.published)) [] changes reads
 
-pub commit-waits : (start : Machine Value) (brand : ℕ) (begun txn : TxnValue) (label now : ℕ) (changes : List Change) (ticket : TicketValue) (first before after : Seen) (r : Result Committed CommitFault) → shared.Reads start brand begun first
-    → txn.writes ≡ changed (at_snapshot begun.state begun.snapshot) begun.writes changes → IsLater first before → Submits start brand txn label now (Ok (submitted.Queued ticket)) before → IsLater before after → WaitSays ticket r after → CommitHappens changes label r after
-commit-waits start brand begun txn label now changes ticket first before after (Ok (committed.Done time)) r is early s later says = (
+-- a commit that waited is the one that is published
+pub commit-waits : (start : Machine Value) (brand : ℕ) (changes : List Change) (writes : List (KeyWrite Value)) (label : ℕ) (ticket : TicketValue) (seen after : Seen) (r : Result Committed CommitFault) → map write_of changes ≡ writes
+    → Waits start brand writes label ticket seen → IsLater seen after → WaitSays ticket r after → CommitHappens changes label r after
+commit-waits start brand changes writes label ticket seen after (Ok (committed.Done time)) same w later says =
+    let before : Key → Option Value = state w.first.published (last w.first.published) in
+    let made : w.txn.writes ≡ changed before [] changes = begun-writes start brand w.begun w.first writes w.txn.writes w.reads w.made ∙ ap (written before []) (sym same) ∙ sym (changed-written before [] changes) in (
+      w.first.published,
+      (later-then w.first seen after w.early later).published,
+      subst (λ (ws : List (KeyWrite Value)). Contains after.published (record { time = time; label = label; writes = ws })) made
+          (commit-stands start brand w.txn label w.now ticket seen after time w.submits later says.2 says.0 says.1),
+    )
+commit-waits start brand changes writes label ticket seen after (Ok (committed.ReadOnly time)) same w later says = absurd says
+commit-waits start brand changes writes label ticket seen after (Err why) same w later says = tt
+
+-- and one that came to no write did not wait
+pub commit-reads : (start : Machine Value) (brand : ℕ) (changes : List Change) (writes : List (KeyWrite Value)) (label time : ℕ) (seen after : Seen) → map write_of changes ≡ writes
+    → ServedSays start brand writes label (Ok (submitted.ReadOnly time)) seen → IsLater seen after → CommitHappens changes label (Ok (committed.ReadOnly time)) after
+commit-reads start brand changes writes label time seen after same says later =
+    let before : Key → Option Value = state says.0 (last says.0) in (
+      says.0,
+      front-then says.0 seen.published after.published says.1 later.published,
+      says.2,
+      changed-written before [] changes ∙ ap (written before []) same ∙ says.3,
+    )
+
+-- ---- what the committer leaves
+
+reads-nothing : (m : Machine Value) (s : Submission Value) (ws : List (KeyWrite Value)) → Path (Decision Value) submissions.Reads (decision_on m s ws) → ws ≡ []
+reads-nothing m s [] is = refl
+reads-nothing m s (w ∷ ws) is = absurd (none (conflict_of m s) (nat_lt (commit_made m s).time (2 ^ 63)) is)
+  where
+    none : (o : Option Key) (b : Bool) → Path (Decision Value) submissions.Reads (unless_conflict o (cond b (Queues (commit_made m s)) Ends)) → ⊥
+    none (Some key) b is = absurd cc
+    none None true is = absurd cc
+    none None false is = absurd cc
+
+-- by the answer to the submit of a transaction that made these changes
+pub serves : (start : Machine Value) (brand : ℕ) (begun txn : TxnValue) (label now : ℕ) (writes : List (KeyWrite Value)) (first seen : Seen) (r : Submitted) → shared.Reads start brand begun first
+    → txn.snapshot ≡ begun.snapshot → txn.writes ≡ written (at_snapshot begun.state begun.snapshot) begun.writes writes → IsLater first seen → SubmitHappens start brand txn label now (Ok r) seen → ServedSays start brand writes label (Ok r) seen
+serves start brand begun txn label now writes first seen (submitted.Queued ticket) r at made early s = record {
+  first = first;
+  begun = begun;
+  txn = txn;
+  now = now;
+  reads = r;
+  made = made;
+  early = early;
+  submits = s;
+}
+serves start brand begun txn label now writes first seen (submitted.ReadOnly time) r at made early s = (
   first.published,
-  (later-then first before after early later).published,
-  subst (λ (ws : List (KeyWrite Value)). Contains after.published (record { time = time; label = label; writes = ws })) (begun-writes start brand begun first changes txn.writes r is)
-      (commit-stands start brand txn label now ticket before after time s later says.2 says.0 says.1),
+  early.published,
+  s.says ∙ at ∙ r.snapshot ∙ ap (λ (x : Seen). last x.published) (sym r.seen_is),
+  sym (begun-writes start brand begun first writes txn.writes r made) ∙ reads-nothing s.before (submission_of txn label now) txn.writes s.step.2,
 )
-commit-waits start brand begun txn label now changes ticket first before after (Ok (committed.ReadOnly time)) r is early s later says = absurd says
-commit-waits start brand begun txn label now changes ticket first before after (Err why) r is early s later says = tt

@@ -9,7 +9,7 @@ use Rattle.history.specs.Histories.{IsHistory, last}
 use Rattle.image.specs.Values.{IsValue}
 use Rattle.shared.specs.Archives.{ArchiveSeen, IsArchiveLater}
 use Rattle.shared.specs.Seen.{Seen, Known, nothing_known, order_of, known_by, IsLater, IsMore, SightValue, first_sight}
-use Rattle.shared.specs.Cell.{IsPublished, Sees, Confirms, Advances, Moves, told, informed, idle}
+use Rattle.shared.specs.Cell.{IsPublished, Sees, Learns, Confirms, Advances, Moves, told, informed, idle}
 use Rattle.shared.proofs.Archives.{archive-same, more-same, more-then, more-nothing}
 use Rattle.shared.proofs.Fronts.{later-same}
 
@@ -70,6 +70,13 @@ loads by v quiet words views h at =
     let w : SightValue = record v { seen = h.own.seen } in
     let was = h.each by v at in
     (w, others words views by v w h at quiet quiet (record { seen = later-same h.own.seen; archive = was.0.archive }) was.1, (was.0.seen, h.legal, h.word, refl))
+
+-- a load by a pass that was told what another has seen
+pub learns : (by : ℕ) (v : SightValue) → v.writes ≡ false → Turns IsPublished by v (λ x. x) Learns
+learns by v quiet words views h at =
+    let w : SightValue = record v { seen = h.own.seen } in
+    let was = h.each by v at in
+    (w, others words views by v w h at quiet quiet (record { seen = later-same h.own.seen; archive = was.0.archive }) was.1, (was.0.seen, was.1.seen, h.legal, refl))
 
 -- the writer compares
 pub confirms : (by : ℕ) (v : SightValue) → v.writes ≡ true → Turns IsPublished by v (λ x. x) Confirms
@@ -134,4 +141,12 @@ hears by v other u on still words views h at apart there =
     let word : last v.seen.published ≡ slice_index words 0 = ap (λ (x : SightValue). last x.seen.published) (sym own) ∙ h.word in
     let legal : IsHistory IsValue (order_of v.seen) = subst (λ (x : SightValue). IsHistory IsValue (order_of x.seen)) own h.legal in
     let first = mine words words views by v w h at on on (more-same (known_by v)) heard word legal in
+    others words (set views by w) other u idle first there still refl (more-nothing (known_by first.own)) (more-nothing (known_by first.own))
+
+-- a pass that is not the writer's is told what another has seen
+pub overhears : (by : ℕ) (v : SightValue) (other : ℕ) (u : SightValue) → v.writes ≡ false → u.writes ≡ false → Merges IsPublished by v other u (informed v u) idle
+overhears by v other u quiet still words views h at apart there =
+    let w = informed v u in
+    let theirs : get_elem? views other ≡ some u = ⊎_elim (λ (t : (other ≡ by) × (w ≡ u)). absurd (apart t.0)) (λ (t : (other ≢ by) × (get_elem? views other ≡ some u)). t.1) (at_set views by other w u there) in
+    let first = others words views by v w h at quiet quiet (h.each by v at).0 (h.each other u theirs).0 in
     others words (set views by w) other u idle first there still refl (more-nothing (known_by first.own)) (more-nothing (known_by first.own))

@@ -12,6 +12,7 @@ use Rattle.std.specs.declared.sync.ledger.Ledger as ledgers
 use Rattle.atomic_table.proofs.shared.Seat.TheSendSync as seat
 use Rattle.atomic_table.proofs.shared.Shared.TheSendSync as words
 use Rattle.crossbeam_utils.proofs.atomic.seq_cell.Wide.TheSendSync as wide
+use Rattle.crossbeam_utils.proofs.sync.event_count.EventCount.TheSendSync as event_count
 use Rattle.disk.specs.declared.device.Disk as devices
 use Rattle.history.proofs.time.TimedWrite.TheSendSync as timed_write
 use Rattle.wire.proofs.slot.Run.TheSendSync as run
@@ -54,6 +55,7 @@ use Rattle.shared.specs.contracts.locked.Locked as Locked
 use Rattle.shared.specs.contracts.locked.Locked.TheInside as locked
 use Rattle.shared.specs.contracts.shared.SharedStore as SharedStore
 use Rattle.shared.proofs.signals.Signals.TheSendSync as signals
+use Rattle.shared.proofs.posts.Posts.TheSendSync as posts
 
 -- ---- the versions
 
@@ -204,12 +206,18 @@ shared-sync D L disk opening ledger crossing =
       (
         search (sendable, mutex.the_sync, under),
         (
-          search (sendable, condvar.the_sync),
+          search (sendable, mutex.the_sync, posts.the_send),
           (
-            search (sendable, condvar.the_sync),
+            search (sendable, event_count.the_sync),
             (
               search (sendable, condvar.the_sync),
-              (search (sendable, crosses, wide.the_sync, words.the_sync) depth 20, tt),
+              (
+                search (sendable, condvar.the_sync),
+                (
+                  search (sendable, condvar.the_sync),
+                  (search (sendable, crosses, wide.the_sync, words.the_sync) depth 20, tt),
+                ),
+              ),
             ),
           ),
         ),

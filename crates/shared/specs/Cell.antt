@@ -21,6 +21,10 @@ pub record IsPublished (words : List ℕ) (views : List SightValue) : Type 0 whe
 abbrev pub Sees : SightValue → List ℕ → List ℕ → SightValue → Type 0
 Sees v before after w = IsLater v.seen w.seen × IsHistory IsValue (order_of w.seen) × (last w.seen.published ≡ slice_index after 0) × (w.writes ≡ v.writes)
 
+-- a load by a pass that was told of what another has seen: all of that is seen from then on, too
+abbrev pub Learns : SightValue → List ℕ → List ℕ → SightValue → Type 0
+Learns v before after w = IsLater v.seen w.seen × IsLater v.heard.seen w.seen × IsHistory IsValue (order_of w.seen) × (w.writes ≡ v.writes)
+
 -- what the writer was told of is a front of what it has seen
 abbrev pub Confirms : SightValue → List ℕ → List ℕ → SightValue → Type 0
 Confirms v before after w = IsMore v.heard (known_by v) × (w ≡ v)
@@ -37,7 +41,7 @@ Moves archive v before after w = w ≡ record v { archive = archive }
 abbrev pub told : SightValue → SightValue
 told v = record { seen = v.seen; archive = v.archive; heard = nothing_known; writes = false }
 
--- the writer's pass once it was told what another pass has seen and knows
+-- a pass once it was told what another pass has seen and knows
 abbrev pub informed : SightValue → SightValue → SightValue
 informed v w = record v { heard = known_by w }
 

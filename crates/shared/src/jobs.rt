@@ -63,8 +63,8 @@ impl<D: Disk, L: Opening> SharedStore<D, L> {
         let after = locked.signals();
         drop(locked);
         if is_job_move(&did) {
-            self.settled.notify_one();
-            self.tell_moved(after);
+            self.tell_settled(rt, after);
+            self.tell_moved();
         }
         did
     }

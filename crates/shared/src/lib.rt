@@ -3,10 +3,9 @@
 
 mod cell;
 mod change;
-mod commits;
 mod committed;
-mod committer;
 mod comparing;
+mod copied;
 mod jobs;
 mod locked;
 mod moment;
@@ -14,7 +13,10 @@ mod naming;
 mod noting;
 mod observer;
 mod opening;
+mod posting;
+mod posts;
 mod queries;
+mod served;
 mod shared;
 mod shared_txn;
 mod shared_view;

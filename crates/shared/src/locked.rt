@@ -128,7 +128,7 @@ impl<D: Disk, L: Opening> Locked<D, L> {
         ensures later { IsLater me.old me.new }
     {
         let submitted = self.submit_writes(rt, cell, txn, label, now, me);
-        self.signals.note_move();
+        self.signals.note_submitted(&submitted);
         submitted
     }
 
@@ -141,7 +141,7 @@ impl<D: Disk, L: Opening> Locked<D, L> {
         let did = self.store.pump();
         let last = self.store.last();
         note_published(rt, cell, &mut self.writer, &did, last);
-        self.signals.note_pumped(&did);
+        self.signals.note_pumped(&did, last);
         did
     }
 
@@ -306,78 +306,13 @@ impl<D: Disk, L: Opening> Locked<D, L> {
         store
     }
 
-    /// What happened so far, and who is on the way.
+    /// What happened so far.
     pub(crate) fn signals(&self) -> Signals {
         self.signals
     }
 
     pub(crate) fn stop(&mut self) {
         self.signals.note_stop();
-    }
-
-    /// As `begin`, for a call of `commit`.
-    pub(crate) fn enter<R: Wait>(
-        &mut self,
-        rt: &R,
-        cell: &PublishedCell,
-        me: &mut Observer<L>,
-    ) -> Result<Txn, BeginFault>
-        requires { cell.now.table.shared.table_id ≡ L.table }
-        ensures happens { BeginHappens L.start L.mark result me.new }
-        ensures later { IsLater me.old me.new }
-    {
-        let begun = self.begin(rt, cell, me);
-        if begun.is_ok() {
-            self.signals.note_entered();
-        }
-        begun
-    }
-
-    /// As `abort`, for a call of `commit`.
-    pub(crate) fn leave(&mut self, txn: Txn) {
-        self.abort(txn);
-        self.signals.note_left();
-    }
-
-    /// As `submit`, for a call of `commit`.
-    pub(crate) fn submit_awaited<R: Wait>(
-        &mut self,
-        rt: &R,
-        cell: &PublishedCell,
-        txn: Txn,
-        label: u64,
-        now: u64,
-        me: &mut Observer<L>,
-    ) -> Result<Submitted, SubmitFault>
-        requires { cell.now.table.shared.table_id ≡ L.table }
-        ensures happens { SubmitHappens L.start L.mark txn label now result me.new }
-        ensures later { IsLater me.old me.new }
-    {
-        let submitted = self.submit(rt, cell, txn, label, now, me);
-        self.signals.note_submitted(&submitted);
-        submitted
-    }
-
-    /// As `redeem`, for a call of `commit`.
-    pub(crate) fn redeem_awaited<R: Wait>(
-        &mut self,
-        rt: &R,
-        cell: &PublishedCell,
-        ticket: Ticket,
-        share: &mut Share<L>,
-        me: &mut Observer<L>,
-    ) -> Redeemed
-        requires cell { cell.now.table.shared.table_id ≡ L.table }
-        requires part { 0 < share.old.parts }
-        ensures says { RedeemSays ticket result me.new }
-        ensures reached { SeenReached L.start me.new }
-        ensures parts { share.new.parts ≡ share.old.parts }
-        ensures amount { share.new.amount ≡ share.old.amount + done_in result }
-        ensures later { IsLater me.old me.new }
-    {
-        let redeemed = self.redeem(rt, cell, ticket, share, me);
-        self.signals.note_redeemed(&redeemed);
-        redeemed
     }
 
     // The floor in the making stays known once the job is done.

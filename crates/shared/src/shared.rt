@@ -8,29 +8,33 @@ ghost use Rattle.shared.specs.Counts.{unredeemed};
 ghost use Rattle.shared.specs.Moments.{begun_txn};
 ghost use Rattle.shared.specs.Reached.{Reached};
 ghost use Rattle.shared.specs.Seen.{IsLater};
-ghost use Rattle.shared.specs.Shared.{BeginHappens, SubmitHappens, SeenReached, RedeemSays, done_in};
+ghost use Rattle.shared.specs.Shared.{BeginHappens, SubmitHappens, SeenReached, PumpHappens, RedeemSays, done_in};
 
 use crate::cell::PublishedCell;
 use crate::locked::Locked;
 use crate::naming::Opening;
 use crate::observer::Observer;
+use crate::posts::Posts;
 use crate::shared_txn::SharedTxn;
 use crate::shared_view::SharedView;
 use crate::signals::Signals;
+use crossbeam_utils::sync::EventCount;
 use disk::Disk;
 use std::alloc::{AllocError, Global};
 use std::sync::ledger::Share;
 use std::sync::{Condvar, Mutex, Wait};
-use store::{BeginFault, Redeemed, Store, SubmitFault, Submitted, Ticket, Txn};
+use store::{BeginFault, Did, PumpFault, Redeemed, Store, SubmitFault, Submitted, Ticket, Txn};
 
 /// A store under a lock, and beside it the cell of its published time. One holding of the lock makes
-/// at most one call of the store.
+/// at most one call of the store. Beside the lock, too, are the posts of those who call `commit`.
 pub struct SharedStore<D: Disk, L: Opening> {
     pub(crate) alloc: Global,
     pub(crate) locked: Mutex<Locked<D, L>>,
-    // The committer sleeps on the first, commits that wait on the second, and the vacuum on the last. Of
-    // the commits one is woken, which wakes the next once it has asked.
-    pub(crate) queued: Condvar,
+    pub(crate) posts: Mutex<Posts<L>>,
+    // The committer sleeps on the first, callers of `commit` on the second until they are answered, on the
+    // third one whose ticket still waits, and the vacuum on the last.
+    pub(crate) queued: EventCount,
+    pub(crate) answered: Condvar,
     pub(crate) settled: Condvar,
     pub(crate) moved: Condvar,
     pub(crate) cell: PublishedCell,
@@ -44,7 +48,9 @@ impl<D: Disk, L: Opening> SharedStore<D, L> {
         SharedStore {
             alloc,
             locked: Mutex::new(locked),
-            queued: Condvar::new(),
+            posts: Mutex::new(Posts::new(alloc)),
+            queued: EventCount::new(),
+            answered: Condvar::new(),
             settled: Condvar::new(),
             moved: Condvar::new(),
             cell,
@@ -76,11 +82,6 @@ impl<D: Disk, L: Opening> SharedStore<D, L> {
         self.locked.lock(rt).view(rt, &self.cell, me)
     }
 
-    /// Ends a view. It takes no lock, since the store keeps nothing of its views.
-    pub fn end<R: Wait>(&self, _rt: &R, view: SharedView<L>) {
-        view.spend().spend();
-    }
-
     /// A transaction on all that is published. Its own reads and writes take no lock.
     pub fn begin<R: Wait>(&self, rt: &R, me: &mut Observer<L>) -> Result<SharedTxn<L>, BeginFault>
         ensures happens { BeginHappens L.start L.mark (begun_txn result) me.new }
@@ -95,8 +96,7 @@ impl<D: Disk, L: Opening> SharedStore<D, L> {
 
     /// Gives the transaction's snapshot up.
     pub fn abort<R: Wait>(&self, rt: &R, txn: SharedTxn<L>) {
-        self.locked.lock(rt).abort(txn.spend());
-        self.moved.notify_all();
+        self.abort_txn(rt, txn.spend());
     }
 
     /// Ends a transaction: its writes are queued as a commit, or it is refused.
@@ -114,14 +114,19 @@ impl<D: Disk, L: Opening> SharedStore<D, L> {
         self.submit_txn(rt, txn.spend(), label, now, me)
     }
 
-    fn begin_txn<R: Wait>(&self, rt: &R, me: &mut Observer<L>) -> Result<Txn, BeginFault>
+    pub(crate) fn abort_txn<R: Wait>(&self, rt: &R, txn: Txn) {
+        self.locked.lock(rt).abort(txn);
+        self.moved.notify_all();
+    }
+
+    pub(crate) fn begin_txn<R: Wait>(&self, rt: &R, me: &mut Observer<L>) -> Result<Txn, BeginFault>
         ensures happens { BeginHappens L.start L.mark result me.new }
         ensures later { IsLater me.old me.new }
     {
         self.locked.lock(rt).begin(rt, &self.cell, me)
     }
 
-    fn submit_txn<R: Wait>(
+    pub(crate) fn submit_txn<R: Wait>(
         &self,
         rt: &R,
         txn: Txn,
@@ -132,12 +137,51 @@ impl<D: Disk, L: Opening> SharedStore<D, L> {
         ensures happens { SubmitHappens L.start L.mark txn label now result me.new }
         ensures later { IsLater me.old me.new }
     {
-        let mut locked = self.locked.lock(rt);
-        let submitted = locked.submit(rt, &self.cell, txn, label, now, me);
-        let after = locked.signals();
-        drop(locked);
-        self.tell_moved(after);
+        let submitted = self
+            .locked
+            .lock(rt)
+            .submit(rt, &self.cell, txn, label, now, me);
+        self.tell_moved();
         submitted
+    }
+
+    // A transaction ended, or a job was done: the vacuum may go on, and the committer.
+    pub(crate) fn tell_moved(&self) {
+        self.moved.notify_all();
+        self.queued.notify_all();
+    }
+
+    // Commits are published, or the store has failed: those who wait for it may go on.
+    pub(crate) fn tell_settled<R: Wait>(&self, rt: &R, after: Signals) {
+        let answered = self.posts.lock(rt).settle(after);
+        if answered {
+            self.answered.notify_all();
+        }
+        self.settled.notify_all();
+    }
+
+    /// One step of the group that is written. A step that publishes writes the published time before
+    /// the lock is given up.
+    pub fn pump<R: Wait>(&self, rt: &R) -> Result<Did, PumpFault>
+        ensures { PumpHappens L.start result }
+    {
+        let mut after = Signals::new();
+        self.step(rt, &mut after)
+    }
+
+    // One step of the group, and what the signals are then.
+    pub(crate) fn step<R: Wait>(&self, rt: &R, after: &mut Signals) -> Result<Did, PumpFault>
+        ensures { PumpHappens L.start result }
+    {
+        let mut locked = self.locked.lock(rt);
+        let did = locked.pump(rt, &self.cell);
+        *after = locked.signals();
+        drop(locked);
+        if is_move(&did) {
+            self.tell_settled(rt, *after);
+            self.tell_moved();
+        }
+        did
     }
 
     /// Asks for a ticket. Done counts once in the caller's share, and the caller has then seen the
@@ -161,13 +205,9 @@ impl<D: Disk, L: Opening> SharedStore<D, L> {
             .redeem(rt, &self.cell, ticket, share, me)
     }
 
-    // A transaction ended, or a job was done: the vacuum may go on, and the committer, unless commits are
-    // on their way.
-    pub(crate) fn tell_moved(&self, after: Signals) {
-        self.moved.notify_all();
-        if after.lets_begin() {
-            self.queued.notify_all();
-        }
+    /// Ends a view. It takes no lock, since the store keeps nothing of its views.
+    pub fn end<R: Wait>(&self, _rt: &R, view: SharedView<L>) {
+        view.spend().spend();
     }
 
     // The moves so far, and whether the loops are to end.
@@ -200,11 +240,18 @@ impl<D: Disk, L: Opening> SharedStore<D, L> {
         let SharedStore {
             alloc: _,
             locked,
+            posts: _,
             queued: _,
+            answered: _,
             settled: _,
             moved: _,
             cell: _,
         } = self;
         locked.into_inner().into_store(all)
     }
+}
+
+// Whether some ticket may now have another answer.
+fn is_move(did: &Result<Did, PumpFault>) -> bool {
+    matches!(did, Ok(Did::Published(_)) | Err(PumpFault::Failed))
 }

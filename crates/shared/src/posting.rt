@@ -1,0 +1,335 @@
+//! Commits that callers post, and the committer that works for them.
+ghost use Rattle.std.specs.Prelude.{◌≡◌, ◌+◌, ◌<◌, map, IsTrue};
+ghost use Rattle.shared.specs.Posted.{ServedSays, write_of};
+ghost use Rattle.shared.specs.Seen.{IsLater};
+ghost use Rattle.shared.specs.Shared.{SeenReached, RedeemSays, WaitSays, CommitHappens, done_in, commits_in};
+
+use crate::change::Change;
+use crate::committed::{CommitFault, Committed};
+use crate::copied::{apply, are_copies, copy_changes};
+use crate::naming::Opening;
+use crate::observer::Observer;
+use crate::posts::Doing;
+use crate::served::{Request, Served};
+use crate::shared::SharedStore;
+use crate::signals::Signals;
+use disk::Disk;
+use history::KeyWrite;
+use std::alloc::AllocError;
+use std::sync::Wait;
+use std::sync::ledger::Share;
+use store::{Did, PumpFault, Redeemed, Submitted, Ticket, TxnFault};
+use wire::Value;
+
+impl<D: Disk, L: Opening> SharedStore<D, L> {
+    /// Commits these changes, and waits until they are published. With Done the caller has seen the
+    /// commit published, and it counts once in the caller's share.
+    pub fn commit<R: Wait>(
+        &self,
+        rt: &R,
+        changes: &[Change<'_>],
+        label: u64,
+        now: u64,
+        share: &mut Share<L>,
+        me: &mut Observer<L>,
+    ) -> Result<Committed, CommitFault>
+        requires { 0 < share.old.parts }
+        ensures happens { CommitHappens changes.now label result me.new }
+        ensures parts { share.new.parts ≡ share.old.parts }
+        ensures amount { share.new.amount ≡ share.old.amount + commits_in result }
+        ensures later { IsLater me.old me.new }
+    {
+        let writes = match copy_changes(self.alloc, changes) {
+            Ok(writes) => writes,
+            Err(fault) => return Err(CommitFault::Txn(fault)),
+        };
+        let request = Request {
+            writes,
+            label,
+            now,
+            me: me.another(&self.cell),
+        };
+        match self.ask(rt, request) {
+            Ok(number) => {
+                let served = self.wait_served(rt, number);
+                self.receive(rt, served, changes, label, share, me)
+            }
+            Err(AllocError) => Err(CommitFault::Txn(TxnFault::NoMemory)),
+        }
+    }
+
+    // Posts a request, and gives the number of its post. Where no committer is at work it works for the
+    // requests itself.
+    fn ask<R: Wait>(&self, rt: &R, request: Request<L>) -> Result<usize, AllocError> {
+        let mut posts = self.posts.lock(rt);
+        let number = posts.ask(request)?;
+        let attended = posts.is_attended();
+        drop(posts);
+        if attended {
+            self.queued.notify_all();
+        } else {
+            self.serve(rt);
+        }
+        Ok(number)
+    }
+
+    // Sleeps until the answer is at the caller's post. With the last of the answers that are to be taken
+    // the committer may go on.
+    fn wait_served<R: Wait>(&self, rt: &R, number: usize) -> Served<L> {
+        let mut posts = self.posts.lock(rt);
+        for _ in rt.forever() {
+            if let Some(served) = posts.take_answer(number) {
+                let goes_on = posts.lets_go_on();
+                drop(posts);
+                if goes_on {
+                    self.queued.notify_all();
+                }
+                return served;
+            }
+            posts = self.answered.wait(rt, posts);
+        }
+        unreachable!()
+    }
+
+    // What came of a request of these changes and this label. What lies at a post tells nothing of whose
+    // it is: so it is compared.
+    fn receive<R: Wait>(
+        &self,
+        rt: &R,
+        served: Served<L>,
+        changes: &[Change<'_>],
+        label: u64,
+        share: &mut Share<L>,
+        me: &mut Observer<L>,
+    ) -> Result<Committed, CommitFault>
+        requires { 0 < share.old.parts }
+        ensures happens { CommitHappens changes.now label result me.new }
+        ensures parts { share.new.parts ≡ share.old.parts }
+        ensures amount { share.new.amount ≡ share.old.amount + commits_in result }
+        ensures later { IsLater me.old me.new }
+    {
+        let (writes, asked, outcome, seen) = served.spend();
+        me.learn(rt, &self.cell, seen);
+        let ours = is_answer(asked, &writes, label, changes);
+        match outcome {
+            Ok(Submitted::Queued(ticket)) => {
+                if ours {
+                    return self.wait_for(rt, ticket, share, me);
+                }
+                ticket.give_up();
+                Err(CommitFault::InDoubt)
+            }
+            Ok(Submitted::ReadOnly(snapshot)) => {
+                if ours {
+                    return Ok(Committed::ReadOnly(snapshot));
+                }
+                Err(CommitFault::InDoubt)
+            }
+            Err(fault) => Err(fault),
+        }
+    }
+
+    // As `redeem`, and how often tickets may have got another answer so far.
+    fn redeem_counted<R: Wait>(
+        &self,
+        rt: &R,
+        ticket: Ticket,
+        share: &mut Share<L>,
+        me: &mut Observer<L>,
+        settled: &mut u64,
+    ) -> Redeemed
+        requires { 0 < share.old.parts }
+        ensures says { RedeemSays ticket result me.new }
+        ensures reached { SeenReached L.start me.new }
+        ensures parts { share.new.parts ≡ share.old.parts }
+        ensures amount { share.new.amount ≡ share.old.amount + done_in result }
+        ensures later { IsLater me.old me.new }
+    {
+        let mut locked = self.locked.lock(rt);
+        *settled = locked.signals().settled();
+        locked.redeem(rt, &self.cell, ticket, share, me)
+    }
+
+    // Asks for a ticket, and where it still waits, again each time that commits were published or the
+    // store has failed.
+    fn wait_for<R: Wait>(
+        &self,
+        rt: &R,
+        ticket: Ticket,
+        share: &mut Share<L>,
+        me: &mut Observer<L>,
+    ) -> Result<Committed, CommitFault>
+        requires { 0 < share.old.parts }
+        ensures says { WaitSays ticket result me.new }
+        ensures parts { share.new.parts ≡ share.old.parts }
+        ensures amount { share.new.amount ≡ share.old.amount + commits_in result }
+        ensures later { IsLater me.old me.new }
+    {
+        let mut ticket = ticket;
+        let mut settled = 0;
+        for _ in rt.forever() {
+            match self.redeem_counted(rt, ticket, share, me, &mut settled) {
+                Redeemed::Done(time) => {
+                    me.legal();
+                    return Ok(Committed::Done(time));
+                }
+                Redeemed::InDoubt => return Err(CommitFault::InDoubt),
+                Redeemed::Stranger => return Err(CommitFault::Stranger),
+                Redeemed::Waiting(again) => ticket = again,
+            }
+            self.wait_settled(rt, settled);
+        }
+        ticket.give_up();
+        unreachable!()
+    }
+
+    // Sleeps until tickets may have another answer than when they had so often.
+    fn wait_settled<R: Wait>(&self, rt: &R, settled: u64) {
+        self.settled.wait_while(rt, self.locked.lock(rt), |locked| {
+            locked.signals().settled() == settled
+        });
+    }
+
+    // Works for the requests that there are.
+    fn serve<R: Wait>(&self, rt: &R) {
+        let asked = self.posts.lock(rt).asked();
+        for _ in 0..asked {
+            let taken = self.posts.lock(rt).take_asked();
+            let Some((number, request)) = taken else {
+                return;
+            };
+            let served = self.work_for(rt, request);
+            let answered = self.posts.lock(rt).put(number, served);
+            if answered {
+                self.answered.notify_all();
+            }
+        }
+    }
+
+    // Makes a request's changes, and queues them as a commit.
+    fn work_for<R: Wait>(&self, rt: &R, request: Request<L>) -> Served<L> {
+        let Request {
+            writes,
+            label,
+            now,
+            mut me,
+        } = request;
+        let outcome = self.queue(rt, &writes, label, now, &mut me);
+        Served::new(writes, label, outcome, me)
+    }
+
+    // The same, for the changes' copies.
+    fn queue<R: Wait>(
+        &self,
+        rt: &R,
+        writes: &[KeyWrite<Value>],
+        label: u64,
+        now: u64,
+        me: &mut Observer<L>,
+    ) -> Result<Submitted, CommitFault>
+        ensures { ServedSays L.start L.mark writes.now label result me.new }
+    {
+        let mut txn = match self.begin_txn(rt, me) {
+            Ok(txn) => txn,
+            Err(fault) => return Err(CommitFault::Begin(fault)),
+        };
+        match apply(self.alloc, &mut txn, writes) {
+            Ok(()) => {}
+            Err(fault) => {
+                self.abort_txn(rt, txn);
+                return Err(CommitFault::Txn(fault));
+            }
+        }
+        match self.submit_txn(rt, txn, label, now, me) {
+            Ok(submitted) => Ok(submitted),
+            Err(fault) => Err(CommitFault::Submit(fault)),
+        }
+    }
+
+    // What the committer is to do. Where its last step waits for something, nothing is done until
+    // something else than these moves happened.
+    fn next<R: Wait>(&self, rt: &R, waits: bool, moves: u64) -> Doing {
+        let signals = self.locked.lock(rt).signals();
+        self.posts
+            .lock(rt)
+            .next(signals, waits && signals.moves() == moves)
+    }
+
+    // Sleeps, unless there is something to do.
+    fn sleep<R: Wait>(&self, rt: &R, waits: bool, moves: u64) {
+        let key = self.queued.prepare_wait();
+        if self.next(rt, waits, moves) == Doing::Sleeps {
+            key.wait(rt);
+        }
+    }
+
+    // Works for the requests that there are, and then for those that come, until a step of a group is to
+    // be made.
+    fn gather<R: Wait>(&self, rt: &R, waits: bool, moves: u64) {
+        self.serve(rt);
+        for _ in rt.forever() {
+            match self.next(rt, waits, moves) {
+                Doing::Serves => self.serve(rt),
+                Doing::Steps => return,
+                Doing::Sleeps => self.sleep(rt, waits, moves),
+            }
+        }
+    }
+
+    // Whether the committer ends: it does unless requests have come since its last step. Those that come
+    // later their callers work for.
+    fn leaves<R: Wait>(&self, rt: &R) -> bool {
+        if !self.posts.lock(rt).leave() {
+            return false;
+        }
+        self.serve(rt);
+        true
+    }
+
+    /// Pumps until it is told to stop and the queue is empty, or the store has failed. After each
+    /// answer, with the lock given up, it calls `pause`. Where there is nothing to do it sleeps, and
+    /// before it begins a group, as long as calls of `commit` are on their way to it, so that one gate
+    /// has the commits of all who call.
+    pub fn run_committer<R: Wait, F: FnMut(&R, &Result<Did, PumpFault>)>(
+        &self,
+        rt: &R,
+        mut pause: F,
+    )
+        requires { F.IsAlwaysCallable pause }
+    {
+        self.posts.lock(rt).attend();
+        let mut after = Signals::new();
+        let mut waits = false;
+        for _ in rt.forever() {
+            self.gather(rt, waits, after.moves());
+            let did = self.step(rt, &mut after);
+            pause(rt, &did);
+            let over = is_over(after.is_stopping(), &did);
+            if over && self.leaves(rt) {
+                return;
+            }
+            waits = !over && has_to_wait(&did);
+        }
+        unreachable!()
+    }
+}
+
+// Whether these are the copies of the changes, and the label is theirs.
+fn is_answer(asked: u64, writes: &[KeyWrite<Value>], label: u64, changes: &[Change<'_>]) -> bool
+    ensures { IsTrue result → (asked ≡ label) × (map write_of changes.now ≡ writes.now) }
+{
+    asked == label && are_copies(changes, writes)
+}
+
+fn is_over(stopping: bool, did: &Result<Did, PumpFault>) -> bool {
+    match did {
+        Ok(Did::Idle) => stopping,
+        Err(PumpFault::Failed) => true,
+        _ => false,
+    }
+}
+
+// Whether nothing can be done before something else happens.
+fn has_to_wait(did: &Result<Did, PumpFault>) -> bool {
+    matches!(did, Ok(Did::Idle) | Err(PumpFault::Busy))
+}
