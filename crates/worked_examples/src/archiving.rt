@@ -1,15 +1,14 @@
 //! Archives that a script makes, step by step.
 use crate::archived::{RUN, SLOT};
-use crate::dialogue::{FOUR_COMMITS, PROFILES, SCRIPT, Script, hold, is_text};
-use crate::steps::Step::{Ends, Long, New, Parts, Says, Spells};
-use crate::steps::{Step, go};
-use crate::trials::{Trial, fillings, is_count, left_goes_on, tried};
-use disk::{Area, FaultDisk};
-use std::alloc::Global;
+use crate::examples::{Example, FOUR_COMMITS, each_goes};
+use crate::machine::Profiles::Each;
+use crate::steps::Step;
+use crate::steps::Step::{Long, New, Parts, Says, Spells};
+use disk::Area;
 use std::test::Fail;
 
 /// All that stood after the four commits.
-const ROWS: &str = "between 1 7 100 131 | 100 110 61
+pub const ROWS: &str = "between 1 7 100 131 | 100 110 61
 | 110 120 62
 | 130 131 63
 | rows 3
@@ -58,13 +57,8 @@ archive 130 | refused: nothing to do
     ),
 ];
 
-#[test]
-fn an_archive_is_made_step_by_step(rt: HostRuntime) -> Result<(), Fail> {
-    go(rt.alloc(), STEP_BY_STEP)
-}
-
 /// A value from 100 on and another from 110 on.
-const TWO_COMMITS: &str = "begin a | snapshot 0
+pub const TWO_COMMITS: &str = "begin a | snapshot 0
 put a 1 7 61 | ok
 submit a 9 100 | queued
 flush | idle
@@ -97,11 +91,6 @@ archive 120 | refused: job busy
     Spells(Area::Archive, 0, RUN),
     Says("archive 120 | refused: nothing to do\n"),
 ];
-
-#[test]
-fn an_archive_is_what_ended_by_its_time(rt: HostRuntime) -> Result<(), Fail> {
-    go(rt.alloc(), ENDED)
-}
 
 /// An archive up to the second of three commits, by when nothing had ended.
 const EMPTY: &[Step] = &[
@@ -139,11 +128,6 @@ at 1 7 110 | value 62
     ),
     Long(Area::Archive, 0),
 ];
-
-#[test]
-fn a_run_may_be_empty(rt: HostRuntime) -> Result<(), Fail> {
-    go(rt.alloc(), EMPTY)
-}
 
 /// An archive of two values of 16 long fields.
 const TWO_PIECES: &[Step] = &[
@@ -184,170 +168,6 @@ at 1 7 120 | value 63
     Long(Area::Archive, 8262),
 ];
 
-#[test]
-fn a_long_run_is_written_in_pieces(rt: HostRuntime) -> Result<(), Fail> {
-    go(rt.alloc(), TWO_PIECES)
-}
-
-/// Scripts of archives beside commits.
-const SCRIPTS: &[Script] = &[
-    Script {
-        name: "one_slot_is_in_the_writing_at_a_time",
-        slots: 16,
-        before: "",
-        parts: &[
-            (TWO_COMMITS, 1),
-            (
-                "archive 100 | started
-begin c | snapshot 110
-put c 1 7 63 | ok
-submit c 9 130 | queued
-pump | wrote extent
-pump | heap synced
-pump | body written
-job | run synced
-job | refused: busy
-pump | body synced
-pump | gate written
-pump | published 1
-job | body written
-begin d | snapshot 130
-put d 1 7 64 | ok
-submit d 9 140 | queued
-pump | wrote extent
-pump | heap synced
-pump | refused: busy
-job | body synced
-job | gate written
-job | job done
-pump | body written
-pump | body synced
-pump | gate written
-pump | published 1
-reopen | last 140 floors 0
-",
-                1,
-            ),
-        ],
-    },
-    Script {
-        name: "a_group_waits_for_a_jobs_slot",
-        slots: 16,
-        before: "",
-        parts: &[
-            (FOUR_COMMITS, 1),
-            (
-                "archive 120 | started
-job | wrote run
-job | run synced
-job | body written
-begin e | snapshot 130
-put e 1 7 64 | ok
-submit e 5 140 | queued
-pump | wrote extent
-pump | heap synced
-pump | refused: busy
-flush | refused: busy
-job | body synced
-job | gate written
-pump | refused: busy
-job | job done
-pump | body written
-pump | body synced
-pump | gate written
-pump | published 1
-redeem e | done 140
-reopen | last 140 floors 0
-at 1 7 110 | value 62
-at 1 7 140 | value 64
-archive 120 | refused: nothing to do
-",
-                1,
-            ),
-        ],
-    },
-    Script {
-        name: "a_job_waits_for_a_groups_slot",
-        slots: 16,
-        before: "",
-        parts: &[
-            (FOUR_COMMITS, 1),
-            (
-                "begin e | snapshot 130
-put e 1 7 64 | ok
-submit e 5 140 | queued
-pump | wrote extent
-pump | heap synced
-pump | body written
-archive 120 | started
-job | wrote run
-finish | refused: busy
-job | refused: busy
-flush | idle
-job | body written
-finish | idle
-redeem e | done 140
-reopen | last 140 floors 0
-archive 120 | refused: nothing to do
-at 1 7 110 | value 62
-at 1 7 140 | value 64
-",
-                1,
-            ),
-        ],
-    },
-    Script {
-        name: "an_archive_takes_a_slot_that_commits_leave",
-        slots: 16,
-        before: "",
-        parts: &[
-            (
-                "begin t | snapshot 0
-put t 1 50 61 | ok
-submit t 9 100 | queued
-flush | idle
-",
-                1,
-            ),
-            (
-                "begin t# | snapshot @
-put t# 1 # 61 | ok
-submit t# 9 1 | queued
-flush | idle
-",
-                12,
-            ),
-            (
-                "begin u | snapshot 112
-begin v | snapshot 112
-begin w | snapshot 112
-put u 1 60 61 | ok
-put v 1 61 61 | ok
-put w 1 61 61 | ok
-submit u 9 200 | queued
-submit v 9 201 | refused: status full
-archive 112 | started
-submit w 9 201 | refused: status full
-finish | idle
-flush | idle
-redeem u | done 200
-archive 150 | started
-finish | idle
-archive 200 | refused: status full
-reopen | last 200 floors 0
-at 1 60 200 | value 61
-",
-                1,
-            ),
-        ],
-    },
-];
-
-#[test]
-fn archives_beside_commits_are_answered(rt: HostRuntime) -> Result<(), Fail> {
-    hold(rt.alloc(), SCRIPTS)
-}
-
 /// An archive that was not finished is made anew.
 const GIVEN_UP: &[Step] = &[
     New(16),
@@ -375,88 +195,6 @@ job | wrote run
     Spells(Area::Archive, 0, RUN),
 ];
 
-#[test]
-fn what_is_not_finished_is_given_up(rt: HostRuntime) -> Result<(), Fail> {
-    go(rt.alloc(), GIVEN_UP)
-}
-
-/// What the four commits answer, whatever stands of the archive.
-const ALIKE: Step = Parts(&[
-    (ROWS, 1),
-    ("at 1 7 10# | value 61\n", 10),
-    ("at 1 7 11# | value 62\n", 10),
-    ("at 1 7 12# | none\n", 10),
-    ("at 1 7 130 | value 63\n", 1),
-]);
-
-/// Whatever stands of the archive, the four commits answer alike, and the archive can be made.
-const ANSWERS_ALIKE: &[Step] = &[
-    ALIKE,
-    Ends("archive 120\nfinish\n"),
-    Says("archive 120 | refused: nothing to do\n"),
-    Spells(Area::Archive, 0, RUN),
-    ALIKE,
-];
-
-/// The four commits on a new store.
-const STORE: &[Step] = &[New(16), Says(FOUR_COMMITS)];
-
-const ONE_ARCHIVE: &str = "archive 120
-job
-job
-job
-job
-job
-job
-";
-
-/// Opens what a stop may leave of a disk, with each filling of what is torn.
-fn each_left_answers_alike(alloc: Global, disk: &FaultDisk, profile: u8) -> Result<(), Fail> {
-    for torn in fillings(alloc, disk)? {
-        left_goes_on(alloc, disk, *torn, ANSWERS_ALIKE, profile)?;
-    }
-    Ok(())
-}
-
-/// Stops at each call in turn. A stop is met by each of the six calls of the archive once.
-fn stops_at_each_call(alloc: Global, write_reaches: bool, profile: u8) -> Result<(), Fail> {
-    let trial = Trial {
-        before: STORE,
-        action: SCRIPT,
-        script: ONE_ARCHIVE,
-        write_reaches,
-        stops: true,
-    };
-    let mut stops: u32 = 0;
-    for calls_before in 0..100 {
-        let (said, _, disk) = tried(alloc, &trial, calls_before, profile)?;
-        each_left_answers_alike(alloc, &disk, profile)?;
-        if said.contains("job done") {
-            break;
-        }
-        if said.contains("refused: failed") {
-            stops = stops.saturating_add(1);
-        }
-    }
-    is_count(stops, 6)
-}
-
-#[test]
-fn a_stop_in_an_archive_changes_no_answer(rt: HostRuntime) -> Result<(), Fail> {
-    for profile in PROFILES {
-        stops_at_each_call(rt.alloc(), false, profile)?;
-    }
-    Ok(())
-}
-
-#[test]
-fn a_stop_after_a_write_of_an_archive_changes_no_answer(rt: HostRuntime) -> Result<(), Fail> {
-    for profile in PROFILES {
-        stops_at_each_call(rt.alloc(), true, profile)?;
-    }
-    Ok(())
-}
-
 /// A new store has nothing to archive.
 const OF_NOTHING: &[Step] = &[
     New(16),
@@ -469,107 +207,41 @@ archive 1 | refused: not yet 0
     ),
 ];
 
-#[test]
-fn nothing_is_archived_of_nothing(rt: HostRuntime) -> Result<(), Fail> {
-    go(rt.alloc(), OF_NOTHING)
-}
-
-/// A job's step of an archive of the four commits is refused, and reading goes on.
-const REFUSED_JOB: &str = "archive 120
-finish
-job
-pump
-begin u
-archive 120
-at 1 7 110
-between 1 7 100 131
-";
-
-/// What is said of it.
-const FAILED: &str = "started
-refused: failed
-refused: failed
-refused: failed
-refused: failed
-refused: failed
-value 62
-100 110 61
-110 120 62
-130 131 63
-rows 3
-";
-
-/// Whether a step of the archive was refused, and then this was said.
-fn is_failed(said: &str) -> Result<bool, Fail> {
-    if !said.starts_with("started\n") {
-        return Ok(false);
-    }
-    is_text("refused", said, FAILED)?;
-    Ok(true)
-}
-
-/// Each call is refused in turn; once the store is opened it fails at each of the archive's six.
-fn refuses_each_call(alloc: Global, write_reaches: bool, profile: u8) -> Result<(), Fail> {
-    let trial = Trial {
-        before: STORE,
-        action: SCRIPT,
-        script: REFUSED_JOB,
-        write_reaches,
-        stops: false,
-    };
-    let mut refusals: u32 = 0;
-    for calls_before in 0..100 {
-        let (said, _, disk) = tried(alloc, &trial, calls_before, profile)?;
-        if said.starts_with("started\nidle\n") {
-            break;
-        }
-        refusals = refusals.saturating_add(u32::from(is_failed(said.as_str())?));
-        left_goes_on(alloc, &disk, (0xC7, 0), ANSWERS_ALIKE, profile)?;
-    }
-    is_count(refusals, 6)
-}
+/// Each example, by its name.
+const EXAMPLES: &[Example] = &[
+    Example {
+        name: "an_archive_is_made_step_by_step",
+        profiles: Each,
+        steps: STEP_BY_STEP,
+    },
+    Example {
+        name: "an_archive_is_what_ended_by_its_time",
+        profiles: Each,
+        steps: ENDED,
+    },
+    Example {
+        name: "a_run_may_be_empty",
+        profiles: Each,
+        steps: EMPTY,
+    },
+    Example {
+        name: "a_long_run_is_written_in_pieces",
+        profiles: Each,
+        steps: TWO_PIECES,
+    },
+    Example {
+        name: "what_is_not_finished_is_given_up",
+        profiles: Each,
+        steps: GIVEN_UP,
+    },
+    Example {
+        name: "nothing_is_archived_of_nothing",
+        profiles: Each,
+        steps: OF_NOTHING,
+    },
+];
 
 #[test]
-fn after_a_refused_step_of_a_job_reading_goes_on(rt: HostRuntime) -> Result<(), Fail> {
-    for profile in PROFILES {
-        refuses_each_call(rt.alloc(), false, profile)?;
-    }
-    Ok(())
-}
-
-#[test]
-fn after_a_refused_step_that_was_made_reading_goes_on(rt: HostRuntime) -> Result<(), Fail> {
-    for profile in PROFILES {
-        refuses_each_call(rt.alloc(), true, profile)?;
-    }
-    Ok(())
-}
-
-/// An archive whose second call of the disk is to be refused.
-const RUN_SYNC: Trial<'static> = Trial {
-    before: STORE,
-    action: SCRIPT,
-    script: "archive 120\njob\njob\nbegin u\nat 1 7 110\nat 1 7 130\n",
-    write_reaches: false,
-    stops: false,
-};
-
-/// One of the calls must be the sync, and the store read on behind it.
-fn fails_at_the_sync(alloc: Global, profile: u8) -> Result<(), Fail> {
-    let answers = "started\nwrote run\nrefused: failed\nrefused: failed\nvalue 62\nvalue 63\n";
-    for calls_before in 0..100 {
-        let (said, _, _disk) = tried(alloc, &RUN_SYNC, calls_before, profile)?;
-        if said.as_str() == answers {
-            return Ok(());
-        }
-    }
-    Err(Fail::new("no call was the sync of the run"))
-}
-
-#[test]
-fn a_refused_sync_of_a_run_fails_the_store(rt: HostRuntime) -> Result<(), Fail> {
-    for profile in PROFILES {
-        fails_at_the_sync(rt.alloc(), profile)?;
-    }
-    Ok(())
+fn archives_are_made_step_by_step(rt: HostRuntime) -> Result<(), Fail> {
+    each_goes(rt.alloc(), EXAMPLES)
 }

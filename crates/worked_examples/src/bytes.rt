@@ -1,153 +1,126 @@
 //! The bytes of a disk in memory.
-use disk::{Area, Disk, MemDisk};
+use crate::text::parts_of_profile;
+use disk::{Area, Disk, FaultDisk};
 use std::alloc::Global;
-use std::test::Fail;
 
-/// All bytes of an area.
-fn bytes_of(alloc: Global, disk: &mut MemDisk, area: Area) -> Result<Vec<u8>, Fail> {
-    let len = disk.len(area)?;
-    let mut bytes = vec![in alloc; 0; len as usize]?;
-    disk.read(area, 0, &mut bytes)?;
-    Ok(bytes)
-}
-
-/// Appends the bytes of a word in hexadecimal, two digits a byte.
-fn push_word(bytes: &mut Vec<u8>, word: &str) -> Result<(), Fail> {
-    let mut high = None;
-    for digit in word.chars() {
-        let digit = digit.to_digit(16).ok_or("no hexadecimal digit")?;
-        match high {
-            None => high = Some(digit),
-            Some(first) => {
-                bytes.push(u8::try_from(first << 4 | digit)?)?;
-                high = None;
-            }
-        }
+/// All bytes of an area, if it could be read.
+pub fn bytes_of(alloc: Global, disk: &mut FaultDisk, area: Area) -> Option<Vec<u8>> {
+    let len = disk.len(area).ok()?;
+    let mut bytes = vec![in alloc; 0; len as usize].ok()?;
+    match disk.read(area, 0, &mut bytes) {
+        Ok(()) => Some(bytes),
+        Err(_) => None,
     }
-    Ok(())
 }
 
-/// Bytes as a text spells them, in hexadecimal; `..z` and a number stand for so many zeros.
-pub fn spelled(alloc: Global, text: &str) -> Result<Vec<u8>, Fail> {
-    let mut bytes = Vec::new(alloc);
+/// Appends the bytes of a word in hexadecimal, two digits a byte. Whether it is one.
+fn push_word(alloc: Global, bytes: &mut Vec<u8>, word: &str) -> bool {
+    match hex::decode(alloc, word.as_bytes()) {
+        Ok(found) => bytes.extend_from_slice(found.as_slice()).is_ok(),
+        Err(_) => false,
+    }
+}
+
+/// Appends so many zeros, as a word says. Whether it is a number.
+fn push_zeros(bytes: &mut Vec<u8>, word: &str) -> bool {
+    match word.parse::<u16>() {
+        Ok(count) => bytes
+            .resize(bytes.len().saturating_add(usize::from(count)), 0)
+            .is_ok(),
+        Err(_) => false,
+    }
+}
+
+/// Appends bytes as words spell them, in hexadecimal; `..z` and a number stand for so many zeros.
+fn push_words(alloc: Global, bytes: &mut Vec<u8>, words: &str) -> bool {
     let mut zeros = false;
-    for word in text.split_whitespace() {
-        if word == "..z" {
-            zeros = true;
-        } else if zeros {
-            let count: u32 = word.parse()?;
-            for _ in 0..count {
-                bytes.push(0)?;
-            }
-            zeros = false;
-        } else {
-            push_word(&mut bytes, word)?;
+    for word in words.split_whitespace() {
+        let pushed = match (word, zeros) {
+            ("..z", _) => true,
+            (_, true) => push_zeros(bytes, word),
+            (_, false) => push_word(alloc, bytes, word),
+        };
+        if !pushed {
+            return false;
+        }
+        zeros = word == "..z";
+    }
+    true
+}
+
+/// Appends the bytes of a line of the newest profile, as a store of this one has them.
+fn push_line(alloc: Global, bytes: &mut Vec<u8>, line: &str, profile: u8) -> bool {
+    let (before, ending) = parts_of_profile(line, profile);
+    push_words(alloc, bytes, before) && push_words(alloc, bytes, ending)
+}
+
+/// Bytes as the lines of a text spell them of the newest profile, and a store of this one has them. None
+/// where it spells none.
+fn spelled(alloc: Global, text: &str, profile: u8) -> Option<Vec<u8>> {
+    let mut bytes = Vec::new(alloc);
+    for line in text.lines() {
+        if !push_line(alloc, &mut bytes, line, profile) {
+            return None;
         }
     }
-    Ok(bytes)
+    Some(bytes)
 }
 
-/// These bytes must stand at a place of all bytes of an area.
-fn are_bytes(bytes: &[u8], place: usize, expected: &[u8]) -> Result<(), Fail> {
-    let found = bytes.get(place..).unwrap_or(b"");
-    if found.starts_with(expected) {
-        return Ok(());
-    }
-    let found = found.get(..expected.len()).unwrap_or(found);
-    Err(Fail::new(format_args!("at {place}: {found:?}")))
-}
-
-/// From a place on an area must have the bytes that a text spells.
-pub fn spells(
+/// Whether an area of a store of this profile has from a place on the bytes that a text spells.
+pub fn has_bytes(
     alloc: Global,
-    disk: &mut MemDisk,
-    area: Area,
-    place: usize,
-    text: &str,
-) -> Result<(), Fail> {
-    let expected = spelled(alloc, text)?;
-    let bytes = bytes_of(alloc, disk, area)?;
-    are_bytes(bytes.as_slice(), place, expected.as_slice())
-}
-
-/// An area must have so many bytes.
-pub fn is_long(disk: &mut MemDisk, area: Area, len: u64) -> Result<(), Fail> {
-    let found = disk.len(area)?;
-    if found == len {
-        return Ok(());
+    disk: &mut FaultDisk,
+    (area, place, text): (Area, usize, &str),
+    profile: u8,
+) -> bool {
+    match (spelled(alloc, text, profile), bytes_of(alloc, disk, area)) {
+        (Some(bytes), Some(found)) => match found.get(place..) {
+            Some(rest) => rest.starts_with(bytes.as_slice()),
+            None => false,
+        },
+        _ => false,
     }
-    Err(Fail::new(format_args!("{area:?} has {found} bytes and not {len}")))
 }
 
-/// The heap must be so many extents, each beginning with the bytes that its text spells.
-pub fn has_extents(alloc: Global, disk: &mut MemDisk, extents: &[&str]) -> Result<(), Fail> {
+/// Whether an area has so many bytes.
+pub fn is_long(disk: &mut FaultDisk, area: Area, len: u64) -> bool {
+    disk.len(area) == Ok(len)
+}
+
+/// Whether the heap is so many extents, each beginning with the bytes that its text spells.
+pub fn has_extents(alloc: Global, disk: &mut FaultDisk, extents: &[&str], profile: u8) -> bool {
     let mut place: usize = 0;
     for text in extents {
-        spells(alloc, disk, Area::Heap, place, text)?;
+        if !has_bytes(alloc, disk, (Area::Heap, place, text), profile) {
+            return false;
+        }
         place = place.saturating_add(8192);
     }
     is_long(disk, Area::Heap, place as u64)
 }
 
-/// Puts bytes in the place of others, as a text spells them.
+/// Puts a byte in the place of another. Whether the disk took it.
+pub fn change(disk: &mut FaultDisk, area: Area, place: u32, byte: u8) -> bool {
+    let written = disk.write_at(area, u64::from(place), &[byte]).is_ok();
+    written && disk.sync(area).is_ok()
+}
+
+/// Puts bytes in the place of others, as a text spells them, no more than an extent has. Whether the disk
+/// took them.
 pub fn put(
     alloc: Global,
-    disk: &mut MemDisk,
-    area: Area,
-    place: u32,
-    text: &str,
-) -> Result<(), Fail> {
-    let bytes = spelled(alloc, text)?;
+    disk: &mut FaultDisk,
+    (area, place, text): (Area, u32, &str),
+    profile: u8,
+) -> bool {
+    let Some(bytes) = spelled(alloc, text, profile) else {
+        return false;
+    };
     if bytes.len() > 8192 {
-        return Err(Fail::new(format_args!("more bytes than an extent has")));
+        return false;
     }
-    disk.write_at(area, u64::from(place), bytes.as_slice())?;
-    disk.sync(area)?;
-    Ok(())
-}
-
-/// Puts a byte in the place of another.
-pub fn change(disk: &mut MemDisk, area: Area, place: u32, byte: u8) -> Result<(), Fail> {
-    disk.write_at(area, u64::from(place), &[byte])?;
-    disk.sync(area)?;
-    Ok(())
-}
-
-/// The first bytes of an area, and all of the others.
-pub fn cut(alloc: Global, disk: &mut MemDisk, area: Area, len: usize) -> Result<MemDisk, Fail> {
-    let mut status = bytes_of(alloc, disk, Area::Status)?;
-    let mut heap = bytes_of(alloc, disk, Area::Heap)?;
-    let mut archive = bytes_of(alloc, disk, Area::Archive)?;
-    match area {
-        Area::Status => status.truncate(len),
-        Area::Heap => heap.truncate(len),
-        Area::Archive => archive.truncate(len),
-    }
-    Ok(MemDisk::with_bytes(status, heap, archive))
-}
-
-/// What a stop leaves of a disk, where each torn place has this byte.
-pub fn stopped(alloc: Global, disk: &MemDisk, fill: u8) -> Result<MemDisk, Fail> {
-    Ok(disk.left(alloc, fill, b"")?)
-}
-
-/// How many bytes a disk has.
-fn size(disk: MemDisk) -> Result<u64, Fail> {
-    let mut disk = disk;
-    let status = disk.len(Area::Status)?;
-    let heap = disk.len(Area::Heap)?;
-    let archive = disk.len(Area::Archive)?;
-    Ok(status.saturating_add(heap).saturating_add(archive))
-}
-
-/// Whether two disks have as many bytes.
-pub fn are_as_long(left: MemDisk, right: MemDisk) -> Result<bool, Fail> {
-    Ok(size(left)? == size(right)?)
-}
-
-/// Whether all of a disk is synced: then a stop leaves what stands, with no tail behind it.
-pub fn is_settled(alloc: Global, disk: &MemDisk) -> Result<bool, Fail> {
-    let bare = disk.left(alloc, 0, b"")?;
-    let with_tail = disk.left(alloc, 0, b"x")?;
-    are_as_long(bare, with_tail)
+    let written = disk
+        .write_at(area, u64::from(place), bytes.as_slice())
+        .is_ok();
+    written && disk.sync(area).is_ok()
 }

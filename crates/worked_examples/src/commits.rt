@@ -1,18 +1,42 @@
 //! Commits, one after another and beside each other.
-use crate::dialogue::{FOUR_COMMITS, Script, hold};
+use crate::examples::{Example, FOUR_COMMITS, each_goes};
+use crate::machine::Profiles::Each;
+use crate::steps::Step;
 use crate::steps::Step::{Extents, New, Says, Spells};
-use crate::steps::{Step, go};
 use disk::Area;
 use std::test::Fail;
 
+/// A deletion of what was put, and what was given up.
+const NOTHING: &[Step] = &[
+    New(16),
+    Says(
+        "begin t | snapshot 0
+put t 1 7 61 | ok
+del t 1 7 | ok
+get t 1 7 | none
+submit t 9 100 | readonly 0
+redeem t | refused: name
+pump | idle
+begin t | snapshot 0
+put t 1 7 61 | ok
+abort t | ok
+flush | idle
+times 9 | times
+",
+    ),
+    Extents(&[]),
+    Spells(Area::Status, 512, "..z 8192"),
+];
+
 /// Scripts on a new store, and on one that is opened after the four commits.
-const SCRIPTS: &[Script] = &[
-    Script {
+const EXAMPLES: &[Example] = &[
+    Example {
         name: "one_record_step_by_step",
-        slots: 16,
-        before: "",
-        parts: &[(
-            "at 1 7 0 | none
+        profiles: Each,
+        steps: &[
+            New(16),
+            Says(
+                "at 1 7 0 | none
 at 1 7 1 | refused: not yet 0
 begin t | snapshot 0
 put t 1 7 61 | ok
@@ -38,15 +62,16 @@ at 1 7 100 | value 61
 at 1 7 101 | refused: not yet 100
 times 9 | times 100
 ",
-            1,
-        )],
+            ),
+        ],
     },
-    Script {
+    Example {
         name: "commit_times_rise",
-        slots: 16,
-        before: "",
-        parts: &[(
-            "begin a | snapshot 0
+        profiles: Each,
+        steps: &[
+            New(16),
+            Says(
+                "begin a | snapshot 0
 put a 1 7 61 | ok
 submit a 1 100 | queued
 flush | idle
@@ -65,15 +90,16 @@ at 1 7 100 | value 61
 at 1 7 101 | value 62
 at 1 7 102 | value 63
 ",
-            1,
-        )],
+            ),
+        ],
     },
-    Script {
+    Example {
         name: "no_commit_is_later_than_the_last_time",
-        slots: 16,
-        before: "",
-        parts: &[(
-            "begin a | snapshot 0
+        profiles: Each,
+        steps: &[
+            New(16),
+            Says(
+                "begin a | snapshot 0
 put a 1 7 61 | ok
 submit a 1 9223372036854775808 | refused: clock end
 begin a | snapshot 0
@@ -96,15 +122,16 @@ at 1 7 9223372036854775807 | value 61
 at 1 7 9223372036854775808 | refused: not yet 9223372036854775807
 reopen | last 9223372036854775807 floors 0
 ",
-            1,
-        )],
+            ),
+        ],
     },
-    Script {
+    Example {
         name: "the_first_of_two_writers_wins",
-        slots: 16,
-        before: "",
-        parts: &[(
-            "begin a | snapshot 0
+        profiles: Each,
+        steps: &[
+            New(16),
+            Says(
+                "begin a | snapshot 0
 begin b | snapshot 0
 put a 1 7 61 | ok
 put b 1 7 62 | ok
@@ -117,15 +144,16 @@ at 1 7 100 | value 61
 times 1 | times 100
 times 2 | times
 ",
-            1,
-        )],
+            ),
+        ],
     },
-    Script {
+    Example {
         name: "a_conflict_names_the_least_key",
-        slots: 16,
-        before: "",
-        parts: &[(
-            "begin t | snapshot 0
+        profiles: Each,
+        steps: &[
+            New(16),
+            Says(
+                "begin t | snapshot 0
 put t 1 9 61 | ok
 put t 1 3 61 | ok
 put t 1 7 61 | ok
@@ -139,15 +167,17 @@ flush | idle
 submit t 1 120 | refused: conflict 1 7
 at 1 3 110 | none
 ",
-            1,
-        )],
+            ),
+        ],
     },
-    Script {
+    Example {
         name: "a_deletion_conflicts",
-        slots: 16,
-        before: FOUR_COMMITS,
-        parts: &[(
-            "begin a | snapshot 130
+        profiles: Each,
+        steps: &[
+            New(16),
+            Says(FOUR_COMMITS),
+            Says(
+                "begin a | snapshot 130
 begin b | snapshot 130
 begin c | snapshot 130
 del a 1 7 | ok
@@ -159,15 +189,16 @@ flush | idle
 submit c 1 0 | refused: conflict 1 7
 at 1 7 131 | none
 ",
-            1,
-        )],
+            ),
+        ],
     },
-    Script {
+    Example {
         name: "write_skew_stands",
-        slots: 16,
-        before: "",
-        parts: &[(
-            "begin a | snapshot 0
+        profiles: Each,
+        steps: &[
+            New(16),
+            Says(
+                "begin a | snapshot 0
 put a 1 1 78 | ok
 put a 1 2 79 | ok
 submit a 1 100 | queued
@@ -187,15 +218,17 @@ at 1 1 102 | value 63
 at 1 2 102 | value 62
 times 2 | times 101 102
 ",
-            1,
-        )],
+            ),
+        ],
     },
-    Script {
+    Example {
         name: "what_is_absent_is_not_deleted",
-        slots: 16,
-        before: FOUR_COMMITS,
-        parts: &[(
-            "begin t | snapshot 130
+        profiles: Each,
+        steps: &[
+            New(16),
+            Says(FOUR_COMMITS),
+            Says(
+                "begin t | snapshot 130
 del t 1 8 | refused: missing
 get t 1 7 | value 63
 del t 1 7 | ok
@@ -210,15 +243,17 @@ begin t | snapshot 140
 del t 1 7 | refused: missing
 submit t 5 150 | readonly 140
 ",
-            1,
-        )],
+            ),
+        ],
     },
-    Script {
+    Example {
         name: "what_stood_at_each_time",
-        slots: 16,
-        before: FOUR_COMMITS,
-        parts: &[(
-            "at 1 7 99 | none
+        profiles: Each,
+        steps: &[
+            New(16),
+            Says(FOUR_COMMITS),
+            Says(
+                "at 1 7 99 | none
 at 1 7 100 | value 61
 at 1 7 109 | value 61
 at 1 7 110 | value 62
@@ -232,15 +267,17 @@ times 1 | times 100
 times 3 | times 120
 times 5 | times
 ",
-            1,
-        )],
+            ),
+        ],
     },
-    Script {
+    Example {
         name: "a_transaction_reads_what_is_published",
-        slots: 16,
-        before: FOUR_COMMITS,
-        parts: &[(
-            "begin a | snapshot 130
+        profiles: Each,
+        steps: &[
+            New(16),
+            Says(FOUR_COMMITS),
+            Says(
+                "begin a | snapshot 130
 put a 1 7 64 | ok
 submit a 5 140 | queued
 begin b | snapshot 130
@@ -251,39 +288,17 @@ begin c | snapshot 140
 get c 1 7 | value 64
 redeem a | done 140
 ",
-            1,
-        )],
+            ),
+        ],
+    },
+    Example {
+        name: "nothing_written_uses_no_slot",
+        profiles: Each,
+        steps: NOTHING,
     },
 ];
 
 #[test]
 fn commits_are_answered(rt: HostRuntime) -> Result<(), Fail> {
-    hold(rt.alloc(), SCRIPTS)
-}
-
-/// A deletion of what was put, and what was given up.
-const NOTHING: &[Step] = &[
-    New(16),
-    Says(
-        "begin t | snapshot 0
-put t 1 7 61 | ok
-del t 1 7 | ok
-get t 1 7 | none
-submit t 9 100 | readonly 0
-redeem t | refused: name
-pump | idle
-begin t | snapshot 0
-put t 1 7 61 | ok
-abort t | ok
-flush | idle
-times 9 | times
-",
-    ),
-    Extents(&[]),
-    Spells(Area::Status, 512, "..z 8192"),
-];
-
-#[test]
-fn nothing_written_uses_no_slot(rt: HostRuntime) -> Result<(), Fail> {
-    go(rt.alloc(), NOTHING)
+    each_goes(rt.alloc(), EXAMPLES)
 }

@@ -1,8 +1,9 @@
 //! Logs as text.
-use crate::dialogue::{FOUR_COMMITS, NEWEST, ONE_COMMIT};
+use crate::examples::{Example, FOUR_COMMITS, ONE_COMMIT, each_goes};
+use crate::machine::Profiles::{Each, First, Growing, Newest, Older};
 use crate::raised_floors::RAISED;
-use crate::steps::Step::{Changes, Cuts, Dumps, New, Parts, Says};
-use crate::steps::{Step, each_goes, each_goes_in, go, go_in, go_in_older};
+use crate::steps::Step;
+use crate::steps::Step::{Back, Changes, Cuts, Dumps, Mark, New, Parts, Says};
 use disk::Area;
 use std::test::Fail;
 
@@ -31,11 +32,6 @@ used 5 of 16
     ),
 ];
 
-#[test]
-fn commits_a_deletion_and_an_archive(rt: HostRuntime) -> Result<(), Fail> {
-    go(rt.alloc(), COMMITS)
-}
-
 /// The log of the four commits, an archive and a reclaim up to 120.
 pub const RECLAIMED_LOG: &str = "header 16 pieces 0
 slot 0 commit
@@ -63,11 +59,6 @@ const RECLAIMED: &[Step] = &[
     Dumps(RECLAIMED_LOG, 0),
 ];
 
-#[test]
-fn a_reclaim_behind_an_archive(rt: HostRuntime) -> Result<(), Fail> {
-    go(rt.alloc(), RECLAIMED)
-}
-
 const FLOORED: &[Step] = &[
     New(16),
     Parts(&[(FOUR_COMMITS, 1), (RAISED, 1)]),
@@ -89,11 +80,6 @@ used 7 of 16
         0,
     ),
 ];
-
-#[test]
-fn a_floor_behind_a_reclaim(rt: HostRuntime) -> Result<(), Fail> {
-    go_in_older(rt.alloc(), FLOORED)
-}
 
 /// A group of two, one of which has two records in two extents, and commits at the last time that has
 /// an instant of its own, one after it, and the last time of all.
@@ -137,77 +123,119 @@ used 3 of 17
     ),
 ];
 
-#[test]
-fn groups_and_instants(rt: HostRuntime) -> Result<(), Fail> {
-    go(rt.alloc(), LATE)
-}
-
 /// The log of a store with one commit at 100.
-const ONE_MEMBER: &str = "header 16 pieces 0
+pub const ONE_MEMBER: &str = "header 16 pieces 0
 slot 0 commit
 member 9 100 1 1 1 1970-01-01T00:00:00Z
 used 1 of 16
 ";
 
 /// So it is of a store of profile 1.
-const FIRST_PROFILE: &str = "header 16
+pub const FIRST_PROFILE: &str = "header 16
 slot 0 commit
 member 9 100 1 1 1 1970-01-01T00:00:00Z
 used 1 of 16
 ";
 
 /// Bytes that are not of the log are cut, and bytes of the log are changed.
-const CHANGED: &[&[Step]] = &[
-    &[Cuts(Area::Heap, 0), Dumps(ONE_MEMBER, 0)],
-    &[
-        Changes(Area::Status, 512, 0x37),
-        Dumps("header 16 pieces 0\nused 0 of 16\n", 0),
-    ],
-    &[
-        Changes(Area::Status, 513, 3),
-        Dumps("refused: damaged status 0\n", 1),
-    ],
-    &[
-        Changes(Area::Status, 1023, 1),
-        Dumps("refused: damaged status 0\n", 1),
-    ],
-    &[
-        Changes(Area::Status, 1024, 0xC7),
-        Dumps("refused: damaged status 1\n", 1),
-    ],
-    &[Changes(Area::Status, 1536, 0xC7), Dumps(ONE_MEMBER, 0)],
-    &[
-        Changes(Area::Status, 8, 9),
-        Dumps("refused: not a store\n", 1),
-    ],
-    &[Changes(Area::Status, 8, 1), Dumps(FIRST_PROFILE, 0)],
+const CHANGED: &[Step] = &[
+    New(16),
+    Says(ONE_COMMIT),
+    Mark,
+    Cuts(Area::Heap, 0),
+    Dumps(ONE_MEMBER, 0),
+    Back,
+    Changes(Area::Status, 512, 0x37),
+    Dumps("header 16 pieces 0\nused 0 of 16\n", 0),
+    Back,
+    Changes(Area::Status, 513, 3),
+    Dumps("refused: damaged status 0\n", 1),
+    Back,
+    Changes(Area::Status, 1023, 1),
+    Dumps("refused: damaged status 0\n", 1),
+    Back,
+    Changes(Area::Status, 1024, 0xC7),
+    Dumps("refused: damaged status 1\n", 1),
+    Back,
+    Changes(Area::Status, 1536, 0xC7),
+    Dumps(ONE_MEMBER, 0),
+    Back,
+    Changes(Area::Status, 8, 9),
+    Dumps("refused: not a store\n", 1),
+    Back,
+    Changes(Area::Status, 8, 1),
+    Dumps(FIRST_PROFILE, 0),
 ];
 
-/// A store with one commit at 100.
-const STORE: &[Step] = &[New(16), Says(ONE_COMMIT)];
-
-#[test]
-fn only_the_log_is_read(rt: HostRuntime) -> Result<(), Fail> {
-    each_goes(rt.alloc(), STORE, CHANGED)?;
-    go_in(rt.alloc(), &[Dumps("refused: not a store\n", 1)], NEWEST)
-}
-
 /// In the profiles whose stores grow the second gate of a piece is not read where the first is closed.
-const GROWING: &[&[Step]] = &[
-    &[Changes(Area::Status, 8, 2), Dumps(ONE_MEMBER, 0)],
-    &[Changes(Area::Status, 8, 3), Dumps(ONE_MEMBER, 0)],
-    &[Changes(Area::Status, 17, 0xC7), Dumps(ONE_MEMBER, 0)],
+const GROWING: &[Step] = &[
+    New(16),
+    Says(ONE_COMMIT),
+    Mark,
+    Changes(Area::Status, 8, 2),
+    Dumps(ONE_MEMBER, 0),
+    Back,
+    Changes(Area::Status, 8, 3),
+    Dumps(ONE_MEMBER, 0),
+    Back,
+    Changes(Area::Status, 17, 0xC7),
+    Dumps(ONE_MEMBER, 0),
 ];
 
 /// In the first profile that byte is zero.
-const FIRST: &[&[Step]] = &[&[
+const FIRST: &[Step] = &[
+    New(16),
+    Says(ONE_COMMIT),
+    Mark,
     Changes(Area::Status, 17, 0xC7),
     Dumps("refused: not a store\n", 1),
-]];
+];
+
+/// Each example, by its name.
+const EXAMPLES: &[Example] = &[
+    Example {
+        name: "commits_a_deletion_and_an_archive",
+        profiles: Each,
+        steps: COMMITS,
+    },
+    Example {
+        name: "a_reclaim_behind_an_archive",
+        profiles: Each,
+        steps: RECLAIMED,
+    },
+    Example {
+        name: "a_floor_behind_a_reclaim",
+        profiles: Older,
+        steps: FLOORED,
+    },
+    Example {
+        name: "groups_and_instants",
+        profiles: Each,
+        steps: LATE,
+    },
+    Example {
+        name: "only_the_log_is_read",
+        profiles: Each,
+        steps: CHANGED,
+    },
+    Example {
+        name: "an_empty_disk_has_no_log",
+        profiles: Newest,
+        steps: &[Dumps("refused: not a store\n", 1)],
+    },
+    Example {
+        name: "a_header_tells_its_profile",
+        profiles: Growing,
+        steps: GROWING,
+    },
+    Example {
+        name: "a_header_of_the_first_profile",
+        profiles: First,
+        steps: FIRST,
+    },
+];
 
 #[test]
-fn a_header_tells_its_profile(rt: HostRuntime) -> Result<(), Fail> {
-    each_goes_in(rt.alloc(), STORE, GROWING, 2)?;
-    each_goes_in(rt.alloc(), STORE, GROWING, NEWEST)?;
-    each_goes_in(rt.alloc(), STORE, FIRST, 1)
+fn logs_are_told_as_text(rt: HostRuntime) -> Result<(), Fail> {
+    each_goes(rt.alloc(), EXAMPLES)
 }

@@ -1,7 +1,9 @@
 //! Floors of single relations: what each bars, what an archive and a reclaim then keep, and what a log
 //! with them is as bytes and as text.
-use crate::dialogue::NEWEST;
-use crate::steps::{Step, each_goes_in, go_in_older};
+use crate::examples::{Example, each_goes};
+use crate::machine::Profiles::{Newest, Older};
+use crate::steps::Step;
+use crate::steps::Step::{Dumps, Long, New, Says, Spells};
 use disk::Area;
 use std::test::Fail;
 
@@ -61,31 +63,32 @@ const ANCHORS: &str = "05000000 00000000 2c00000000000000
 04 0100 0700000000000000 6e00000000000000 01 01 62
 04 0200 0500000000000000 7300000000000000 01 01 79 ..z 8132";
 
-/// A new store of 16 slots whose relations have floors of their own, and the commits of two relations.
-const BY_RELATION: [Step; 2] = [Step::New(16), Step::Says(TWO_RELATIONS)];
-
 /// A floor bars its own relation alone, before and after the store is opened anew.
-const BARRED: [Step; 6] = [
-    Step::Says("reopen | last 115 floors 0\n"),
-    Step::Says(RAISED),
-    Step::Spells(Area::Status, 2560, SLOT),
-    Step::Says(FROM_115),
-    Step::Says("reopen | last 115 floors 1\n"),
-    Step::Says(FROM_115),
+const BARRED: &[Step] = &[
+    New(16),
+    Says(TWO_RELATIONS),
+    Says("reopen | last 115 floors 0\n"),
+    Says(RAISED),
+    Spells(Area::Status, 2560, SLOT),
+    Says(FROM_115),
+    Says("reopen | last 115 floors 1\n"),
+    Says(FROM_115),
 ];
 
 /// What a relation keeps is archived and reclaimed.
-const KEPT: [Step; 10] = [
-    Step::Says(RAISED),
-    Step::Says("archive 115 | started\nfinish | idle\n"),
-    Step::Spells(Area::Archive, 0, RUN),
-    Step::Long(Area::Archive, 37),
-    Step::Says(FROM_115),
-    Step::Says("reclaim | started\nfinish | idle\n"),
-    Step::Spells(Area::Heap, 32_768, ANCHORS),
-    Step::Says(FROM_115),
-    Step::Says("reopen | last 115 floors 1\n"),
-    Step::Says(FROM_115),
+const KEPT: &[Step] = &[
+    New(16),
+    Says(TWO_RELATIONS),
+    Says(RAISED),
+    Says("archive 115 | started\nfinish | idle\n"),
+    Spells(Area::Archive, 0, RUN),
+    Long(Area::Archive, 37),
+    Says(FROM_115),
+    Says("reclaim | started\nfinish | idle\n"),
+    Spells(Area::Heap, 32_768, ANCHORS),
+    Says(FROM_115),
+    Says("reopen | last 115 floors 1\n"),
+    Says(FROM_115),
 ];
 
 /// The log of the store whose floor of relation 1 was raised, and which was archived and reclaimed up
@@ -108,9 +111,11 @@ used 8 of 16
 ";
 
 /// The log tells of which relation a floor is.
-const TOLD: [Step; 3] = [
-    Step::Says(RAISED),
-    Step::Says(
+const TOLD: &[Step] = &[
+    New(16),
+    Says(TWO_RELATIONS),
+    Says(RAISED),
+    Says(
         "archive 115 | started
 finish | idle
 reclaim | started
@@ -121,12 +126,15 @@ submit e 5 120 | queued
 flush | idle
 ",
     ),
-    Step::Dumps(LOG, 0),
+    Dumps(LOG, 0),
 ];
 
 /// Floors of relations are refused in their order.
-const REFUSED: [Step; 1] = [Step::Says(
-    "floor 115 | refused: wrong profile
+const REFUSED: &[Step] = &[
+    New(16),
+    Says(TWO_RELATIONS),
+    Says(
+        "floor 115 | refused: wrong profile
 floor 0 | refused: wrong profile
 floorof 1 0 | refused: nothing to do
 floorof 1 116 | refused: not yet 115
@@ -151,13 +159,14 @@ floorof 65535 120 | started
 finish | idle
 reopen | last 120 floors 3
 ",
-)];
+    ),
+];
 
 /// A store with one floor of all relations has none of one.
-const ONE_FLOOR: [Step; 3] = [
-    Step::New(16),
-    Step::Says(TWO_RELATIONS),
-    Step::Says(
+const ONE_FLOOR: &[Step] = &[
+    New(16),
+    Says(TWO_RELATIONS),
+    Says(
         "floorof 1 115 | refused: wrong profile
 floorof 1 0 | refused: wrong profile
 floor 115 | started
@@ -170,13 +179,36 @@ reopen | last 115 floor 115
     ),
 ];
 
-#[test]
-fn floors_of_relations_stand_alone(rt: HostRuntime) -> Result<(), Fail> {
-    let all: [&[Step]; 4] = [&BARRED, &KEPT, &TOLD, &REFUSED];
-    each_goes_in(rt.alloc(), &BY_RELATION, &all, NEWEST)
-}
+/// Each example, by its name.
+const EXAMPLES: &[Example] = &[
+    Example {
+        name: "a_floor_bars_its_own_relation_alone",
+        profiles: Newest,
+        steps: BARRED,
+    },
+    Example {
+        name: "what_a_relation_keeps_is_archived_and_reclaimed",
+        profiles: Newest,
+        steps: KEPT,
+    },
+    Example {
+        name: "a_log_tells_of_which_relation_a_floor_is",
+        profiles: Newest,
+        steps: TOLD,
+    },
+    Example {
+        name: "floors_of_relations_are_refused_in_their_order",
+        profiles: Newest,
+        steps: REFUSED,
+    },
+    Example {
+        name: "a_store_with_one_floor_has_none_of_a_relation",
+        profiles: Older,
+        steps: ONE_FLOOR,
+    },
+];
 
 #[test]
-fn a_store_with_one_floor_has_none_of_a_relation(rt: HostRuntime) -> Result<(), Fail> {
-    go_in_older(rt.alloc(), &ONE_FLOOR)
+fn floors_of_relations_are_answered(rt: HostRuntime) -> Result<(), Fail> {
+    each_goes(rt.alloc(), EXAMPLES)
 }

@@ -1,10 +1,9 @@
 //! Growths of a store beside its commits and an archive, stopped at each device call.
-use crate::dialogue::{FOUR_COMMITS, SCRIPT, parted, repeated, told};
-use crate::steps::Step::{Dumps, Ends, New, Says, Stops};
-use crate::steps::{Step, go_in};
-use crate::trials::{Trial, fillings, is_count, left_goes_on, tried};
-use disk::FaultDisk;
-use std::alloc::Global;
+use crate::examples::{Example, FOUR_COMMITS, each_goes};
+use crate::machine::Profiles::{First, Growing};
+use crate::steps::Step;
+use crate::steps::Step::{Dumps, Ends, New, Parts, Says, Stops};
+use crate::sweeps::{Sweep, each_sweep_goes};
 use std::test::Fail;
 
 /// A growth whose calls stand between those of a group, an archive, and a growth and a group again.
@@ -62,9 +61,6 @@ redeem f | done 150
         1,
     ),
 ];
-
-/// The device calls of these lines: two growths of 19, two groups of six, an archive of six.
-const CALLS: u32 = 56;
 
 /// The four commits, and what is done behind them.
 const STORE: &[Step] = &[New(16), Says(FOUR_COMMITS)];
@@ -127,9 +123,6 @@ times 6 | times 150
 ",
 );
 
-/// All that is to be had of the store once so many of the groups are published.
-const FRONTS: [Step; 3] = [FOUR, FIVE, SIX];
-
 /// What is done on whatever a stop left: a vacuum, a growth, a commit, and a further stop.
 const VACUUM: Step = Ends("archive 120\nfinish\nreclaim\nfinish\n");
 
@@ -147,133 +140,58 @@ at 1 7 130 | value 63
 ",
 );
 
-/// How often a line is among the first ones of a dialogue.
-fn count(dialogue: &str, upto: usize, line: &str) -> usize {
-    let mut count: usize = 0;
-    for found in dialogue.lines().take(upto) {
-        if found == line {
-            count = count.saturating_add(1);
-        }
-    }
-    count
-}
-
-/// How many lines were answered before the disk stopped.
-fn answered(said: &str) -> usize {
-    let mut lines: usize = 0;
-    for line in said.lines() {
-        if line == "refused: failed" {
-            return lines;
-        }
-        lines = lines.saturating_add(1);
-    }
-    lines
-}
-
-/// How many of the groups what a stop left has.
-fn groups_left(alloc: Global, disk: &FaultDisk, (fill, tail): (u8, usize)) -> Result<usize, Fail> {
-    let tail = vec![in alloc; fill; tail]?;
-    let left = disk.left(alloc, fill, tail.as_slice())?;
-    let (said, _, _disk) = told(alloc, SCRIPT, left, "times 5\ntimes 6\n")?;
-    let fifth = count(said.as_str(), 2, "times 140");
-    Ok(fifth.saturating_add(count(said.as_str(), 2, "times 150")))
-}
-
-/// What is left has those of the groups that were published, or one more whose gate's write had begun, and
-/// goes on.
-fn is_front(
-    alloc: Global,
-    disk: &FaultDisk,
-    torn: (u8, usize),
-    (published, begun): (usize, usize),
-    profile: u8,
-) -> Result<(), Fail> {
-    let groups = groups_left(alloc, disk, torn)?;
-    if groups < published || begun < groups {
-        return Err(Fail::new(format_args!("{groups} and not {published} to {begun}")));
-    }
-    let front = match FRONTS.get(groups) {
-        Some(front) => *front,
-        None => return Err(Fail::new("no such front")),
-    };
-    let steps = [
-        front,
+/// What is left of the store once so many of the groups are published goes on.
+const FRONTS: &[&[Step]] = &[
+    &[
+        FOUR,
         VACUUM,
-        front,
+        FOUR,
         GROWTH,
-        front,
+        FOUR,
         COMMIT,
         COMMITTED,
         Stops(0xC7),
         COMMITTED,
-    ];
-    left_goes_on(alloc, disk, torn, &steps, profile)
-}
-
-/// Opens what a stop may leave, with each filling of what is torn.
-fn opens_each_left(
-    alloc: Global,
-    disk: &FaultDisk,
-    groups: (usize, usize),
-    profile: u8,
-) -> Result<(), Fail> {
-    for torn in fillings(alloc, disk)? {
-        is_front(alloc, disk, *torn, groups, profile)?;
-    }
-    Ok(())
-}
-
-/// Stops at each call in turn, each of which is met once, and before them by the opening.
-fn stops_within_each_call(alloc: Global, write_reaches: bool, profile: u8) -> Result<(), Fail> {
-    let dialogue = repeated(alloc, LINES)?;
-    let (script, _) = parted(alloc, dialogue.as_str())?;
-    let trial = Trial {
-        before: STORE,
-        action: SCRIPT,
-        script: script.as_str(),
-        write_reaches,
-        stops: true,
-    };
-    let mut stops: u32 = 0;
-    for calls in 0..200 {
-        let (said, _, disk) = tried(alloc, &trial, calls, profile)?;
-        let lines = answered(said.as_str());
-        let published = count(dialogue.as_str(), lines, "pump | published 1");
-        let behind = lines.saturating_add(1);
-        let begun = count(dialogue.as_str(), behind, "pump | gate written");
-        opens_each_left(alloc, &disk, (published, begun), profile)?;
-        if said.contains("done 150\n") {
-            break;
-        }
-        stops = stops.saturating_add(u32::from(said.contains("refused: failed\n")));
-    }
-    is_count(stops, CALLS)
-}
-
-/// The lines are answered as they say, and leave this log.
-const WHOLE: &[Step] = &[
-    New(16),
-    Says(FOUR_COMMITS),
-    Step::Parts(LINES),
-    Dumps(LOG, 0),
+    ],
+    &[
+        FIVE,
+        VACUUM,
+        FIVE,
+        GROWTH,
+        FIVE,
+        COMMIT,
+        COMMITTED,
+        Stops(0xC7),
+        COMMITTED,
+    ],
+    &[
+        SIX,
+        VACUUM,
+        SIX,
+        GROWTH,
+        SIX,
+        COMMIT,
+        COMMITTED,
+        Stops(0xC7),
+        COMMITTED,
+    ],
 ];
 
-#[test]
-fn a_stop_of_a_growth_beside_commits_leaves_what_is_done(rt: HostRuntime) -> Result<(), Fail> {
-    for profile in [2, 3] {
-        go_in(rt.alloc(), WHOLE, profile)?;
-        stops_within_each_call(rt.alloc(), false, profile)?;
-    }
-    Ok(())
-}
+/// The device calls of the lines: two growths of 19, two groups of six, an archive of six.
+const SWEEPS: &[Sweep] = &[Sweep {
+    name: "a_stop_of_a_growth_beside_commits",
+    profiles: Growing,
+    before: STORE,
+    parts: LINES,
+    calls: 56,
+    stops: true,
+    failed: "",
+    gate: "pump | gate written",
+    fronts: FRONTS,
+}];
 
-#[test]
-fn a_stop_after_a_call_of_a_growth_leaves_what_is_done(rt: HostRuntime) -> Result<(), Fail> {
-    for profile in [2, 3] {
-        stops_within_each_call(rt.alloc(), true, profile)?;
-    }
-    Ok(())
-}
+/// The lines are answered as they say, and leave this log.
+const WHOLE: &[Step] = &[New(16), Says(FOUR_COMMITS), Parts(LINES), Dumps(LOG, 0)];
 
 /// A store of the first profile does not grow, and goes on.
 const FIRST_PROFILE: &[Step] = &[
@@ -285,7 +203,31 @@ const FIRST_PROFILE: &[Step] = &[
     FOUR,
 ];
 
+/// Each example, by its name.
+const EXAMPLES: &[Example] = &[
+    Example {
+        name: "a_growth_beside_commits",
+        profiles: Growing,
+        steps: WHOLE,
+    },
+    Example {
+        name: "a_store_of_the_first_profile_does_not_grow",
+        profiles: First,
+        steps: FIRST_PROFILE,
+    },
+];
+
 #[test]
-fn a_store_of_the_first_profile_does_not_grow(rt: HostRuntime) -> Result<(), Fail> {
-    go_in(rt.alloc(), FIRST_PROFILE, 1)
+fn growths_are_answered(rt: HostRuntime) -> Result<(), Fail> {
+    each_goes(rt.alloc(), EXAMPLES)
+}
+
+#[test]
+fn a_stop_of_a_growth_beside_commits_leaves_what_is_done(rt: HostRuntime) -> Result<(), Fail> {
+    each_sweep_goes(rt.alloc(), SWEEPS, false)
+}
+
+#[test]
+fn a_stop_after_a_call_of_a_growth_leaves_what_is_done(rt: HostRuntime) -> Result<(), Fail> {
+    each_sweep_goes(rt.alloc(), SWEEPS, true)
 }

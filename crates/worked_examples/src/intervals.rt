@@ -1,6 +1,8 @@
 //! Rows of an interval, and scans at a time.
+use crate::examples::{Example, each_goes};
+use crate::machine::Profiles::Each;
+use crate::steps::Step;
 use crate::steps::Step::{New, Rows, Runs, Says};
-use crate::steps::{Step, go};
 use std::test::Fail;
 
 /// Record 7 is a value, another, gone and a third; record 3 is written in between.
@@ -26,6 +28,7 @@ submit d 4 130 | queued
 flush | idle
 ";
 
+/// What is scanned at a time.
 const SCANS: &[Step] = &[
     New(16),
     Says(FIVE_COMMITS),
@@ -36,11 +39,7 @@ const SCANS: &[Step] = &[
     ),
 ];
 
-#[test]
-fn a_scan_shows_what_stood_at_its_time(rt: HostRuntime) -> Result<(), Fail> {
-    go(rt.alloc(), SCANS)
-}
-
+/// Rows of intervals.
 const CUT: &[Step] = &[
     New(16),
     Says(FIVE_COMMITS),
@@ -56,11 +55,7 @@ const CUT: &[Step] = &[
     ),
 ];
 
-#[test]
-fn rows_are_cut_to_their_interval(rt: HostRuntime) -> Result<(), Fail> {
-    go(rt.alloc(), CUT)
-}
-
+/// What a command answers, and refuses.
 const ASKED: &[Step] = &[
     New(16),
     Says(FIVE_COMMITS),
@@ -71,7 +66,26 @@ const ASKED: &[Step] = &[
     Rows("today", "9", "refused: bad time\n", 1),
 ];
 
+/// Each example, by its name.
+const EXAMPLES: &[Example] = &[
+    Example {
+        name: "a_scan_shows_what_stood_at_its_time",
+        profiles: Each,
+        steps: SCANS,
+    },
+    Example {
+        name: "rows_are_cut_to_their_interval",
+        profiles: Each,
+        steps: CUT,
+    },
+    Example {
+        name: "a_command_asks_for_rows",
+        profiles: Each,
+        steps: ASKED,
+    },
+];
+
 #[test]
-fn a_command_asks_for_rows(rt: HostRuntime) -> Result<(), Fail> {
-    go(rt.alloc(), ASKED)
+fn scans_and_rows_are_what_stood(rt: HostRuntime) -> Result<(), Fail> {
+    each_goes(rt.alloc(), EXAMPLES)
 }

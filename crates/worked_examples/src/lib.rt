@@ -5,6 +5,8 @@
 #[cfg(test)]
 mod archived;
 #[cfg(test)]
+mod archives_beside;
+#[cfg(test)]
 mod archiving;
 #[cfg(test)]
 mod bad_input;
@@ -15,11 +17,15 @@ mod calls;
 #[cfg(test)]
 mod commits;
 #[cfg(test)]
-mod dialogue;
+mod deeds;
 #[cfg(test)]
 mod dumps;
 #[cfg(test)]
+mod examples;
+#[cfg(test)]
 mod files;
+#[cfg(test)]
+mod floors_beside;
 #[cfg(test)]
 mod floors_of_relations;
 #[cfg(test)]
@@ -33,24 +39,34 @@ mod intervals;
 #[cfg(test)]
 mod limits;
 #[cfg(test)]
+mod machine;
+#[cfg(test)]
 mod names;
 #[cfg(test)]
 mod raised_floors;
 #[cfg(test)]
 mod records;
 #[cfg(test)]
+mod refusals;
+#[cfg(test)]
+mod refused_archives;
+#[cfg(test)]
 mod refused_calls;
 #[cfg(test)]
 mod refused_example;
+#[cfg(test)]
+mod refused_floors;
+#[cfg(test)]
+mod sessions;
 #[cfg(test)]
 mod steps;
 #[cfg(test)]
 mod stops;
 #[cfg(test)]
-mod stored;
-#[cfg(test)]
 mod streams;
 #[cfg(test)]
-mod trials;
+mod sweeps;
+#[cfg(test)]
+mod text;
 #[cfg(test)]
 mod vacuums;

@@ -1,17 +1,20 @@
 //! Names of a script.
-use crate::dialogue::{Script, hold};
+use crate::examples::{Example, each_goes};
+use crate::machine::Profiles::Each;
+use crate::steps::Step::{New, Parts, Says};
 use std::test::Fail;
 
 /// Scripts of names.
-const SCRIPTS: &[Script] = &[
-    Script {
+const EXAMPLES: &[Example] = &[
+    Example {
         name: "sixty_four_names_are_in_use",
-        slots: 16,
-        before: "",
-        parts: &[
-            ("begin n# | snapshot 0\n", 64),
-            (
-                "begin late | refused: name
+        profiles: Each,
+        steps: &[
+            New(16),
+            Parts(&[
+                ("begin n# | snapshot 0\n", 64),
+                (
+                    "begin late | refused: name
 put n63 1 7 61 | ok
 submit n63 1 100 | queued
 begin late | refused: name
@@ -24,16 +27,18 @@ begin later | snapshot 100
 reopen | last 100 floors 0
 begin n1 | snapshot 100
 ",
-                1,
-            ),
+                    1,
+                ),
+            ]),
         ],
     },
-    Script {
+    Example {
         name: "a_name_stands_for_one_thing",
-        slots: 16,
-        before: "",
-        parts: &[(
-            "put t 1 7 61 | refused: name
+        profiles: Each,
+        steps: &[
+            New(16),
+            Says(
+                "put t 1 7 61 | refused: name
 del t 1 7 | refused: name
 get t 1 7 | refused: name
 submit t 1 100 | refused: name
@@ -61,12 +66,12 @@ begin t | snapshot 100
 reopen | last 100 floors 0
 get t 1 7 | refused: name
 ",
-            1,
-        )],
+            ),
+        ],
     },
 ];
 
 #[test]
 fn names_are_answered(rt: HostRuntime) -> Result<(), Fail> {
-    hold(rt.alloc(), SCRIPTS)
+    each_goes(rt.alloc(), EXAMPLES)
 }

@@ -1,10 +1,9 @@
-//! Floors: from when on a store answers, what bars one, and what a stop leaves of one.
-use crate::dialogue::{FOUR_COMMITS, OLDER, SCRIPT, Script, hold_in};
+//! Floors: from when on a store answers, and what bars one.
+use crate::examples::{Example, FOUR_COMMITS, each_goes};
+use crate::machine::Profiles::Older;
+use crate::steps::Step;
 use crate::steps::Step::{At, Long, New, Parts, Says, Spells};
-use crate::steps::{Step, go_in_older};
-use crate::trials::{Trial, fillings, is_count, left_goes_on, tried};
-use disk::{Area, FaultDisk};
-use std::alloc::Global;
+use disk::Area;
 use std::test::Fail;
 
 /// What ended by 120 is archived and reclaimed, and the floor is raised to it.
@@ -51,11 +50,6 @@ const FLOORED: &[Step] = &[
     At("120", "none"),
 ];
 
-#[test]
-fn a_floor_bars_what_stood_before_it(rt: HostRuntime) -> Result<(), Fail> {
-    go_in_older(rt.alloc(), FLOORED)
-}
-
 /// What is answered of the four commits once the floor is raised to 115.
 pub const FROM_115: &str = "between 1 7 115 131 | 115 120 62
 | 130 131 63
@@ -86,307 +80,21 @@ const LEFT_OUT: &[Step] = &[
     Says(FROM_115),
 ];
 
-#[test]
-fn an_archive_leaves_out_what_ended_by_the_floor(rt: HostRuntime) -> Result<(), Fail> {
-    go_in_older(rt.alloc(), LEFT_OUT)
-}
-
-/// Scripts of floors beside transactions, commits and other jobs.
-const SCRIPTS: &[Script] = &[
-    Script {
-        name: "a_floor_is_made_step_by_step",
-        slots: 16,
-        before: FOUR_COMMITS,
-        parts: &[(
-            "floor 0 | refused: nothing to do
-floor 1970-01-01T00:00:00Z | refused: nothing to do
-floor 131 | refused: not yet 130
-floor 18446744073709551615 | refused: not yet 130
-floor 120 | started
-floor 0 | refused: job busy
-floor 131 | refused: job busy
-archive 120 | refused: job busy
-reclaim | refused: job busy
-job | body written
-job | body synced
-at 1 7 105 | value 61
-job | gate written
-floor 130 | refused: job busy
-at 1 7 119 | value 62
-job | job done
-at 1 7 119 | refused: before kept 120
-job | idle
-finish | idle
-floor 119 | refused: nothing to do
-archive 120 | started
-floor 130 | refused: job busy
-finish | idle
-floor 130 | started
-finish | idle
-reopen | last 130 floor 130
-",
-            1,
-        )],
+/// Each example, by its name.
+const EXAMPLES: &[Example] = &[
+    Example {
+        name: "a_floor_bars_what_stood_before_it",
+        profiles: Older,
+        steps: FLOORED,
     },
-    Script {
-        name: "a_transaction_below_the_floor_bars_it",
-        slots: 16,
-        before: "begin a | snapshot 0
-put a 1 7 61 | ok
-submit a 1 100 | queued
-flush | idle
-begin b | snapshot 100
-put b 1 7 62 | ok
-submit b 2 110 | queued
-flush | idle
-",
-        parts: &[(
-            "begin r | snapshot 110
-begin c | snapshot 110
-del c 1 7 | ok
-submit c 3 120 | queued
-flush | idle
-begin s | snapshot 120
-begin d | snapshot 120
-put d 1 7 63 | ok
-submit d 4 130 | queued
-flush | idle
-floor 111 | refused: in use 110
-floor 120 | refused: in use 110
-floor 131 | refused: not yet 130
-floor 110 | started
-finish | idle
-get r 1 7 | value 62
-floor 120 | refused: in use 110
-abort r | ok
-floor 121 | refused: in use 120
-floor 120 | started
-finish | idle
-get s 1 7 | none
-reopen | last 130 floor 120
-",
-            1,
-        )],
-    },
-    Script {
-        name: "a_floor_may_be_an_instant",
-        slots: 16,
-        before: "begin a | snapshot 0
-put a 1 7 61 | ok
-submit a 1 1970-01-01T00:00:01Z | queued
-flush | idle
-begin b | snapshot 1000000
-put b 1 7 62 | ok
-submit b 2 1970-01-01T00:00:02Z | queued
-flush | idle
-",
-        parts: &[(
-            "floor 1970-01-01T00:00:02Z | started
-finish | idle
-reopen | last 2000000 floor 2000000
-at 1 7 1970-01-01T00:00:01Z | refused: before kept 2000000
-at 1 7 1970-01-01T00:00:02Z | value 62
-",
-            1,
-        )],
-    },
-    Script {
-        name: "a_group_waits_for_a_floors_slot",
-        slots: 16,
-        before: FOUR_COMMITS,
-        parts: &[(
-            "floor 120 | started
-job | body written
-begin e | snapshot 130
-put e 1 7 64 | ok
-submit e 5 140 | queued
-pump | wrote extent
-pump | heap synced
-pump | refused: busy
-job | body synced
-job | gate written
-flush | refused: busy
-job | job done
-flush | idle
-redeem e | done 140
-reopen | last 140 floor 120
-at 1 7 119 | refused: before kept 120
-at 1 7 140 | value 64
-",
-            1,
-        )],
-    },
-    Script {
-        name: "a_floor_waits_for_a_groups_slot",
-        slots: 16,
-        before: FOUR_COMMITS,
-        parts: &[(
-            "begin e | snapshot 130
-put e 1 7 64 | ok
-submit e 5 140 | queued
-pump | wrote extent
-pump | heap synced
-pump | body written
-floor 140 | refused: not yet 130
-floor 130 | started
-job | refused: busy
-finish | refused: busy
-flush | idle
-finish | idle
-floor 140 | started
-finish | idle
-reopen | last 140 floor 140
-at 1 7 140 | value 64
-",
-            1,
-        )],
-    },
-    Script {
-        name: "a_floor_takes_a_slot_that_commits_leave",
-        slots: 16,
-        before: "",
-        parts: &[
-            (
-                "begin t | snapshot #
-put t 1 7 61 | ok
-submit t # 0 | queued
-flush | idle
-redeem t | done +
-",
-                14,
-            ),
-            (
-                "floor 1 | started
-finish | idle
-floor 2 | started
-finish | idle
-floor 2 | refused: nothing to do
-floor 3 | refused: status full
-floor 15 | refused: not yet 14
-archive 3 | refused: status full
-reopen | last 14 floor 2
-at 1 7 1 | refused: before kept 2
-at 1 7 2 | value 61
-",
-                1,
-            ),
-        ],
-    },
-    Script {
-        name: "a_floor_that_is_not_finished_is_given_up",
-        slots: 16,
-        before: FOUR_COMMITS,
-        parts: &[(
-            "floor 120 | started
-reopen | last 130 floor 0
-job | idle
-floor 120 | started
-job | body written
-job | body synced
-reopen | last 130 floor 0
-job | idle
-at 1 7 105 | value 61
-floor 110 | started
-finish | idle
-reopen | last 130 floor 110
-at 1 7 109 | refused: before kept 110
-at 1 7 110 | value 62
-",
-            1,
-        )],
+    Example {
+        name: "an_archive_leaves_out_what_ended_by_the_floor",
+        profiles: Older,
+        steps: LEFT_OUT,
     },
 ];
 
 #[test]
-fn floors_beside_other_work_are_answered(rt: HostRuntime) -> Result<(), Fail> {
-    for profile in OLDER {
-        hold_in(rt.alloc(), SCRIPTS, profile)?;
-    }
-    Ok(())
-}
-
-/// A floor of the four commits, step by step. Its four calls are all that the disk is asked for.
-const ONE_FLOOR: &str = "floor 120
-job
-job
-job
-job
-floor 120
-at 1 7 119
-at 1 7 130
-";
-
-/// What is said of it where a step is refused, from there on.
-const FAILED: &str = "refused: failed\nrefused: failed\nvalue 62\nvalue 63\n";
-
-/// What a floor bars, and what stood before it was raised.
-const BARRED: &[Step] = &[At("119", "refused: before kept 120"), At("130", "value 63")];
-
-const NOT_BARRED: &[Step] = &[At("119", "value 62"), At("130", "value 63")];
-
-/// What stands by what is left of the disk on which this was said: the floor bars what stood at 119 once
-/// its slot is open, and, while the gate is written and not synced, where its byte is that of an open one.
-fn steps_left(said: &str, fill: u8) -> &'static [Step] {
-    if said.contains("job done") || (said.contains("body synced") && fill == 0xC7) {
-        BARRED
-    } else {
-        NOT_BARRED
-    }
-}
-
-/// Opens what a stop may leave of a disk, with each filling of what is torn, and asks.
-fn asks_each_left(alloc: Global, said: &str, disk: &FaultDisk, profile: u8) -> Result<(), Fail> {
-    for torn in fillings(alloc, disk)? {
-        left_goes_on(alloc, disk, *torn, steps_left(said, torn.0), profile)?;
-    }
-    Ok(())
-}
-
-/// Whether a step of the floor was refused: then the store failed and read on.
-fn is_failed(said: &str) -> Result<bool, Fail> {
-    if !said.contains("started") {
-        return Ok(false);
-    }
-    if said.ends_with(FAILED) {
-        return Ok(true);
-    }
-    Err(Fail::new(format_args!("{said}")))
-}
-
-/// Each call is refused in turn, and the machine may stop there. Each of the four calls of the floor is
-/// met once: the store fails and reads on, and the floor is not raised.
-fn refuses_each_call(alloc: Global, write_reaches: bool, profile: u8) -> Result<(), Fail> {
-    let trial = Trial {
-        before: &[New(16), Says(FOUR_COMMITS)],
-        action: SCRIPT,
-        script: ONE_FLOOR,
-        write_reaches,
-        stops: false,
-    };
-    let mut refusals: u32 = 0;
-    for calls_before in 0..100 {
-        let (said, _, disk) = tried(alloc, &trial, calls_before, profile)?;
-        asks_each_left(alloc, said.as_str(), &disk, profile)?;
-        if said.contains("job done") {
-            break;
-        }
-        refusals = refusals.saturating_add(u32::from(is_failed(said.as_str())?));
-    }
-    is_count(refusals, 4)
-}
-
-#[test]
-fn a_floor_is_raised_whole_or_not_at_all(rt: HostRuntime) -> Result<(), Fail> {
-    for profile in OLDER {
-        refuses_each_call(rt.alloc(), false, profile)?;
-    }
-    Ok(())
-}
-
-#[test]
-fn a_floor_whose_refused_write_was_made_is_raised_or_not(rt: HostRuntime) -> Result<(), Fail> {
-    for profile in OLDER {
-        refuses_each_call(rt.alloc(), true, profile)?;
-    }
-    Ok(())
+fn floors_bar_what_stood_before_them(rt: HostRuntime) -> Result<(), Fail> {
+    each_goes(rt.alloc(), EXAMPLES)
 }

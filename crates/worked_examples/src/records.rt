@@ -1,11 +1,12 @@
 //! What stands on the disk: headers, slots and records.
-use crate::dialogue::{FOUR_COMMITS, ONE_COMMIT};
+use crate::examples::{Example, FOUR_COMMITS, ONE_COMMIT, each_goes};
+use crate::machine::Profiles::Each;
+use crate::steps::Step;
 use crate::steps::Step::{Extents, Long, New, Says, Spells};
-use crate::steps::{Step, go};
-use crate::stored::{Stored, are_stored};
 use disk::Area;
 use std::test::Fail;
 
+/// A header, a slot and an extent, to their ends.
 const ONE_RECORD: &[Step] = &[
     New(16),
     Says(ONE_COMMIT),
@@ -24,11 +25,7 @@ const ONE_RECORD: &[Step] = &[
     ]),
 ];
 
-#[test]
-fn one_commit_of_one_record(rt: HostRuntime) -> Result<(), Fail> {
-    go(rt.alloc(), ONE_RECORD)
-}
-
+/// Two commits under one gate.
 const TWO_MEMBERS: &[Step] = &[
     New(16),
     Says(
@@ -50,17 +47,25 @@ flush | idle
     ),
 ];
 
-#[test]
-fn a_slot_of_two_members(rt: HostRuntime) -> Result<(), Fail> {
-    go(rt.alloc(), TWO_MEMBERS)
-}
-
-/// Dialogues on a new store, and the extents that they leave.
-const STORED: &[Stored] = &[
-    Stored {
+/// Dialogues, and the bytes that they leave.
+const EXAMPLES: &[Example] = &[
+    Example {
+        name: "one_commit_of_one_record",
+        profiles: Each,
+        steps: ONE_RECORD,
+    },
+    Example {
+        name: "a_slot_of_two_members",
+        profiles: Each,
+        steps: TWO_MEMBERS,
+    },
+    Example {
         name: "a_change_of_one_field_is_a_delta",
-        parts: &[(
-            "begin a | snapshot 0
+        profiles: Each,
+        steps: &[
+            New(16),
+            Says(
+                "begin a | snapshot 0
 put a 1 7 61 62 | ok
 submit a 1 100 | queued
 flush | idle
@@ -77,18 +82,21 @@ at 1 7 100 | value 61 62
 at 1 7 110 | value 61 63
 at 1 7 120 | value 64 63
 ",
-            1,
-        )],
-        extents: &[
-            "01000000 00000000 10000000 00000000 01 0100 0700000000000000 02 01 61 01 62 ..z 8160",
-            "02000000 00000000 0f000000 00000000 02 0100 0700000000000000 0200 01 63 ..z 8161",
-            "03000000 00000000 0f000000 00000000 02 0100 0700000000000000 0100 01 64 ..z 8161",
+            ),
+            Extents(&[
+                "01000000 00000000 10000000 00000000 01 0100 0700000000000000 02 01 61 01 62 ..z 8160",
+                "02000000 00000000 0f000000 00000000 02 0100 0700000000000000 0200 01 63 ..z 8161",
+                "03000000 00000000 0f000000 00000000 02 0100 0700000000000000 0100 01 64 ..z 8161",
+            ]),
         ],
     },
-    Stored {
+    Example {
         name: "an_unchanged_value_is_a_delta_without_fields",
-        parts: &[(
-            "begin a | snapshot 0
+        profiles: Each,
+        steps: &[
+            New(16),
+            Says(
+                "begin a | snapshot 0
 put a 1 7 61 61 61 | ok
 submit a 1 100 | queued
 flush | idle
@@ -101,19 +109,22 @@ reopen | last 110 floors 0
 at 1 7 110 | value 61 61 61
 at 1 8 110 | value 61 61 61
 ",
-            1,
-        )],
-        extents: &[
-            "01000000 00000000 12000000 00000000
+            ),
+            Extents(&[
+                "01000000 00000000 12000000 00000000
          01 0100 0700000000000000 03 01 61 01 61 01 61 ..z 8158",
-            "02000000 00000000 1f000000 00000000 02 0100 0700000000000000 0000
+                "02000000 00000000 1f000000 00000000 02 0100 0700000000000000 0000
          01 0100 0800000000000000 03 01 61 01 61 01 61 ..z 8145",
+            ]),
         ],
     },
-    Stored {
+    Example {
         name: "a_delta_that_is_no_shorter_is_not_stored",
-        parts: &[(
-            "begin a | snapshot 0
+        profiles: Each,
+        steps: &[
+            New(16),
+            Says(
+                "begin a | snapshot 0
 put a 1 7 61 | ok
 put a 1 8 - | ok
 submit a 1 100 | queued
@@ -127,19 +138,22 @@ reopen | last 110 floors 0
 at 1 7 110 | value 62
 at 1 8 110 | value -
 ",
-            1,
-        )],
-        extents: &[
-            "01000000 00000000 1b000000 00000000 01 0100 0700000000000000 01 01 61
+            ),
+            Extents(&[
+                "01000000 00000000 1b000000 00000000 01 0100 0700000000000000 01 01 61
          01 0100 0800000000000000 01 00 ..z 8149",
-            "02000000 00000000 1b000000 00000000 01 0100 0700000000000000 01 01 62
+                "02000000 00000000 1b000000 00000000 01 0100 0700000000000000 01 01 62
          01 0100 0800000000000000 01 00 ..z 8149",
+            ]),
         ],
     },
-    Stored {
+    Example {
         name: "another_count_of_fields_is_stored_whole",
-        parts: &[(
-            "begin a | snapshot 0
+        profiles: Each,
+        steps: &[
+            New(16),
+            Says(
+                "begin a | snapshot 0
 put a 1 7 61 62 63 | ok
 submit a 1 100 | queued
 flush | idle
@@ -150,18 +164,21 @@ flush | idle
 reopen | last 110 floors 0
 at 1 7 110 | value 61 62
 ",
-            1,
-        )],
-        extents: &[
-            "01000000 00000000 12000000 00000000
+            ),
+            Extents(&[
+                "01000000 00000000 12000000 00000000
          01 0100 0700000000000000 03 01 61 01 62 01 63 ..z 8158",
-            "02000000 00000000 10000000 00000000 01 0100 0700000000000000 02 01 61 01 62 ..z 8160",
+                "02000000 00000000 10000000 00000000 01 0100 0700000000000000 02 01 61 01 62 ..z 8160",
+            ]),
         ],
     },
-    Stored {
+    Example {
         name: "after_a_deletion_a_value_is_stored_whole",
-        parts: &[(
-            "begin a | snapshot 0
+        profiles: Each,
+        steps: &[
+            New(16),
+            Says(
+                "begin a | snapshot 0
 put a 1 7 61 62 | ok
 submit a 1 100 | queued
 flush | idle
@@ -177,27 +194,31 @@ reopen | last 120 floors 0
 at 1 7 119 | none
 at 1 7 120 | value 61 63
 ",
-            1,
-        )],
-        extents: &[
-            "01000000 00000000 10000000 00000000 01 0100 0700000000000000 02 01 61 01 62 ..z 8160",
-            "02000000 00000000 0b000000 00000000 03 0100 0700000000000000 ..z 8165",
-            "03000000 00000000 10000000 00000000 01 0100 0700000000000000 02 01 61 01 63 ..z 8160",
+            ),
+            Extents(&[
+                "01000000 00000000 10000000 00000000 01 0100 0700000000000000 02 01 61 01 62 ..z 8160",
+                "02000000 00000000 0b000000 00000000 03 0100 0700000000000000 ..z 8165",
+                "03000000 00000000 10000000 00000000 01 0100 0700000000000000 02 01 61 01 63 ..z 8160",
+            ]),
         ],
     },
-    Stored {
+    Example {
         name: "four_commits_have_four_extents",
-        parts: &[(FOUR_COMMITS, 1)],
-        extents: &[
-            "01000000 00000000 0e000000 00000000 01 0100 0700000000000000 01 01 61 ..z 8162",
-            "02000000 00000000 0e000000 00000000 01 0100 0700000000000000 01 01 62 ..z 8162",
-            "03000000 00000000 0b000000 00000000 03 0100 0700000000000000 ..z 8165",
-            "04000000 00000000 0e000000 00000000 01 0100 0700000000000000 01 01 63 ..z 8162",
+        profiles: Each,
+        steps: &[
+            New(16),
+            Says(FOUR_COMMITS),
+            Extents(&[
+                "01000000 00000000 0e000000 00000000 01 0100 0700000000000000 01 01 61 ..z 8162",
+                "02000000 00000000 0e000000 00000000 01 0100 0700000000000000 01 01 62 ..z 8162",
+                "03000000 00000000 0b000000 00000000 03 0100 0700000000000000 ..z 8165",
+                "04000000 00000000 0e000000 00000000 01 0100 0700000000000000 01 01 63 ..z 8162",
+            ]),
         ],
     },
 ];
 
 #[test]
 fn records_are_stored(rt: HostRuntime) -> Result<(), Fail> {
-    are_stored(rt.alloc(), STORED)
+    each_goes(rt.alloc(), EXAMPLES)
 }

@@ -1,11 +1,11 @@
 //! The example script on a disk that refuses one of its calls: each read, write, sync and length in
 //! turn.
-use crate::dialogue::{PROFILES, SCRIPT, is_said, is_status, of_profile};
-use crate::refused_calls::{is_not_opened, value_kept};
-use crate::steps::Step::New;
-use crate::trials::{Trial, is_count, still_answers, tried};
-use disk::FaultDisk;
-use std::alloc::Global;
+use crate::examples::NEW;
+use crate::machine::Profiles::Each;
+use crate::machine::SCRIPT;
+use crate::refusals::Then::{Made, NotMade, Nothing};
+use crate::refusals::{Calls, Outcome, Refusals, each_refusal_goes};
+use crate::refused_calls::UNOPENED_AND_EMPTY;
 use std::test::Fail;
 
 const EXAMPLE: &str = "begin t
@@ -112,123 +112,105 @@ started
 refused: failed
 ";
 
-/// How many calls were refused of each part of the script.
-#[derive(Clone, Copy, Default)]
-struct Refused {
-    opening: u32,
-    commit: u32,
-    archive: u32,
-    reclaim: u32,
-    reopening: u32,
-}
+/// The five calls of an archive whose run is empty.
+const ARCHIVE: Outcome = Outcome {
+    calls: Calls::Just(5),
+    said: (ARCHIVE_FAILED, KEPT),
+    more: false,
+    status: 0,
+    then: Made,
+};
 
-/// The script ends well with this behind what comes before the reopening, and then the store, which is of
-/// this profile, has this value at 100.
-fn is_kept(
-    alloc: Global,
-    (rest, status, disk): (&str, u8, FaultDisk),
-    value: &str,
-    profile: u8,
-) -> Result<(), Fail> {
-    let reopened = if value == "value 61" { KEPT } else { NOT_KEPT };
-    let reopened = of_profile(alloc, reopened, profile)?;
-    is_said(rest, status, reopened.as_str(), 0)?;
-    still_answers(alloc, disk, "100", value)
-}
+/// The six of the reclaim.
+const RECLAIM: Outcome = Outcome {
+    calls: Calls::Just(6),
+    said: (RECLAIM_FAILED, KEPT),
+    more: false,
+    status: 0,
+    then: Made,
+};
 
-/// A call of the reopening was refused.
-fn is_not_reopened(alloc: Global, (rest, status, disk): (&str, u8, FaultDisk)) -> Result<(), Fail> {
-    is_said(rest, status, "refused: device\n", 1)?;
-    still_answers(alloc, disk, "100", "value 61")
-}
+/// Those of the reopening, which are more than those of the opening.
+const REOPENING: Outcome = Outcome {
+    calls: Calls::OverOpening,
+    said: (FINISHED, "refused: device\n"),
+    more: false,
+    status: 1,
+    then: Made,
+};
 
-/// A call of the opening was refused.
-fn is_unopened(alloc: Global, (said, status, disk): (&str, u8, FaultDisk)) -> Result<(), Fail> {
-    is_status(status, 1)?;
-    is_not_opened(alloc, said, disk)
-}
+/// Nothing is refused.
+const ALL: Outcome = Outcome {
+    calls: Calls::Just(1),
+    said: (FINISHED, KEPT),
+    more: false,
+    status: 0,
+    then: Nothing,
+};
 
-/// A call of the script was refused, and so this was said with this status: counts it.
-fn is_refused(
-    alloc: Global,
-    refused: &mut Refused,
-    (said, status, disk): (&str, u8, FaultDisk),
-    (write_reaches, profile): (bool, u8),
-) -> Result<(), Fail> {
-    if let Some(rest) = said.strip_prefix(COMMIT_FAILED) {
-        refused.commit = refused.commit.saturating_add(1);
-        let value = value_kept(refused.commit, write_reaches);
-        is_kept(alloc, (rest, status, disk), value, profile)
-    } else if let Some(rest) = said.strip_prefix(ARCHIVE_FAILED) {
-        refused.archive = refused.archive.saturating_add(1);
-        is_kept(alloc, (rest, status, disk), "value 61", profile)
-    } else if let Some(rest) = said.strip_prefix(RECLAIM_FAILED) {
-        refused.reclaim = refused.reclaim.saturating_add(1);
-        is_kept(alloc, (rest, status, disk), "value 61", profile)
-    } else if let Some(rest) = said.strip_prefix(FINISHED) {
-        refused.reopening = refused.reopening.saturating_add(1);
-        is_not_reopened(alloc, (rest, status, disk))
-    } else {
-        refused.opening = refused.opening.saturating_add(1);
-        is_unopened(alloc, (said, status, disk))
-    }
-}
-
-/// Each call of the script is refused in turn.
-fn refuses_each_call(alloc: Global, write_reaches: bool, profile: u8) -> Result<Refused, Fail> {
-    let kept = of_profile(alloc, KEPT, profile)?;
-    let trial = Trial {
-        before: &[New(16)],
+/// Each call of the script is refused in turn. The commit has six steps; the fifth writes its gate.
+const REFUSED: &[Refusals] = &[
+    Refusals {
+        name: "the_example_says_which_call_was_refused",
+        profiles: Each,
+        before: NEW,
         action: SCRIPT,
         script: EXAMPLE,
-        write_reaches,
-        stops: false,
-    };
-    let mut refused = Refused::default();
-    for calls in 0..100 {
-        let (said, status, disk) = tried(alloc, &trial, calls, profile)?;
-        if said.strip_prefix(FINISHED) == Some(kept.as_str()) {
-            return Ok(refused);
-        }
-        is_refused(
-            alloc,
-            &mut refused,
-            (said.as_str(), status, disk),
-            (write_reaches, profile),
-        )?;
-    }
-    Err(Fail::new("the script has no end"))
-}
-
-/// Opening syncs three areas, and asks for a length.
-fn is_often(opening: u32, reopening: u32) -> Result<(), Fail> {
-    if opening > 3 && reopening > opening {
-        return Ok(());
-    }
-    Err(Fail::new(format_args!("{opening} and {reopening}")))
-}
-
-/// The commit has six steps, the archive, whose run is empty, five, and the reclaim six.
-fn is_counted(refused: &Refused) -> Result<(), Fail> {
-    is_count(refused.commit, 6)?;
-    is_count(refused.archive, 5)?;
-    is_count(refused.reclaim, 6)?;
-    is_often(refused.opening, refused.reopening)
-}
-
-/// The refused calls of each part are counted, where a refused write has reached the disk or not.
-fn counts_each_call(alloc: Global, profile: u8) -> Result<(), Fail> {
-    for write_reaches in [false, true] {
-        let refused = refuses_each_call(alloc, write_reaches, profile)?;
-        is_counted(&refused)?;
-    }
-    Ok(())
-}
+        write_reaches: false,
+        outcomes: &[
+            UNOPENED_AND_EMPTY,
+            Outcome {
+                calls: Calls::Just(5),
+                said: (COMMIT_FAILED, NOT_KEPT),
+                more: false,
+                status: 0,
+                then: NotMade,
+            },
+            Outcome {
+                calls: Calls::Just(1),
+                said: (COMMIT_FAILED, KEPT),
+                more: false,
+                status: 0,
+                then: Made,
+            },
+            ARCHIVE,
+            RECLAIM,
+            REOPENING,
+            ALL,
+        ],
+    },
+    Refusals {
+        name: "the_example_whose_refused_write_was_made",
+        profiles: Each,
+        before: NEW,
+        action: SCRIPT,
+        script: EXAMPLE,
+        write_reaches: true,
+        outcomes: &[
+            UNOPENED_AND_EMPTY,
+            Outcome {
+                calls: Calls::Just(4),
+                said: (COMMIT_FAILED, NOT_KEPT),
+                more: false,
+                status: 0,
+                then: NotMade,
+            },
+            Outcome {
+                calls: Calls::Just(2),
+                said: (COMMIT_FAILED, KEPT),
+                more: false,
+                status: 0,
+                then: Made,
+            },
+            ARCHIVE,
+            RECLAIM,
+            REOPENING,
+            ALL,
+        ],
+    },
+];
 
 #[test]
 fn the_example_says_which_call_was_refused(rt: HostRuntime) -> Result<(), Fail> {
-    for profile in PROFILES {
-        counts_each_call(rt.alloc(), profile)?;
-    }
-    Ok(())
+    each_refusal_goes(rt.alloc(), REFUSED)
 }

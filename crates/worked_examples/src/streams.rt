@@ -1,15 +1,15 @@
 //! Inputs that wait for answers, and inputs and outputs that refuse.
-use crate::dialogue::{KEY, NEWEST, ONE_COMMIT, PROFILES, SCRIPT, answers, new_store, of_profile};
+use crate::dumps::{FIRST_PROFILE, ONE_MEMBER};
+use crate::examples::{MADE, NEW, NOT_MADE, ONE_COMMIT};
+use crate::machine::{KEY, Machine, NEWEST, PROFILES, SCRIPT};
+use crate::steps::Step;
 use crate::steps::Step::{New, Says};
-use crate::steps::{Step, stands};
-use disk::MemDisk;
 use session::{Answers, Lines};
 use shell::{Action, act};
-use std::alloc::Global;
+use std::alloc::{AllocError, Global};
 use std::cell::Cell;
 use std::io;
 use std::io::{BufReader, BufWriter, Read, Write};
-use std::process::Abort;
 use std::test::Fail;
 
 /// What is fed at a time, and what it is answered with.
@@ -46,7 +46,7 @@ fn talk_of(profile: u8) -> Talk {
 const BEFORE_COMMIT: usize = 5;
 
 /// What a reader does once all parts are fed.
-#[derive(Clone, Copy, Debug, PartialEq, Eq)]
+#[derive(Clone, Copy)]
 enum Then {
     Ends,
     Refuses,
@@ -110,7 +110,7 @@ impl Write for Screen<'_> {
 }
 
 /// All answers to these parts.
-fn answers_to(alloc: Global, parts: &[(&str, &str)]) -> Result<String, Fail> {
+fn answers_to(alloc: Global, parts: &[(&str, &str)]) -> Result<String, AllocError> {
     let mut text = String::new(alloc);
     for (_, answer) in parts {
         text.push_str(answer)?;
@@ -119,14 +119,14 @@ fn answers_to(alloc: Global, parts: &[(&str, &str)]) -> Result<String, Fail> {
 }
 
 /// Does an action with an input of these parts and a screen of so much room, through a writer that
-/// gathers: what the screen shows, the status, and the disk.
-fn shown(
-    alloc: Global,
+/// gathers: what the screen shows is said. Whether there was memory.
+fn shows(
+    machine: &mut Machine,
     action: Action<'_>,
-    disk: MemDisk,
     (parts, then): (&[(&str, &str)], Then),
     room: usize,
-) -> Result<(String, u8, MemDisk), Fail> {
+) -> bool {
+    let alloc = machine.alloc;
     let shown = Cell::new(0);
     let asker = Asker {
         shown: &shown,
@@ -140,97 +140,95 @@ fn shown(
         text: Vec::new(alloc),
         room,
     };
-    let mut input = Lines::new(alloc, BufReader::new(alloc, asker)?);
-    let gathered = BufWriter::with_capacity(alloc, 65_536, screen)?;
-    let mut output = Answers::new(alloc, gathered);
-    let (status, disk) = act(alloc, action, disk, &mut input, &mut output);
+    let Ok(reader) = BufReader::new(alloc, asker) else {
+        return false;
+    };
+    let Ok(writer) = BufWriter::with_capacity(alloc, 65_536, screen) else {
+        return false;
+    };
+    let (mut input, mut output) = (Lines::new(alloc, reader), Answers::new(alloc, writer));
+    let (status, disk) = act(alloc, action, machine.taken(), &mut input, &mut output);
     let (screen, _unwritten) = output.into_writer().into_parts();
-    Ok((String::from_utf8(screen.text)?, status, disk))
+    machine.said = screen.text;
+    machine.status = status;
+    machine.disk = disk;
+    true
 }
 
-/// A talk on a new store of this profile: all is answered.
-fn is_answered(rt: &impl Abort, alloc: Global, profile: u8) -> Result<(), Fail> {
-    let talk = talk_of(profile);
-    let disk = new_store(alloc, 16, profile)?;
-    let (said, status, disk) = shown(alloc, SCRIPT, disk, (&talk, Then::Ends), usize::MAX)?;
-    assert_eq!(rt; said.as_str(), answers_to(alloc, &talk)?.as_str());
-    assert_eq!(rt; status, 0);
-    let _disk = answers(alloc, disk, "100", "value 61")?;
+/// Whether an action shows of a text what its screen has room for, with status 0 where that is all.
+fn is_shown(
+    machine: &mut Machine,
+    action: Action<'_>,
+    (parts, then): (&[(&str, &str)], Then),
+    (text, room): (&str, usize),
+) -> bool {
+    let ends = matches!(then, Then::Ends) && text.len() <= room;
+    shows(machine, action, (parts, then), room)
+        && machine.said() == text.get(..room).unwrap_or(text)
+        && machine.status == u8::from(!ends)
+}
+
+/// Whether a talk of so many parts on a new store is answered on a screen of so much room.
+fn talks(machine: &mut Machine, (count, then): (usize, Then), room: usize) -> bool {
+    let talk = talk_of(machine.profile);
+    let parts = talk.get(..count).unwrap_or(&talk);
+    let before = parts.get(..BEFORE_COMMIT).unwrap_or(parts);
+    let (Ok(text), Ok(before)) = (
+        answers_to(machine.alloc, parts),
+        answers_to(machine.alloc, before),
+    ) else {
+        return false;
+    };
+    let is_made = count > BEFORE_COMMIT && before.len() <= room;
+    machine.goes(NEW)
+        && is_shown(machine, SCRIPT, (parts, then), (text.as_str(), room))
+        && machine.goes(if is_made { MADE } else { NOT_MADE })
+}
+
+/// More room than any answer here needs.
+const MOST_ROOM: usize = 140;
+
+/// What the input does behind so many parts, with all that is fed answered.
+const INPUTS: &[(usize, Then)] = &[
+    (0, Then::Refuses),
+    (1, Then::Refuses),
+    (2, Then::Refuses),
+    (3, Then::Refuses),
+    (4, Then::Refuses),
+    (5, Then::Refuses),
+    (6, Then::Refuses),
+    (7, Then::Refuses),
+    (8, Then::Refuses),
+    (9, Then::Refuses),
+    (10, Then::Ends),
+];
+
+/// Answers are shown before input is waited for, and an input that refuses is status 1.
+fn feeds_each(alloc: Global, profile: u8) -> Result<(), Fail> {
+    for input in INPUTS {
+        let mut machine = Machine::new(alloc, profile);
+        if !talks(&mut machine, *input, MOST_ROOM) {
+            return Err(machine.failure("an input", input.0 as u64));
+        }
+    }
     Ok(())
 }
 
 #[test]
 fn answers_are_shown_before_input_is_waited_for(rt: HostRuntime) -> Result<(), Fail> {
     for profile in PROFILES {
-        is_answered(&rt, rt.alloc(), profile)?;
+        feeds_each(rt.alloc(), *profile)?;
     }
-    Ok(())
-}
-
-/// What a store answers of 100 that was given these parts whole.
-fn value_after(parts: usize) -> &'static str {
-    if parts > BEFORE_COMMIT {
-        "value 61"
-    } else {
-        "refused: not yet 0"
-    }
-}
-
-/// An input of so many parts that refuses what comes behind them.
-fn is_fed(rt: &impl Abort, alloc: Global, parts: &[(&str, &str)], profile: u8) -> Result<(), Fail> {
-    let disk = new_store(alloc, 16, profile)?;
-    let (said, status, disk) = shown(alloc, SCRIPT, disk, (parts, Then::Refuses), usize::MAX)?;
-    assert_eq!(rt; said.as_str(), answers_to(alloc, parts)?.as_str());
-    assert_eq!(rt; status, 1, "{}", parts.len());
-    let _disk = answers(alloc, disk, "100", value_after(parts.len()))?;
-    Ok(())
-}
-
-/// The input refuses behind each part in turn.
-fn refuses_each_part(rt: &impl Abort, alloc: Global, profile: u8) -> Result<(), Fail> {
-    let talk = talk_of(profile);
-    for count in 0..talk.len() {
-        is_fed(rt, alloc, talk.get(..count).ok_or("no such part")?, profile)?;
-    }
-    Ok(())
-}
-
-#[test]
-fn a_refused_input_is_status_1(rt: HostRuntime) -> Result<(), Fail> {
-    for profile in PROFILES {
-        refuses_each_part(&rt, rt.alloc(), profile)?;
-    }
-    Ok(())
-}
-
-/// A talk on a new store of this profile, on a screen of so much room.
-fn runs_on_screen(
-    rt: &impl Abort,
-    alloc: Global,
-    (room, whole): (usize, &str),
-    value: &str,
-    profile: u8,
-) -> Result<(), Fail> {
-    let disk = new_store(alloc, 16, profile)?;
-    let talk = talk_of(profile);
-    let (said, status, disk) = shown(alloc, SCRIPT, disk, (&talk, Then::Ends), room)?;
-    assert_eq!(rt; status, 1, "{room}");
-    assert_eq!(rt; said.len(), room);
-    assert!(rt; whole.starts_with(said.as_str()), "{room}");
-    let _disk = answers(alloc, disk, "100", value)?;
     Ok(())
 }
 
 /// The output refuses behind each byte in turn.
-fn refuses_each_byte(rt: &impl Abort, alloc: Global, profile: u8) -> Result<(), Fail> {
-    let talk = talk_of(profile);
-    let whole = answers_to(alloc, &talk)?;
-    let first = talk.get(..BEFORE_COMMIT).ok_or("no such part")?;
-    let before = answers_to(alloc, first)?.len();
-    for room in 0..whole.len() {
-        let parts = if room < before { 0 } else { talk.len() };
-        let shown = (room, whole.as_str());
-        runs_on_screen(rt, alloc, shown, value_after(parts), profile)?;
+fn refuses_each_byte(alloc: Global, profile: u8) -> Result<(), Fail> {
+    for room in 0..MOST_ROOM {
+        let mut machine = Machine::new(alloc, profile);
+        if !talks(&mut machine, (TALK.len(), Then::Ends), room) {
+            return Err(machine.failure("a screen", room as u64));
+        }
     }
     Ok(())
 }
@@ -238,90 +236,88 @@ fn refuses_each_byte(rt: &impl Abort, alloc: Global, profile: u8) -> Result<(), 
 #[test]
 fn a_refused_output_is_status_1(rt: HostRuntime) -> Result<(), Fail> {
     for profile in PROFILES {
-        refuses_each_byte(&rt, rt.alloc(), profile)?;
+        refuses_each_byte(rt.alloc(), *profile)?;
     }
     Ok(())
 }
 
-/// Commands, and what each says of a store with one commit at 100.
-const SAID: [(Action<'static>, &str); 4] = [
-    (
-        Action::At {
+/// A command, and what it says of a store with one commit at 100 in these profiles.
+struct Said {
+    profiles: &'static [u8],
+    action: Action<'static>,
+    text: &'static str,
+}
+
+const SAID: &[Said] = &[
+    Said {
+        profiles: PROFILES,
+        action: Action::At {
             dir: "",
             key: KEY,
             time: Some(100),
         },
-        "value 61\n",
-    ),
-    (
-        Action::At {
+        text: "value 61\n",
+    },
+    Said {
+        profiles: PROFILES,
+        action: Action::At {
             dir: "",
             key: KEY,
             time: Some(99),
         },
-        "none\n",
-    ),
-    (
-        Action::Between {
+        text: "none\n",
+    },
+    Said {
+        profiles: PROFILES,
+        action: Action::Between {
             dir: "",
             key: KEY,
             from: Some(0),
             to: Some(101),
         },
-        "100 101 61\nrows 1\n",
-    ),
-    (
-        Action::Dump { dir: "" },
-        "header 16 pieces 0\nslot 0 commit\nmember 9 100 1 1 1 1970-01-01T00:00:00Z\nused 1 of 16\n",
-    ),
+        text: "100 101 61\nrows 1\n",
+    },
+    Said {
+        profiles: &[2, NEWEST],
+        action: Action::Dump { dir: "" },
+        text: ONE_MEMBER,
+    },
+    Said {
+        profiles: &[1],
+        action: Action::Dump { dir: "" },
+        text: FIRST_PROFILE,
+    },
 ];
-
-/// A command must end with status 0 where there is room for all it says, and with 1 where not.
-fn says_on_screen(
-    rt: &impl Abort,
-    alloc: Global,
-    disk: MemDisk,
-    (action, text): (Action<'_>, &str),
-    room: usize,
-) -> Result<MemDisk, Fail> {
-    let (said, status, disk) = shown(alloc, action, disk, (&[], Then::Ends), room)?;
-    assert_eq!(rt; Some(said.as_str()), text.get(..room));
-    assert_eq!(rt; status, if room < text.len() { 1 } else { 0 });
-    Ok(disk)
-}
 
 /// A store with one commit at 100.
 const STORE: &[Step] = &[New(16), Says(ONE_COMMIT)];
 
-/// So must the command on screens of less room than its answer, one byte at a time, and of as much.
-fn says_on_each_screen(
-    rt: &impl Abort,
-    alloc: Global,
-    disk: MemDisk,
-    (action, lines): (Action<'_>, &str),
-    profile: u8,
-) -> Result<MemDisk, Fail> {
-    let text = of_profile(alloc, lines, profile)?;
-    let mut disk = disk;
-    for room in 0..=text.len() {
-        disk = says_on_screen(rt, alloc, disk, (action, text.as_str()), room)?;
+/// The command on screens of less room than its answer, one byte more each time, and of as much and more.
+fn is_said_on_each(alloc: Global, said: &Said, profile: u8) -> Result<(), Fail> {
+    for room in 0..MOST_ROOM {
+        let mut machine = Machine::new(alloc, profile);
+        let screen = (said.text, room);
+        if !(machine.goes(STORE)
+            && is_shown(&mut machine, said.action, (&[], Then::Ends), screen))
+        {
+            return Err(machine.failure(said.text, room as u64));
+        }
     }
-    Ok(disk)
+    Ok(())
 }
 
-/// So must each command on a store of this profile.
-fn each_says_on_screens(rt: &impl Abort, alloc: Global, profile: u8) -> Result<(), Fail> {
-    let mut disk = stands(alloc, STORE, profile)?;
-    for command in SAID {
-        disk = says_on_each_screen(rt, alloc, disk, command, profile)?;
+/// The command in each of its profiles.
+fn is_said(alloc: Global, said: &Said) -> Result<(), Fail> {
+    for profile in said.profiles {
+        is_said_on_each(alloc, said, *profile)?;
     }
     Ok(())
 }
 
 #[test]
 fn a_command_whose_answer_is_refused_is_status_1(rt: HostRuntime) -> Result<(), Fail> {
-    for profile in PROFILES {
-        each_says_on_screens(&rt, rt.alloc(), profile)?;
+    for said in SAID {
+        is_said(rt.alloc(), said)?;
     }
     Ok(())
 }

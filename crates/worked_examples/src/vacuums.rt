@@ -1,12 +1,13 @@
 //! The command `vacuum`: what it archives and reclaims, and where it stops.
-use crate::dialogue::{FOUR_COMMITS, PROFILES, is_text};
 use crate::dumps::RECLAIMED_LOG;
+use crate::examples::{Example, FOUR_COMMITS, each_goes};
+use crate::machine::Profiles::{Each, Older};
 use crate::raised_floors::FROM_115;
+use crate::refusals::Then::Left;
+use crate::refusals::{Calls, Outcome, Refusals, each_refusal_goes};
+use crate::steps::Step;
 use crate::steps::Step::{At, Dumps, New, Parts, Says, Vacuums};
-use crate::steps::{Step, go, go_in_older};
-use crate::trials::{Trial, is_count, left_goes_on, tried};
 use shell::Action;
-use std::alloc::Global;
 use std::test::Fail;
 
 /// All that stood after the four commits.
@@ -19,6 +20,7 @@ at 1 7 125 | none
 at 1 7 130 | value 63
 ";
 
+/// Both say what they did.
 const ENDED: &[Step] = &[
     New(16),
     Says(FOUR_COMMITS),
@@ -27,11 +29,7 @@ const ENDED: &[Step] = &[
     Says(ROWS),
 ];
 
-#[test]
-fn what_ended_is_archived_and_its_space_reclaimed(rt: HostRuntime) -> Result<(), Fail> {
-    go(rt.alloc(), ENDED)
-}
-
+/// What 61 was ended before the floor.
 const FLOORED: &[Step] = &[
     New(16),
     Says(FOUR_COMMITS),
@@ -39,11 +37,6 @@ const FLOORED: &[Step] = &[
     Vacuums("120", "archived 1\nreclaimed 0\n", 0),
     Says(FROM_115),
 ];
-
-#[test]
-fn what_ended_by_the_floor_is_not_archived(rt: HostRuntime) -> Result<(), Fail> {
-    go_in_older(rt.alloc(), FLOORED)
-}
 
 /// Three commits of two keys, of which two stand at 105.
 const TWO_KEYS: &str = "begin a | snapshot 0
@@ -63,6 +56,7 @@ flush | idle
 redeem c | done 110
 ";
 
+/// Nothing ended by 105.
 const EMPTY: &[Step] = &[
     New(16),
     Says(TWO_KEYS),
@@ -70,11 +64,7 @@ const EMPTY: &[Step] = &[
     Says("between 1 7 100 111 | 100 110 61\n| 110 111 62\n| rows 2\n"),
 ];
 
-#[test]
-fn an_archive_may_be_empty_and_a_reclaim_not(rt: HostRuntime) -> Result<(), Fail> {
-    go(rt.alloc(), EMPTY)
-}
-
+/// A vacuum behind a vacuum.
 const AGAIN: &[Step] = &[
     New(16),
     Says(FOUR_COMMITS),
@@ -85,11 +75,6 @@ const AGAIN: &[Step] = &[
     Vacuums("130", "refused: nothing to do\n", 1),
     Says(ROWS),
 ];
-
-#[test]
-fn each_vacuum_says_what_it_did_itself(rt: HostRuntime) -> Result<(), Fail> {
-    go(rt.alloc(), AGAIN)
-}
 
 /// Vacuums of no store, and of one that has nothing to do.
 const REFUSED: &[Step] = &[
@@ -102,11 +87,6 @@ const REFUSED: &[Step] = &[
     Vacuums("120", "refused: nothing to do\n", 1),
     At("105", "value 61"),
 ];
-
-#[test]
-fn a_vacuum_that_cannot_begin_is_refused(rt: HostRuntime) -> Result<(), Fail> {
-    go(rt.alloc(), REFUSED)
-}
 
 /// Each commit replaces the value of the one before, one microsecond later.
 const REPLACED: &str = "begin t | snapshot #
@@ -124,13 +104,23 @@ const FULL: &[Step] = &[
     Says("at 1 7 7 | value 61\n"),
 ];
 
-#[test]
-fn what_was_archived_is_said_where_the_reclaim_is_refused(rt: HostRuntime) -> Result<(), Fail> {
-    go(rt.alloc(), FULL)
-}
+/// All stands as before, whatever was refused.
+const ROWS_LEFT: &[(u8, &[Step])] = &[(0xC7, &[Says(ROWS)])];
 
-/// A vacuum of the four commits.
-const VACUUM: Trial<'static> = Trial {
+/// The log cannot be read.
+const UNREAD: Outcome = Outcome {
+    calls: Calls::Over(0),
+    said: ("refused: device\n", ""),
+    more: false,
+    status: 1,
+    then: Left(ROWS_LEFT, &[]),
+};
+
+/// Each call is refused in turn: those of opening, the six of the archive, the five of the reclaim, and
+/// those of reading the log for what they did.
+const STOPPED: &[Refusals] = &[Refusals {
+    name: "a_vacuum_stops_at_each_refused_call",
+    profiles: Each,
     before: &[New(16), Says(FOUR_COMMITS)],
     action: Action::Vacuum {
         dir: "",
@@ -138,51 +128,73 @@ const VACUUM: Trial<'static> = Trial {
     },
     script: "",
     write_reaches: false,
-    stops: false,
-};
+    outcomes: &[
+        UNREAD,
+        Outcome {
+            calls: Calls::Just(6),
+            said: ("refused: failed\n", ""),
+            more: false,
+            status: 1,
+            then: Left(ROWS_LEFT, &[]),
+        },
+        Outcome {
+            calls: Calls::Just(5),
+            said: ("archived 2\nrefused: failed\n", ""),
+            more: false,
+            status: 1,
+            then: Left(ROWS_LEFT, &[]),
+        },
+        UNREAD,
+        Outcome {
+            calls: Calls::Just(1),
+            said: ("archived 2\nreclaimed 0\n", ""),
+            more: false,
+            status: 0,
+            then: Left(ROWS_LEFT, &[]),
+        },
+    ],
+}];
 
-/// How many calls were refused of the archive and of the reclaim, and whether none was.
-#[derive(Clone, Copy, Default)]
-struct Refused {
-    archives: u32,
-    reclaims: u32,
-    done: bool,
-}
+/// Each example, by its name.
+const EXAMPLES: &[Example] = &[
+    Example {
+        name: "what_ended_is_archived_and_its_space_reclaimed",
+        profiles: Each,
+        steps: ENDED,
+    },
+    Example {
+        name: "what_ended_by_the_floor_is_not_archived",
+        profiles: Older,
+        steps: FLOORED,
+    },
+    Example {
+        name: "an_archive_may_be_empty_and_a_reclaim_not",
+        profiles: Each,
+        steps: EMPTY,
+    },
+    Example {
+        name: "each_vacuum_says_what_it_did_itself",
+        profiles: Each,
+        steps: AGAIN,
+    },
+    Example {
+        name: "a_vacuum_that_cannot_begin_is_refused",
+        profiles: Each,
+        steps: REFUSED,
+    },
+    Example {
+        name: "what_was_archived_is_said_where_the_reclaim_is_refused",
+        profiles: Each,
+        steps: FULL,
+    },
+];
 
-/// Counts the call of which this was said.
-fn counted(refused: &mut Refused, said: &str) -> Result<(), Fail> {
-    if said == "refused: failed\n" {
-        refused.archives = refused.archives.saturating_add(1);
-    } else if said == "archived 2\nrefused: failed\n" {
-        refused.reclaims = refused.reclaims.saturating_add(1);
-    } else if said != "refused: device\n" {
-        is_text("vacuum", said, "archived 2\nreclaimed 0\n")?;
-        refused.done = true;
-    }
-    Ok(())
-}
-
-/// Each call is refused in turn: those of opening and of reading the log, the six of the archive and
-/// the five of the reclaim.
-fn refuses_each_call(alloc: Global, profile: u8) -> Result<(), Fail> {
-    let mut refused = Refused::default();
-    for calls_before in 0..100 {
-        let (said, _, disk) = tried(alloc, &VACUUM, calls_before, profile)?;
-        counted(&mut refused, said.as_str())?;
-        left_goes_on(alloc, &disk, (0xC7, 0), &[Says(ROWS)], profile)?;
-        if refused.done {
-            break;
-        }
-    }
-    is_count(u32::from(refused.done), 1)?;
-    is_count(refused.archives, 6)?;
-    is_count(refused.reclaims, 5)
+#[test]
+fn vacuums_say_what_they_did(rt: HostRuntime) -> Result<(), Fail> {
+    each_goes(rt.alloc(), EXAMPLES)
 }
 
 #[test]
 fn a_vacuum_stops_at_each_refused_call(rt: HostRuntime) -> Result<(), Fail> {
-    for profile in PROFILES {
-        refuses_each_call(rt.alloc(), profile)?;
-    }
-    Ok(())
+    each_refusal_goes(rt.alloc(), STOPPED)
 }
