@@ -1,41 +1,48 @@
 //! The examples of the pages `CALLING.md` of `store`, `run`, `disk` and `clock`.
+use crate::published::SEVEN;
 use clock::{LAST_TIME, read_instant, show_instant};
-use disk::{Area, Disk, MemDisk};
+use disk::{Area, DeviceFault, Disk, MemDisk};
 use history::Key;
 use recovery::format;
 use run::{Answer, Call};
+use std::alloc::Global;
+use std::process::Abort;
 use std::test::Fail;
-use store::{Did, Redeemed, Store, Submitted};
+use store::{Did, Redeemed, Store, Submitted, Ticket};
 use timequery::QueryFault;
 
 // The example of store.
 #[test]
 fn a_store_says_what_stood_at_a_time(rt: HostRuntime) -> Result<(), Fail> {
-    let alloc = rt.alloc();
-    let key = Key {
-        relation: 1,
-        record: 7,
-    };
-    let mut disk = MemDisk::new(alloc);
-    format(alloc, &mut disk, 16)?;
-    let mut store = match Store::open(alloc, disk, 1) {
+    let mut disk = MemDisk::new(rt.alloc());
+    format(rt.alloc(), &mut disk, 16)?;
+    let mut store = match Store::open(rt.alloc(), disk, 1) {
         Ok(store) => store,
         Err((fault, _)) => panic!(rt; "{fault:?}"),
     };
+    commit_red(&rt, rt.alloc(), &mut store);
+    look_back(&rt, &mut store);
+    let _disk = store.close();
+    Ok(())
+}
 
-    // A transaction is queued as a commit with the label 9, at the time 100.
+/// A transaction is queued as a commit with the label 9, at the time 100.
+fn queue_red(rt: &impl Abort, alloc: Global, store: &mut Store<MemDisk>) -> Ticket {
     let mut txn = match store.begin() {
         Ok(txn) => txn,
         Err(fault) => panic!(rt; "{fault:?}"),
     };
-    assert!(rt; txn.put(alloc, key, &[b"red"]).is_ok());
-    let ticket = match store.submit(txn, 9, 100) {
+    assert!(rt; txn.put(alloc, SEVEN, &[b"red"]).is_ok());
+    match store.submit(txn, 9, 100) {
         Ok(Submitted::Queued(ticket)) => ticket,
         Ok(Submitted::ReadOnly(_)) => panic!(rt; "nothing was written"),
         Err(fault) => panic!(rt; "{fault:?}"),
-    };
+    }
+}
 
-    // The steps of its group, each one call of the disk. The commit counts from the last one on.
+/// The steps of its group, each one call of the disk. The commit counts from the last one on.
+fn commit_red(rt: &impl Abort, alloc: Global, store: &mut Store<MemDisk>) {
+    let ticket = queue_red(rt, alloc, store);
     for did in [
         Did::WroteExtent,
         Did::HeapSynced,
@@ -44,27 +51,27 @@ fn a_store_says_what_stood_at_a_time(rt: HostRuntime) -> Result<(), Fail> {
         Did::GateWritten,
         Did::Published(1),
     ] {
-        assert_eq!(rt; store.pump(), Ok(did));
+        assert!(rt; store.pump() == Ok(did));
     }
     match store.redeem(ticket) {
-        Redeemed::Done(time) => assert_eq!(rt; time, 100),
+        Redeemed::Done(time) => assert!(rt; time == 100),
         _ => panic!(rt; "not published"),
     }
+}
 
-    // A view says what stood at each time up to the last commit.
+/// A view says what stood at each time up to the last commit.
+fn look_back(rt: &impl Abort, store: &mut Store<MemDisk>) {
     let view = match store.view() {
         Ok(view) => view,
         Err(fault) => panic!(rt; "{fault:?}"),
     };
-    assert!(rt; matches!(store.at(&view, key, 99), Ok(None)));
-    match store.at(&view, key, 100) {
+    assert!(rt; matches!(store.at(&view, SEVEN, 99), Ok(None)));
+    match store.at(&view, SEVEN, 100) {
         Ok(Some(value)) => assert!(rt; value.value().field(0) == Some(b"red")),
         _ => panic!(rt; "no value"),
     }
-    assert!(rt; matches!(store.at(&view, key, 101), Err(QueryFault::NotYet(100))));
+    assert!(rt; matches!(store.at(&view, SEVEN, 101), Err(QueryFault::NotYet(100))));
     store.end(view);
-    let _disk = store.close();
-    Ok(())
 }
 
 // The example of run.
@@ -111,20 +118,28 @@ fn a_list_of_calls_is_answered_in_its_order(rt: HostRuntime) -> Result<(), Fail>
 // The example of disk.
 #[test]
 fn a_stop_leaves_what_was_synced(rt: HostRuntime) -> Result<(), Fail> {
-    let alloc = rt.alloc();
-    let mut disk = MemDisk::new(alloc);
+    let mut disk = MemDisk::new(rt.alloc());
+    write_twice(&mut disk)?;
+    assert!(rt; disk.made() == 3 && disk.refused() == 0);
+    // A stop now may leave any bytes where the second write reached.
+    let mut left = disk.left(rt.alloc(), b'?', b"")?;
+    assert!(rt; is_torn(&mut left)?);
+    Ok(())
+}
+
+fn write_twice(disk: &mut MemDisk) -> Result<(), DeviceFault> {
     disk.write_at(Area::Heap, 0, b"kept")?;
     disk.sync(Area::Heap)?;
-    disk.write_at(Area::Heap, 1, b"xy")?;
+    disk.write_at(Area::Heap, 1, b"xy")
+}
 
-    // A stop now may leave any bytes where the second write reached.
-    let mut left = disk.left(alloc, b'?', b"")?;
+fn is_torn(disk: &mut MemDisk) -> Result<bool, DeviceFault> {
     let mut bytes = [0; 4];
-    assert_eq!(rt; left.len(Area::Heap)?, 4);
-    left.read(Area::Heap, 0, &mut bytes)?;
-    assert!(rt; &bytes == b"k??t");
-    assert_eq!(rt; (disk.made(), disk.refused()), (3, 0));
-    Ok(())
+    if disk.len(Area::Heap)? != 4 {
+        return Ok(false);
+    }
+    disk.read(Area::Heap, 0, &mut bytes)?;
+    Ok(&bytes == b"k??t")
 }
 
 // The example of clock.

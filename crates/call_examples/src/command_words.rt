@@ -3,13 +3,98 @@ use clap::Error;
 use command_line::{Action, WordsFault, read_words};
 use history::Key;
 use std::alloc::Global;
-use std::process::Abort;
 use std::test::Fail;
 
-fn asked<'a>(alloc: Global, words: &'a [&'a str]) -> Result<Action<'a>, Fail> {
+const LAST: Key = Key {
+    relation: u16::MAX,
+    record: u64::MAX,
+};
+
+const SEVEN: Key = Key {
+    relation: 1,
+    record: 7,
+};
+
+/// Words, and what they ask for.
+const ASKED: &[(&[&str], Action<'static>)] = &[
+    (&["timestore"], Action::Example),
+    (
+        &["timestore", "format", "d"],
+        Action::Format {
+            dir: "d",
+            slots: 1024,
+        },
+    ),
+    (
+        &["timestore", "format", "d", "--slots", "16"],
+        Action::Format {
+            dir: "d",
+            slots: 16,
+        },
+    ),
+    (
+        &["timestore", "format", "--slots=4294967295", "d"],
+        Action::Format {
+            dir: "d",
+            slots: u32::MAX,
+        },
+    ),
+    (
+        &["timestore", "run", "some/folder"],
+        Action::Run { dir: "some/folder" },
+    ),
+    (
+        &[
+            "timestore",
+            "at",
+            "d",
+            "65535",
+            "18446744073709551615",
+            "2001-09-09T01:46:40Z",
+        ],
+        Action::At {
+            dir: "d",
+            key: LAST,
+            time: Some(1_000_000_000_000_000),
+        },
+    ),
+    (
+        &["timestore", "between", "d", "1", "7", "0", "later"],
+        Action::Between {
+            dir: "d",
+            key: SEVEN,
+            from: Some(0),
+            to: None,
+        },
+    ),
+    (
+        &["timestore", "vacuum", "d", "120"],
+        Action::Vacuum {
+            dir: "d",
+            time: Some(120),
+        },
+    ),
+    (
+        &["timestore", "grow", "some/folder"],
+        Action::Grow { dir: "some/folder" },
+    ),
+    (
+        &["timestore", "dump", "some/folder"],
+        Action::Dump { dir: "some/folder" },
+    ),
+];
+
+fn is_asked(alloc: Global, words: &[&str], action: &Action<'_>) -> bool {
     match read_words(alloc, words) {
-        Ok(action) => Ok(action),
-        Err(_) => Err(Fail::from("the words are refused")),
+        Ok(asked) => asked == *action,
+        Err(_) => false,
+    }
+}
+
+#[test]
+fn words_ask_for_actions(rt: HostRuntime) {
+    for (words, action) in ASKED {
+        assert!(rt; is_asked(rt.alloc(), words, action), "{action:?}");
     }
 }
 
@@ -20,128 +105,85 @@ fn usage<'a>(alloc: Global, words: &'a [&'a str]) -> Result<Error, Fail> {
     }
 }
 
-#[test]
-fn no_word_asks_for_the_example(rt: HostRuntime) -> Result<(), Fail> {
-    assert_eq!(rt; asked(rt.alloc(), &["timestore"])?, Action::Example);
-    Ok(())
-}
-
-#[test]
-fn format_has_1024_slots_unless_said(rt: HostRuntime) -> Result<(), Fail> {
-    let words = ["timestore", "format", "d"];
-    let format = Action::Format {
-        dir: "d",
-        slots: 1024,
-    };
-    assert_eq!(rt; asked(rt.alloc(), &words)?, format);
-    let words = ["timestore", "format", "d", "--slots", "16"];
-    let format = Action::Format {
-        dir: "d",
-        slots: 16,
-    };
-    assert_eq!(rt; asked(rt.alloc(), &words)?, format);
-    let words = ["timestore", "format", "--slots=4294967295", "d"];
-    let format = Action::Format {
-        dir: "d",
-        slots: u32::MAX,
-    };
-    assert_eq!(rt; asked(rt.alloc(), &words)?, format);
-    Ok(())
-}
-
-#[test]
-fn run_has_a_folder(rt: HostRuntime) -> Result<(), Fail> {
-    let words = ["timestore", "run", "some/folder"];
-    let run = Action::Run { dir: "some/folder" };
-    assert_eq!(rt; asked(rt.alloc(), &words)?, run);
-    Ok(())
-}
-
-#[test]
-fn at_has_a_key_and_a_time(rt: HostRuntime) -> Result<(), Fail> {
-    let words = [
-        "timestore",
-        "at",
-        "d",
-        "65535",
-        "18446744073709551615",
-        "2001-09-09T01:46:40Z",
-    ];
-    let at = Action::At {
-        dir: "d",
-        key: Key {
-            relation: u16::MAX,
-            record: u64::MAX,
-        },
-        time: Some(1_000_000_000_000_000),
-    };
-    assert_eq!(rt; asked(rt.alloc(), &words)?, at);
-    Ok(())
-}
-
-#[test]
-fn between_has_a_key_and_two_times(rt: HostRuntime) -> Result<(), Fail> {
-    let words = ["timestore", "between", "d", "1", "7", "0", "later"];
-    let between = Action::Between {
-        dir: "d",
-        key: Key {
-            relation: 1,
-            record: 7,
-        },
-        from: Some(0),
-        to: None,
-    };
-    assert_eq!(rt; asked(rt.alloc(), &words)?, between);
-    Ok(())
-}
-
-#[test]
-fn vacuum_has_a_folder_and_a_time(rt: HostRuntime) -> Result<(), Fail> {
-    let words = ["timestore", "vacuum", "d", "120"];
-    let vacuum = Action::Vacuum {
-        dir: "d",
-        time: Some(120),
-    };
-    assert_eq!(rt; asked(rt.alloc(), &words)?, vacuum);
-    Ok(())
-}
-
-#[test]
-fn what_is_no_command_is_a_usage_fault(rt: HostRuntime) -> Result<(), Fail> {
-    let lines: [&[&str]; 14] = [
-        &["timestore", "format"],
+/// What is no command.
+const FAULTS: &[(&str, &[&str])] = &[
+    ("format without a folder", &["timestore", "format"]),
+    (
+        "too many slots",
         &["timestore", "format", "d", "--slots", "4294967296"],
+    ),
+    (
+        "slots that are no number",
         &["timestore", "format", "d", "--slots", "many"],
-        &["timestore", "format", "d", "e"],
-        &["timestore", "run"],
-        &["timestore", "at", "d", "1", "7"],
+    ),
+    ("two folders", &["timestore", "format", "d", "e"]),
+    ("run without a folder", &["timestore", "run"]),
+    ("at without a time", &["timestore", "at", "d", "1", "7"]),
+    (
+        "no such relation",
         &["timestore", "at", "d", "65536", "7", "1"],
+    ),
+    (
+        "no such record",
         &["timestore", "at", "d", "1", "18446744073709551616", "1"],
+    ),
+    (
+        "a record below zero",
         &["timestore", "at", "d", "1", "-7", "1"],
+    ),
+    (
+        "between with one time",
         &["timestore", "between", "d", "1", "7", "0"],
-        &["timestore", "vacuum", "d"],
+    ),
+    ("vacuum without a time", &["timestore", "vacuum", "d"]),
+    (
+        "vacuum with two times",
         &["timestore", "vacuum", "d", "1", "2"],
-        &["timestore", "forget", "d"],
-        &["timestore", "--slots", "16"],
-    ];
-    for words in lines {
-        let error = usage(rt.alloc(), words)?;
-        assert_eq!(rt; error.exit_code(), 2);
-        assert!(rt; error.use_stderr());
+    ),
+    ("no such command", &["timestore", "forget", "d"]),
+    ("slots without a command", &["timestore", "--slots", "16"]),
+];
+
+/// Whether words are refused with an exit status of 2, on standard error.
+fn is_refused(alloc: Global, words: &[&str]) -> bool {
+    match read_words(alloc, words) {
+        Err(WordsFault::Usage(error)) => error.exit_code() == 2 && error.use_stderr(),
+        _ => false,
     }
-    Ok(())
 }
 
-/// The text of help, which is no fault.
-fn help<'a>(rt: &impl Abort, alloc: Global, words: &'a [&'a str]) -> Result<String, Fail> {
+#[test]
+fn what_is_no_command_is_a_usage_fault(rt: HostRuntime) {
+    for (what, words) in FAULTS {
+        assert!(rt; is_refused(rt.alloc(), words), "{what}");
+    }
+}
+
+fn first_missing<'a>(text: &str, named: &'a [&'a str]) -> Option<&'a str> {
+    for part in named {
+        if !text.contains(*part) {
+            return Some(*part);
+        }
+    }
+    None
+}
+
+/// The first of these that the text of help, which is no fault, does not name.
+fn missing<'a>(
+    alloc: Global,
+    words: &[&str],
+    named: &'a [&'a str],
+) -> Result<Option<&'a str>, Fail> {
     let error = usage(alloc, words)?;
-    assert_eq!(rt; error.exit_code(), 0);
-    assert!(rt; !error.use_stderr());
-    Ok(format!(in alloc; "{error}")?)
+    if error.exit_code() != 0 || error.use_stderr() {
+        return Err("no help".into());
+    }
+    let text = format!(in alloc; "{error}")?;
+    Ok(first_missing(text.as_str(), named))
 }
 
 /// What help names: each command, and the limits of a store.
-const NAMED: [&str; 18] = [
+const NAMED: &[&str] = &[
     "\n  format ",
     "\n  run ",
     "\n  at ",
@@ -162,24 +204,23 @@ const NAMED: [&str; 18] = [
     "Exit status: 0 done, 1 refused, 2 words that are no command.",
 ];
 
+/// The words that ask for help.
+const HELPS: &[&[&str]] = &[
+    &["timestore", "--help"],
+    &["timestore", "-h"],
+    &["timestore", "help"],
+];
+
 #[test]
 fn help_names_the_commands_and_the_limits(rt: HostRuntime) -> Result<(), Fail> {
-    let lines: [&[&str]; 3] = [
-        &["timestore", "--help"],
-        &["timestore", "-h"],
-        &["timestore", "help"],
-    ];
-    for words in lines {
-        let text = help(&rt, rt.alloc(), words)?;
-        for named in NAMED {
-            assert!(rt; text.contains(named), "{words:?} {named}");
-        }
+    for words in HELPS {
+        assert_eq!(rt; missing(rt.alloc(), words, NAMED)?, None);
     }
     Ok(())
 }
 
 /// What the help of each command says of it: its arguments, and each line of a script.
-const HELP: [(&str, &[&str]); 7] = [
+const HELP: &[(&str, &[&str])] = &[
     (
         "format",
         &["<DIR>", "--slots <N>", "[default: 1024]", "16 to 65536"],
@@ -258,51 +299,24 @@ const HELP: [(&str, &[&str]); 7] = [
 
 #[test]
 fn help_of_a_command_names_what_it_takes(rt: HostRuntime) -> Result<(), Fail> {
-    for (command, said) in HELP {
-        let words = ["timestore", command, "--help"];
-        let text = help(&rt, rt.alloc(), &words)?;
-        for named in said {
-            assert!(rt; text.contains(*named), "{command}: {named}");
-        }
+    for (command, named) in HELP {
+        let words = ["timestore", *command, "--help"];
+        assert_eq!(rt; missing(rt.alloc(), &words, named)?, None, "{command}");
     }
     Ok(())
 }
+
+/// What is said of a relation out of range.
+const NAMES_THE_RANGE: &str = "error: invalid value '65536' for '<REL>': 65536 is not in 0..=65535
+
+For more information, try '--help'.
+";
 
 #[test]
 fn a_number_out_of_range_is_named(rt: HostRuntime) -> Result<(), Fail> {
     let words = ["timestore", "at", "d", "65536", "7", "1"];
     let error = usage(rt.alloc(), &words)?;
     let text = format!(in rt.alloc(); "{error}")?;
-    assert_eq!(rt;
-        text.as_str(),
-        "error: invalid value '65536' for '<REL>': 65536 is not in 0..=65535
-
-For more information, try '--help'.
-"
-    );
-    Ok(())
-}
-
-#[test]
-fn grow_has_a_folder(rt: HostRuntime) -> Result<(), Fail> {
-    let words = ["timestore", "grow", "some/folder"];
-    assert!(rt;
-        matches!(
-            asked(rt.alloc(), &words)?,
-            Action::Grow { dir: "some/folder" }
-        )
-    );
-    Ok(())
-}
-
-#[test]
-fn dump_has_a_folder(rt: HostRuntime) -> Result<(), Fail> {
-    let words = ["timestore", "dump", "some/folder"];
-    assert!(rt;
-        matches!(
-            asked(rt.alloc(), &words)?,
-            Action::Dump { dir: "some/folder" }
-        )
-    );
+    assert!(rt; text.as_str() == NAMES_THE_RANGE);
     Ok(())
 }

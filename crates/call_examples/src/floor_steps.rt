@@ -1,218 +1,221 @@
 //! Floors of a store, call by call.
-use crate::job_steps::{
-    SLOT_STEPS, archive, archive_and_reclaim, delete_and_put, four_commits, holds, is_row,
-    no_commits, opened, pump_to, queue, reads, take_steps, two_commits, view_of,
-};
+use crate::held::Which;
 use crate::published::SEVEN;
-use disk::{Area, Disk, Fault, FaultDisk, MemDisk};
-use std::process::Abort;
+use crate::store_cases::{
+    ARCHIVED, AtRest, Case, ONE_FLOOR, Part, RECLAIMED, SLOT, TWO_COMMITS, TWO_MORE, go, new_disk,
+    opened, takes,
+};
+use crate::store_steps::Step;
+use disk::{Area, Fault, FaultDisk, MemDisk};
 use std::test::Fail;
-use store::{Did, JobDid, PumpFault, QueryFault, StartFault, Store};
+use store::{Did, JobDid, PumpFault, QueryFault, StartFault};
 
 /// The first bytes of slot 6 once it names the floor 120.
 const FLOOR_SLOT: [u8; 17] = [0xc7, 4, 0, 0, 6, 0, 0, 0, 0x78, 0, 0, 0, 0, 0, 0, 0, 0];
 
-/// The floor is raised to a time.
-fn raise_floor(rt: &impl Abort, store: &mut Store<MemDisk>, floor: u64) {
-    assert_eq!(rt; store.floor_start(floor), Ok(()));
-    take_steps(rt, store, &SLOT_STEPS);
-    assert_eq!(rt; store.floors().every(), floor);
-}
+const BEFORE_120: QueryFault = QueryFault::BeforeKept(120);
 
-/// Each of these floors is refused so.
-fn refuses(rt: &impl Abort, store: &mut Store<MemDisk>, refusals: &[(u64, StartFault)]) {
-    for (floor, fault) in refusals {
-        assert_eq!(rt; store.floor_start(*floor), Err(*fault));
-    }
-}
+/// The view from before has the floor of its moment.
+const BARS_BEFORE_120: &[Step] = &[
+    Step::Floor(None, 120, Ok(())),
+    Step::Jobs(SLOT),
+    Step::FloorIs(None, 120),
+    Step::View(Which::Second),
+    Step::At(Which::Second, SEVEN, 0, Err(BEFORE_120)),
+    Step::At(Which::Second, SEVEN, 105, Err(BEFORE_120)),
+    Step::At(Which::Second, SEVEN, 119, Err(BEFORE_120)),
+    Step::At(Which::Second, SEVEN, 120, Ok(None)),
+    Step::At(Which::Second, SEVEN, 130, Ok(Some("c"))),
+    Step::At(Which::First, SEVEN, 105, Ok(Some("a"))),
+    Step::End(Which::First),
+    Step::End(Which::Second),
+];
 
-#[test]
-fn a_floor_bars_what_stood_before_it(rt: HostRuntime) -> Result<(), Fail> {
-    let alloc = rt.alloc();
-    let mut store = four_commits(&rt, alloc)?;
-    let before = view_of(&rt, &store);
-    archive_and_reclaim(&rt, &mut store);
-    raise_floor(&rt, &mut store, 120);
-    let after = view_of(&rt, &store);
-    for time in [0, 105, 119] {
-        assert!(&rt;
-            matches!(
-                store.at(&after, SEVEN, time),
-                Err(QueryFault::BeforeKept(120))
-            )
-        );
-    }
-    assert!(&rt; reads(&mut store, &after, 120, None));
-    assert!(&rt; reads(&mut store, &after, 130, Some(b"c")));
-    // The view from before has the floor of its moment.
-    assert!(&rt; reads(&mut store, &before, 105, Some(b"a")));
-    store.end(before);
-    store.end(after);
-    let mut disk = store.close();
-    assert!(&rt; holds(&mut disk, Area::Status, 3584, &FLOOR_SLOT, &mut [0; 17])?);
-    Ok(())
-}
+const STAYS_UNTIL_OPEN: &[Step] = &[
+    Step::Floor(None, 0, Err(StartFault::NothingToDo)),
+    Step::Floor(None, 131, Err(StartFault::NotYet(130))),
+    Step::Floor(None, u64::MAX, Err(StartFault::NotYet(130))),
+    Step::Floor(None, 120, Ok(())),
+    Step::Floor(None, 0, Err(StartFault::JobBusy)),
+    Step::Floor(None, 131, Err(StartFault::JobBusy)),
+    Step::Jobs(&[JobDid::BodyWritten]),
+    Step::FloorIs(None, 0),
+    Step::Floor(None, 0, Err(StartFault::JobBusy)),
+    Step::Floor(None, 131, Err(StartFault::JobBusy)),
+    Step::Jobs(&[JobDid::BodySynced]),
+    Step::FloorIs(None, 0),
+    Step::Floor(None, 0, Err(StartFault::JobBusy)),
+    Step::Floor(None, 131, Err(StartFault::JobBusy)),
+    Step::Jobs(&[JobDid::GateWritten]),
+    Step::FloorIs(None, 0),
+    Step::Jobs(&[JobDid::JobDone, JobDid::Idle]),
+    Step::FloorIs(None, 120),
+    Step::Floor(None, 119, Err(StartFault::NothingToDo)),
+    Step::Floor(None, 120, Err(StartFault::NothingToDo)),
+    Step::Floor(None, 131, Err(StartFault::NotYet(130))),
+];
 
-#[test]
-fn the_floor_stays_until_its_slot_is_open(rt: HostRuntime) -> Result<(), Fail> {
-    let alloc = rt.alloc();
-    let mut store = four_commits(&rt, alloc)?;
-    refuses(
-        &rt,
-        &mut store,
-        &[
-            (0, StartFault::NothingToDo),
-            (131, StartFault::NotYet(130)),
-            (u64::MAX, StartFault::NotYet(130)),
-        ],
-    );
-    assert_eq!(rt; store.floor_start(120), Ok(()));
-    for did in [JobDid::BodyWritten, JobDid::BodySynced, JobDid::GateWritten] {
-        refuses(
-            &rt,
-            &mut store,
-            &[(0, StartFault::JobBusy), (131, StartFault::JobBusy)],
-        );
-        take_steps(&rt, &mut store, &[did]);
-        assert_eq!(rt; store.floors().every(), 0);
-    }
-    take_steps(&rt, &mut store, &[JobDid::JobDone, JobDid::Idle]);
-    assert_eq!(rt; store.floors().every(), 120);
-    refuses(
-        &rt,
-        &mut store,
-        &[
-            (119, StartFault::NothingToDo),
-            (120, StartFault::NothingToDo),
-            (131, StartFault::NotYet(130)),
-        ],
-    );
-    let _disk = store.close();
-    Ok(())
-}
+const BARRED_BY_A_READER: &[Step] = &[
+    Step::Floor(None, 111, Err(StartFault::InUse(110))),
+    Step::Floor(None, 120, Err(StartFault::InUse(110))),
+    Step::Floor(None, 131, Err(StartFault::NotYet(130))),
+    Step::Floor(None, 110, Ok(())),
+    Step::Jobs(SLOT),
+    Step::FloorIs(None, 110),
+    Step::Abort,
+    Step::Floor(None, 120, Ok(())),
+    Step::Jobs(SLOT),
+    Step::FloorIs(None, 120),
+];
 
-#[test]
-fn a_transaction_below_the_floor_bars_it(rt: HostRuntime) -> Result<(), Fail> {
-    let alloc = rt.alloc();
-    let mut store = two_commits(&rt, alloc)?;
-    let reader = match store.begin() {
-        Ok(txn) => txn,
-        Err(fault) => panic!(&rt; "{fault:?}"),
-    };
-    delete_and_put(&rt, alloc, &mut store);
-    refuses(
-        &rt,
-        &mut store,
-        &[
-            (111, StartFault::InUse(110)),
-            (120, StartFault::InUse(110)),
-            (131, StartFault::NotYet(130)),
-        ],
-    );
-    raise_floor(&rt, &mut store, 110);
-    store.abort(reader);
-    raise_floor(&rt, &mut store, 120);
-    let _disk = store.close();
-    Ok(())
-}
-
-#[test]
-fn a_floor_and_a_group_take_turns(rt: HostRuntime) -> Result<(), Fail> {
-    let alloc = rt.alloc();
-    let mut store = two_commits(&rt, alloc)?;
-    queue(&rt, alloc, &mut store, Some(b"c"), 130);
-    pump_to(&rt, &mut store, Did::BodyWritten);
-    assert_eq!(rt; store.floor_start(110), Ok(()));
-    assert_eq!(rt; store.job_pump(), Err(PumpFault::Busy));
-    pump_to(&rt, &mut store, Did::Published(1));
-    take_steps(&rt, &mut store, &[JobDid::BodyWritten]);
-    queue(&rt, alloc, &mut store, Some(b"d"), 140);
-    pump_to(&rt, &mut store, Did::HeapSynced);
-    assert_eq!(rt; store.pump(), Err(PumpFault::Busy));
-    take_steps(&rt, &mut store, &SLOT_STEPS[1..]);
-    pump_to(&rt, &mut store, Did::Published(1));
-    assert_eq!(rt; (store.floors().every(), store.last()), (110, 140));
-    let _disk = store.close();
-    Ok(())
-}
+const TAKES_TURNS: &[Step] = &[
+    Step::Queue(Some("c"), 130),
+    Step::PumpTo(Did::BodyWritten),
+    Step::Floor(None, 110, Ok(())),
+    Step::JobFault(PumpFault::Busy),
+    Step::PumpTo(Did::Published(1)),
+    Step::Jobs(&[JobDid::BodyWritten]),
+    Step::Queue(Some("d"), 140),
+    Step::PumpTo(Did::HeapSynced),
+    Step::Pump(Err(PumpFault::Busy)),
+    Step::Jobs(&[
+        JobDid::BodySynced,
+        JobDid::GateWritten,
+        JobDid::JobDone,
+        JobDid::Idle,
+    ]),
+    Step::PumpTo(Did::Published(1)),
+    Step::FloorIs(None, 110),
+    Step::Last(140),
+];
 
 /// Commits leave two slots of 16, which floors take.
-#[test]
-fn a_floor_takes_a_slot(rt: HostRuntime) -> Result<(), Fail> {
-    let alloc = rt.alloc();
-    let mut store = no_commits(&rt, alloc)?;
-    for now in 1..15 {
-        queue(&rt, alloc, &mut store, Some(b"a"), now);
-        pump_to(&rt, &mut store, Did::Idle);
-    }
-    raise_floor(&rt, &mut store, 1);
-    raise_floor(&rt, &mut store, 2);
-    refuses(
-        &rt,
-        &mut store,
+const TAKES_A_SLOT: &[Step] = &[
+    Step::Commits(1, 15),
+    Step::Floor(None, 1, Ok(())),
+    Step::Jobs(SLOT),
+    Step::FloorIs(None, 1),
+    Step::Floor(None, 2, Ok(())),
+    Step::Jobs(SLOT),
+    Step::FloorIs(None, 2),
+    Step::Floor(None, 2, Err(StartFault::NothingToDo)),
+    Step::Floor(None, 3, Err(StartFault::StatusFull)),
+    Step::Floor(None, 15, Err(StartFault::NotYet(14))),
+];
+
+const FLOOR_115: &[Step] = &[
+    Step::Floor(None, 115, Ok(())),
+    Step::Jobs(SLOT),
+    Step::FloorIs(None, 115),
+];
+
+/// What stood from 115 on is told, and nothing of before.
+const KEEPS_FROM_115: &[Step] = &[
+    Step::FloorIs(None, 115),
+    Step::View(Which::First),
+    Step::Between(
+        Which::First,
+        115,
+        131,
+        Ok(&[(115, 120, "b"), (130, 131, "c")]),
+    ),
+    Step::Between(Which::First, 114, 131, Err(QueryFault::BeforeKept(115))),
+    Step::End(Which::First),
+];
+
+const FLOOR_120: &[Step] = &[
+    Step::Floor(None, 120, Ok(())),
+    Step::Jobs(SLOT),
+    Step::FloorIs(None, 120),
+];
+
+const CASES: &[Case] = &[
+    Case(
+        "a floor bars what stood before it",
+        16,
+        ONE_FLOOR,
+        &[Part(
+            &[
+                TWO_COMMITS,
+                TWO_MORE,
+                &[Step::View(Which::First)],
+                ARCHIVED,
+                RECLAIMED,
+                BARS_BEFORE_120,
+            ],
+            &[AtRest::Bytes(Area::Status, 3584, &FLOOR_SLOT)],
+        )],
+    ),
+    Case(
+        "the floor stays until its slot is open",
+        16,
+        ONE_FLOOR,
+        &[Part(&[TWO_COMMITS, TWO_MORE, STAYS_UNTIL_OPEN], &[])],
+    ),
+    Case(
+        "a transaction below the floor bars it",
+        16,
+        ONE_FLOOR,
+        &[Part(
+            &[TWO_COMMITS, &[Step::Begin], TWO_MORE, BARRED_BY_A_READER],
+            &[],
+        )],
+    ),
+    Case(
+        "a floor and a group take turns",
+        16,
+        ONE_FLOOR,
+        &[Part(&[TWO_COMMITS, TAKES_TURNS], &[])],
+    ),
+    Case(
+        "a floor takes a slot",
+        16,
+        ONE_FLOOR,
+        &[Part(&[TAKES_A_SLOT], &[])],
+    ),
+    Case(
+        "an archive leaves out what ended by the floor: its one record is b, also when the store is opened again",
+        16,
+        ONE_FLOOR,
         &[
-            (2, StartFault::NothingToDo),
-            (3, StartFault::StatusFull),
-            (15, StartFault::NotYet(14)),
+            Part(
+                &[TWO_COMMITS, TWO_MORE, FLOOR_115, ARCHIVED, KEEPS_FROM_115],
+                &[AtRest::Len(Area::Archive, 37)],
+            ),
+            Part(&[KEEPS_FROM_115, FLOOR_120], &[]),
         ],
-    );
-    let _disk = store.close();
+    ),
+];
+
+#[test]
+fn floors_are_raised_step_by_step(rt: HostRuntime) -> Result<(), Fail> {
+    for case in CASES {
+        go(&rt, rt.alloc(), case)?;
+    }
     Ok(())
 }
+
+const FAILS: &[Step] = &[
+    Step::Floor(None, 110, Ok(())),
+    Step::JobFault(PumpFault::Failed),
+    Step::Floor(None, 110, Err(StartFault::Failed)),
+    Step::JobFault(PumpFault::Failed),
+    Step::FloorIs(None, 0),
+];
+
+const REFUSED: Fault = Fault {
+    calls_before: 0,
+    write_reaches: false,
+    stops: false,
+};
 
 #[test]
 fn a_failed_store_raises_no_floor(rt: HostRuntime) -> Result<(), Fail> {
     let alloc = rt.alloc();
-    let store = two_commits(&rt, alloc)?;
-    let fault = Fault {
-        calls_before: 0,
-        write_reaches: false,
-        stops: false,
-    };
-    let (mut store, _disk) = store.over(FaultDisk::new(MemDisk::new(alloc), fault));
-    assert_eq!(&rt; store.floor_start(110), Ok(()));
-    assert_eq!(&rt; store.job_pump(), Err(PumpFault::Failed));
-    assert_eq!(&rt; store.floor_start(110), Err(StartFault::Failed));
-    assert_eq!(&rt; store.job_pump(), Err(PumpFault::Failed));
-    assert_eq!(&rt; store.floors().every(), 0);
-    let _disk = store.close();
-    Ok(())
-}
-
-/// What stood from 115 on is told, and nothing of before.
-fn keeps_from_115(rt: &impl Abort, store: &mut Store<MemDisk>) {
-    assert_eq!(rt; store.floors().every(), 115);
-    let view = view_of(rt, store);
-    match store.between(&view, SEVEN, 115, 131) {
-        Ok(rows) => {
-            assert_eq!(rt; rows.len(), 2);
-            assert!(rt; is_row(&rows[0], 115, 120, b"b"));
-            assert!(rt; is_row(&rows[1], 130, 131, b"c"));
-        }
-        Err(fault) => panic!(rt; "{fault:?}"),
-    }
-    assert!(rt;
-        matches!(
-            store.between(&view, SEVEN, 114, 131),
-            Err(QueryFault::BeforeKept(115))
-        )
-    );
-    store.end(view);
-}
-
-#[test]
-fn an_archive_leaves_out_what_ended_by_the_floor(rt: HostRuntime) -> Result<(), Fail> {
-    let alloc = rt.alloc();
-    let mut store = four_commits(&rt, alloc)?;
-    raise_floor(&rt, &mut store, 115);
-    archive(&rt, &mut store, 120, 1);
-    keeps_from_115(&rt, &mut store);
-    // The one record is b. So it is when the store is opened again.
-    let mut disk = store.close();
-    assert_eq!(&rt; disk.len(Area::Archive)?, 37);
-    let mut store = opened(&rt, alloc, disk);
-    keeps_from_115(&rt, &mut store);
-    raise_floor(&rt, &mut store, 120);
+    let mut store = opened(&rt, alloc, new_disk(alloc, 16, ONE_FLOOR)?);
+    takes(&rt, alloc, &mut store, "two commits", &[TWO_COMMITS]);
+    let (mut store, _disk) = store.over(FaultDisk::new(MemDisk::new(alloc), REFUSED));
+    takes(&rt, alloc, &mut store, "a failed store", &[FAILS]);
     let _disk = store.close();
     Ok(())
 }

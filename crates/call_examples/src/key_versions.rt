@@ -6,8 +6,7 @@ ghost use Rattle.chains.specs.KeyWrites.{latest};
 use crate::published::{SEVEN, is_text, is_value, put, value};
 use chains::{Bound, ChainMap, Cursor, Frozen, Pending};
 use history::KeyWrite;
-use std::alloc::Global;
-use std::process::Abort;
+use std::alloc::{AllocError, Global};
 use std::test::Fail;
 
 /// Record 7 is a at 100, b at 110 and gone from 120 on; record 9 is x from 110 on.
@@ -23,56 +22,9 @@ fn two_records(alloc: Global) -> Result<Frozen, Fail> {
     Ok(frozen.with_commit(alloc, 120, &[gone])?)
 }
 
-/// At each of these times record 7 must have a value of this one field, or none.
-fn has_values(rt: &impl Abort, frozen: &Frozen, values: &[(u64, Option<&str>)]) {
-    for (time, text) in values {
-        assert!(rt; is_text(frozen.at(SEVEN, *time), *text), "at {time}");
-    }
-}
-
-/// Record 7 must have been written last at this time.
-fn is_last_write(rt: &impl Abort, frozen: &Frozen, time: u64) {
-    assert_eq!(rt; frozen.last_write(SEVEN), time);
-}
-
-/// A scan of a relation at a time must find so many records.
-fn finds(
-    rt: &impl Abort,
-    alloc: Global,
-    frozen: &Frozen,
-    scan: (u16, u64),
-    count: usize,
-) -> Result<(), Fail> {
-    let (relation, time) = scan;
-    let found = frozen.scan(alloc, relation, time)?;
-    assert_eq!(rt; found.len(), count, "at {time}");
-    Ok(())
-}
-
-#[test]
-fn a_value_stands_up_to_the_next_write(rt: HostRuntime) -> Result<(), Fail> {
-    let frozen = two_records(rt.alloc())?;
-    let values = [(99, None), (100, Some("a")), (119, Some("b")), (120, None)];
-    has_values(&rt, &frozen, &values);
-    is_last_write(&rt, &frozen, 120);
-    for (scan, count) in [((1, 115), 2), ((1, 125), 1), ((2, 115), 0)] {
-        finds(&rt, rt.alloc(), &frozen, scan, count)?;
-    }
-    Ok(())
-}
-
-#[test]
-fn what_later_times_need_not_is_forgotten(rt: HostRuntime) -> Result<(), Fail> {
-    let left = two_records(rt.alloc())?.forget(rt.alloc(), 110)?;
-    has_values(&rt, &left, &[(105, None), (110, Some("b"))]);
-    is_last_write(&rt, &left, 120);
-    is_last_write(&rt, &left.forget(rt.alloc(), 120)?, 0);
-    Ok(())
-}
-
-/// At this time a map must have a value of this one field for record 7.
-fn is_mapped(rt: &impl Abort, map: &ChainMap, time: u64, text: &str) {
-    assert!(rt; is_text(map.at(SEVEN, time), Some(text)), "at {time}");
+/// Whether a map has a value of this one field for record 7 at a time.
+fn is_mapped(map: &ChainMap, time: u64, text: &str) -> bool {
+    is_text(map.at(SEVEN, time), Some(text))
 }
 
 #[test]
@@ -82,12 +34,11 @@ fn what_is_put_in_place_is_not_in_an_earlier_frozen_view(rt: HostRuntime) -> Res
     let pending = map.prepare(rt.alloc(), 100, &write)?;
     let before = map.freeze()?;
     map.put_in_place(pending);
-    has_values(&rt, &before, &[(100, None)]);
-    is_mapped(&rt, &map, 100, "a");
-    assert_eq!(rt; map.last_write(SEVEN), 100);
+    assert!(rt; before.at(SEVEN, 100).is_none() && is_mapped(&map, 100, "a"));
+    assert!(rt; map.last_write(SEVEN) == 100);
     let forgotten = map.prepare_forget(rt.alloc(), 100)?;
     map.put_in_place(forgotten);
-    is_mapped(&rt, &map, 100, "a");
+    assert!(rt; is_mapped(&map, 100, "a"));
     Ok(())
 }
 
@@ -137,43 +88,10 @@ fn shows_all_from(frozen: &Frozen, first: u8) -> bool {
     true
 }
 
-#[test]
-fn a_long_chain_has_each_value_at_its_time(rt: HostRuntime) -> Result<(), Fail> {
-    let frozen = long_chain(rt.alloc())?;
-    assert!(rt; shows_all_from(&frozen, 1));
-    let values = [
-        (9, None),
-        (47, Some("\x04")),
-        (50, None),
-        (999, Some("\x63")),
-        (u64::MAX, None),
-    ];
-    has_values(&rt, &frozen, &values);
-    is_last_write(&rt, &frozen, 1000);
-    Ok(())
-}
-
 /// When record 7 is written next.
 fn next_time(frozen: &Frozen, time: u64) -> Option<u64> {
     let chain = frozen.least(Bound::From(SEVEN))?;
     Some(chain.next_after(time)?.time)
-}
-
-#[test]
-fn a_long_chain_has_a_next_write(rt: HostRuntime) -> Result<(), Fail> {
-    let frozen = long_chain(rt.alloc())?;
-    for (time, next) in [
-        (0, Some(10)),
-        (47, Some(50)),
-        (50, Some(60)),
-        (959, Some(960)),
-        (960, Some(970)),
-        (999, Some(1000)),
-        (1000, None),
-    ] {
-        assert_eq!(rt; next_time(&frozen, time), next, "after {time}");
-    }
-    Ok(())
 }
 
 /// From when and up to when the first version of record 7 stands that ends after a time.
@@ -183,54 +101,198 @@ fn ending_after(frozen: &Frozen, time: u64) -> Option<(u64, u64)> {
     Some((version.from, version.to))
 }
 
-#[test]
-fn a_long_chain_has_a_first_version_that_ends_after_a_time(rt: HostRuntime) -> Result<(), Fail> {
-    let frozen = long_chain(rt.alloc())?;
-    for (time, version) in [
-        (0, Some((10, 20))),
-        (19, Some((10, 20))),
-        (20, Some((20, 30))),
-        (49, Some((40, 50))),
-        (50, Some((60, 70))),
-        (989, Some((980, 990))),
-        (999, Some((990, 1000))),
-        (1000, None),
-    ] {
-        assert_eq!(rt; ending_after(&frozen, time), version, "after {time}");
+/// What is asked of versions, and what they must answer.
+#[derive(Clone, Copy)]
+enum Look {
+    /// The text of the one field that record 7 has at a time, or no value.
+    At(u64, Option<&'static str>),
+    /// When record 7 was written last.
+    Last(u64),
+    /// How many records of a relation have a value at a time.
+    Count(u16, u64, usize),
+    /// The numbers of the long chain from this one on.
+    ShowsFrom(u8),
+    /// When record 7 is written next after a time.
+    Next(u64, Option<u64>),
+    /// The first version that ends after a time.
+    Ending(u64, Option<(u64, u64)>),
+}
+
+fn is_seen(alloc: Global, frozen: &Frozen, look: &Look) -> bool {
+    match *look {
+        Look::At(time, text) => is_text(frozen.at(SEVEN, time), text),
+        Look::Last(time) => frozen.last_write(SEVEN) == time,
+        Look::Count(relation, time, count) => {
+            matches!(frozen.scan(alloc, relation, time), Ok(found) if found.len() == count)
+        }
+        Look::ShowsFrom(first) => shows_all_from(frozen, first),
+        Look::Next(time, next) => next_time(frozen, time) == next,
+        Look::Ending(time, version) => ending_after(frozen, time) == version,
     }
-    let ended = two_records(rt.alloc())?;
-    assert_eq!(rt; ending_after(&ended, 119), Some((110, 120)));
-    assert_eq!(rt; ending_after(&ended, 120), None);
+}
+
+/// The place of the first look that is answered otherwise.
+fn first_unseen(alloc: Global, frozen: &Frozen, looks: &[Look]) -> Option<usize> {
+    for (place, look) in looks.iter().enumerate() {
+        if !is_seen(alloc, frozen, look) {
+            return Some(place);
+        }
+    }
+    None
+}
+
+/// What versions show, whether they are the long chain or the two records, the marks up to which they
+/// are forgotten one after another, and looks at what is left.
+#[derive(Clone, Copy)]
+struct Seen(&'static str, bool, &'static [u64], &'static [Look]);
+
+const SEEN: &[Seen] = &[
+    Seen(
+        "a value stands up to the next write",
+        false,
+        &[],
+        &[
+            Look::At(99, None),
+            Look::At(100, Some("a")),
+            Look::At(119, Some("b")),
+            Look::At(120, None),
+            Look::Last(120),
+            Look::Count(1, 115, 2),
+            Look::Count(1, 125, 1),
+            Look::Count(2, 115, 0),
+            Look::Ending(119, Some((110, 120))),
+            Look::Ending(120, None),
+        ],
+    ),
+    Seen(
+        "what later times need not is forgotten",
+        false,
+        &[110],
+        &[
+            Look::At(105, None),
+            Look::At(110, Some("b")),
+            Look::Last(120),
+        ],
+    ),
+    Seen(
+        "a record that is gone is forgotten",
+        false,
+        &[110, 120],
+        &[Look::Last(0)],
+    ),
+    Seen(
+        "a long chain has each value at its time",
+        true,
+        &[],
+        &[
+            Look::ShowsFrom(1),
+            Look::At(9, None),
+            Look::At(47, Some("\x04")),
+            Look::At(50, None),
+            Look::At(999, Some("\x63")),
+            Look::At(u64::MAX, None),
+            Look::Last(1000),
+        ],
+    ),
+    Seen(
+        "a long chain has a next write",
+        true,
+        &[],
+        &[
+            Look::Next(0, Some(10)),
+            Look::Next(47, Some(50)),
+            Look::Next(50, Some(60)),
+            Look::Next(959, Some(960)),
+            Look::Next(960, Some(970)),
+            Look::Next(999, Some(1000)),
+            Look::Next(1000, None),
+        ],
+    ),
+    Seen(
+        "a long chain has a first version that ends after a time",
+        true,
+        &[],
+        &[
+            Look::Ending(0, Some((10, 20))),
+            Look::Ending(19, Some((10, 20))),
+            Look::Ending(20, Some((20, 30))),
+            Look::Ending(49, Some((40, 50))),
+            Look::Ending(50, Some((60, 70))),
+            Look::Ending(989, Some((980, 990))),
+            Look::Ending(999, Some((990, 1000))),
+            Look::Ending(1000, None),
+        ],
+    ),
+    Seen(
+        "a mark between writes",
+        true,
+        &[525],
+        &[Look::At(519, None), Look::ShowsFrom(52)],
+    ),
+    Seen(
+        "a mark before a write",
+        true,
+        &[509],
+        &[Look::At(499, None), Look::ShowsFrom(51)],
+    ),
+    Seen(
+        "a second mark",
+        true,
+        &[525, 985],
+        &[Look::At(979, None), Look::ShowsFrom(98)],
+    ),
+    Seen(
+        "up to the last moment",
+        true,
+        &[525, 985, 999],
+        &[Look::Last(1000)],
+    ),
+    Seen(
+        "up to the last write, which is none",
+        true,
+        &[525, 985, 1000],
+        &[Look::Last(0)],
+    ),
+];
+
+/// What is left of versions that are forgotten up to marks, one after another.
+fn forgotten(alloc: Global, frozen: Frozen, marks: &[u64]) -> Result<Frozen, AllocError> {
+    let mut frozen = frozen;
+    for mark in marks {
+        frozen = frozen.forget(alloc, *mark)?;
+    }
+    Ok(frozen)
+}
+
+#[test]
+fn versions_are_seen_and_forgotten(rt: HostRuntime) -> Result<(), Fail> {
+    for row in SEEN {
+        let all = if row.1 {
+            long_chain(rt.alloc())?
+        } else {
+            two_records(rt.alloc())?
+        };
+        let left = forgotten(rt.alloc(), all, row.2)?;
+        assert_eq!(rt; first_unseen(rt.alloc(), &left, row.3), None, "{}", row.0);
+    }
     Ok(())
 }
 
-/// What is left of versions that are forgotten up to a mark: it must show the numbers from this one
-/// on, and nothing at the time before.
-fn forgotten(
-    rt: &impl Abort,
-    alloc: Global,
-    frozen: &Frozen,
-    mark: u64,
-    before: u64,
-    first: u8,
-) -> Result<Frozen, Fail> {
-    let left = frozen.forget(alloc, mark)?;
-    has_values(rt, &left, &[(before, None)]);
-    assert!(rt; shows_all_from(&left, first), "from {first}");
-    Ok(left)
+/// Whether versions show all that they showed, once what is left of them is forgotten further.
+fn stay(alloc: Global, whole: &Frozen) -> bool {
+    let Ok(standing) = whole.forget(alloc, 525) else {
+        return false;
+    };
+    let Ok(late) = standing.forget(alloc, 985) else {
+        return false;
+    };
+    shows_all_from(&late, 98) && shows_all_from(&standing, 52) && shows_all_from(whole, 1)
 }
 
 #[test]
 fn a_long_chain_is_forgotten_up_to_a_mark(rt: HostRuntime) -> Result<(), Fail> {
-    let alloc = rt.alloc();
-    let whole = long_chain(alloc)?;
-    let standing = forgotten(&rt, alloc, &whole, 525, 519, 52)?;
-    let _gone = forgotten(&rt, alloc, &whole, 509, 499, 51)?;
-    let late = forgotten(&rt, alloc, &standing, 985, 979, 98)?;
-    is_last_write(&rt, &late.forget(alloc, 999)?, 1000);
-    is_last_write(&rt, &late.forget(alloc, 1000)?, 0);
-    assert!(rt; shows_all_from(&whole, 1));
-    assert!(rt; shows_all_from(&standing, 52));
+    let whole = long_chain(rt.alloc())?;
+    assert!(rt; stay(rt.alloc(), &whole));
     Ok(())
 }
 
@@ -239,10 +301,10 @@ fn a_long_chain_goes_on_beside_what_was_frozen(rt: HostRuntime) -> Result<(), Fa
     let frozen = long_chain(rt.alloc())?.forget(rt.alloc(), 525)?;
     let writes = [put(rt.alloc(), 7, b"z")?];
     let next = frozen.with_commit(rt.alloc(), 1010, &writes)?;
-    assert!(rt; shows_all_from(&next, 52));
-    has_values(&rt, &next, &[(1010, Some("z"))]);
-    has_values(&rt, &frozen, &[(1010, None)]);
-    is_last_write(&rt, &frozen, 1000);
+    let goes_on = [Look::ShowsFrom(52), Look::At(1010, Some("z"))];
+    assert!(rt; first_unseen(rt.alloc(), &next, &goes_on).is_none());
+    let is_left = [Look::At(1010, None), Look::Last(1000)];
+    assert!(rt; first_unseen(rt.alloc(), &frozen, &is_left).is_none());
     Ok(())
 }
 
@@ -259,6 +321,13 @@ fn many_keys(alloc: Global, count: u16) -> Result<Frozen, Fail>
     Ok(frozen)
 }
 
+const STAYS: &[Look] = &[
+    Look::At(2000, Some("a")),
+    Look::Last(8),
+    Look::Count(1, 2000, 1024),
+    Look::Count(1, 16, 16),
+];
+
 #[test]
 fn a_frozen_view_of_many_keys_stays(rt: HostRuntime) -> Result<(), Fail> {
     let mut map = ChainMap::new();
@@ -267,11 +336,7 @@ fn a_frozen_view_of_many_keys_stays(rt: HostRuntime) -> Result<(), Fail> {
     let writes = [put(rt.alloc(), 7, b"z")?];
     let pending = map.prepare(rt.alloc(), 2000, &writes)?;
     map.put_in_place(pending);
-    has_values(&rt, &frozen, &[(2000, Some("a"))]);
-    is_last_write(&rt, &frozen, 8);
-    finds(&rt, rt.alloc(), &frozen, (1, 2000), 1024)?;
-    finds(&rt, rt.alloc(), &frozen, (1, 16), 16)?;
-    is_mapped(&rt, &map, 2000, "z");
-    is_mapped(&rt, &map, 1999, "a");
+    assert!(rt; first_unseen(rt.alloc(), &frozen, STAYS).is_none());
+    assert!(rt; is_mapped(&map, 2000, "z") && is_mapped(&map, 1999, "a"));
     Ok(())
 }

@@ -4,6 +4,8 @@
 #![tactic(auto)]
 
 #[cfg(test)]
+mod answers;
+#[cfg(test)]
 mod call_lists;
 #[cfg(test)]
 mod calling_pages;
@@ -18,11 +20,15 @@ mod floors_of_relations;
 #[cfg(test)]
 mod growth_steps;
 #[cfg(test)]
+mod held;
+#[cfg(test)]
 mod histories;
 #[cfg(test)]
-mod job_steps;
-#[cfg(test)]
 mod key_versions;
+#[cfg(test)]
+mod list_answers;
+#[cfg(test)]
+mod list_calls;
 #[cfg(test)]
 mod open_transactions;
 #[cfg(test)]
@@ -31,6 +37,10 @@ mod published;
 mod reclaim_steps;
 #[cfg(test)]
 mod script_lines;
+#[cfg(test)]
+mod store_cases;
+#[cfg(test)]
+mod store_steps;
 #[cfg(test)]
 mod views;
 #[cfg(test)]

@@ -1,12 +1,16 @@
 //! Reclaims of a store, call by call.
-use crate::job_steps::{
-    SLOT_STEPS, archive, archive_and_reclaim, four_commits, holds, is_row, pump_to, queue, reads,
-    take_steps, two_commits, view_of,
-};
+use crate::held::Which;
 use crate::published::SEVEN;
-use disk::Area;
+use crate::store_cases::{
+    ARCHIVED, AtRest, Case, ONE_FLOOR, Part, RECLAIMED, SLOT, TWO_COMMITS, TWO_MORE, go, new_disk,
+    opened, takes,
+};
+use crate::store_steps::Step;
+use disk::{Area, MemDisk};
+use std::alloc::Global;
+use std::process::Abort;
 use std::test::Fail;
-use store::{Did, JobDid, QueryFault, StartFault};
+use store::{Did, JobDid, QueryFault, StartFault, Store};
 
 /// The first bytes of slot 5 once it names a reclaim up to 120 that left no anchors.
 const NO_ANCHORS: [u8; 28] = [
@@ -29,129 +33,193 @@ const NEXT_FRONT: [u8; 30] = [
     1, 0, 0, 0, 0, 0, 0, 0, 0x0e, 0, 0, 0, 0, 0, 0, 0, 1, 1, 0, 7, 0, 0, 0, 0, 0, 0, 0, 1, 1, 0x64,
 ];
 
-#[test]
-fn a_reclaim_frees_what_ended(rt: HostRuntime) -> Result<(), Fail> {
-    let alloc = rt.alloc();
-    let mut store = four_commits(&rt, alloc)?;
-    archive(&rt, &mut store, 120, 1);
-    assert_eq!(rt; store.reclaim_start(), Ok(()));
-    assert_eq!(rt; store.reclaim_start(), Err(StartFault::JobBusy));
-    take_steps(&rt, &mut store, &[JobDid::HeapSynced]);
-    take_steps(&rt, &mut store, &SLOT_STEPS);
-    assert_eq!(rt; store.reclaim_start(), Err(StartFault::NothingToDo));
-    // Extents 1, 2 and 3 are free: the next commit takes extent 1.
-    queue(&rt, alloc, &mut store, Some(b"d"), 140);
-    pump_to(&rt, &mut store, Did::Idle);
-    let mut disk = store.close();
-    assert!(rt; holds(&mut disk, Area::Status, 3072, &NO_ANCHORS, &mut [0; 28])?);
-    assert!(rt; holds(&mut disk, Area::Heap, 0, &NEXT_FRONT, &mut [0; 30])?);
-    Ok(())
-}
+/// Extents 1, 2 and 3 are free then: the next commit takes extent 1.
+const FREES: &[Step] = &[
+    Step::Reclaim(Ok(())),
+    Step::Reclaim(Err(StartFault::JobBusy)),
+    Step::Jobs(&[JobDid::HeapSynced]),
+    Step::Jobs(SLOT),
+    Step::Reclaim(Err(StartFault::NothingToDo)),
+    Step::Queue(Some("d"), 140),
+    Step::PumpTo(Did::Idle),
+];
+
+/// Nothing ended by 105, and what stands then is an anchor.
+const LEAVES_AN_ANCHOR: &[Step] = &[
+    Step::Archive(105, Ok(())),
+    Step::Jobs(&[JobDid::RunSynced]),
+    Step::Jobs(SLOT),
+    Step::Reclaim(Ok(())),
+    Step::Jobs(&[JobDid::WroteExtent, JobDid::HeapSynced]),
+    Step::Jobs(SLOT),
+    Step::Queue(Some("d"), 120),
+    Step::PumpTo(Did::Idle),
+];
+
+const BEGUN_BELOW: &[Step] = &[
+    Step::Reclaim(Err(StartFault::NothingToDo)),
+    Step::Begin,
+    Step::Queue(None, 120),
+    Step::PumpTo(Did::Idle),
+];
+
+const BARRED: &[Step] = &[
+    Step::Reclaim(Err(StartFault::InUse(110))),
+    Step::Abort,
+    Step::Reclaim(Ok(())),
+];
+
+const NOT_YET: QueryFault = QueryFault::NotYet(130);
+
+/// Views from before and after answer from the archive below the mark, 120. Memory alone has what stood
+/// from the mark on; the view from before has all.
+const BOTH_ANSWER: &[Step] = &[
+    Step::At(Which::First, SEVEN, 99, Ok(None)),
+    Step::At(Which::First, SEVEN, 100, Ok(Some("a"))),
+    Step::At(Which::First, SEVEN, 119, Ok(Some("b"))),
+    Step::At(Which::First, SEVEN, 120, Ok(None)),
+    Step::At(Which::First, SEVEN, 130, Ok(Some("c"))),
+    Step::At(Which::First, SEVEN, 131, Err(NOT_YET)),
+    Step::View(Which::Second),
+    Step::At(Which::Second, SEVEN, 99, Ok(None)),
+    Step::At(Which::Second, SEVEN, 100, Ok(Some("a"))),
+    Step::At(Which::Second, SEVEN, 119, Ok(Some("b"))),
+    Step::At(Which::Second, SEVEN, 120, Ok(None)),
+    Step::At(Which::Second, SEVEN, 130, Ok(Some("c"))),
+    Step::At(Which::Second, SEVEN, 131, Err(NOT_YET)),
+    Step::Recent(Which::Second, 119, Err(QueryFault::NeedsDisk)),
+    Step::Recent(Which::Second, 120, Ok(None)),
+    Step::Recent(Which::First, 119, Ok(Some("b"))),
+    Step::End(Which::First),
+    Step::End(Which::Second),
+];
+
+/// d ends c, which a second run then has as well as memory.
+const SHOWS_EACH_ONCE: &[Step] = &[
+    Step::Queue(Some("d"), 140),
+    Step::PumpTo(Did::Idle),
+    Step::Archive(140, Ok(())),
+    Step::Jobs(&[JobDid::WroteRun, JobDid::RunSynced]),
+    Step::Jobs(SLOT),
+    Step::View(Which::First),
+    Step::Between(
+        Which::First,
+        105,
+        141,
+        Ok(&[
+            (105, 110, "a"),
+            (110, 120, "b"),
+            (130, 140, "c"),
+            (140, 141, "d"),
+        ]),
+    ),
+    Step::End(Which::First),
+];
+
+const CASES: &[Case] = &[
+    Case(
+        "a reclaim frees what ended",
+        16,
+        ONE_FLOOR,
+        &[Part(
+            &[TWO_COMMITS, TWO_MORE, ARCHIVED, FREES],
+            &[
+                AtRest::Bytes(Area::Status, 3072, &NO_ANCHORS),
+                AtRest::Bytes(Area::Heap, 0, &NEXT_FRONT),
+            ],
+        )],
+    ),
+    Case(
+        "what stands at the mark is an anchor",
+        16,
+        ONE_FLOOR,
+        &[Part(
+            &[TWO_COMMITS, LEAVES_AN_ANCHOR],
+            &[
+                AtRest::Bytes(Area::Status, 2048, &ONE_ANCHOR),
+                AtRest::Bytes(Area::Heap, 16_384, &ANCHOR_FRONT),
+                AtRest::Bytes(Area::Heap, 0, &NEXT_FRONT),
+            ],
+        )],
+    ),
+    Case(
+        "a transaction below the mark bars a reclaim",
+        16,
+        ONE_FLOOR,
+        &[Part(&[TWO_COMMITS, BEGUN_BELOW, ARCHIVED, BARRED], &[])],
+    ),
+    Case(
+        "views answer from the archive below the reclaim mark",
+        16,
+        ONE_FLOOR,
+        &[Part(
+            &[
+                TWO_COMMITS,
+                TWO_MORE,
+                &[Step::View(Which::First)],
+                ARCHIVED,
+                RECLAIMED,
+                BOTH_ANSWER,
+            ],
+            &[],
+        )],
+    ),
+    Case(
+        "a version in both homes is shown once",
+        16,
+        ONE_FLOOR,
+        &[Part(
+            &[TWO_COMMITS, TWO_MORE, ARCHIVED, RECLAIMED, SHOWS_EACH_ONCE],
+            &[],
+        )],
+    ),
+];
 
 #[test]
-fn what_stands_at_the_mark_is_an_anchor(rt: HostRuntime) -> Result<(), Fail> {
-    let alloc = rt.alloc();
-    let mut store = two_commits(&rt, alloc)?;
-    // Nothing ended by 105.
-    archive(&rt, &mut store, 105, 0);
-    assert_eq!(rt; store.reclaim_start(), Ok(()));
-    take_steps(&rt, &mut store, &[JobDid::WroteExtent, JobDid::HeapSynced]);
-    take_steps(&rt, &mut store, &SLOT_STEPS);
-    queue(&rt, alloc, &mut store, Some(b"d"), 120);
-    pump_to(&rt, &mut store, Did::Idle);
-    let mut disk = store.close();
-    assert!(rt; holds(&mut disk, Area::Status, 2048, &ONE_ANCHOR, &mut [0; 28])?);
-    assert!(rt; holds(&mut disk, Area::Heap, 16384, &ANCHOR_FRONT, &mut [0; 38])?);
-    assert!(rt; holds(&mut disk, Area::Heap, 0, &NEXT_FRONT, &mut [0; 30])?);
-    Ok(())
-}
-
-#[test]
-fn a_transaction_below_the_mark_bars_a_reclaim(rt: HostRuntime) -> Result<(), Fail> {
-    let alloc = rt.alloc();
-    let mut store = two_commits(&rt, alloc)?;
-    assert_eq!(rt; store.reclaim_start(), Err(StartFault::NothingToDo));
-    let reads = match store.begin() {
-        Ok(txn) => txn,
-        Err(fault) => panic!(&rt; "{fault:?}"),
-    };
-    queue(&rt, alloc, &mut store, None, 120);
-    pump_to(&rt, &mut store, Did::Idle);
-    archive(&rt, &mut store, 120, 1);
-    assert_eq!(rt; store.reclaim_start(), Err(StartFault::InUse(110)));
-    store.abort(reads);
-    assert_eq!(rt; store.reclaim_start(), Ok(()));
-    let _disk = store.close();
-    Ok(())
-}
-
-#[test]
-fn views_answer_from_the_archive_below_the_reclaim_mark(rt: HostRuntime) -> Result<(), Fail> {
-    let alloc = rt.alloc();
-    let mut store = four_commits(&rt, alloc)?;
-    let before = view_of(&rt, &store);
-    archive_and_reclaim(&rt, &mut store);
-    let after = view_of(&rt, &store);
-    for view in [&before, &after] {
-        assert!(&rt; reads(&mut store, view, 99, None));
-        assert!(&rt; reads(&mut store, view, 100, Some(b"a")));
-        assert!(&rt; reads(&mut store, view, 119, Some(b"b")));
-        assert!(&rt; reads(&mut store, view, 120, None));
-        assert!(&rt; reads(&mut store, view, 130, Some(b"c")));
-        assert!(&rt; matches!(store.at(view, SEVEN, 131), Err(QueryFault::NotYet(130))));
+fn reclaims_go_step_by_step(rt: HostRuntime) -> Result<(), Fail> {
+    for case in CASES {
+        go(&rt, rt.alloc(), case)?;
     }
-    // Memory alone has what stood from the mark on; the view from before has all.
-    assert!(&rt; matches!(after.recent(SEVEN, 119), Err(QueryFault::NeedsDisk)));
-    assert!(&rt; matches!(after.recent(SEVEN, 120), Ok(None)));
-    assert!(&rt; matches!(before.recent(SEVEN, 119), Ok(Some(_))));
-    store.end(before);
-    store.end(after);
-    let _disk = store.close();
     Ok(())
 }
 
-#[test]
-fn a_version_in_both_homes_is_shown_once(rt: HostRuntime) -> Result<(), Fail> {
-    let alloc = rt.alloc();
-    let mut store = four_commits(&rt, alloc)?;
-    archive_and_reclaim(&rt, &mut store);
-    // d ends c, which a second run then has as well as memory.
-    queue(&rt, alloc, &mut store, Some(b"d"), 140);
-    pump_to(&rt, &mut store, Did::Idle);
-    archive(&rt, &mut store, 140, 1);
-    let view = view_of(&rt, &store);
-    let Ok(rows) = store.between(&view, SEVEN, 105, 141) else {
-        store.end(view);
-        let _disk = store.close();
-        return Err(Fail::from("refused"));
+/// A store of four commits.
+fn four_commits(rt: &impl Abort, alloc: Global, disk: MemDisk) -> Store<MemDisk> {
+    let mut store = opened(rt, alloc, disk);
+    takes(
+        rt,
+        alloc,
+        &mut store,
+        "four commits",
+        &[TWO_COMMITS, TWO_MORE],
+    );
+    store
+}
+
+const OWN: &[Step] = &[
+    Step::View(Which::First),
+    Step::At(Which::First, SEVEN, 130, Ok(Some("c"))),
+];
+
+/// A view of one store that another store is asked with.
+fn asks_a_stranger(rt: &impl Abort, other: &mut Store<MemDisk>, store: &mut Store<MemDisk>) {
+    let view = match other.view() {
+        Ok(view) => view,
+        Err(fault) => panic!(rt; "{fault:?}"),
     };
-    store.end(view);
-    assert_eq!(&rt; rows.len(), 4);
-    assert!(&rt; is_row(&rows[0], 105, 110, b"a"));
-    assert!(&rt; is_row(&rows[1], 110, 120, b"b"));
-    assert!(&rt; is_row(&rows[2], 130, 140, b"c"));
-    assert!(&rt; is_row(&rows[3], 140, 141, b"d"));
-    let _disk = store.close();
-    Ok(())
+    assert!(rt; matches!(store.at(&view, SEVEN, 130), Err(QueryFault::Stranger)));
+    other.end(view);
 }
 
 #[test]
 fn a_view_of_other_runs_is_a_strangers(rt: HostRuntime) -> Result<(), Fail> {
     let alloc = rt.alloc();
-    let mut store = four_commits(&rt, alloc)?;
-    let mut other = match four_commits(&rt, alloc) {
-        Ok(other) => other,
-        Err(fail) => {
-            let _disk = store.close();
-            return Err(fail);
-        }
-    };
-    archive(&rt, &mut other, 120, 1);
-    let view = view_of(&rt, &other);
-    assert!(&rt; matches!(store.at(&view, SEVEN, 130), Err(QueryFault::Stranger)));
-    assert!(&rt; reads(&mut other, &view, 130, Some(b"c")));
-    other.end(view);
-    let _disk = other.close();
-    let _disk = store.close();
+    let first = new_disk(alloc, 16, ONE_FLOOR)?;
+    let second = new_disk(alloc, 16, ONE_FLOOR)?;
+    let mut store = four_commits(&rt, alloc, first);
+    let mut other = four_commits(&rt, alloc, second);
+    takes(&rt, alloc, &mut other, "another store", &[ARCHIVED, OWN]);
+    asks_a_stranger(&rt, &mut other, &mut store);
+    let _disks = (other.close(), store.close());
     Ok(())
 }

@@ -1,143 +1,199 @@
 //! Lines of a script: what each asks for, and which have no form.
 use crate::published::SEVEN;
+use history::Key;
 use script::{Line, parse, read_time};
-use std::test::Fail;
+use std::alloc::Global;
 
 fn line(text: &str) -> Option<Line<'_>> {
     parse(text.as_bytes())
 }
 
-#[test]
-fn a_put_has_a_name_a_key_and_fields(rt: HostRuntime) -> Result<(), Fail> {
-    let Some(Line::Put(name, key, fields)) = line("put t1 1 7 610aff - 00") else {
-        return Err(Fail::from("a put"));
+/// Puts of `SEVEN`, their names and their fields.
+const PUTS: &[(&str, &str, &[&[u8]])] = &[
+    (
+        "put t1 1 7 610aff - 00",
+        "t1",
+        &[b"\x61\x0a\xff", b"", b"\0"],
+    ),
+    ("put t 1 7", "t", &[]),
+];
+
+fn are_fields(found: &[Vec<u8>], fields: &[&[u8]]) -> bool {
+    for (one, field) in found.iter().zip(fields.iter()) {
+        if one.as_slice() != *field {
+            return false;
+        }
+    }
+    found.len() == fields.len()
+}
+
+/// Whether a line puts these fields under a name.
+fn is_put(alloc: Global, text: &str, name: &str, fields: &[&[u8]]) -> bool {
+    let Some(Line::Put(found, SEVEN, encoded)) = line(text) else {
+        return false;
     };
-    assert_eq!(rt; name.as_bytes(), b"t1".as_slice());
-    assert_eq!(rt; key, SEVEN);
-    let fields = fields.decode(rt.alloc())?;
-    assert_eq!(rt; fields.len(), 3);
-    assert_eq!(rt; fields[0].as_slice(), [0x61, 0x0a, 0xff].as_slice());
-    assert_eq!(rt; fields[1].len(), 0);
-    assert_eq!(rt; fields[2].as_slice(), [0].as_slice());
-    Ok(())
+    match encoded.decode(alloc) {
+        Ok(all) => found.as_bytes() == name.as_bytes() && are_fields(&all, fields),
+        Err(_) => false,
+    }
 }
 
 #[test]
-fn a_put_may_have_no_field(rt: HostRuntime) -> Result<(), Fail> {
-    let Some(Line::Put(_, _, fields)) = line("put t 1 7") else {
-        return Err(Fail::from("a put"));
-    };
-    assert_eq!(rt; fields.decode(rt.alloc())?.len(), 0);
-    Ok(())
+fn a_put_has_a_name_a_key_and_fields(rt: HostRuntime) {
+    for (text, name, fields) in PUTS {
+        assert!(rt; is_put(rt.alloc(), text, name, fields), "{text}");
+    }
+}
+
+/// What a line asks for.
+#[derive(Clone, Copy)]
+enum Want {
+    Nothing,
+    Begin,
+    Delete,
+    Get(Key),
+    Submit(u64, u64),
+    Abort,
+    Redeem,
+    Pump,
+    Flush,
+    /// Of `SEVEN` at a time.
+    At(u64),
+    /// Of `SEVEN` from one time up to another.
+    Between(u64, u64),
+    Scan(u16, u64),
+    Times(u64),
+    Archive(u64),
+    Reclaim,
+    Floor(Option<u16>, u64),
+    Grow,
+    Job,
+    Finish,
+    Reopen,
+}
+
+const LAST: Key = Key {
+    relation: u16::MAX,
+    record: 0,
+};
+
+/// Lines, and what each asks for. Numbers reach the ends of their ranges, and a time may be an instant.
+const LINES: &[(&str, Want)] = &[
+    ("begin abcdefghijklmn09", Want::Begin),
+    ("del t 1 7", Want::Delete),
+    ("get t 1 7", Want::Get(SEVEN)),
+    ("submit t 9 100", Want::Submit(9, 100)),
+    ("abort t", Want::Abort),
+    ("redeem t", Want::Redeem),
+    ("pump", Want::Pump),
+    ("flush", Want::Flush),
+    ("at 1 7 101", Want::At(101)),
+    ("times 9", Want::Times(9)),
+    ("reopen", Want::Reopen),
+    ("get t 65535 0", Want::Get(LAST)),
+    ("get t 65536 0", Want::Nothing),
+    ("at 1 7 1970-01-01T00:00:01Z", Want::At(1_000_000)),
+    ("times 1970-01-01T00:00:01Z", Want::Nothing),
+    (
+        "between 1 7 0 1970-01-01T00:00:01Z",
+        Want::Between(0, 1_000_000),
+    ),
+    ("scan 1 115", Want::Scan(1, 115)),
+    ("archive 120", Want::Archive(120)),
+    ("archive 1970-01-01T00:00:01Z", Want::Archive(1_000_000)),
+    ("archive 18446744073709551615", Want::Archive(u64::MAX)),
+    ("reclaim", Want::Reclaim),
+    ("grow", Want::Grow),
+    ("job", Want::Job),
+    ("finish", Want::Finish),
+    ("floor 120", Want::Floor(None, 120)),
+    ("floor 1970-01-01T00:00:01Z", Want::Floor(None, 1_000_000)),
+    ("floor 18446744073709551615", Want::Floor(None, u64::MAX)),
+    ("floorof 1 120", Want::Floor(Some(1), 120)),
+    (
+        "floorof 0 1970-01-01T00:00:01Z",
+        Want::Floor(Some(0), 1_000_000),
+    ),
+    (
+        "floorof 65535 18446744073709551615",
+        Want::Floor(Some(65_535), u64::MAX),
+    ),
+];
+
+/// Whether a line of times asks for that.
+fn is_timed(line: &Line<'_>, want: &Want) -> bool {
+    match *want {
+        Want::Submit(label, now) =>
+            matches!(line, Line::Submit(_, l, n) if *l == label && *n == now),
+        Want::At(time) => matches!(line, Line::At(SEVEN, t) if *t == time),
+        Want::Between(a, b) => matches!(line, Line::Between(SEVEN, c, d) if *c == a && *d == b),
+        Want::Scan(relation, time) => {
+            matches!(line, Line::Scan(r, t) if *r == relation && *t == time)
+        }
+        Want::Times(label) => matches!(line, Line::Times(found) if *found == label),
+        Want::Archive(upto) => matches!(line, Line::Archive(time) if *time == upto),
+        Want::Floor(scope, floor) => {
+            matches!(line, Line::Floor(of, time) if *of == scope && *time == floor)
+        }
+        _ => false,
+    }
+}
+
+fn is_line(line: &Line<'_>, want: &Want) -> bool {
+    match *want {
+        Want::Nothing => false,
+        Want::Begin => matches!(line, Line::Begin(_)),
+        Want::Delete => matches!(line, Line::Delete(_, SEVEN)),
+        Want::Get(key) => matches!(line, Line::Get(_, found) if *found == key),
+        Want::Abort => matches!(line, Line::Abort(_)),
+        Want::Redeem => matches!(line, Line::Redeem(_)),
+        Want::Pump => matches!(line, Line::Pump),
+        Want::Flush => matches!(line, Line::Flush),
+        Want::Reclaim => matches!(line, Line::Reclaim),
+        Want::Grow => matches!(line, Line::Grow),
+        Want::Job => matches!(line, Line::Job),
+        Want::Finish => matches!(line, Line::Finish),
+        Want::Reopen => matches!(line, Line::Reopen),
+        _ => is_timed(line, want),
+    }
+}
+
+/// Whether a text is a line that asks for that, or is none.
+fn asks(text: &str, want: &Want) -> bool {
+    match line(text) {
+        Some(line) => is_line(&line, want),
+        None => matches!(want, Want::Nothing),
+    }
 }
 
 #[test]
 fn each_command_has_its_form(rt: HostRuntime) {
-    assert!(rt; matches!(line("begin abcdefghijklmn09"), Some(Line::Begin(_))));
-    assert!(rt; matches!(line("del t 1 7"), Some(Line::Delete(_, SEVEN))));
-    assert!(rt; matches!(line("get t 1 7"), Some(Line::Get(_, SEVEN))));
-    assert!(rt; matches!(line("submit t 9 100"), Some(Line::Submit(_, 9, 100))));
-    assert!(rt; matches!(line("abort t"), Some(Line::Abort(_))));
-    assert!(rt; matches!(line("redeem t"), Some(Line::Redeem(_))));
-    assert!(rt; matches!(line("pump"), Some(Line::Pump)));
-    assert!(rt; matches!(line("flush"), Some(Line::Flush)));
-    assert!(rt; matches!(line("at 1 7 101"), Some(Line::At(SEVEN, 101))));
-    assert!(rt; matches!(line("times 9"), Some(Line::Times(9))));
-    assert!(rt; matches!(line("reopen"), Some(Line::Reopen)));
-}
-
-#[test]
-fn numbers_reach_the_ends_of_their_ranges(rt: HostRuntime) {
-    for (word, time) in [
-        ("18446744073709551615", Some(u64::MAX)),
-        ("18446744073709551616", None),
-        ("00000000000000000007", Some(7)),
-        ("000000000000000000007", None),
-    ] {
-        assert_eq!(rt; read_time(word.as_bytes()), time, "{word}");
-    }
-    assert!(rt; line("get t 65535 0").is_some());
-    assert!(rt; line("get t 65536 0").is_none());
-}
-
-#[test]
-fn a_time_may_be_an_instant(rt: HostRuntime) {
-    for (word, time) in [
-        ("2001-09-09T01:46:40Z", Some(1_000_000_000_000_000)),
-        ("2001-02-29T00:00:00Z", None),
-        ("2001-09-09T01:46:40z", None),
-    ] {
-        assert_eq!(rt; read_time(word.as_bytes()), time, "{word}");
-    }
-    assert!(rt;
-        matches!(
-            line("at 1 7 1970-01-01T00:00:01Z"),
-            Some(Line::At(SEVEN, 1_000_000))
-        )
-    );
-    assert!(rt; line("times 1970-01-01T00:00:01Z").is_none());
-}
-
-#[test]
-fn intervals_and_scans_name_times(rt: HostRuntime) {
-    assert!(rt;
-        matches!(
-            line("between 1 7 0 1970-01-01T00:00:01Z"),
-            Some(Line::Between(SEVEN, 0, 1_000_000))
-        )
-    );
-    assert!(rt; matches!(line("scan 1 115"), Some(Line::Scan(1, 115))));
-}
-
-#[test]
-fn an_archive_names_its_time(rt: HostRuntime) {
-    for (text, time) in [
-        ("archive 120", 120),
-        ("archive 1970-01-01T00:00:01Z", 1_000_000),
-        ("archive 18446744073709551615", u64::MAX),
-    ] {
-        assert!(rt;
-            matches!(line(text), Some(Line::Archive(upto)) if upto == time),
-            "{text}"
-        );
-    }
-    assert!(rt; matches!(line("reclaim"), Some(Line::Reclaim)));
-    assert!(rt; matches!(line("grow"), Some(Line::Grow)));
-    assert!(rt; matches!(line("job"), Some(Line::Job)));
-    assert!(rt; matches!(line("finish"), Some(Line::Finish)));
-}
-
-#[test]
-fn a_floor_names_its_time(rt: HostRuntime) {
-    for (text, time) in [
-        ("floor 120", 120),
-        ("floor 1970-01-01T00:00:01Z", 1_000_000),
-        ("floor 18446744073709551615", u64::MAX),
-    ] {
-        assert!(rt;
-            matches!(line(text), Some(Line::Floor(None, floor)) if floor == time),
-            "{text}"
-        );
+    for (text, want) in LINES {
+        assert!(rt; asks(text, want), "{text}");
     }
 }
 
+/// Words, and the times that they spell: numbers of at most 20 digits, and instants.
+const TIMES: &[(&str, Option<u64>)] = &[
+    ("18446744073709551615", Some(u64::MAX)),
+    ("18446744073709551616", None),
+    ("00000000000000000007", Some(7)),
+    ("000000000000000000007", None),
+    ("2001-09-09T01:46:40Z", Some(1_000_000_000_000_000)),
+    ("2001-02-29T00:00:00Z", None),
+    ("2001-09-09T01:46:40z", None),
+];
+
 #[test]
-fn a_floor_of_one_relation_names_it_and_its_time(rt: HostRuntime) {
-    for (text, relation, time) in [
-        ("floorof 1 120", 1, 120),
-        ("floorof 0 1970-01-01T00:00:01Z", 0, 1_000_000),
-        ("floorof 65535 18446744073709551615", 65_535, u64::MAX),
-    ] {
-        let Some(Line::Floor(Some(of), floor)) = line(text) else {
-            panic!(rt; "{text}");
-        };
-        assert_eq!(rt; (of, floor), (relation, time), "{text}");
+fn a_word_may_be_a_time(rt: HostRuntime) {
+    for (word, time) in TIMES {
+        assert!(rt; read_time(word.as_bytes()) == *time, "{word}");
     }
 }
 
 /// Lines of no form: of no command, of too few words or too many, with a space or a letter that is none of theirs, or
 /// with a number out of its range.
-const NO_FORM: [&str; 65] = [
+const NO_FORM: &[&str] = &[
     "",
     " ",
     "begin",

@@ -1,176 +1,231 @@
 //! What views answer before, at and after their times.
-use crate::published::{SEVEN, is_value, published};
-use chains::SharedValue;
+use crate::answers::{Row, Rows, Value, are_answer, is_answer, is_row};
+use crate::published::{SEVEN, published};
 use floors::Floors;
-use history::{Key, Version};
-use std::alloc::Global;
+use history::Key;
+use std::alloc::{AllocError, Global};
 use std::test::Fail;
 use timequery::{QueryFault, View};
 
-fn answers(answer: Result<Option<&SharedValue>, QueryFault>, field: &[u8]) -> bool {
-    match answer {
-        Ok(found) => is_value(found, field),
-        Err(_) => false,
+/// What a view is asked.
+#[derive(Clone, Copy)]
+enum Ask {
+    /// The value of record 7 of a relation at a time.
+    At(u16, u64, Value),
+    /// The rows of `SEVEN` from one time up to another.
+    Between(u64, u64, Rows),
+    /// How many rows of `SEVEN` there are.
+    Count(u64, u64, usize),
+    /// The rows of a relation, all of record 7.
+    ScanBetween(u16, u64, u64, Rows),
+    /// The records of a relation that have a value at a time.
+    ScanAt(u16, u64, Result<&'static [u64], QueryFault>),
+}
+
+fn counts(alloc: Global, view: &View, a: u64, b: u64, count: usize) -> bool {
+    matches!(view.between(alloc, SEVEN, a, b), Ok(rows) if rows.len() == count)
+}
+
+/// Whether the rows of a relation are these, all of record 7.
+fn scans_rows(alloc: Global, view: &View, (relation, a, b): (u16, u64, u64), want: Rows) -> bool {
+    let answer = view.scan_between(alloc, relation, a, b);
+    match (&answer, want) {
+        (Ok(rows), Ok(parts)) => {
+            for (row, part) in rows.iter().zip(parts.iter()) {
+                if row.0 != 7 || !is_row(&row.1, part) {
+                    return false;
+                }
+            }
+            rows.len() == parts.len()
+        }
+        (Err(fault), Err(wanted)) => *fault == wanted,
+        _ => false,
     }
 }
 
-#[test]
-fn a_value_stands_from_its_commit_up_to_the_last_one(rt: HostRuntime) -> Result<(), Fail> {
-    let state = published(rt.alloc(), &[(100, 7, Some("a"))])?;
-    let view = View::new(3, 100, Floors::none(), state);
-    assert_eq!(rt; view.mark(), 3);
-    assert!(rt; matches!(view.at(SEVEN, 99), Ok(None)));
-    assert!(rt; answers(view.at(SEVEN, 100), b"a"));
-    assert!(rt; matches!(view.at(SEVEN, 101), Err(QueryFault::NotYet(100))));
-    view.spend();
-    Ok(())
+fn scans(
+    alloc: Global,
+    view: &View,
+    relation: u16,
+    time: u64,
+    want: Result<&[u64], QueryFault>,
+) -> bool {
+    let answer = view.scan_at(alloc, relation, time);
+    match (&answer, want) {
+        (Ok(found), Ok(records)) => {
+            for (one, record) in found.iter().zip(records.iter()) {
+                if one.0 != *record {
+                    return false;
+                }
+            }
+            found.len() == records.len()
+        }
+        (Err(fault), Err(wanted)) => *fault == wanted,
+        _ => false,
+    }
+}
+
+fn is_told(alloc: Global, view: &View, ask: &Ask) -> bool {
+    match *ask {
+        Ask::At(relation, time, want) => {
+            let key = Key {
+                relation,
+                record: 7,
+            };
+            is_answer(view.at(key, time), want)
+        }
+        Ask::Between(a, b, want) => are_answer(&view.between(alloc, SEVEN, a, b), want),
+        Ask::Count(a, b, count) => counts(alloc, view, a, b, count),
+        Ask::ScanBetween(relation, a, b, want) => scans_rows(alloc, view, (relation, a, b), want),
+        Ask::ScanAt(relation, time, want) => scans(alloc, view, relation, time, want),
+    }
+}
+
+/// Commits of record 7, and none where it is gone.
+type Commits = &'static [(u64, u64, Option<&'static str>)];
+
+/// A at 100, b at 110, gone from 120 on and c at 130.
+const FOUR: Commits = &[
+    (100, 7, Some("a")),
+    (110, 7, Some("b")),
+    (120, 7, None),
+    (130, 7, Some("c")),
+];
+
+/// What a view shows, its commits, the floor of all relations and those of single ones, and what it is
+/// asked.
+#[derive(Clone, Copy)]
+struct Viewed(
+    &'static str,
+    Commits,
+    u64,
+    &'static [(u16, u64)],
+    &'static [Ask],
+);
+
+const VIEWS: &[Viewed] = &[
+    Viewed(
+        "a value stands from its commit up to the last one",
+        &[(100, 7, Some("a"))],
+        0,
+        &[],
+        &[
+            Ask::At(1, 99, Ok(None)),
+            Ask::At(1, 100, Ok(Some("a"))),
+            Ask::At(1, 101, Err(QueryFault::NotYet(100))),
+        ],
+    ),
+    Viewed(
+        "nothing is answered before the floor",
+        &[(110, 7, Some("b")), (120, 7, None), (130, 7, Some("c"))],
+        120,
+        &[],
+        &[
+            Ask::At(1, 119, Err(QueryFault::BeforeKept(120))),
+            Ask::At(1, 120, Ok(None)),
+            Ask::At(1, 130, Ok(Some("c"))),
+        ],
+    ),
+    Viewed(
+        "rows of a key are cut to the interval",
+        FOUR,
+        0,
+        &[],
+        &[Ask::Between(105, 121, Ok(&[(105, 110, "a"), (110, 120, "b")]))],
+    ),
+    Viewed(
+        "a deletion ends a row",
+        FOUR,
+        0,
+        &[],
+        &[
+            Ask::ScanBetween(1, 100, 131, Ok(ALL_ROWS)),
+            Ask::ScanBetween(2, 100, 131, Ok(&[])),
+        ],
+    ),
+    Viewed(
+        "a scan shows what stood then",
+        FOUR,
+        0,
+        &[],
+        &[Ask::ScanAt(1, 105, Ok(&[7])), Ask::ScanAt(1, 125, Ok(&[]))],
+    ),
+    Viewed(
+        "intervals are refused in order",
+        FOUR,
+        120,
+        &[],
+        &[
+            Ask::Between(119, 131, Err(QueryFault::BeforeKept(120))),
+            Ask::Between(130, 119, Err(QueryFault::BeforeKept(120))),
+            Ask::Between(140, 140, Err(QueryFault::NotYet(130))),
+            Ask::Between(125, 125, Err(QueryFault::EmptyInterval)),
+            Ask::ScanBetween(1, 120, 132, Err(QueryFault::NotYet(130))),
+            Ask::ScanAt(1, 131, Err(QueryFault::NotYet(130))),
+            Ask::Count(120, 131, 1),
+        ],
+    ),
+    Viewed(
+        "each relation is answered from its own floor",
+        FOUR,
+        0,
+        &[(2, 125), (1, 115)],
+        &[
+            Ask::At(1, 114, Err(QueryFault::BeforeKept(115))),
+            Ask::At(1, 115, Ok(Some("b"))),
+            Ask::At(2, 124, Err(QueryFault::BeforeKept(125))),
+            Ask::At(2, 125, Ok(None)),
+            Ask::At(3, 0, Ok(None)),
+            Ask::Between(114, 131, Err(QueryFault::BeforeKept(115))),
+            Ask::Count(115, 131, 2),
+            Ask::ScanBetween(2, 115, 131, Err(QueryFault::BeforeKept(125))),
+            Ask::ScanAt(1, 115, Ok(&[7])),
+            Ask::ScanAt(2, 115, Err(QueryFault::BeforeKept(125))),
+        ],
+    ),
+];
+
+const ALL_ROWS: &[Row] = &[(100, 110, "a"), (110, 120, "b"), (130, 131, "c")];
+
+/// The floor of all relations, above which those of single ones are raised one by one.
+fn floors_of(alloc: Global, every: u64, raised: &[(u16, u64)]) -> Result<Floors, AllocError> {
+    let mut floors = Floors::of_every(every);
+    for (relation, floor) in raised {
+        floors = floors.raised(alloc, Some(*relation), *floor)?;
+    }
+    Ok(floors)
+}
+
+/// The time of the last commit.
+fn last_of(commits: &[(u64, u64, Option<&str>)]) -> u64 {
+    match commits.last() {
+        Some(commit) => commit.0,
+        None => 0,
+    }
+}
+
+/// The place of the first question that is not answered as it should be.
+fn first_wrong(alloc: Global, view: &View, asked: &[Ask]) -> Option<usize> {
+    for (place, ask) in asked.iter().enumerate() {
+        if !is_told(alloc, view, ask) {
+            return Some(place);
+        }
+    }
+    None
+}
+
+fn view_of(alloc: Global, row: &Viewed) -> Result<View, Fail> {
+    let floors = floors_of(alloc, row.2, row.3)?;
+    Ok(View::new(3, last_of(row.1), floors, published(alloc, row.1)?))
 }
 
 #[test]
-fn nothing_is_answered_before_the_floor(rt: HostRuntime) -> Result<(), Fail> {
-    let commits = [(110, 7, Some("b")), (120, 7, None), (130, 7, Some("c"))];
-    let view = View::new(
-        3,
-        130,
-        Floors::of_every(120),
-        published(rt.alloc(), &commits)?,
-    );
-    assert!(rt; matches!(view.at(SEVEN, 119), Err(QueryFault::BeforeKept(120))));
-    assert!(rt; matches!(view.at(SEVEN, 120), Ok(None)));
-    assert!(rt; answers(view.at(SEVEN, 130), b"c"));
-    view.spend();
-    Ok(())
-}
-
-/// A view with this floor: record 7 is a at 100, b at 110, gone from 120 on and c at 130.
-fn with_floor(alloc: Global, floor: u64) -> Result<View, Fail> {
-    with_floors(alloc, Floors::of_every(floor))
-}
-
-/// The same with these floors.
-fn with_floors(alloc: Global, floors: Floors) -> Result<View, Fail> {
-    let commits = [
-        (100, 7, Some("a")),
-        (110, 7, Some("b")),
-        (120, 7, None),
-        (130, 7, Some("c")),
-    ];
-    Ok(View::new(3, 130, floors, published(alloc, &commits)?))
-}
-
-fn is_row(row: &Version<SharedValue>, from: u64, to: u64, field: &[u8]) -> bool {
-    row.from == from && row.to == to && is_value(Some(&row.value), field)
-}
-
-#[test]
-fn rows_of_a_key_are_cut_to_the_interval(rt: HostRuntime) -> Result<(), Fail> {
-    let alloc = rt.alloc();
-    let view = with_floor(alloc, 0)?;
-    let Ok(rows) = view.between(alloc, SEVEN, 105, 121) else {
+fn views_answer_of_their_times(rt: HostRuntime) -> Result<(), Fail> {
+    for row in VIEWS {
+        let view = view_of(rt.alloc(), row)?;
+        let (mark, wrong) = (view.mark(), first_wrong(rt.alloc(), &view, row.4));
         view.spend();
-        return Err(Fail::from("refused"));
-    };
-    view.spend();
-    assert_eq!(rt; rows.len(), 2);
-    assert!(rt; is_row(&rows[0], 105, 110, b"a"));
-    assert!(rt; is_row(&rows[1], 110, 120, b"b"));
-    Ok(())
-}
-
-#[test]
-fn a_deletion_ends_a_row(rt: HostRuntime) -> Result<(), Fail> {
-    let alloc = rt.alloc();
-    let view = with_floor(alloc, 0)?;
-    let (rows, none) = (
-        view.scan_between(alloc, 1, 100, 131),
-        view.scan_between(alloc, 2, 100, 131),
-    );
-    view.spend();
-    let (Ok(rows), Ok(none)) = (rows, none) else {
-        return Err(Fail::from("refused"));
-    };
-    assert_eq!(rt; (rows.len(), none.len()), (3, 0));
-    assert!(rt; rows[0].0 == 7 && is_row(&rows[0].1, 100, 110, b"a"));
-    assert!(rt; rows[1].0 == 7 && is_row(&rows[1].1, 110, 120, b"b"));
-    assert!(rt; rows[2].0 == 7 && is_row(&rows[2].1, 130, 131, b"c"));
-    Ok(())
-}
-
-#[test]
-fn a_scan_shows_what_stood_then(rt: HostRuntime) -> Result<(), Fail> {
-    let alloc = rt.alloc();
-    let view = with_floor(alloc, 0)?;
-    let (then, gone) = (view.scan_at(alloc, 1, 105), view.scan_at(alloc, 1, 125));
-    view.spend();
-    let (Ok(then), Ok(gone)) = (then, gone) else {
-        return Err(Fail::from("refused"));
-    };
-    assert_eq!(rt; (then.len(), gone.len()), (1, 0));
-    assert_eq!(rt; then[0].0, 7);
-    Ok(())
-}
-
-#[test]
-fn intervals_are_refused_in_order(rt: HostRuntime) -> Result<(), Fail> {
-    let alloc = rt.alloc();
-    let view = with_floor(alloc, 120)?;
-    for (a, b, fault) in [
-        (119, 131, QueryFault::BeforeKept(120)),
-        (130, 119, QueryFault::BeforeKept(120)),
-        (140, 140, QueryFault::NotYet(130)),
-        (125, 125, QueryFault::EmptyInterval),
-    ] {
-        let answer = view.between(alloc, SEVEN, a, b);
-        assert!(rt; matches!(answer, Err(found) if found == fault), "{a} {b}");
+        assert_eq!(rt; (mark, wrong), (3, None), "{}", row.0);
     }
-    assert!(rt;
-        matches!(
-            view.scan_between(alloc, 1, 120, 132),
-            Err(QueryFault::NotYet(130))
-        )
-    );
-    assert!(rt; matches!(view.scan_at(alloc, 1, 131), Err(QueryFault::NotYet(130))));
-    assert!(rt; matches!(view.between(alloc, SEVEN, 120, 131), Ok(rows) if rows.len() == 1));
-    view.spend();
-    Ok(())
-}
-
-/// The key of the same record in another relation.
-fn of_relation(relation: u16) -> Key {
-    Key {
-        relation,
-        record: 7,
-    }
-}
-
-/// Relation 1 has the floor 115 and relation 2 the floor 125.
-#[test]
-fn each_relation_is_answered_from_its_own_floor(rt: HostRuntime) -> Result<(), Fail> {
-    let alloc = rt.alloc();
-    let floors = Floors::none().raised(alloc, Some(2), 125)?;
-    let view = with_floors(alloc, floors.raised(alloc, Some(1), 115)?)?;
-    assert!(rt; matches!(view.at(SEVEN, 114), Err(QueryFault::BeforeKept(115))));
-    assert!(rt; answers(view.at(SEVEN, 115), b"b"));
-    assert!(rt;
-        matches!(
-            view.at(of_relation(2), 124),
-            Err(QueryFault::BeforeKept(125))
-        )
-    );
-    assert!(rt; matches!(view.at(of_relation(2), 125), Ok(None)));
-    assert!(rt; matches!(view.at(of_relation(3), 0), Ok(None)));
-    let refused = view.between(alloc, SEVEN, 114, 131);
-    assert!(rt; matches!(refused, Err(QueryFault::BeforeKept(115))));
-    assert!(rt; matches!(view.between(alloc, SEVEN, 115, 131), Ok(rows) if rows.len() == 2));
-    let refused = view.scan_between(alloc, 2, 115, 131);
-    assert!(rt; matches!(refused, Err(QueryFault::BeforeKept(125))));
-    assert!(rt; matches!(view.scan_at(alloc, 1, 115), Ok(found) if found.len() == 1));
-    assert!(rt;
-        matches!(
-            view.scan_at(alloc, 2, 115),
-            Err(QueryFault::BeforeKept(125))
-        )
-    );
-    view.spend();
     Ok(())
 }

@@ -23,33 +23,44 @@ fn head(time: u64, label: u64, awaited: bool) -> CommitHead
     }
 }
 
+/// Whether these are the times of the commits with a label.
+fn has_times(alloc: Global, order: &CommitOrder, label: u64, want: &[u64]) -> bool {
+    matches!(order.times_of(alloc, label), Ok(times) if times.as_slice() == want)
+}
+
+/// Whether so many commits are published, and this is the time of the last.
+fn has_published(order: &CommitOrder, count: usize, last: u64) -> bool {
+    order.published() == count && order.last() == last
+}
+
 #[test]
 fn a_commit_that_waits_is_assigned_and_not_published(rt: HostRuntime) -> Result<(), Fail> {
-    let alloc = rt.alloc();
-    let mut order = CommitOrder::new(alloc);
+    let mut order = CommitOrder::new(rt.alloc());
     order.reserve(1)?;
     let last = order.last_assigned();
-    assert_eq!(rt; last, 0);
+    assert!(rt; last == 0);
     order.push_reserved(head(100, 9, true));
-    assert_eq!(rt; (order.last(), order.last_assigned()), (0, 100));
-    assert_eq!(rt; order.redeem(100), TicketState::Waiting);
-    assert_eq!(rt; order.redeem(99), TicketState::Unknown);
-    let times = order.times_of(alloc, 9)?;
-    assert_eq!(rt; times.len(), 0);
+    let redeemed = [order.redeem(100), order.redeem(99)];
+    assert!(rt; redeemed == [TicketState::Waiting, TicketState::Unknown]);
+    assert!(rt; order.last_assigned() == 100 && has_published(&order, 0, 0));
+    assert!(rt; has_times(rt.alloc(), &order, 9, &[]));
     Ok(())
 }
 
 #[test]
 fn a_published_commit_is_redeemed_once(rt: HostRuntime) -> Result<(), Fail> {
-    let alloc = rt.alloc();
-    let heads = [head(100, 9, false), head(110, 8, true), head(120, 9, false)].to_vec(alloc)?;
-    let mut order = CommitOrder::of_published(heads);
-    assert_eq!(rt; (order.last(), order.published()), (120, 3));
-    assert_eq!(rt; order.redeem(110), TicketState::Published);
-    assert_eq!(rt; order.redeem(110), TicketState::Unknown);
-    assert_eq!(rt; order.redeem(100), TicketState::Unknown);
-    let times = order.times_of(alloc, 9)?;
-    assert_eq!(rt; times.as_slice(), [100, 120].as_slice());
+    let heads = [head(100, 9, false), head(110, 8, true), head(120, 9, false)];
+    let mut order = CommitOrder::of_published(heads.to_vec(rt.alloc())?);
+    let redeemed = [order.redeem(110), order.redeem(110), order.redeem(100)];
+    assert!(rt;
+        redeemed
+            == [
+                TicketState::Published,
+                TicketState::Unknown,
+                TicketState::Unknown
+            ]
+    );
+    assert!(rt; has_published(&order, 3, 120) && has_times(rt.alloc(), &order, 9, &[100, 120]));
     Ok(())
 }
 
@@ -60,18 +71,18 @@ fn commits_are_published_in_their_order(rt: HostRuntime) -> Result<(), Fail> {
     order.push_reserved(head(100, 9, true));
     order.push_reserved(head(101, 8, true));
     order.publish(1);
-    assert_eq!(rt; (order.published(), order.last()), (1, 100));
-    assert_eq!(rt; order.redeem(100), TicketState::Published);
-    assert_eq!(rt; order.redeem(101), TicketState::Waiting);
+    assert!(rt; has_published(&order, 1, 100));
+    assert!(rt; order.redeem(100) == TicketState::Published);
+    assert!(rt; order.redeem(101) == TicketState::Waiting);
     Ok(())
 }
 
 #[test]
 fn a_ticket_says_whose_it_is(rt: HostRuntime) {
     let ticket = Ticket::new(3, 130);
-    let said = (ticket.mark(), ticket.time());
+    let is_said = ticket.mark() == 3 && ticket.time() == 130;
     ticket.give_up();
-    assert_eq!(rt; said, (3, 130));
+    assert!(rt; is_said);
 }
 
 // Records 9 and 7 are written after 130, in that order.
@@ -130,22 +141,27 @@ const ENTRY: Member = Member {
     records: 1,
 };
 
-#[test]
-fn a_commit_is_stored_and_kept(rt: HostRuntime) -> Result<(), Fail> {
-    let alloc = rt.alloc();
-    let mut extents = Extents::new(alloc)?;
+/// The commit of this entry, which waits with the value a of record 7 in extents that are taken for it.
+fn queued(alloc: Global, extents: &mut Extents) -> Result<Queued, Fail> {
     let writes = [put(alloc, 7, b"a")?];
     let bodies = pack_all(alloc, &mut WriteRecords::new(&Frozen::new(), &writes))?;
-    let waits = Queued::new(
-        ENTRY,
-        Frozen::new(),
-        0,
-        stored_in(alloc, &mut extents, bodies)?,
-    );
-    assert_eq!(rt; waits.reclaimed(), 0);
-    assert!(rt; waits.entry() == ENTRY);
-    assert!(rt; is_extent(waits.stored()));
-    assert!(rt; waits.after().at(SEVEN, 100).is_none());
+    let stored = stored_in(alloc, extents, bodies)?;
+    Ok(Queued::new(ENTRY, Frozen::new(), 0, stored))
+}
+
+/// Whether it says what it was made of.
+fn says(waits: &Queued) -> bool {
+    waits.reclaimed() == 0
+        && waits.entry() == ENTRY
+        && is_extent(waits.stored())
+        && waits.after().at(SEVEN, 100).is_none()
+}
+
+#[test]
+fn a_commit_is_stored_and_kept(rt: HostRuntime) -> Result<(), Fail> {
+    let mut extents = Extents::new(rt.alloc())?;
+    let waits = queued(rt.alloc(), &mut extents)?;
+    assert!(rt; says(&waits));
     let QueuedParts {
         entry: _,
         after: _,
@@ -156,15 +172,22 @@ fn a_commit_is_stored_and_kept(rt: HostRuntime) -> Result<(), Fail> {
     Ok(())
 }
 
+/// Whether two extents that are taken are used, and free once they are given back.
+fn gives_back(alloc: Global, extents: &mut Extents) -> bool {
+    if extents.free_count() < 2 {
+        return false;
+    }
+    let Ok(taken) = take_extents(alloc, extents, 2) else {
+        return false;
+    };
+    let are_used = extents.used() == 2;
+    give_back_all(extents, taken);
+    are_used && extents.used() == 0
+}
+
 #[test]
 fn extents_that_are_given_back_are_free(rt: HostRuntime) -> Result<(), Fail> {
     let mut extents = Extents::new(rt.alloc())?;
-    if extents.free_count() < 2 {
-        return Err("all are free".into());
-    }
-    let taken = take_extents(rt.alloc(), &mut extents, 2)?;
-    assert_eq!(rt; extents.used(), 2);
-    give_back_all(&mut extents, taken);
-    assert_eq!(rt; extents.used(), 0);
+    assert!(rt; gives_back(rt.alloc(), &mut extents));
     Ok(())
 }

@@ -1,8 +1,78 @@
 //! Disks in memory: what is read, what a stop tears, and which calls are refused.
-use crate::area_bytes::bytes_of;
-use disk::{Area, DeviceFault, Disk, Fault, FaultDisk, MemDisk};
-use std::alloc::Global;
+use crate::area_bytes::holds;
+use disk::{Area, Disk, Fault, FaultDisk, MemDisk};
+use std::alloc::{AllocError, Global};
 use std::test::Fail;
+
+/// A disk whose status area has four bytes.
+fn four(alloc: Global) -> Result<MemDisk, AllocError> {
+    Ok(MemDisk::with_bytes(b"abcd".to_vec(alloc)?, Vec::new(alloc), Vec::new(alloc)))
+}
+
+/// A call of a disk on one area, or what it is asked of all.
+#[derive(Clone, Copy)]
+enum Call {
+    /// Two bytes are written at a place; whether that is made.
+    Write(u16, &'static [u8; 2], bool),
+    /// Whether it is made.
+    Sync(bool),
+    /// None where it is refused.
+    Len(Option<u64>),
+    /// How many writes and syncs were made, and how many calls refused.
+    Counts(u64, u64),
+}
+
+fn is_answered<D: Disk>(disk: &mut D, area: Area, call: &Call) -> bool {
+    match *call {
+        Call::Write(at, bytes, made) => disk.write_at(area, at.into(), bytes).is_ok() == made,
+        Call::Sync(made) => disk.sync(area).is_ok() == made,
+        Call::Len(len) => disk.len(area).ok() == len,
+        Call::Counts(made, refused) => disk.made() == made && disk.refused() == refused,
+    }
+}
+
+/// Whether each call is answered so.
+fn are_answered<D: Disk>(disk: &mut D, area: Area, calls: &[Call]) -> bool {
+    for call in calls {
+        if !is_answered(disk, area, call) {
+            return false;
+        }
+    }
+    true
+}
+
+const GAP: &[Call] = &[
+    Call::Write(2, b"xy", true),
+    Call::Sync(true),
+    Call::Counts(2, 0),
+];
+
+#[test]
+fn a_gap_reads_as_zeros(rt: HostRuntime) {
+    let mut disk = MemDisk::new(rt.alloc());
+    assert!(rt; are_answered(&mut disk, Area::Archive, GAP));
+    assert!(rt; holds(&mut disk, Area::Archive, b"\0\0xy"));
+}
+
+/// Whether a stop leaves these bytes in an area.
+fn leaves(left: Result<MemDisk, AllocError>, area: Area, bytes: &[u8]) -> bool {
+    match left {
+        Ok(mut disk) => holds(&mut disk, area, bytes),
+        Err(_) => false,
+    }
+}
+
+#[test]
+fn a_stop_tears_what_was_written(rt: HostRuntime) -> Result<(), Fail> {
+    let mut disk = four(rt.alloc())?;
+    assert!(rt; are_answered(&mut disk, Area::Status, &[Call::Write(1, b"xy", true)]));
+    let left = disk.left(rt.alloc(), 0xc7, b"z");
+    assert!(rt; leaves(left, Area::Status, b"a\xc7\xc7dz"));
+    assert!(rt; are_answered(&mut disk, Area::Status, &[Call::Sync(true)]));
+    let left = disk.left(rt.alloc(), 0xc7, b"z");
+    assert!(rt; leaves(left, Area::Status, b"axyd"));
+    Ok(())
+}
 
 const REFUSED: Fault = Fault {
     calls_before: 2,
@@ -10,89 +80,44 @@ const REFUSED: Fault = Fault {
     stops: false,
 };
 
-fn four(alloc: Global) -> Result<MemDisk, Fail> {
-    Ok(MemDisk::with_bytes(b"abcd".to_vec(alloc)?, Vec::new(alloc), Vec::new(alloc)))
-}
-
-/// A disk with two bytes behind a gap.
-fn with_gap(alloc: Global) -> Result<MemDisk, DeviceFault> {
-    let mut disk = MemDisk::new(alloc);
-    disk.write_at(Area::Archive, 2, b"xy")?;
-    disk.sync(Area::Archive)?;
-    Ok(disk)
-}
-
-#[test]
-fn a_gap_reads_as_zeros(rt: HostRuntime) -> Result<(), Fail> {
-    let mut disk = with_gap(rt.alloc())?;
-    assert_eq!(rt; (disk.made(), disk.refused()), (2, 0));
-    let bytes = bytes_of(rt.alloc(), &mut disk, Area::Archive)?;
-    assert!(rt; bytes.as_slice() == b"\0\0xy".as_slice());
-    Ok(())
-}
-
-/// The bytes of the status area that a stop may leave.
-fn torn(alloc: Global, disk: &MemDisk) -> Result<Vec<u8>, Fail> {
-    let mut left = disk.left(alloc, 0xc7, b"z")?;
-    bytes_of(alloc, &mut left, Area::Status)
-}
-
-#[test]
-fn a_stop_tears_what_was_written(rt: HostRuntime) -> Result<(), Fail> {
-    let alloc = rt.alloc();
-    let mut disk = four(alloc)?;
-    disk.write_at(Area::Status, 1, b"xy")?;
-    let bytes = torn(alloc, &disk)?;
-    assert!(rt; bytes.as_slice() == b"a\xc7\xc7dz".as_slice());
-    disk.sync(Area::Status)?;
-    assert_eq!(rt; torn(alloc, &disk)?.len(), 4);
-    Ok(())
-}
-
-/// The bytes of the status area, between a write that is refused and a stop, and after it.
-fn refused_and_torn(alloc: Global, disk: &mut FaultDisk) -> Result<(Vec<u8>, Vec<u8>), Fail> {
-    let len = disk.len(Area::Status)?;
-    disk.sync(Area::Status)?;
-    if disk.write_at(Area::Status, 1, b"xy").is_ok() {
-        return Err("the write is made".into());
-    }
-    let mut bytes = vec![in alloc; 0; len as usize]?;
-    disk.read(Area::Status, 0, &mut bytes)?;
-    let mut left = disk.left(alloc, 0, b"")?;
-    Ok((bytes, bytes_of(alloc, &mut left, Area::Status)?))
-}
+/// The length, a sync, a write that is refused, and what is read.
+const ONE_REFUSED: &[Call] = &[
+    Call::Len(Some(4)),
+    Call::Sync(true),
+    Call::Write(1, b"xy", false),
+    Call::Counts(2, 1),
+];
 
 /// A refused write that has reached nothing is torn by a stop all the same.
 #[test]
 fn a_refused_write_is_torn(rt: HostRuntime) -> Result<(), Fail> {
     let mut disk = FaultDisk::new(four(rt.alloc())?, REFUSED);
-    let (bytes, torn) = refused_and_torn(rt.alloc(), &mut disk)?;
-    assert_eq!(rt; (disk.made(), disk.refused()), (2, 1));
-    assert!(rt; bytes.as_slice() == b"abcd".as_slice());
-    assert!(rt; torn.as_slice() == b"a\0\0d".as_slice());
+    assert!(rt; are_answered(&mut disk, Area::Status, ONE_REFUSED));
+    assert!(rt; holds(&mut disk, Area::Status, b"abcd"));
+    let left = disk.left(rt.alloc(), 0, b"");
+    assert!(rt; leaves(left, Area::Status, b"a\0\0d"));
     Ok(())
 }
 
-/// Whether a write, the length and a sync are refused.
-fn refused(disk: &mut FaultDisk) -> [bool; 3] {
-    let write = disk.write_at(Area::Heap, 0, b"q").is_err();
-    let len = disk.len(Area::Heap).is_err();
-    let sync = disk.sync(Area::Heap).is_err();
-    [write, len, sync]
-}
+const STOPPED: Fault = Fault {
+    calls_before: 1,
+    write_reaches: true,
+    stops: true,
+};
+
+/// All calls behind the first are refused.
+const ALL_REFUSED: &[Call] = &[
+    Call::Sync(true),
+    Call::Write(0, b"qq", false),
+    Call::Len(None),
+    Call::Sync(false),
+    Call::Counts(3, 3),
+];
 
 #[test]
 fn a_stopped_disk_refuses_all(rt: HostRuntime) -> Result<(), Fail> {
-    let fault = Fault {
-        calls_before: 1,
-        write_reaches: true,
-        stops: true,
-    };
-    let mut disk = FaultDisk::new(four(rt.alloc())?, fault);
-    disk.sync(Area::Heap)?;
-    assert!(rt; refused(&mut disk) == [true; 3]);
-    assert_eq!(rt; (disk.made(), disk.refused()), (3, 3));
-    let mut left = disk.left(rt.alloc(), b'q', b"")?;
-    assert_eq!(rt; left.len(Area::Heap)?, 0);
+    let mut disk = FaultDisk::new(four(rt.alloc())?, STOPPED);
+    assert!(rt; are_answered(&mut disk, Area::Heap, ALL_REFUSED));
+    assert!(rt; leaves(disk.left(rt.alloc(), b'q', b""), Area::Heap, b""));
     Ok(())
 }

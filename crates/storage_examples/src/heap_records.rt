@@ -6,25 +6,27 @@ use deltas::{
 };
 use std::alloc::Global;
 use std::test::Fail;
-use wire::Value;
+use wire::{Value, ValueFault};
 
-/// The value of these fields, or none.
-fn value_of(alloc: Global, fields: Option<&[&[u8]]>) -> Result<Option<Value>, Fail> {
-    match fields {
+/// The fields of a value, or none where there is no value.
+type Given = Option<&'static [&'static [u8]]>;
+
+fn value_of(alloc: Global, given: Given) -> Result<Option<Value>, ValueFault> {
+    match given {
         Some(fields) => Ok(Some(Value::new(alloc, fields)?)),
         None => Ok(None),
     }
 }
 
-/// What a write over a previous value is stored as. Where there is no value there are no fields.
-fn stored(
-    alloc: Global,
-    previous: Option<&[&[u8]]>,
-    write: Option<&[&[u8]]>,
-) -> Result<Content, Fail> {
-    let previous = value_of(alloc, previous)?;
-    let write = value_of(alloc, write)?;
-    Ok(encode_write(alloc, previous.as_ref(), write.as_ref())?)
+/// What a write over a previous value is stored as; none where memory is short.
+fn stored(alloc: Global, previous: Given, write: Given) -> Option<Content> {
+    let Ok(previous) = value_of(alloc, previous) else {
+        return None;
+    };
+    let Ok(write) = value_of(alloc, write) else {
+        return None;
+    };
+    encode_write(alloc, previous.as_ref(), write.as_ref()).ok()
 }
 
 /// Whether the one record of this content fills an extent with these bytes alone.
@@ -34,26 +36,31 @@ fn fills(records: &[Record], bytes: &[u8]) -> bool {
     filled.records == 1 && filled.used as usize == bytes.len() && begin_with(&image[16..], bytes)
 }
 
+/// Whether these records are packed into one extent, with these bytes.
+fn packs(alloc: Global, records: &[Record], bytes: &[u8]) -> bool {
+    match pack(alloc, records) {
+        Ok(bodies) => matches!(bodies.as_slice(), [body] if body.bytes() == bytes),
+        Err(_) => false,
+    }
+}
+
 /// Whether the record of this content for the key has these bytes, packed and filled into an
 /// extent.
-fn is_spelled(alloc: Global, content: Content, bytes: &[u8]) -> Result<bool, Fail> {
+fn is_spelled(alloc: Global, content: Content, bytes: &[u8]) -> bool {
     let records = [Record { key: KEY, content }];
-    match pack(alloc, &records)?.as_slice() {
-        [body] => Ok(body.bytes() == bytes && fills(&records, bytes)),
-        _ => Ok(false),
-    }
+    packs(alloc, &records, bytes) && fills(&records, bytes)
 }
 
 /// A write over a previous value, and the bytes that it is stored as.
 #[derive(Clone, Copy)]
 struct Write {
     what: &'static str,
-    previous: Option<&'static [&'static [u8]]>,
-    write: Option<&'static [&'static [u8]]>,
+    previous: Given,
+    write: Given,
     bytes: &'static [u8],
 }
 
-const WRITES: [Write; 8] = [
+const WRITES: &[Write] = &[
     Write {
         what: "a first value",
         previous: None,
@@ -109,15 +116,20 @@ const OLD: [u8; 22] = [
     4, 1, 0, 7, 0, 0, 0, 0, 0, 0, 0, 0x82, 0, 0, 0, 0, 0, 0, 0, 1, 1, 0x63,
 ];
 
+fn is_stored(alloc: Global, row: &Write) -> bool {
+    match stored(alloc, row.previous, row.write) {
+        Some(content) => is_spelled(alloc, content, row.bytes),
+        None => false,
+    }
+}
+
 #[test]
 fn writes_are_stored_byte_for_byte(rt: HostRuntime) -> Result<(), Fail> {
-    let alloc = rt.alloc();
     for row in WRITES {
-        let content = stored(alloc, row.previous, row.write)?;
-        assert!(rt; is_spelled(alloc, content, row.bytes)?, "{}", row.what);
+        assert!(rt; is_stored(rt.alloc(), row), "{}", row.what);
     }
-    let value = Value::new(alloc, &[b"c"])?;
-    assert!(rt; is_spelled(alloc, Content::Old { from: 130, value }, &OLD)?);
+    let value = Value::new(rt.alloc(), &[b"c"])?;
+    assert!(rt; is_spelled(rt.alloc(), Content::Old { from: 130, value }, &OLD));
     Ok(())
 }
 
@@ -126,13 +138,13 @@ fn writes_are_stored_byte_for_byte(rt: HostRuntime) -> Result<(), Fail> {
 #[derive(Clone, Copy)]
 struct Applied {
     what: &'static str,
-    previous: Option<&'static [&'static [u8]]>,
-    write: Option<&'static [&'static [u8]]>,
-    over: Option<&'static [&'static [u8]]>,
-    want: Option<Option<&'static [&'static [u8]]>>,
+    previous: Given,
+    write: Given,
+    over: Given,
+    want: Option<Given>,
 }
 
-const APPLIED: [Applied; 6] = [
+const APPLIED: &[Applied] = &[
     Applied {
         what: "a delta",
         previous: Some(&[b"a", b"c"]),
@@ -178,33 +190,37 @@ const APPLIED: [Applied; 6] = [
 ];
 
 /// Whether these are the same: a value and its fields, or no value.
-fn is_written(
-    alloc: Global,
-    written: Option<Value>,
-    fields: Option<&[&[u8]]>,
-) -> Result<bool, Fail> {
-    match (written, value_of(alloc, fields)?) {
-        (Some(written), Some(value)) => Ok(written.is_same(&value)),
-        (None, None) => Ok(true),
-        _ => Ok(false),
+fn is_written(alloc: Global, written: &Option<Value>, given: Given) -> bool {
+    match (written, value_of(alloc, given)) {
+        (Some(written), Ok(Some(value))) => written.is_same(&value),
+        (None, Ok(None)) => true,
+        _ => false,
     }
 }
 
-fn is_applied(alloc: Global, row: &Applied) -> Result<bool, Fail> {
-    let content = stored(alloc, row.previous, row.write)?;
-    let over = value_of(alloc, row.over)?;
-    match (apply(alloc, over.as_ref(), &content)?, row.want) {
-        (Some(written), Some(want)) => is_written(alloc, written, want),
-        (None, None) => Ok(true),
-        _ => Ok(false),
+/// Whether this content writes over a row's other value what the row says.
+fn writes(alloc: Global, content: &Content, row: &Applied) -> bool {
+    let Ok(over) = value_of(alloc, row.over) else {
+        return false;
+    };
+    match (apply(alloc, over.as_ref(), content), row.want) {
+        (Ok(Some(written)), Some(want)) => is_written(alloc, &written, want),
+        (Ok(None), None) => true,
+        _ => false,
+    }
+}
+
+fn is_applied(alloc: Global, row: &Applied) -> bool {
+    match stored(alloc, row.previous, row.write) {
+        Some(content) => writes(alloc, &content, row),
+        None => false,
     }
 }
 
 #[test]
-fn stored_records_write_what_they_were_stored_for(rt: HostRuntime) -> Result<(), Fail> {
+fn stored_records_write_what_they_were_stored_for(rt: HostRuntime) {
     laws::stored_is_written();
     for row in APPLIED {
-        assert!(rt; is_applied(rt.alloc(), &row)?, "{}", row.what);
+        assert!(rt; is_applied(rt.alloc(), row), "{}", row.what);
     }
-    Ok(())
 }

@@ -21,8 +21,11 @@ mod heap_records;
 #[cfg(test)]
 mod images;
 #[cfg(test)]
-#[cfg(test)]
 mod list_walk;
+#[cfg(test)]
+mod long_runs;
+#[cfg(test)]
+mod opened_images;
 #[cfg(test)]
 mod reclaimed_images;
 #[cfg(test)]
@@ -35,3 +38,5 @@ mod two_homes;
 mod version_walks;
 #[cfg(test)]
 mod worked_bytes;
+#[cfg(test)]
+mod written_runs;

@@ -1,44 +1,45 @@
 //! The status log: its header, its slots, and the rules that a slot must meet.
-use crate::area_bytes::{begin_with, bytes_of, put, zeros};
-use crate::worked_bytes::{COMMIT_SLOT, HEADER, one_commit};
+use crate::area_bytes::{begin_with, put, zeros};
+use crate::worked_bytes::{COMMIT_BODY, HEADER, Said, body_of};
 use disk::{Area, Disk, MemDisk};
 use status::{
     Header, LogFault, SlotFault, Stage, StatusLog, Step, decode_header, encode_header, is_built,
     read_header, read_log,
 };
-use std::alloc::Global;
+use std::alloc::{AllocError, Global};
 use std::test::Fail;
-use wire::{Anchors, Body, Run};
+use wire::{Anchors, Run};
 
-const SIXTEEN: Header = Header {
-    profile: 1,
-    slots: 16,
-    pieces: 0,
-};
-
-/// A disk whose status area has so many bytes, the header of 16 slots and zeros, as far as it
-/// reaches.
-fn new_disk(alloc: Global, len: usize) -> Result<MemDisk, Fail> {
-    disk_of(alloc, 1, len)
+/// The header of a new store of 16 slots.
+fn header_of(profile: u32) -> Header {
+    Header {
+        profile,
+        slots: 16,
+        pieces: 0,
+    }
 }
 
-/// The same of another profile.
-fn disk_of(alloc: Global, profile: u32, len: usize) -> Result<MemDisk, Fail> {
+/// A disk whose status area has so many bytes, that header and zeros, as far as it reaches.
+fn disk_of(alloc: Global, profile: u32, len: usize) -> Result<MemDisk, AllocError> {
     let mut status = zeros(alloc, len)?;
     put(&mut status, 0, &encode_header(profile, 16));
     Ok(MemDisk::with_bytes(status, Vec::new(alloc), Vec::new(alloc)))
 }
 
-#[test]
-fn a_header_is_read_from_its_bytes(rt: HostRuntime) -> Result<(), Fail> {
-    assert!(rt; begin_with(&encode_header(1, 16), &HEADER));
-    assert_eq!(rt; SIXTEEN.total(), 16);
-    let no_store = Err(LogFault::NotAStore);
-    for (len, want) in [(511, no_store), (8703, no_store), (8704, Ok(SIXTEEN))] {
-        let mut disk = new_disk(rt.alloc(), len)?;
-        assert_eq!(rt; read_header(&mut disk), want, "{len} bytes");
+/// Whether so long a status area has that header, or is no store.
+fn reads(alloc: Global, len: usize, want: Result<Header, LogFault>) -> bool {
+    match disk_of(alloc, 1, len) {
+        Ok(mut disk) => read_header(&mut disk) == want,
+        Err(_) => false,
     }
-    Ok(())
+}
+
+#[test]
+fn a_header_is_read_from_its_bytes(rt: HostRuntime) {
+    let no_store = Err(LogFault::NotAStore);
+    assert!(rt; begin_with(&encode_header(1, 16), &HEADER) && header_of(1).total() == 16);
+    assert!(rt; reads(rt.alloc(), 511, no_store) && reads(rt.alloc(), 8703, no_store));
+    assert!(rt; reads(rt.alloc(), 8704, Ok(header_of(1))));
 }
 
 #[test]
@@ -46,79 +47,75 @@ fn open_pieces_are_counted(rt: HostRuntime) {
     let mut front = encode_header(2, 16);
     front[16] = 0xc7;
     front[18] = 0xc7;
-    let header = decode_header(&front);
-    assert!(rt; matches!(&header, Some(header) if header.total() == 272));
+    assert!(rt; matches!(decode_header(&front), Some(header) if header.total() == 272));
     front[271] = 1;
-    assert_eq!(rt; decode_header(&front), None);
+    assert!(rt; decode_header(&front).is_none());
 }
 
-/// A slot in all its device calls; its number.
-fn write_slot(log: &mut StatusLog, body: Body, disk: &mut MemDisk) -> Result<u32, Fail> {
-    let mut turn = log.begin_slot(body)?;
+/// A slot in all its device calls; its number, none where it is refused or takes more than four.
+fn write_slot(log: &mut StatusLog, said: &Said, disk: &mut MemDisk) -> Option<u32> {
+    let Ok(mut turn) = log.begin_slot(body_of(said)) else {
+        return None;
+    };
     for _ in 0..4 {
-        match log.advance(turn, disk)? {
-            Step::Open(number) => return Ok(number),
-            Step::More(next) => turn = next,
+        match log.advance(turn, disk) {
+            Ok(Step::Open(number)) => return Some(number),
+            Ok(Step::More(next)) => turn = next,
+            Err(_) => return None,
         }
     }
     turn.give_up();
-    Err("a slot takes four calls".into())
+    None
+}
+
+/// Whether slot 0 is that of one commit, and the others are closed.
+fn has_one_commit(disk: &mut MemDisk) -> bool {
+    let mut status = [0; 8704];
+    matches!(disk.len(Area::Status), Ok(8704))
+        && disk.read(Area::Status, 0, &mut status).is_ok()
+        && status[512] == 0xc7
+        && begin_with(&status[513..], &COMMIT_BODY)
+}
+
+/// How many slots are read, or why none are.
+fn slots_read(alloc: Global, disk: &mut MemDisk, profile: u32) -> Result<usize, LogFault> {
+    match read_log(alloc, disk, &header_of(profile)) {
+        Ok(slots) => Ok(slots.len()),
+        Err(fault) => Err(fault),
+    }
 }
 
 #[test]
 fn a_slot_is_written_byte_for_byte(rt: HostRuntime) -> Result<(), Fail> {
-    let mut disk = new_disk(rt.alloc(), 8704)?;
-    let mut log = StatusLog::new(&SIXTEEN, 0);
-    assert_eq!(rt; write_slot(&mut log, one_commit(), &mut disk)?, 0);
-    let status = bytes_of(rt.alloc(), &mut disk, Area::Status)?;
-    assert!(rt; begin_with(status.get(512..).unwrap_or(&[]), &COMMIT_SLOT));
-    let slots = read_log(rt.alloc(), &mut disk, &SIXTEEN)?;
-    assert_eq!(rt; slots.len(), 1);
+    let mut disk = disk_of(rt.alloc(), 1, 8704)?;
+    let mut log = StatusLog::new(&header_of(1), 0);
+    assert!(rt; write_slot(&mut log, &Said::Commit, &mut disk) == Some(0));
+    assert!(rt; has_one_commit(&mut disk));
+    assert!(rt; slots_read(rt.alloc(), &mut disk, 1) == Ok(1));
     Ok(())
 }
 
 /// What is done of the slot that is begun, and let be, or why none is.
 fn begun(log: &mut StatusLog) -> Result<Stage, SlotFault> {
-    let turn = log.begin_slot(one_commit())?;
+    let turn = log.begin_slot(body_of(&Said::Commit))?;
     let stage = turn.stage();
     turn.give_up();
     Ok(stage)
 }
 
-#[test]
-fn one_slot_is_in_the_writing(rt: HostRuntime) {
-    let mut log = StatusLog::new(&SIXTEEN, 15);
-    assert_eq!(rt;
-        (log.slots(), log.used(), log.is_writing()),
-        (16, 15, false)
-    );
-    let mut full = StatusLog::new(&SIXTEEN, 16);
-    assert_eq!(rt; begun(&mut log), Ok(Stage::Begun));
-    assert_eq!(rt; begun(&mut log), Err(SlotFault::Busy));
-    assert_eq!(rt; begun(&mut full), Err(SlotFault::StatusFull));
-    assert_eq!(rt; (log.is_writing(), full.is_writing()), (true, false));
+/// Whether a log has 16 slots of which so many are used, and one is in the writing.
+fn has_used(log: &StatusLog, used: u32, is_writing: bool) -> bool {
+    log.slots() == 16 && log.used() == used && log.is_writing() == is_writing
 }
 
-/// How many slots are read where a commit at 100 comes first, then these runs and then these
-/// reclaims, or why none are.
-fn read_behind(
-    alloc: Global,
-    runs: &[Run],
-    reclaims: &[Anchors],
-) -> Result<Result<usize, LogFault>, Fail> {
-    let mut disk = new_disk(alloc, 8704)?;
-    let mut log = StatusLog::new(&SIXTEEN, 0);
-    write_slot(&mut log, one_commit(), &mut disk)?;
-    for run in runs {
-        write_slot(&mut log, Body::Archived(*run), &mut disk)?;
-    }
-    for anchors in reclaims {
-        write_slot(&mut log, Body::Reclaimed(*anchors), &mut disk)?;
-    }
-    match read_log(alloc, &mut disk, &SIXTEEN) {
-        Ok(slots) => Ok(Ok(slots.len())),
-        Err(fault) => Ok(Err(fault)),
-    }
+#[test]
+fn one_slot_is_in_the_writing(rt: HostRuntime) {
+    let mut log = StatusLog::new(&header_of(1), 15);
+    assert!(rt; has_used(&log, 15, false));
+    assert!(rt; begun(&mut log) == Ok(Stage::Begun));
+    assert!(rt; begun(&mut log) == Err(SlotFault::Busy) && log.is_writing());
+    let mut full = StatusLog::new(&header_of(1), 16);
+    assert!(rt; begun(&mut full) == Err(SlotFault::StatusFull) && !full.is_writing());
 }
 
 const FIRST_RUN: Run = Run {
@@ -135,285 +132,262 @@ const SECOND_RUN: Run = Run {
     records: 2,
 };
 
-/// Two runs, the second another one, and what is read.
-#[derive(Clone, Copy)]
-struct Runs {
-    what: &'static str,
-    runs: &'static [Run],
-    want: Result<usize, LogFault>,
-}
+const MARK_STAYS: Run = Run {
+    upto: 60,
+    ..SECOND_RUN
+};
 
-const RUNS: [Runs; 5] = [
-    Runs {
-        what: "two runs",
-        runs: &[FIRST_RUN, SECOND_RUN],
-        want: Ok(3),
-    },
-    Runs {
-        what: "the mark does not rise",
-        runs: &[
-            FIRST_RUN,
-            Run {
-                upto: 60,
-                ..SECOND_RUN
-            },
-        ],
-        want: Err(LogFault::Damaged(2)),
-    },
-    Runs {
-        what: "the mark rises past the last commit",
-        runs: &[
-            FIRST_RUN,
-            Run {
-                upto: 101,
-                ..SECOND_RUN
-            },
-        ],
-        want: Err(LogFault::Damaged(2)),
-    },
-    Runs {
-        what: "the first run starts away from the front",
-        runs: &[Run {
-            start: 1,
-            ..FIRST_RUN
-        }],
-        want: Err(LogFault::Damaged(1)),
-    },
-    Runs {
-        what: "the second starts behind where the first ends",
-        runs: &[
-            FIRST_RUN,
-            Run {
-                start: 41,
-                ..SECOND_RUN
-            },
-        ],
-        want: Err(LogFault::Damaged(2)),
-    },
-];
+const PAST_LAST: Run = Run {
+    upto: 101,
+    ..SECOND_RUN
+};
 
-#[test]
-fn archived_slots_keep_their_rules(rt: HostRuntime) -> Result<(), Fail> {
-    for row in RUNS {
-        let read = read_behind(rt.alloc(), row.runs, &[])?;
-        assert_eq!(rt; read, row.want, "{}", row.what);
-    }
-    Ok(())
-}
+const AWAY: Run = Run {
+    start: 1,
+    ..FIRST_RUN
+};
 
-/// A reclaim that needs no anchors, up to the mark of the first run.
-const RECLAIM: Anchors = Anchors {
+const BEHIND: Run = Run {
+    start: 41,
+    ..SECOND_RUN
+};
+
+/// A reclaim up to a mark that needs no anchors.
+const UPTO_60: Anchors = Anchors {
     upto: 60,
     first: 0,
     extents: 0,
     records: 0,
 };
 
-/// Reclaims behind these runs, and what is read.
-#[derive(Clone, Copy)]
-struct Reclaims {
-    what: &'static str,
-    runs: &'static [Run],
-    reclaims: &'static [Anchors],
-    want: Result<usize, LogFault>,
-}
+const UPTO_59: Anchors = Anchors {
+    upto: 59,
+    ..UPTO_60
+};
 
-const RECLAIMS: [Reclaims; 6] = [
-    Reclaims {
-        what: "up to the archive mark",
-        runs: &[FIRST_RUN],
-        reclaims: &[RECLAIM],
-        want: Ok(3),
-    },
-    Reclaims {
-        what: "up to the mark of the last of two runs",
-        runs: &[FIRST_RUN, SECOND_RUN],
-        reclaims: &[Anchors {
-            upto: 100,
-            ..RECLAIM
-        }],
-        want: Ok(4),
-    },
-    Reclaims {
-        what: "short of the archive mark",
-        runs: &[FIRST_RUN],
-        reclaims: &[Anchors {
-            upto: 59,
-            ..RECLAIM
-        }],
-        want: Err(LogFault::Damaged(2)),
-    },
-    Reclaims {
-        what: "past the archive mark",
-        runs: &[FIRST_RUN],
-        reclaims: &[Anchors {
-            upto: 61,
-            ..RECLAIM
-        }],
-        want: Err(LogFault::Damaged(2)),
-    },
-    Reclaims {
-        what: "nothing is archived",
-        runs: &[],
-        reclaims: &[Anchors {
-            upto: 100,
-            ..RECLAIM
-        }],
-        want: Err(LogFault::Damaged(1)),
-    },
-    Reclaims {
-        what: "twice without an archive between",
-        runs: &[FIRST_RUN],
-        reclaims: &[RECLAIM, RECLAIM],
-        want: Err(LogFault::Damaged(3)),
-    },
+const UPTO_61: Anchors = Anchors {
+    upto: 61,
+    ..UPTO_60
+};
+
+const UPTO_100: Anchors = Anchors {
+    upto: 100,
+    ..UPTO_60
+};
+
+/// What a row shows, a store's profile, the slots behind one of a commit at 100, and how many slots
+/// are read or why none are.
+#[derive(Clone, Copy)]
+struct Log(&'static str, u32, &'static [Said], Result<usize, LogFault>);
+
+const FIRST: Result<usize, LogFault> = Err(LogFault::Damaged(1));
+
+const SECOND: Result<usize, LogFault> = Err(LogFault::Damaged(2));
+
+const THIRD: Result<usize, LogFault> = Err(LogFault::Damaged(3));
+
+const RUNS: &[Log] = &[
+    Log(
+        "two runs",
+        1,
+        &[Said::Run(FIRST_RUN), Said::Run(SECOND_RUN)],
+        Ok(3),
+    ),
+    Log(
+        "the mark does not rise",
+        1,
+        &[Said::Run(FIRST_RUN), Said::Run(MARK_STAYS)],
+        SECOND,
+    ),
+    Log(
+        "it rises past the last commit",
+        1,
+        &[Said::Run(FIRST_RUN), Said::Run(PAST_LAST)],
+        SECOND,
+    ),
+    Log(
+        "the first run starts away from the front",
+        1,
+        &[Said::Run(AWAY)],
+        FIRST,
+    ),
+    Log(
+        "the second starts behind the first's end",
+        1,
+        &[Said::Run(FIRST_RUN), Said::Run(BEHIND)],
+        SECOND,
+    ),
 ];
 
-#[test]
-fn reclaimed_slots_keep_their_rules(rt: HostRuntime) -> Result<(), Fail> {
-    for row in RECLAIMS {
-        let read = read_behind(rt.alloc(), row.runs, row.reclaims)?;
-        assert_eq!(rt; read, row.want, "{}", row.what);
-    }
-    Ok(())
-}
-
-/// Floors behind a commit at 100, and what is read.
-#[derive(Clone, Copy)]
-struct Floors {
-    what: &'static str,
-    floors: &'static [u64],
-    want: Result<usize, LogFault>,
-}
-
-const FLOORS: [Floors; 6] = [
-    Floors {
-        what: "two floors, up to the last commit",
-        floors: &[60, 100],
-        want: Ok(3),
-    },
-    Floors {
-        what: "the floor goes back",
-        floors: &[60, 59],
-        want: Err(LogFault::Damaged(2)),
-    },
-    Floors {
-        what: "the floor does not rise",
-        floors: &[60, 60],
-        want: Err(LogFault::Damaged(2)),
-    },
-    Floors {
-        what: "behind a floor that rose, one goes back",
-        floors: &[60, 100, 99],
-        want: Err(LogFault::Damaged(3)),
-    },
-    Floors {
-        what: "the floor is past the last commit",
-        floors: &[101],
-        want: Err(LogFault::Damaged(1)),
-    },
-    Floors {
-        what: "no floor is 0",
-        floors: &[0],
-        want: Err(LogFault::Damaged(1)),
-    },
+const RECLAIMS: &[Log] = &[
+    Log(
+        "up to the archive mark",
+        1,
+        &[Said::Run(FIRST_RUN), Said::Reclaim(UPTO_60)],
+        Ok(3),
+    ),
+    Log(
+        "up to the mark of the last of two runs",
+        1,
+        &[
+            Said::Run(FIRST_RUN),
+            Said::Run(SECOND_RUN),
+            Said::Reclaim(UPTO_100),
+        ],
+        Ok(4),
+    ),
+    Log(
+        "short of the archive mark",
+        1,
+        &[Said::Run(FIRST_RUN), Said::Reclaim(UPTO_59)],
+        SECOND,
+    ),
+    Log(
+        "past the archive mark",
+        1,
+        &[Said::Run(FIRST_RUN), Said::Reclaim(UPTO_61)],
+        SECOND,
+    ),
+    Log("nothing is archived", 1, &[Said::Reclaim(UPTO_100)], FIRST),
+    Log(
+        "twice without an archive between",
+        1,
+        &[
+            Said::Run(FIRST_RUN),
+            Said::Reclaim(UPTO_60),
+            Said::Reclaim(UPTO_60),
+        ],
+        THIRD,
+    ),
 ];
 
-#[test]
-fn floors_keep_their_rules(rt: HostRuntime) -> Result<(), Fail> {
-    let alloc = rt.alloc();
-    for row in FLOORS {
-        let mut disk = new_disk(alloc, 8704)?;
-        let mut log = StatusLog::new(&SIXTEEN, 0);
-        write_slot(&mut log, one_commit(), &mut disk)?;
-        for floor in row.floors {
-            let body = Body::Floor {
-                relation: None,
-                floor: *floor,
-            };
-            write_slot(&mut log, body, &mut disk)?;
+const FLOORS: &[Log] = &[
+    Log(
+        "two floors, up to the last commit",
+        1,
+        &[Said::Floor(None, 60), Said::Floor(None, 100)],
+        Ok(3),
+    ),
+    Log(
+        "the floor goes back",
+        1,
+        &[Said::Floor(None, 60), Said::Floor(None, 59)],
+        SECOND,
+    ),
+    Log(
+        "the floor does not rise",
+        1,
+        &[Said::Floor(None, 60), Said::Floor(None, 60)],
+        SECOND,
+    ),
+    Log(
+        "behind a floor that rose, one goes back",
+        1,
+        &[
+            Said::Floor(None, 60),
+            Said::Floor(None, 100),
+            Said::Floor(None, 99),
+        ],
+        THIRD,
+    ),
+    Log(
+        "the floor is past the last commit",
+        1,
+        &[Said::Floor(None, 101)],
+        FIRST,
+    ),
+    Log("no floor is 0", 1, &[Said::Floor(None, 0)], FIRST),
+];
+
+const FLOORS_OF_RELATIONS: &[Log] = &[
+    Log(
+        "a lower floor of another relation",
+        3,
+        &[Said::Floor(Some(1), 60), Said::Floor(Some(2), 50)],
+        Ok(3),
+    ),
+    Log(
+        "the floor of a relation goes back",
+        3,
+        &[
+            Said::Floor(Some(1), 60),
+            Said::Floor(Some(2), 50),
+            Said::Floor(Some(1), 59),
+        ],
+        THIRD,
+    ),
+    Log(
+        "the floor of a relation does not rise",
+        3,
+        &[Said::Floor(Some(1), 60), Said::Floor(Some(1), 60)],
+        SECOND,
+    ),
+    Log(
+        "the least and the last relation",
+        3,
+        &[
+            Said::Floor(Some(0), 60),
+            Said::Floor(Some(65_535), 60),
+            Said::Floor(Some(0), 61),
+        ],
+        Ok(4),
+    ),
+    Log(
+        "a relation's floor is past the last commit",
+        3,
+        &[Said::Floor(Some(1), 101)],
+        FIRST,
+    ),
+    Log(
+        "no floor of a relation is 0",
+        3,
+        &[Said::Floor(Some(1), 0)],
+        FIRST,
+    ),
+];
+
+/// Whether each slot is written.
+fn are_written(log: &mut StatusLog, slots: &[Said], disk: &mut MemDisk) -> bool {
+    for said in slots {
+        if write_slot(log, said, disk).is_none() {
+            return false;
         }
-        let read = read_log(alloc, &mut disk, &SIXTEEN);
-        assert_eq!(rt; read.map(|slots| slots.len()), row.want, "{}", row.what);
     }
-    Ok(())
+    true
 }
 
-/// Floors of relations behind a commit at 100, and what is read.
-#[derive(Clone, Copy)]
-struct OwnFloors {
-    what: &'static str,
-    floors: &'static [(u16, u64)],
-    want: Result<usize, LogFault>,
-}
-
-const OWN_FLOORS: [OwnFloors; 6] = [
-    OwnFloors {
-        what: "a lower floor of another relation",
-        floors: &[(1, 60), (2, 50)],
-        want: Ok(3),
-    },
-    OwnFloors {
-        what: "the floor of a relation goes back",
-        floors: &[(1, 60), (2, 50), (1, 59)],
-        want: Err(LogFault::Damaged(3)),
-    },
-    OwnFloors {
-        what: "the floor of a relation does not rise",
-        floors: &[(1, 60), (1, 60)],
-        want: Err(LogFault::Damaged(2)),
-    },
-    OwnFloors {
-        what: "the least and the last relation",
-        floors: &[(0, 60), (65_535, 60), (0, 61)],
-        want: Ok(4),
-    },
-    OwnFloors {
-        what: "the floor is past the last commit",
-        floors: &[(1, 101)],
-        want: Err(LogFault::Damaged(1)),
-    },
-    OwnFloors {
-        what: "no floor is 0",
-        floors: &[(1, 0)],
-        want: Err(LogFault::Damaged(1)),
-    },
-];
-
-#[test]
-fn floors_of_relations_keep_their_rules(rt: HostRuntime) -> Result<(), Fail> {
-    let alloc = rt.alloc();
-    let header = Header {
-        profile: 3,
-        slots: 16,
-        pieces: 0,
+/// Whether a row's slots are written, and then read or refused as it says.
+fn keeps_its_rules(alloc: Global, row: &Log) -> bool {
+    let Ok(mut disk) = disk_of(alloc, row.1, 8704) else {
+        return false;
     };
-    for row in OWN_FLOORS {
-        let mut disk = disk_of(alloc, 3, 8704)?;
-        let mut log = StatusLog::new(&header, 0);
-        write_slot(&mut log, one_commit(), &mut disk)?;
-        for (relation, floor) in row.floors {
-            let body = Body::Floor {
-                relation: Some(*relation),
-                floor: *floor,
-            };
-            write_slot(&mut log, body, &mut disk)?;
+    let mut log = StatusLog::new(&header_of(row.1), 0);
+    are_written(&mut log, &[Said::Commit], &mut disk)
+        && are_written(&mut log, row.2, &mut disk)
+        && slots_read(alloc, &mut disk, row.1) == row.3
+}
+
+#[test]
+fn slots_keep_their_rules(rt: HostRuntime) {
+    for rows in [RUNS, RECLAIMS, FLOORS, FLOORS_OF_RELATIONS] {
+        for row in rows {
+            assert!(rt; keeps_its_rules(rt.alloc(), row), "{}", row.0);
         }
-        let read = read_log(alloc, &mut disk, &header);
-        assert_eq!(rt; read.map(|slots| slots.len()), row.want, "{}", row.what);
     }
-    Ok(())
+}
+
+/// Whether a profile has slots of kinds 1 to 4 and no others.
+fn has_four_kinds(profile: u32) -> bool {
+    for kind in 0..6 {
+        if is_built(profile, kind) != (kind != 0 && kind != 5) {
+            return false;
+        }
+    }
+    true
 }
 
 #[test]
 fn all_slots_are_built_in_three_profiles(rt: HostRuntime) {
-    for profile in 1..4 {
-        for kind in 1..5 {
-            assert!(rt; is_built(profile, kind), "{kind} of {profile}");
-        }
-        assert!(rt; !is_built(profile, 0));
-        assert!(rt; !is_built(profile, 5));
-    }
-    assert!(rt; !is_built(0, 1));
-    assert!(rt; !is_built(4, 1));
+    assert!(rt; has_four_kinds(1) && has_four_kinds(2) && has_four_kinds(3));
+    assert!(rt; !is_built(0, 1) && !is_built(4, 1));
 }

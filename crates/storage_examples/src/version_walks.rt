@@ -2,14 +2,14 @@
 ghost use Rattle.std.specs.Prelude.{◌<◌, ◌≤◌, ◌^◌, IfOk};
 ghost use Rattle.chains.specs.KeyWrites.{latest};
 
-use crate::area_bytes::bytes_of;
+use crate::area_bytes::holds;
 use crate::worked_bytes::{KEY, RUN, RUN_BYTES};
-use archive::RecordWalk;
+use archive::{RecordWalk, RunWriter};
 use chains::{Frozen, SharedValue};
 use deltas::{ContentRef, EXTENT_LEN, ExtentCount, RecordSource, count_extents, fill_extent};
 use disk::{Area, MemDisk};
 use floors::Floors;
-use history::{Key, KeyWrite};
+use history::{Key, KeyWrite, LAST_TIME};
 use std::alloc::{AllocError, Global};
 use std::test::Fail;
 use vacuum::{AnchorSource, ArchiveWalk, Since, archive_run, laws};
@@ -51,19 +51,41 @@ fn written(
     frozen.with_commit(alloc, time, &[write])
 }
 
+/// Commits of one record each: their times, which have to rise, the records, and the one field, none
+/// where it is gone.
+type Commits = &'static [(u64, u64, Option<&'static [u8]>)];
+
 /// Record 7 is a from 100 on, b from 110 on, gone from 120 on and c from 130 on.
-pub fn one_key(alloc: Global) -> Result<Frozen, AllocError> {
-    let frozen = written(alloc, &Frozen::new(), 100, 7, Some(b"a"))?;
-    let frozen = written(alloc, &frozen, 110, 7, Some(b"b"))?;
-    let frozen = written(alloc, &frozen, 120, 7, None)?;
-    written(alloc, &frozen, 130, 7, Some(b"c"))
-}
+const ONE_KEY: Commits = &[
+    (100, 7, Some(b"a")),
+    (110, 7, Some(b"b")),
+    (120, 7, None),
+    (130, 7, Some(b"c")),
+];
 
 /// Record 7 is a from 100 on and b from 110 on, and record 8 is x from 105 on.
-fn two_keys(alloc: Global) -> Result<Frozen, AllocError> {
-    let frozen = written(alloc, &Frozen::new(), 100, 7, Some(b"a"))?;
-    let frozen = written(alloc, &frozen, 105, 8, Some(b"x"))?;
-    written(alloc, &frozen, 110, 7, Some(b"b"))
+const TWO_KEYS: Commits = &[
+    (100, 7, Some(b"a")),
+    (105, 8, Some(b"x")),
+    (110, 7, Some(b"b")),
+];
+
+/// What these commits leave; no memory also where their times do not rise.
+fn commits(alloc: Global, commits: Commits) -> Result<Frozen, AllocError> {
+    let mut frozen = Frozen::new();
+    let mut last = 0;
+    for (time, number, field) in commits {
+        if *time <= last || *time > LAST_TIME {
+            return Err(AllocError);
+        }
+        frozen = written(alloc, &frozen, *time, *number, *field)?;
+        last = *time;
+    }
+    Ok(frozen)
+}
+
+pub fn one_key(alloc: Global) -> Result<Frozen, AllocError> {
+    commits(alloc, ONE_KEY)
 }
 
 /// Record 7 is 1 from 10 on, 2 from 20 on and so forth up to 100 from 1,000 on, and record 9 is x
@@ -90,7 +112,7 @@ fn versions_of(alloc: Global, which: Versions) -> Result<Frozen, AllocError> {
     match which {
         Versions::None => Ok(Frozen::new()),
         Versions::OneKey => one_key(alloc),
-        Versions::TwoKeys => two_keys(alloc),
+        Versions::TwoKeys => commits(alloc, TWO_KEYS),
         Versions::LongKey => long_key(alloc),
     }
 }
@@ -126,7 +148,7 @@ struct Walk {
     want: &'static [(u64, u64, u64)],
 }
 
-const WALKS: [Walk; 3] = [
+const WALKS: &[Walk] = &[
     Walk {
         versions: Versions::OneKey,
         mark: 0,
@@ -147,105 +169,186 @@ const WALKS: [Walk; 3] = [
     },
 ];
 
-#[test]
-fn a_walk_goes_over_what_ended_in_its_time(rt: HostRuntime) -> Result<(), Fail> {
-    for row in WALKS {
-        let versions = versions_of(rt.alloc(), row.versions)?;
-        let mut walk = ArchiveWalk::new(versions, since(row.mark, 0), row.upto);
-        assert!(rt; walks_over(&mut walk, row.want), "up to {}", row.upto);
-        walk.restart();
-        assert!(rt; walks_over(&mut walk, row.want), "again up to {}", row.upto);
-    }
-    Ok(())
-}
-
-/// The run as its slot names it, where it is written in one piece with these bytes.
-fn named_run(alloc: Global, disk: &mut MemDisk) -> Result<Run, Fail> {
-    let Some((run, mut writer)) = archive_run(one_key(alloc)?, since(0, 0), 120, 0) else {
-        return Err("no run".into());
+/// Whether a row's walk goes over its versions, and again from its beginning.
+fn walks_twice(alloc: Global, row: &Walk) -> bool {
+    let Ok(versions) = versions_of(alloc, row.versions) else {
+        return false;
     };
-    writer.write_piece(disk)?;
-    if writer.left() != 0 {
-        return Err("more than one piece".into());
+    let mut walk = ArchiveWalk::new(versions, since(row.mark, 0), row.upto);
+    if !walks_over(&mut walk, row.want) {
+        return false;
     }
-    Ok(run)
+    walk.restart();
+    walks_over(&mut walk, row.want)
 }
 
 #[test]
-fn a_run_is_made_of_versions(rt: HostRuntime) -> Result<(), Fail> {
+fn a_walk_goes_over_what_ended_in_its_time(rt: HostRuntime) {
+    for row in WALKS {
+        assert!(rt; walks_twice(rt.alloc(), row), "up to {}", row.upto);
+    }
+}
+
+/// Whether a run is written in one piece with its bytes, and named as its slot names it.
+fn is_made(run: Run, writer: &mut RunWriter<ArchiveWalk>, disk: &mut MemDisk) -> bool {
+    run == RUN
+        && writer.write_piece(disk).is_ok()
+        && writer.left() == 0
+        && holds(disk, Area::Archive, &RUN_BYTES)
+}
+
+/// Whether the run up to 120 is made of the versions of one key.
+fn is_made_of_one_key(alloc: Global, disk: &mut MemDisk) -> bool {
+    let Ok(versions) = one_key(alloc) else {
+        return false;
+    };
+    match archive_run(versions, since(0, 0), 120, 0) {
+        Some((run, mut writer)) => is_made(run, &mut writer, disk),
+        None => false,
+    }
+}
+
+#[test]
+fn a_run_is_made_of_versions(rt: HostRuntime) {
     laws::archive_is_walked();
     let mut disk = MemDisk::new(rt.alloc());
-    let run = named_run(rt.alloc(), &mut disk)?;
-    assert!(rt; run == RUN);
-    let bytes = bytes_of(rt.alloc(), &mut disk, Area::Archive)?;
-    assert!(rt; bytes.as_slice() == RUN_BYTES.as_slice());
-    Ok(())
+    assert!(rt; is_made_of_one_key(rt.alloc(), &mut disk));
 }
 
-#[test]
-fn no_run_ends_past_the_last_place(rt: HostRuntime) -> Result<(), Fail> {
-    let end = 1 << 63;
-    assert!(rt; archive_run(one_key(rt.alloc())?, since(0, 0), 120, end - 74).is_none());
-    assert!(rt; archive_run(one_key(rt.alloc())?, since(0, 0), 120, end - 75).is_some());
-    Ok(())
-}
-
-/// How many records the run of an archive would have, by its marks and its end.
+/// A run that goes up to a time and starts at a place of the archive. What ended by the mark is left
+/// out, and by the floor of one relation, or of all.
 #[derive(Clone, Copy)]
 struct RunCount {
     versions: Versions,
     mark: u64,
-    floor: u64,
+    floor: (Option<u16>, u64),
     upto: u64,
-    want: u64,
+    start: u64,
 }
 
-fn count(versions: Versions, mark: u64, floor: u64, upto: u64, want: u64) -> RunCount {
-    RunCount {
-        versions,
-        mark,
-        floor,
-        upto,
-        want,
+/// Up to 120, of the record 7, from the front of the archive on.
+const WHOLE: RunCount = RunCount {
+    versions: Versions::OneKey,
+    mark: 0,
+    floor: (None, 0),
+    upto: 120,
+    start: 0,
+};
+
+const END: u64 = 1 << 63;
+
+/// How many records such runs would have; none where they would end past the last place.
+const COUNTS: &[(&str, RunCount, Option<u64>)] = &[
+    ("the mark 109", RunCount { mark: 109, ..WHOLE }, Some(2)),
+    ("the mark 110", RunCount { mark: 110, ..WHOLE }, Some(1)),
+    (
+        "the floor 110",
+        RunCount {
+            floor: (None, 110),
+            ..WHOLE
+        },
+        Some(1),
+    ),
+    ("up to 119", RunCount { upto: 119, ..WHOLE }, Some(1)),
+    (
+        "up to 130",
+        RunCount {
+            mark: 120,
+            upto: 130,
+            ..WHOLE
+        },
+        Some(0),
+    ),
+    (
+        "two keys up to 105",
+        RunCount {
+            versions: Versions::TwoKeys,
+            upto: 105,
+            ..WHOLE
+        },
+        Some(0),
+    ),
+    (
+        "two keys up to 110",
+        RunCount {
+            versions: Versions::TwoKeys,
+            upto: 110,
+            ..WHOLE
+        },
+        Some(1),
+    ),
+    (
+        "no key",
+        RunCount {
+            versions: Versions::None,
+            upto: 110,
+            ..WHOLE
+        },
+        Some(0),
+    ),
+    (
+        "its relation's floor",
+        RunCount {
+            floor: (Some(1), 110),
+            ..WHOLE
+        },
+        Some(1),
+    ),
+    (
+        "another relation's floor",
+        RunCount {
+            floor: (Some(2), 110),
+            ..WHOLE
+        },
+        Some(2),
+    ),
+    (
+        "it ends past the last place",
+        RunCount {
+            start: END - 74,
+            ..WHOLE
+        },
+        None,
+    ),
+    (
+        "it ends at the last place",
+        RunCount {
+            start: END - 75,
+            ..WHOLE
+        },
+        Some(2),
+    ),
+];
+
+fn floors_of(alloc: Global, (scope, floor): (Option<u16>, u64)) -> Result<Floors, AllocError> {
+    match scope {
+        Some(_) => Floors::none().raised(alloc, scope, floor),
+        None => Ok(Floors::of_every(floor)),
+    }
+}
+
+/// How many records a run would have, where it is one and memory is not short.
+fn counted(alloc: Global, row: &RunCount) -> Result<Option<u64>, AllocError> {
+    let since = Since {
+        mark: row.mark,
+        floors: floors_of(alloc, row.floor)?,
+    };
+    match archive_run(
+        versions_of(alloc, row.versions)?,
+        since,
+        row.upto,
+        row.start,
+    ) {
+        Some((run, _)) => Ok(Some(run.records)),
+        None => Ok(None),
     }
 }
 
 #[test]
-fn marks_bound_a_run(rt: HostRuntime) -> Result<(), Fail> {
-    let table = [
-        count(Versions::OneKey, 109, 0, 120, 2),
-        count(Versions::OneKey, 110, 0, 120, 1),
-        count(Versions::OneKey, 0, 110, 120, 1),
-        count(Versions::OneKey, 0, 0, 119, 1),
-        count(Versions::OneKey, 120, 0, 130, 0),
-        count(Versions::TwoKeys, 0, 0, 105, 0),
-        count(Versions::TwoKeys, 0, 0, 110, 1),
-        count(Versions::None, 0, 0, 110, 0),
-    ];
-    for row in table {
-        let versions = versions_of(rt.alloc(), row.versions)?;
-        let Some((run, _)) = archive_run(versions, since(row.mark, row.floor), row.upto, 0) else {
-            return Err("no run".into());
-        };
-        assert!(rt; run.records == row.want, "{} up to {}", row.mark, row.upto);
+fn marks_floors_and_places_bound_a_run(rt: HostRuntime) {
+    for (what, row, want) in COUNTS {
+        assert!(rt; counted(rt.alloc(), row) == Ok(*want), "{what}");
     }
-    Ok(())
-}
-
-#[test]
-fn a_floor_of_another_relation_leaves_a_run_alone(rt: HostRuntime) -> Result<(), Fail> {
-    let alloc = rt.alloc();
-    for (relation, want) in [(1, 1), (2, 2)] {
-        let since = Since {
-            mark: 0,
-            floors: Floors::none().raised(alloc, Some(relation), 110)?,
-        };
-        let Some((run, _)) = archive_run(one_key(alloc)?, since, 120, 0) else {
-            return Err("no run".into());
-        };
-        assert!(rt; run.records == want, "of {relation}");
-    }
-    Ok(())
 }
 
 /// The anchor records of two keys at 105.
@@ -254,20 +357,26 @@ const OLDS: [u8; 44] = [
     0, 0, 0, 0x69, 0, 0, 0, 0, 0, 0, 0, 1, 1, 0x78,
 ];
 
-#[test]
-fn anchors_stand_at_the_mark(rt: HostRuntime) -> Result<(), Fail> {
-    laws::reclaim_is_walked();
-    let mut source = AnchorSource::new(two_keys(rt.alloc())?, 105);
+/// Whether both anchors are counted, and fill an extent with their bytes.
+fn fills_olds(source: &mut AnchorSource) -> bool {
     let needed = ExtentCount {
         extents: 1,
         records: 2,
     };
-    assert_eq!(rt; count_extents(&mut source), Some(needed));
+    if count_extents(source) != Some(needed) {
+        return false;
+    }
     source.restart();
     let mut image = [0xff; EXTENT_LEN];
-    let filled = fill_extent(&mut source, 1, 0, &mut image);
-    assert_eq!(rt; (filled.records, filled.used), (2, 44));
-    assert_eq!(rt; &image[16..60], OLDS.as_slice());
+    let filled = fill_extent(source, 1, 0, &mut image);
+    filled.records == 2 && filled.used == 44 && &image[16..60] == OLDS.as_slice()
+}
+
+#[test]
+fn anchors_stand_at_the_mark(rt: HostRuntime) -> Result<(), Fail> {
+    laws::reclaim_is_walked();
+    let mut source = AnchorSource::new(commits(rt.alloc(), TWO_KEYS)?, 105);
+    assert!(rt; fills_olds(&mut source));
     Ok(())
 }
 
@@ -290,43 +399,27 @@ fn stand_from(source: &mut AnchorSource, times: &[u64]) -> bool {
     next_from(source).is_none()
 }
 
-/// From when the values stand that a key has at a mark.
-#[derive(Clone, Copy)]
-struct AnchorsAt {
-    versions: Versions,
-    mark: u64,
-    want: &'static [u64],
-}
-
-const ANCHORS_AT: [AnchorsAt; 4] = [
-    AnchorsAt {
-        versions: Versions::OneKey,
-        mark: 120,
-        want: &[],
-    },
-    AnchorsAt {
-        versions: Versions::OneKey,
-        mark: 99,
-        want: &[],
-    },
-    AnchorsAt {
-        versions: Versions::OneKey,
-        mark: 119,
-        want: &[110],
-    },
-    AnchorsAt {
-        versions: Versions::LongKey,
-        mark: 1010,
-        want: &[1000, 1010],
-    },
+/// From when the values stand that keys have at a mark.
+const ANCHORS: &[(Versions, u64, &[u64])] = &[
+    (Versions::OneKey, 120, &[]),
+    (Versions::OneKey, 99, &[]),
+    (Versions::OneKey, 119, &[110]),
+    (Versions::LongKey, 1010, &[1000, 1010]),
 ];
 
-#[test]
-fn a_key_has_one_anchor_at_most(rt: HostRuntime) -> Result<(), Fail> {
-    for row in ANCHORS_AT {
-        let versions = versions_of(rt.alloc(), row.versions)?;
-        let mut source = AnchorSource::new(versions, row.mark);
-        assert!(rt; stand_from(&mut source, row.want), "at {}", row.mark);
+fn has_anchors(alloc: Global, versions: Versions, mark: u64, times: &[u64]) -> bool {
+    match versions_of(alloc, versions) {
+        Ok(versions) => stand_from(&mut AnchorSource::new(versions, mark), times),
+        Err(_) => false,
     }
-    Ok(())
+}
+
+#[test]
+fn a_key_has_one_anchor_at_most(rt: HostRuntime) {
+    for (versions, mark, times) in ANCHORS {
+        assert!(rt;
+            has_anchors(rt.alloc(), *versions, *mark, times),
+            "at {mark}"
+        );
+    }
 }

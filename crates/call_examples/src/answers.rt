@@ -1,0 +1,44 @@
+//! What queries answer, as tables have it.
+use crate::published::is_text;
+use chains::SharedValue;
+use history::Version;
+use store::QueryFault;
+
+/// The text of the one field of a value, or none where there is no value, or why that is not told.
+pub type Value = Result<Option<&'static str>, QueryFault>;
+
+pub fn is_answer(answer: Result<Option<&SharedValue>, QueryFault>, want: Value) -> bool {
+    match (answer, want) {
+        (Ok(value), Ok(text)) => is_text(value, text),
+        (Err(fault), Err(wanted)) => fault == wanted,
+        _ => false,
+    }
+}
+
+/// From when and up to when each row goes, and the text of its value's one field.
+pub type Row = (u64, u64, &'static str);
+
+pub fn is_row(row: &Version<SharedValue>, want: &Row) -> bool {
+    row.from == want.0 && row.to == want.1 && is_text(Some(&row.value), Some(want.2))
+}
+
+/// Whether these rows are told.
+pub fn are_rows(rows: &[Version<SharedValue>], want: &[Row]) -> bool {
+    for (row, part) in rows.iter().zip(want.iter()) {
+        if !is_row(row, part) {
+            return false;
+        }
+    }
+    rows.len() == want.len()
+}
+
+/// Rows of a key, or why they are not told.
+pub type Rows = Result<&'static [Row], QueryFault>;
+
+pub fn are_answer(answer: &Result<Vec<Version<SharedValue>>, QueryFault>, want: Rows) -> bool {
+    match (answer, want) {
+        (Ok(rows), Ok(parts)) => are_rows(rows, parts),
+        (Err(fault), Err(wanted)) => *fault == wanted,
+        _ => false,
+    }
+}
