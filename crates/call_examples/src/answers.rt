@@ -1,6 +1,6 @@
 //! What queries answer, as tables have it.
 use crate::published::is_text;
-use chains::SharedValue;
+use chains::{RowWalk, SharedValue};
 use history::Version;
 use store::QueryFault;
 
@@ -41,4 +41,31 @@ pub fn are_answer(answer: &Result<Vec<Version<SharedValue>>, QueryFault>, want: 
         (Err(fault), Err(wanted)) => *fault == wanted,
         _ => false,
     }
+}
+
+fn is_lent_row(row: &Version<&SharedValue>, want: &Row) -> bool {
+    row.from == want.0 && row.to == want.1 && is_text(Some(row.value), Some(want.2))
+}
+
+/// Whether a walk goes over these rows, and no others.
+pub fn are_lent(walk: RowWalk<'_>, want: &[Row]) -> bool {
+    let mut walk = walk;
+    for part in want {
+        match walk.next() {
+            Some(row) if is_lent_row(&row, part) => {}
+            _ => return false,
+        }
+    }
+    walk.next().is_none()
+}
+
+/// Whether a walk goes over so many rows.
+pub fn goes_over(walk: RowWalk<'_>, count: usize) -> bool {
+    let mut walk = walk;
+    for _ in 0..count {
+        if walk.next().is_none() {
+            return false;
+        }
+    }
+    walk.next().is_none()
 }

@@ -1,5 +1,5 @@
 //! What views answer before, at and after their times.
-use crate::answers::{Row, Rows, Value, are_answer, is_answer, is_row};
+use crate::answers::{Row, Rows, Value, are_answer, are_lent, goes_over, is_answer, is_row};
 use crate::published::{SEVEN, published};
 use floors::Floors;
 use history::Key;
@@ -12,9 +12,9 @@ use timequery::{QueryFault, View};
 enum Ask {
     /// The value of record 7 of a relation at a time.
     At(u16, u64, Value),
-    /// The rows of `SEVEN` from one time up to another.
+    /// The rows of `SEVEN` from one time up to another, in a vector and lent one by one.
     Between(u64, u64, Rows),
-    /// How many rows of `SEVEN` there are.
+    /// How many rows of `SEVEN` there are, in both forms.
     Count(u64, u64, usize),
     /// The rows of a relation, all of record 7.
     ScanBetween(u16, u64, u64, Rows),
@@ -23,7 +23,17 @@ enum Ask {
 }
 
 fn counts(alloc: Global, view: &View, a: u64, b: u64, count: usize) -> bool {
-    matches!(view.between(alloc, SEVEN, a, b), Ok(rows) if rows.len() == count)
+    let told = matches!(view.between(alloc, SEVEN, a, b), Ok(rows) if rows.len() == count);
+    told && matches!(view.recent_rows(SEVEN, a, b), Ok(walk) if goes_over(walk, count))
+}
+
+/// Whether the rows of `SEVEN` are lent so.
+fn lends(view: &View, a: u64, b: u64, want: Rows) -> bool {
+    match (view.recent_rows(SEVEN, a, b), want) {
+        (Ok(walk), Ok(parts)) => are_lent(walk, parts),
+        (Err(fault), Err(wanted)) => fault == wanted,
+        _ => false,
+    }
 }
 
 /// Whether the rows of a relation are these, all of record 7.
@@ -74,7 +84,9 @@ fn is_told(alloc: Global, view: &View, ask: &Ask) -> bool {
             };
             is_answer(view.at(key, time), want)
         }
-        Ask::Between(a, b, want) => are_answer(&view.between(alloc, SEVEN, a, b), want),
+        Ask::Between(a, b, want) => {
+            are_answer(&view.between(alloc, SEVEN, a, b), want) && lends(view, a, b, want)
+        }
         Ask::Count(a, b, count) => counts(alloc, view, a, b, count),
         Ask::ScanBetween(relation, a, b, want) => scans_rows(alloc, view, (relation, a, b), want),
         Ask::ScanAt(relation, time, want) => scans(alloc, view, relation, time, want),

@@ -21,7 +21,7 @@ use Rattle.chains.proofs.ShownRows.{scan_of_rows}
 use Rattle.scans.proofs.Written.{numbers_of, state-written, between-written}
 use Rattle.scans.proofs.Made.{scan-made, scan_of_rows-made}
 use Rattle.floors.specs.Floors.{floor_at}
-use Rattle.timequery.specs.View.{ViewValue, AnswersAt, AnswersBetween, RefusesRecent, RefusesRecentScan, RefusesRecentRows}
+use Rattle.timequery.specs.View.{ViewValue, AnswersAt, AnswersBetween, RefusesRecent, RefusesRecentScan, RefusesRecentRows, RefusesRecentWalk}
 use Rattle.timequery.specs.declared.fault.QueryFault.{QueryFault}
 use Rattle.timequery.specs.declared.fault.QueryFault.TheVariants as query
 use Rattle.refinement.specs.Homes.{ViewStands}
@@ -30,7 +30,7 @@ use Rattle.refinement.proofs.Held.{state-held, rows-held}
 use Rattle.refinement.proofs.Queries.{recent-answered}
 use Rattle.shared.specs.Archives.{ArchiveSeen}
 use Rattle.shared.specs.Moments.{ViewMoment, OfSeen, answer_copied}
-use Rattle.shared.specs.Recent.{Recalls, RecallsScan, RecallsBetween, RecallsScanBetween}
+use Rattle.shared.specs.Recent.{Recalls, RecallsScan, RecallsBetween, RecallsWalk, RecallsScanBetween}
 use Rattle.shared.specs.Seen.{Seen}
 use Rattle.shared.specs.Shared.{Shows}
 
@@ -176,17 +176,37 @@ scan-recalled view h floors relation time (Ok found) stands says =
     (time-kept view h floors relation time stands a.from_floor a.upto_last, subst (IsScanAt h relation time) (sym a.is) (scan-same view h floors relation time stands a.from_floor a.upto_last says.0))
 scan-recalled view h floors relation time (Err fault) stands says = time-refused (λ (found : Vec (ℕ × Value) Global). found.items) (IsScanAt h relation time) view h floors relation time fault stands (scan-there h relation time) says
 
-between-recalled : (view : ViewValue) (h : History Value) (floors : ℕ → ℕ) (key : Key) (a b : ℕ) (r : Result (Vec (Version Value) Global) QueryFault) → ViewStands view h floors
-    → MatchResult r (λ rows. (view.reclaimed ≤ a) × AnswersBetween view key.relation a b rows.items (rows_in view.state a b key)) (RefusesRecentRows view key.relation a b) → RecallsBetween view h floors key a b r
-between-recalled view h floors key a b (Ok found) stands says =
+between-told : (view : ViewValue) (h : History Value) (floors : ℕ → ℕ) (key : Key) (a b : ℕ) (found : List (Version Value)) → ViewStands view h floors
+    → (view.reclaimed ≤ a) × AnswersBetween view key.relation a b found (rows_in view.state a b key) → answers.between_answer h floors key a b ≡ Ok found
+between-told view h floors key a b found stands says =
     let kept = says.1.kept in
     let from = kept.from_floor in
     let some = kept.not_empty in
     ap (λ (r : Option answers.QueryRefusal). answers.unless_refused r (between h key a b)) (rows-kept view h floors key.relation a b stands kept.from_floor kept.upto_last kept.not_empty)
     ∙ ap (λ (x : List (Version Value)). Ok x) (sym (says.1.is ∙ rows-same view h floors key a b stands (omega arith) says.0))
-between-recalled view h floors key a b (Err fault) stands says =
-    rows-refused (λ (rows : Vec (Version Value) Global). rows.items) (λ said. answers.between_answer h floors key a b ≡ said) view h floors key.relation a b fault stands
+
+between-refused : {T : Type 0} (held : T → List (Version Value)) (view : ViewValue) (h : History Value) (floors : ℕ → ℕ) (key : Key) (a b : ℕ) (fault : QueryFault) → ViewStands view h floors
+    → RefusesRecentRows view key.relation a b fault → Recalls view a held (λ said. answers.between_answer h floors key a b ≡ said) (Err fault)
+between-refused held view h floors key a b fault stands says =
+    rows-refused held (λ said. answers.between_answer h floors key a b ≡ said) view h floors key.relation a b fault stands
     (λ why is. ap (λ (r : Option answers.QueryRefusal). answers.unless_refused r (between h key a b)) is) (λ none. (between h key a b, ap (λ (r : Option answers.QueryRefusal). answers.unless_refused r (between h key a b)) none)) says
+
+between-recalled : (view : ViewValue) (h : History Value) (floors : ℕ → ℕ) (key : Key) (a b : ℕ) (r : Result (Vec (Version Value) Global) QueryFault) → ViewStands view h floors
+    → MatchResult r (λ rows. (view.reclaimed ≤ a) × AnswersBetween view key.relation a b rows.items (rows_in view.state a b key)) (RefusesRecentRows view key.relation a b) → RecallsBetween view h floors key a b r
+between-recalled view h floors key a b (Ok found) stands says = between-told view h floors key a b found.items stands says
+between-recalled view h floors key a b (Err fault) stands says = between-refused (λ (rows : Vec (Version Value) Global). rows.items) view h floors key a b fault stands says
+
+walk-recalled : (view : ViewValue) (h : History Value) (floors : ℕ → ℕ) (key : Key) (a b : ℕ) (r : Result (List (Version Value)) QueryFault) → ViewStands view h floors
+    → MatchResult r (λ walk. (view.reclaimed ≤ a) × AnswersBetween view key.relation a b walk (rows_in view.state a b key)) (RefusesRecentWalk view key.relation a b) → RecallsWalk view h floors key a b r
+walk-recalled view h floors key a b (Ok found) stands says = between-told view h floors key a b found stands says
+walk-recalled view h floors key a b (Err query.NoMemory) stands says = says
+walk-recalled view h floors key a b (Err (query.BeforeKept floor)) stands says = between-refused (λ (rows : List (Version Value)). rows) view h floors key a b (query.BeforeKept floor) stands says
+walk-recalled view h floors key a b (Err (query.NotYet newest)) stands says = between-refused (λ (rows : List (Version Value)). rows) view h floors key a b (query.NotYet newest) stands says
+walk-recalled view h floors key a b (Err query.EmptyInterval) stands says = between-refused (λ (rows : List (Version Value)). rows) view h floors key a b query.EmptyInterval stands says
+walk-recalled view h floors key a b (Err query.NeedsDisk) stands says = between-refused (λ (rows : List (Version Value)). rows) view h floors key a b query.NeedsDisk stands says
+walk-recalled view h floors key a b (Err query.Device) stands says = says
+walk-recalled view h floors key a b (Err (query.Damaged start)) stands says = says
+walk-recalled view h floors key a b (Err query.Stranger) stands says = says
 
 scan_between-recalled : (view : ViewValue) (h : History Value) (floors : ℕ → ℕ) (relation a b : ℕ) (r : Result (Vec (ℕ × Version Value) Global) QueryFault) → ViewStands view h floors
     → MatchResult r (λ rows. (view.reclaimed ≤ a) × AnswersBetween view relation a b rows.items (scanned_rows relation a b view.state)) (RefusesRecentRows view relation a b) → RecallsScanBetween view h floors relation a b r
@@ -217,6 +237,11 @@ module _ (start : Machine Value) (brand : ℕ) (archive : ArchiveSeen) (view : V
       → OfSeen start v.seen (λ m. RecallsBetween v.shown m.published m.floors key a b r)
   between-says key a b r says =
       subst (λ (x : ViewMoment). OfSeen start x.seen (λ m. RecallsBetween x.shown m.published m.floors key a b r)) is (s.machine, s.reached, s.seen_is, between-recalled view s.machine.published s.machine.floors key a b r s.stands says)
+
+  pub walk-says : (key : Key) (a b : ℕ) (r : Result (List (Version Value)) QueryFault) → MatchResult r (λ walk. (view.reclaimed ≤ a) × AnswersBetween view key.relation a b walk (rows_in view.state a b key)) (RefusesRecentWalk view key.relation a b)
+      → OfSeen start v.seen (λ m. RecallsWalk v.shown m.published m.floors key a b r)
+  walk-says key a b r says =
+      subst (λ (x : ViewMoment). OfSeen start x.seen (λ m. RecallsWalk x.shown m.published m.floors key a b r)) is (s.machine, s.reached, s.seen_is, walk-recalled view s.machine.published s.machine.floors key a b r s.stands says)
 
   pub scan_between-says : (relation a b : ℕ) (r : Result (Vec (ℕ × Version Value) Global) QueryFault) → MatchResult r (λ rows. (view.reclaimed ≤ a) × AnswersBetween view relation a b rows.items (scanned_rows relation a b view.state)) (RefusesRecentRows view relation a b)
       → OfSeen start v.seen (λ m. RecallsScanBetween v.shown m.published m.floors relation a b r)

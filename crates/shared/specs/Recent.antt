@@ -1,5 +1,5 @@
 -- What a view answers from memory alone.
-use Rattle.std.specs.Prelude.{ℕ, ◌≡◌, ◌<◌, Result, Ok, Err}
+use Rattle.std.specs.Prelude.{ℕ, ◌≡◌, ◌<◌, List, Result, Ok, Err}
 use Rattle.std.specs.declared.alloc.Global.{Global}
 use Rattle.std.specs.declared.vec.Vec.{Vec}
 use Rattle.history.specs.declared.key.Key.{Key}
@@ -30,6 +30,11 @@ RecallsScan view h floors relation time answer = Recalls view time (λ (found : 
 -- so the rows of a key between two times
 abbrev pub RecallsBetween : ViewValue → History Value → (ℕ → ℕ) → Key → ℕ → ℕ → Result (Vec (Version Value) Global) QueryFault → Type 0
 RecallsBetween view h floors key a b answer = Recalls view a (λ (rows : Vec (Version Value) Global). rows.items) (λ said. answers.between_answer h floors key a b ≡ said) answer
+
+-- so the same rows as a walk, for which memory is never refused
+abbrev pub RecallsWalk : ViewValue → History Value → (ℕ → ℕ) → Key → ℕ → ℕ → Result (List (Version Value)) QueryFault → Type 0
+RecallsWalk view h floors key a b (Err query.NoMemory) = ⊥
+RecallsWalk view h floors key a b answer = Recalls view a (λ (rows : List (Version Value)). rows) (λ said. answers.between_answer h floors key a b ≡ said) answer
 
 -- so the rows of all records of a relation between two times
 abbrev pub RecallsScanBetween : ViewValue → History Value → (ℕ → ℕ) → ℕ → ℕ → ℕ → Result (Vec (ℕ × Version Value) Global) QueryFault → Type 0

@@ -52,7 +52,9 @@ impl<D: Disk, L: Opening> SharedStore<D, L> {
         match self.ask(rt, request) {
             Ok(number) => {
                 let served = self.wait_served(rt, number);
-                self.receive(rt, served, changes, label, share, me)
+                let committed = self.receive(rt, served, changes, label, share, me);
+                self.note_told(rt);
+                committed
             }
             Err(AllocError) => Err(CommitFault::Txn(TxnFault::NoMemory)),
         }
@@ -73,22 +75,26 @@ impl<D: Disk, L: Opening> SharedStore<D, L> {
         Ok(number)
     }
 
-    // Sleeps until the answer is at the caller's post. With the last of the answers that are to be taken
-    // the committer may go on.
+    // Sleeps until the answer is at the caller's post.
     fn wait_served<R: Wait>(&self, rt: &R, number: usize) -> Served<L> {
         let mut posts = self.posts.lock(rt);
         for _ in rt.forever() {
             if let Some(served) = posts.take_answer(number) {
-                let goes_on = posts.lets_go_on();
-                drop(posts);
-                if goes_on {
-                    self.queued.notify_all();
-                }
                 return served;
             }
             posts = self.answered.wait(rt, posts);
         }
         unreachable!()
+    }
+
+    // The caller knows its answer. With the last of those that were answered the committer may go on. Only
+    // here does it count on the caller no more, and not where it takes the answer, since the caller has yet
+    // to ask for its ticket before it can be back with the next changes.
+    fn note_told<R: Wait>(&self, rt: &R) {
+        let goes_on = self.posts.lock(rt).note_told();
+        if goes_on {
+            self.queued.notify_all();
+        }
     }
 
     // What came of a request of these changes and this label. What lies at a post tells nothing of whose

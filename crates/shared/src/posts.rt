@@ -3,6 +3,7 @@ use crate::naming::Opening;
 use crate::served::{Request, Served};
 use crate::signals::Signals;
 use std::alloc::{AllocError, Global};
+use std::collections::VecDeque;
 use std::mem;
 
 /// The members of a full group.
@@ -21,15 +22,11 @@ pub(crate) enum Doing {
     Sleeps,
 }
 
-// Where a request stands.
+// What came of a request.
 #[derive(Drop)]
 enum Post<L: Opening> {
-    // There is none.
-    Free,
-    // It is to be worked for.
-    Asked(Request<L>),
-    // It is worked for.
-    Taken,
+    // Nothing yet, or there is no request.
+    Empty,
     // Its commit is queued.
     Queued(Served<L>),
     // Its caller is to take the answer.
@@ -40,9 +37,11 @@ enum Post<L: Opening> {
 #[derive(Drop)]
 pub(crate) struct Posts<L: Opening> {
     posts: Vec<Post<L>>,
-    // The requests that are to be worked for.
-    asked: u64,
-    // The answers that are to be taken.
+    // The numbers of the posts that have no request, with room for those of all.
+    free: Vec<usize>,
+    // The requests that are to be worked for, in turn, each with the number of its post.
+    asked: VecDeque<(usize, Request<L>)>,
+    // The callers that were answered and have not told yet that they know it.
     due: u64,
     // How often a committer went through the posts since its last step.
     rounds: u64,
@@ -51,32 +50,17 @@ pub(crate) struct Posts<L: Opening> {
     // Up to this time commits are published, in microseconds since 1970.
     upto: u64,
     failed: bool,
-    // Whether a committer sleeps that would make a step if no answer were to be taken.
+    // Whether a committer sleeps that would make a step if no answered caller were on its way.
     held: bool,
 }
 
 impl<L: Opening> Post<L> {
-    fn is_free(&self) -> bool {
-        matches!(self, Post::Free)
-    }
-
-    // The request, if it is to be worked for.
-    fn take_request(&mut self) -> Option<Request<L>> {
-        if !matches!(self, Post::Asked(_)) {
-            return None;
-        }
-        match mem::replace(self, Post::Taken) {
-            Post::Asked(request) => Some(request),
-            _ => None,
-        }
-    }
-
     // The answer, if there is one.
     fn take_answer(&mut self) -> Option<Served<L>> {
         if !matches!(self, Post::Answered(_)) {
             return None;
         }
-        match mem::replace(self, Post::Free) {
+        match mem::replace(self, Post::Empty) {
             Post::Answered(served) => Some(served),
             _ => None,
         }
@@ -89,7 +73,7 @@ impl<L: Opening> Post<L> {
             Post::Queued(served) if failed || is_upto(served.time(), upto) => {}
             _ => return false,
         }
-        match mem::replace(self, Post::Taken) {
+        match mem::replace(self, Post::Empty) {
             Post::Queued(served) => {
                 *self = Post::Answered(served);
                 true
@@ -103,7 +87,8 @@ impl<L: Opening> Posts<L> {
     pub(crate) fn new(alloc: Global) -> Posts<L> {
         Posts {
             posts: Vec::new(alloc),
-            asked: 0,
+            free: Vec::new(alloc),
+            asked: VecDeque::new(alloc),
             due: 0,
             rounds: 0,
             committers: 0,
@@ -113,39 +98,41 @@ impl<L: Opening> Posts<L> {
         }
     }
 
-    /// Posts a request, and gives the number of its post. Where there is no memory for a post the
-    /// request is gone.
+    /// Posts a request, and gives the number of its post. Where there is no memory for it the request
+    /// is gone.
     pub(crate) fn ask(&mut self, request: Request<L>) -> Result<usize, AllocError> {
-        let number = self.posts.len();
-        for (at, post) in self.posts.iter_mut().enumerate() {
-            if post.is_free() {
-                *post = Post::Asked(request);
-                self.asked = self.asked.wrapping_add(1);
-                return Ok(at);
-            }
+        let number = self.take_free()?;
+        if self.asked.push_back((number, request)).is_err() {
+            self.set_free(number);
+            return Err(AllocError);
         }
-        self.posts.push(Post::Asked(request))?;
-        self.asked = self.asked.wrapping_add(1);
         Ok(number)
     }
 
-    /// How many requests are to be worked for.
-    pub(crate) fn asked(&self) -> u64 {
-        self.asked
+    // The number of a post that has no request.
+    fn take_free(&mut self) -> Result<usize, AllocError> {
+        if let Some(number) = self.free.pop() {
+            return Ok(number);
+        }
+        let number = self.posts.len();
+        self.free.reserve(number.saturating_add(1))?;
+        self.posts.push(Post::Empty)?;
+        Ok(number)
     }
 
-    /// A request that is to be worked for, with the number of its post.
+    // There is room for the number since there is the post.
+    fn set_free(&mut self, number: usize) {
+        let _ = self.free.push(number);
+    }
+
+    /// How many requests are to be worked for.
+    pub(crate) fn asked(&self) -> usize {
+        self.asked.len()
+    }
+
+    /// The first of the requests that are to be worked for, with the number of its post.
     pub(crate) fn take_asked(&mut self) -> Option<(usize, Request<L>)> {
-        if self.asked == 0 {
-            return None;
-        }
-        for (at, post) in self.posts.iter_mut().enumerate() {
-            if let Some(request) = post.take_request() {
-                self.asked = self.asked.wrapping_sub(1);
-                return Some((at, request));
-            }
-        }
-        None
+        self.asked.pop_front()
     }
 
     /// What came of a request. Whether its caller is to be woken.
@@ -183,12 +170,13 @@ impl<L: Opening> Posts<L> {
     /// The answer at the caller's post, which is free then.
     pub(crate) fn take_answer(&mut self, number: usize) -> Option<Served<L>> {
         let served = self.posts.get_mut(number)?.take_answer()?;
-        self.due = self.due.wrapping_sub(1);
+        self.set_free(number);
         Some(served)
     }
 
-    /// Whether a committer sleeps that is to go on.
-    pub(crate) fn lets_go_on(&self) -> bool {
+    /// A caller knows its answer. Whether a committer sleeps that is to go on.
+    pub(crate) fn note_told(&mut self) -> bool {
+        self.due = self.due.wrapping_sub(1);
         self.held && self.due == 0
     }
 
@@ -204,20 +192,21 @@ impl<L: Opening> Posts<L> {
 
     /// A committer ends, unless there are requests and the store works. Whether it does.
     pub(crate) fn leave(&mut self) -> bool {
-        if self.asked != 0 && !self.failed {
+        if !self.asked.is_empty() && !self.failed {
             return false;
         }
         self.committers = self.committers.wrapping_sub(1);
         true
     }
 
-    /// What a committer is to do. It begins no group as long as requests come, or an answer is to be
-    /// taken, since then a caller may be on its way with the next request, unless a full group waits.
+    /// What a committer is to do. It begins no group as long as requests come, or a caller that was
+    /// answered does not know it yet, since it may be on its way with the next request, unless a full
+    /// group waits.
     pub(crate) fn next(&mut self, signals: Signals, waits: bool) -> Doing {
         let urgent = signals.is_urgent() || signals.queued() >= FULL_GROUP;
         let has_work = signals.is_urgent() || signals.queued() != 0;
         let lets_step = has_work && !waits && (urgent || self.rounds >= MOST_ROUNDS);
-        if self.asked != 0 && !lets_step {
+        if !self.asked.is_empty() && !lets_step {
             self.rounds = self.rounds.wrapping_add(1);
             return Doing::Serves;
         }

@@ -4,13 +4,13 @@ ghost use Rattle.crossbeam_utils.specs.Seq.{cell_view};
 ghost use Rattle.history.specs.Answers as answers;
 ghost use Rattle.refinement.specs.Views.{SaysRecent};
 ghost use Rattle.shared.specs.Moments.{OfSeen, answer_copied};
-ghost use Rattle.shared.specs.Recent.{RecallsScan, RecallsBetween, RecallsScanBetween};
+ghost use Rattle.shared.specs.Recent.{RecallsScan, RecallsBetween, RecallsWalk, RecallsScanBetween};
 ghost use Rattle.shared.specs.Shared.{Shows};
 
 use crate::cell::{PublishedCell, WriterPass};
 use crate::moment::Moment;
 use crate::naming::Opening;
-use chains::SharedValue;
+use chains::{RowWalk, SharedValue};
 use history::{Key, Version};
 use std::alloc::{AllocError, Global};
 use std::marker::Model;
@@ -88,6 +88,15 @@ impl<L: Opening> SharedView<L> {
     {
         let _ = &self.moment;
         self.view.recent_between(alloc, key, a, b)
+    }
+
+    /// The same rows in a loan of the view: a walk over them, which takes no memory and is no holder of
+    /// their values. The refusals are those of `recent_between`, but never `NoMemory`.
+    pub fn recent_rows(&self, key: Key, a: u64, b: u64) -> Result<RowWalk<'_>, QueryFault>
+        ensures { OfSeen L.start self.now.seen (λ m. RecallsWalk self.now.shown m.published m.floors key a b result) }
+    {
+        let _ = &self.moment;
+        self.view.recent_rows(key, a, b)
     }
 
     /// The rows of a relation's records from `a` up to `b`, by record and then by time. It takes no

@@ -93,6 +93,18 @@ fn recalls_row<L: Opening>(alloc: Global, view: &SharedView<L>) -> bool {
     }
 }
 
+/// Whether memory alone lends it, and no other.
+fn lends_row<L: Opening>(view: &SharedView<L>) -> bool {
+    let Ok(mut walk) = view.recent_rows(key_of(7), 130, 131) else {
+        return false;
+    };
+    let is_first = match walk.next() {
+        Some(row) => row.from == 130 && row.to == 131 && is_field(row.value, b"c"),
+        None => false,
+    };
+    is_first && walk.next().is_none()
+}
+
 /// Whether memory alone has it of the relation.
 fn recalls_scanned_row<L: Opening>(alloc: Global, view: &SharedView<L>) -> bool {
     match view.recent_scan_between(alloc, 1, 130, 131) {
@@ -114,11 +126,15 @@ fn needs_disk_from<L: Opening>(alloc: Global, view: &SharedView<L>) -> bool {
         view.recent_between(alloc, key_of(7), 129, 131),
         Err(QueryFault::NeedsDisk)
     );
+    let lent = matches!(
+        view.recent_rows(key_of(7), 129, 131),
+        Err(QueryFault::NeedsDisk)
+    );
     let scan = matches!(
         view.recent_scan_between(alloc, 1, 129, 131),
         Err(QueryFault::NeedsDisk)
     );
-    rows && scan
+    rows && lent && scan
 }
 
 /// From the reclaim mark on memory alone answers, and before it the disk is needed.
@@ -126,6 +142,7 @@ fn ask_memory<L: Opening>(rt: &impl Abort, alloc: Global, view: &SharedView<L>) 
     assert!(rt; recalls(view, 130, "c"));
     assert!(rt; recalls_scan(alloc, view));
     assert!(rt; recalls_row(alloc, view));
+    assert!(rt; lends_row(view));
     assert!(rt; recalls_scanned_row(alloc, view));
     assert!(rt; needs_disk_at(alloc, view));
     assert!(rt; needs_disk_from(alloc, view));
