@@ -304,7 +304,7 @@ pub(crate) fn measure<R: Print + Clock>(rt: &R, alloc: Global, scale: Scale) -> 
             measure_freezing(rt, alloc, scale, keys)?;
         }
     }
-    for (versions, maps) in [(10, 1_000), (1_000, 50), (10_000, 3)] {
+    for (versions, maps) in [(10, 1_000), (1_000, 50), (10_000, 3), (1_000_000, 3)] {
         if scale.has(versions) {
             measure_versions(rt, alloc, scale, versions, maps)?;
         }
