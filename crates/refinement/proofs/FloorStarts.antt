@@ -166,7 +166,7 @@ below-is (Some k) floor n is =
       | false ↦ λ test said. absurd cc
     ] refl is
 
-in-use : (places : List (Option ℕ)) (snapshots : List ℕ) (floor snapshot : ℕ) → IsPermutation snapshots (snapshots_of places) → below (least_open places) floor ≡ Some snapshot → in_use_refusal (in_use_below snapshots floor) ≡ Some (floors.InUse snapshot)
+pub in-use : (places : List (Option ℕ)) (snapshots : List ℕ) (floor snapshot : ℕ) → IsPermutation snapshots (snapshots_of places) → below (least_open places) floor ≡ Some snapshot → in_use_refusal (in_use_below snapshots floor) ≡ Some (floors.InUse snapshot)
 in-use places snapshots floor snapshot same is =
     let least-is = below-is (least_open places) floor snapshot is in
     let there : Contains (snapshots_of places) snapshot = ⊎_elim (λ (no : None ≡ Some snapshot). absurd cc) (λ (has : Contains (snapshots_of places) snapshot). has) (least-there places None snapshot least-is.0) in
