@@ -50,7 +50,7 @@ pub(crate) struct Posts<L: Opening> {
     // Up to this time commits are published, in microseconds since 1970.
     upto: u64,
     failed: bool,
-    // Whether a committer sleeps that would make a step if no answered caller were on its way.
+    // Whether a committer sleeps, or did, that would have made a step if no answered caller were on its way.
     held: bool,
 }
 
@@ -177,7 +177,7 @@ impl<L: Opening> Posts<L> {
     /// A caller knows its answer. Whether a committer sleeps that is to go on.
     pub(crate) fn note_told(&mut self) -> bool {
         self.due = self.due.wrapping_sub(1);
-        self.held && self.due == 0
+        self.due == 0 && mem::replace(&mut self.held, false)
     }
 
     /// Whether a committer works for the requests.
@@ -211,10 +211,11 @@ impl<L: Opening> Posts<L> {
             return Doing::Serves;
         }
         self.rounds = 0;
-        let gathered = self.due == 0 || lets_step;
-        let idle = waits || !has_work;
-        self.held = !idle && !gathered;
-        if idle || !gathered {
+        if waits || !has_work {
+            return Doing::Sleeps;
+        }
+        if self.due != 0 && !lets_step {
+            self.held = true;
             return Doing::Sleeps;
         }
         Doing::Steps
