@@ -1,5 +1,6 @@
 //! The records that are written and asked for: values of four fields of 16 bytes.
 
+use byteorder::{ByteOrder, LittleEndian};
 use chains::SharedValue;
 use history::Key;
 
@@ -52,10 +53,13 @@ pub(crate) fn fields(record: u64, version: u64) -> [[u8; FIELD_LEN]; 4] {
     ]
 }
 
-/// Whether a value is that of a record's version, by its first field.
+/// Whether a value is that of a record's version, by its first field, compared as two numbers.
 pub(crate) fn is_version(value: &SharedValue, record: u64, version: u64) -> bool {
     match value.value().field(0) {
-        Some(field) => field == pair(record, version).as_slice(),
-        None => false,
+        Some(field) if field.len() == FIELD_LEN => {
+            LittleEndian::read_u64(field) == record
+                && LittleEndian::read_u64(&field[8..]) == version
+        }
+        _ => false,
     }
 }
