@@ -3,7 +3,7 @@ use Rattle.std.proofs.Common.{◌≡◌, ℕ, zero, suc, ◌+◌, ◌≤◌, Lis
 use Rattle.std.proofs.Math.Seq.{drop-append_seam, take-append_seam}
 use Rattle.std.proofs.lemmas.List.{length-take, length-drop, get_or-drop, append-nil, take_all}
 use Rattle.std.proofs.lemmas.Grind.{get_or_default_zero}
-use Rattle.wire.specs.Fields.{fields_bytes, HasFields, fields_at, rest_at, AreFields, IsField, AreAllFields, AreShort}
+use Rattle.wire.specs.Fields.{field_bytes, fields_bytes, HasFields, fields_at, rest_at, AreFields, IsField, AreAllFields, AreShort}
 use Rattle.wire.proofs.Zeros.{AreBytes, AreBytes-take, AreBytes-drop}
 
 pub length-fields_at : (n : ℕ) (bytes : List ℕ) → HasFields n bytes → length (fields_at n bytes) ≡ n
@@ -156,22 +156,21 @@ fields_bytes-short (field ∷ fields) short =
     let first = short.0 in
     omega (arith, rest, first, length-append field (fields_bytes fields))
 
-fields_bytes-push : (fields : List (List ℕ)) (field : List ℕ) → fields_bytes (fields ++ field ∷ []) ≡ (fields_bytes fields ++ length field ∷ []) ++ field
-fields_bytes-push [] field = ap (λ (l : List ℕ). length field ∷ l) (append-nil field)
+fields_bytes-push : (fields : List (List ℕ)) (field : List ℕ) → fields_bytes (fields ++ field ∷ []) ≡ fields_bytes fields ++ field_bytes field
+fields_bytes-push [] field = append-nil (field_bytes field)
 fields_bytes-push (f ∷ fields) field =
-    ap (λ (l : List ℕ). (length f ∷ f) ++ l) (fields_bytes-push fields field)
-    ∙ sym (append_assoc (length f ∷ f) (fields_bytes fields ++ length field ∷ []) field)
-    ∙ ap (λ (l : List ℕ). l ++ field) (sym (append_assoc (length f ∷ f) (fields_bytes fields) (length field ∷ [])))
+    ap (λ (l : List ℕ). field_bytes f ++ l) (fields_bytes-push fields field) ∙ sym (append_assoc (field_bytes f) (fields_bytes fields) (field_bytes field))
 
 -- one field more at the end
-pub one_more : (count : ℕ) (spelled field bytes : List ℕ) → AreFields count spelled → AreBytes field → length field ≤ 255 → count < 16 → bytes ≡ (spelled ++ length field ∷ []) ++ field
-    → AreFields (count + 1) bytes × (fields_at (count + 1) bytes ≡ fields_at count spelled ++ field ∷ [])
-one_more count spelled field bytes are small short few is =
+pub one_more : (count : ℕ) (spelled field : List ℕ) → AreFields count spelled → AreBytes field → length field ≤ 255 → count < 16
+    → AreFields (count + 1) (spelled ++ field_bytes field) × (fields_at (count + 1) (spelled ++ field_bytes field) ≡ fields_at count spelled ++ field ∷ [])
+one_more count spelled field are small short few =
+    let bytes : List ℕ = spelled ++ field_bytes field in
     let fields : List (List ℕ) = fields_at count spelled ++ field ∷ [] in
     let n = length-fields_at count spelled are.has in
     let len : length fields ≡ count + 1 = length-append (fields_at count spelled) (field ∷ []) ∙ omega (arith, n) in
     let spells : bytes ≡ fields_bytes fields ++ [] =
-    is ∙ ap (λ (l : List ℕ). (l ++ length field ∷ []) ++ field) (sym (fields_all count spelled are)) ∙ sym (fields_bytes-push (fields_at count spelled) field) ∙ sym (append-nil (fields_bytes fields)) in
+    ap (λ (l : List ℕ). l ++ field_bytes field) (sym (fields_all count spelled are)) ∙ sym (fields_bytes-push (fields_at count spelled) field) ∙ sym (append-nil (fields_bytes fields)) in
     let again : Reads (count + 1) bytes fields [] =
     subst (λ m. Reads m bytes fields []) len (subst (λ (l : List ℕ). Reads (length fields) l fields []) (sym spells) (fields_again fields [])) in
     let each : AreAllFields fields = AreAllFields-push (fields_at count spelled) field are.each (is_field field small short) in

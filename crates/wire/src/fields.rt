@@ -1,19 +1,15 @@
 //! The fields of a value, or some of them.
 
-ghost use Rattle.std.specs.Prelude.{◌≡◌, ◌≤◌, ℕ, length, MatchOption, IfOk, IfSome, IsTrue, ◌↔◌, [], ◌∷◌, ◌++◌, ◌+◌, ◌-◌, ◌<◌, ◌⊎◌, map};
+ghost use Rattle.std.specs.Prelude.{◌≡◌, ◌≤◌, ℕ, length, MatchOption, IfOk, OnOk, IfSome, IsTrue, ◌↔◌, [], ◌∷◌, ◌++◌, ◌+◌, ◌-◌, ◌<◌, ◌⊎◌, map};
 
-use smallvec::SmallVec;
+use crate::spelled::Spelled;
 use std::alloc::{AllocError, Global};
 use std::marker::Model;
-
-/// How many bytes lie in the value itself: four fields of 16 bytes with their lengths, and a little more.
-const INLINE: usize = 72;
 
 /// 0 to 16 fields of 0 to 255 bytes. One piece of memory holds each as its length and its bytes.
 #[derive(Drop)]
 pub struct Fields {
-    count: u8,
-    spelled: SmallVec<u8, INLINE>,
+    spelled: Spelled,
 }
 
 impl Model for Fields {
@@ -22,9 +18,9 @@ impl Model for Fields {
 
     ghost Value = { List (List ℕ) };
 
-    ghost view = { λ f. fields_at f.count f.spelled.items };
+    ghost view = { λ f. fields_at f.spelled.count f.spelled.bytes };
 
-    ghost invariant = { λ f. AreFields f.count f.spelled.items };
+    ghost invariant = { λ f. AreFields f.spelled.count f.spelled.bytes };
 }
 
 ghost use Rattle.wire.specs.Fields.{HasFields, fields_at, rest_at, AreShort};
@@ -103,8 +99,8 @@ impl Fields {
         let Some(rest) = skip_fields(count, bytes) else {
             return Ok(None);
         };
-        let spelled = SmallVec::from_slice(alloc, &bytes[..bytes.len() - rest.len()])?;
-        Ok(Some((Fields { count, spelled }, rest)))
+        let spelled = Spelled::of(alloc, count, &bytes[..bytes.len() - rest.len()])?;
+        Ok(Some((Fields { spelled }, rest)))
     }
 
     /// How many fields there are: at most 16.
@@ -113,7 +109,7 @@ impl Fields {
         ensures few { result ≤ 16 }
         ensures fields { AreAllFields self.now }
     {
-        self.count
+        self.spelled.count()
     }
 
     /// No field.
@@ -121,8 +117,7 @@ impl Fields {
         ensures { result ≡ [] }
     {
         Fields {
-            count: 0,
-            spelled: SmallVec::new(alloc),
+            spelled: Spelled::new(alloc),
         }
     }
 
@@ -131,8 +126,7 @@ impl Fields {
         ensures { IfOk result (λ fields. fields ≡ []) }
     {
         Ok(Fields {
-            count: 0,
-            spelled: SmallVec::with_capacity(alloc, bytes)?,
+            spelled: Spelled::with_room(alloc, bytes)?,
         })
     }
 
@@ -143,21 +137,19 @@ impl Fields {
         if self.count() >= 16 || field.len() > 255 {
             return Ok(None);
         }
-        Ok(Some(self.with_one(field)?))
+        let mut fields = self;
+        fields.push(field)?;
+        Ok(Some(fields))
     }
 
-    fn with_one(self, field: &[u8]) -> Result<Fields, AllocError>
-        requires few { length self < 16 }
+    // One field more.
+    fn push(&mut self, field: &[u8]) -> Result<(), AllocError>
+        requires few { length self.old < 16 }
         requires short { length field.now ≤ 255 }
-        ensures { IfOk result (λ fields. fields ≡ self ++ field.now ∷ []) }
+        ensures { OnOk result (self.new ≡ self.old ++ field.now ∷ []) }
     {
-        let Fields { count, mut spelled } = self;
-        spelled.push(field.len() as u8)?;
-        spelled.extend_from_slice(field)?;
-        Ok(Fields {
-            count: count + 1,
-            spelled,
-        })
+        self.spelled.push(field)?;
+        Ok(())
     }
 
     /// These fields, each copied.
@@ -169,7 +161,7 @@ impl Fields {
         let mut fields = Fields::with_room(alloc, bytes_of(parts))?;
         let mut rest = parts;
         while let [part, after @ ..] = rest {
-            fields = fields.with_one(part)?;
+            fields.push(part)?;
             rest = after;
         }
         Ok(fields)
@@ -180,8 +172,7 @@ impl Fields {
         ensures { IfOk result (λ fields. fields ≡ self.now) }
     {
         Ok(Fields {
-            count: self.count,
-            spelled: SmallVec::from_slice(alloc, self.spelled.as_slice())?,
+            spelled: self.spelled.copy(alloc)?,
         })
     }
 
@@ -200,8 +191,8 @@ impl Fields {
         ensures { result ≡ self.now }
     {
         FieldsIter {
-            count: self.count,
-            spelled: self.spelled.as_slice(),
+            count: self.spelled.count(),
+            spelled: self.spelled.bytes(),
         }
     }
 
@@ -210,7 +201,7 @@ impl Fields {
         ensures is { result.now ≡ fields_bytes self.now }
         ensures short { length result.now ≤ 4096 }
     {
-        self.spelled.as_slice()
+        self.spelled.bytes()
     }
 }
 

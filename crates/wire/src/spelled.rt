@@ -1,0 +1,284 @@
+//! The bytes of fields: in the value itself where they are few.
+
+ghost use Rattle.std.specs.Prelude.{◌≡◌, ◌<◌, ◌≤◌, ◌+◌, [], ◌++◌, length, IsTrue, ◌↔◌, IfOk, OnOk, OnErr};
+ghost use Rattle.wire.specs.Counted.{with_field};
+
+use std::alloc::{AllocError, Global};
+use std::marker::Model;
+
+/// How many bytes lie in the value itself: four fields of 16 bytes with their lengths, and a little more.
+const INLINE: usize = 77;
+
+// With a count of its holders, and the word that an allocator keeps with it, this is a piece of 96
+// bytes of memory. One byte more would take one of 112.
+const _: () = prove!(size_of::<Spelled>() == 80);
+
+// Bytes in the value itself.
+#[derive(Drop)]
+struct ShortBytes {
+    alloc: Global,
+    count: u8,
+    len: u8,
+    bytes: [u8; INLINE],
+}
+
+impl Model for ShortBytes {
+    ghost use Rattle.std.specs.Prelude.{◌≡◌, ◌≤◌, take, length};
+    ghost use Rattle.wire.specs.Counted.{Counted};
+
+    ghost Value = { Counted };
+
+    ghost view = { λ s. record { count = s.count; bytes = take s.len s.bytes } };
+
+    ghost invariant = { λ s. (s.len ≤ 77) × (length s.bytes ≡ 77) };
+}
+
+impl ShortBytes {
+    fn new(alloc: Global) -> ShortBytes
+        ensures { result ≡ record { count = 0; bytes = [] } }
+    {
+        ShortBytes {
+            alloc,
+            count: 0,
+            len: 0,
+            bytes: [0; INLINE],
+        }
+    }
+
+    fn of(alloc: Global, count: u8, bytes: &[u8]) -> ShortBytes
+        requires { length bytes.now ≤ 77 }
+        ensures { result ≡ record { count = count; bytes = bytes.now } }
+    {
+        let mut all = [0; INLINE];
+        all[..bytes.len()].copy_from_slice(bytes);
+        ShortBytes {
+            alloc,
+            count,
+            len: bytes.len() as u8,
+            bytes: all,
+        }
+    }
+
+    fn copy(&self) -> ShortBytes
+        ensures { result ≡ self.now }
+    {
+        ShortBytes {
+            alloc: self.alloc,
+            count: self.count,
+            len: self.len,
+            bytes: self.bytes,
+        }
+    }
+
+    fn count(&self) -> u8
+        ensures { result ≡ self.now.count }
+    {
+        self.count
+    }
+
+    fn bytes(&self) -> &[u8]
+        ensures is { result.now ≡ self.now.bytes }
+        ensures short { length result.now ≤ 77 }
+    {
+        &self.bytes[..self.len as usize]
+    }
+
+    // Whether a field of so many bytes fits.
+    fn has_room(&self, len: usize) -> bool
+        ensures { IsTrue result ↔ (length self.now.bytes + 1 + len ≤ 77) }
+    {
+        len < INLINE - self.len as usize
+    }
+
+    fn append(&mut self, bytes: &[u8])
+        requires { length self.old.bytes + length bytes.now ≤ 77 }
+        ensures { self.new ≡ record { count = self.old.count; bytes = self.old.bytes ++ bytes.now } }
+    {
+        let len = self.len as usize;
+        let end = len + bytes.len();
+        self.bytes[len..end].copy_from_slice(bytes);
+        self.len = end as u8;
+    }
+
+    fn push(&mut self, field: &[u8])
+        requires few { self.old.count < 255 }
+        requires fits { length self.old.bytes + 1 + length field.now ≤ 77 }
+        ensures { self.new ≡ with_field self.old field.now }
+    {
+        self.append(&[field.len() as u8]);
+        self.append(field);
+        self.count += 1;
+    }
+
+    // The same in a piece of memory, with room for so many bytes more.
+    fn spill(&self, room: usize) -> Result<LongBytes, AllocError>
+        requires { room ≤ 256 }
+        ensures { IfOk result (λ long. long ≡ self.now) }
+    {
+        let mut bytes = Vec::with_capacity(self.alloc, self.len as usize + room)?;
+        bytes.extend_from_slice(self.bytes())?;
+        Ok(LongBytes {
+            count: self.count,
+            bytes,
+        })
+    }
+}
+
+// Bytes in a piece of memory of their own.
+#[derive(Drop)]
+struct LongBytes {
+    count: u8,
+    bytes: Vec<u8>,
+}
+
+impl Model for LongBytes {
+    ghost use Rattle.wire.specs.Counted.{Counted};
+
+    ghost Value = { Counted };
+
+    ghost view = { λ l. record { count = l.count; bytes = l.bytes.items } };
+}
+
+impl LongBytes {
+    fn count(&self) -> u8
+        ensures { result ≡ self.now.count }
+    {
+        self.count
+    }
+
+    fn bytes(&self) -> &[u8]
+        ensures { result.now ≡ self.now.bytes }
+    {
+        self.bytes.as_slice()
+    }
+
+    fn push(&mut self, field: &[u8]) -> Result<(), AllocError>
+        requires few { self.old.count < 255 }
+        requires short { length field.now ≤ 255 }
+        ensures ok { OnOk result (self.new ≡ with_field self.old field.now) }
+        ensures err { OnErr result (self.new ≡ self.old) }
+    {
+        self.bytes.reserve(field.len() + 1)?;
+        self.bytes.push_reserved(field.len() as u8);
+        self.bytes.extend_from_slice(field).unwrap();
+        self.count += 1;
+        Ok(())
+    }
+}
+
+#[derive(Drop)]
+enum Place {
+    Short(ShortBytes),
+    Long(LongBytes),
+}
+
+/// How many fields there are, and their bytes. Both kinds of place hold the count beside what they
+/// hold of the bytes, and so the whole takes 80 bytes: a `SmallVec` beside a count takes 16 more, for
+/// its length and for what tells its kind of place.
+#[derive(Drop)]
+pub(crate) struct Spelled {
+    place: Place,
+}
+
+impl Model for Spelled {
+    ghost use Rattle.wire.specs.Counted.{Counted};
+
+    ghost Value = { Counted };
+
+    ghost use Rattle.wire.specs.Places.{counted_in};
+
+    ghost view = { λ s. counted_in s.place };
+}
+
+impl Spelled {
+    /// No field.
+    pub(crate) fn new(alloc: Global) -> Spelled
+        ensures { result ≡ record { count = 0; bytes = [] } }
+    {
+        Spelled {
+            place: Place::Short(ShortBytes::new(alloc)),
+        }
+    }
+
+    /// No field yet, and room for so many bytes.
+    pub(crate) fn with_room(alloc: Global, room: usize) -> Result<Spelled, AllocError>
+        ensures { IfOk result (λ spelled. spelled ≡ record { count = 0; bytes = [] }) }
+    {
+        if room <= INLINE {
+            return Ok(Spelled::new(alloc));
+        }
+        let bytes = Vec::with_capacity(alloc, room)?;
+        Ok(Spelled {
+            place: Place::Long(LongBytes { count: 0, bytes }),
+        })
+    }
+
+    /// So many fields, whose bytes are copied.
+    pub(crate) fn of(alloc: Global, count: u8, bytes: &[u8]) -> Result<Spelled, AllocError>
+        ensures { IfOk result (λ spelled. spelled ≡ record { count = count; bytes = bytes.now }) }
+    {
+        if bytes.len() <= INLINE {
+            return Ok(Spelled {
+                place: Place::Short(ShortBytes::of(alloc, count, bytes)),
+            });
+        }
+        let bytes = Vec::from_slice(alloc, bytes)?;
+        Ok(Spelled {
+            place: Place::Long(LongBytes { count, bytes }),
+        })
+    }
+
+    /// The same in memory of its own.
+    pub(crate) fn copy(&self, alloc: Global) -> Result<Spelled, AllocError>
+        ensures { IfOk result (λ spelled. spelled ≡ self.now) }
+    {
+        match &self.place {
+            Place::Short(short) => Ok(Spelled {
+                place: Place::Short(short.copy()),
+            }),
+            Place::Long(long) => Spelled::of(alloc, long.count(), long.bytes()),
+        }
+    }
+
+    /// How many fields there are.
+    pub(crate) fn count(&self) -> u8
+        ensures { result ≡ self.now.count }
+    {
+        match &self.place {
+            Place::Short(short) => short.count(),
+            Place::Long(long) => long.count(),
+        }
+    }
+
+    /// The bytes of the fields.
+    pub(crate) fn bytes(&self) -> &[u8]
+        ensures { result.now ≡ self.now.bytes }
+    {
+        match &self.place {
+            Place::Short(short) => short.bytes(),
+            Place::Long(long) => long.bytes(),
+        }
+    }
+
+    /// One field more. Where there is no memory nothing changes.
+    pub(crate) fn push(&mut self, field: &[u8]) -> Result<(), AllocError>
+        requires few { self.old.count < 255 }
+        requires short { length field.now ≤ 255 }
+        ensures ok { OnOk result (self.new ≡ with_field self.old field.now) }
+        ensures err { OnErr result (self.new ≡ self.old) }
+    {
+        match &mut self.place {
+            Place::Short(short) => {
+                if short.has_room(field.len()) {
+                    short.push(field);
+                    return Ok(());
+                }
+                let mut long = short.spill(field.len() + 1)?;
+                long.push(field)?;
+                self.place = Place::Long(long);
+                Ok(())
+            }
+            Place::Long(long) => long.push(field),
+        }
+    }
+}
