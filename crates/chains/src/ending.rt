@@ -4,25 +4,22 @@ ghost use Rattle.history.specs.Versions.{version_of, ends_after};
 ghost use Rattle.chains.specs.Rows.{versions_upto, version_of_loan};
 
 use crate::shared_value::SharedValue;
+use crate::stamped::StampedWrite;
 use crate::write::first_time_or;
-use history::{TimedWrite, Version};
+use history::Version;
 
 /// The version of a write that ends at `to`, if that is after the time.
-fn version_after(
-    write: &TimedWrite<SharedValue>,
-    to: u64,
-    time: u64,
-) -> Option<Version<&SharedValue>>
+fn version_after(write: &StampedWrite, to: u64, time: u64) -> Option<Version<&SharedValue>>
     ensures { option_map version_of_loan result ≡ find (ends_after time) (version_of write.now.time to write.now.write) }
 {
-    let Some(value) = &write.write else {
+    let Some(value) = write.value() else {
         return None;
     };
     if to <= time {
         return None;
     }
     Some(Version {
-        from: write.time,
+        from: write.time(),
         to,
         value,
     })
@@ -30,7 +27,7 @@ fn version_after(
 
 /// The first version of these writes that ends after the time; the last one ends at `end`.
 pub(crate) fn ending_in(
-    writes: &[TimedWrite<SharedValue>],
+    writes: &[StampedWrite],
     end: u64,
     time: u64,
 ) -> Option<Version<&SharedValue>>

@@ -6,9 +6,10 @@ ghost use Rattle.chains.specs.Rows.{versions_upto, version_of_loan};
 
 use crate::piece::Piece;
 use crate::shared_value::SharedValue;
+use crate::stamped::StampedWrite;
 use crate::tree::Share;
 use crate::write::first_time_or;
-use history::{TimedWrite, Version};
+use history::Version;
 use std::alloc::AllocError;
 use std::marker::Model;
 
@@ -34,12 +35,12 @@ impl Model for Part {
 }
 
 /// Whether a write has a version that ends at `to`, after the time.
-fn is_ending_after(write: &TimedWrite<SharedValue>, to: u64, time: u64) -> bool
+fn is_ending_after(write: &StampedWrite, to: u64, time: u64) -> bool
     ensures none { result ≡ false → find (ends_after time) (version_of write.now.time to write.now.write) ≡ None }
     ensures found { IsTrue result → find (ends_after time) (version_of write.now.time to write.now.write) ≡ slice_get (version_of write.now.time to write.now.write) 0 }
     ensures some { IsTrue result → 0 < length (version_of write.now.time to write.now.write) }
 {
-    let Some(_) = &write.write else {
+    let Some(_) = write.value() else {
         return false;
     };
     time < to
@@ -47,7 +48,7 @@ fn is_ending_after(write: &TimedWrite<SharedValue>, to: u64, time: u64) -> bool
 
 /// How many of these writes stand before the first version that ends after the time; the last version
 /// ends at `end`.
-fn before_ending(writes: &[TimedWrite<SharedValue>], end: u64, time: u64) -> usize
+fn before_ending(writes: &[StampedWrite], end: u64, time: u64) -> usize
     ensures within { result ≤ length writes.now }
     ensures found { slice_get (versions_upto end (drop result writes.now)) 0 ≡ find (ends_after time) (versions_upto end writes.now) }
 {
@@ -64,14 +65,14 @@ fn before_ending(writes: &[TimedWrite<SharedValue>], end: u64, time: u64) -> usi
 }
 
 /// The first version of these writes; the last one ends at `end`.
-fn first_version(writes: &[TimedWrite<SharedValue>], end: u64) -> Option<Version<&SharedValue>>
+fn first_version(writes: &[StampedWrite], end: u64) -> Option<Version<&SharedValue>>
     ensures { option_map version_of_loan result ≡ slice_get (versions_upto end writes.now) 0 }
 {
     let mut rest = writes;
     while let [first, after @ ..] = rest {
-        if let Some(value) = &first.write {
+        if let Some(value) = first.value() {
             return Some(Version {
-                from: first.time,
+                from: first.time(),
                 to: first_time_or(after, end),
                 value,
             });
@@ -82,7 +83,7 @@ fn first_version(writes: &[TimedWrite<SharedValue>], end: u64) -> Option<Version
 }
 
 /// How many of these writes stand up to the first version, with that one's own.
-fn upto_first(writes: &[TimedWrite<SharedValue>]) -> usize
+fn upto_first(writes: &[StampedWrite]) -> usize
     ensures within { result ≤ length writes.now }
     ensures left { (end : ℕ) → versions_upto end (drop result writes.now) ≡ drop 1 (versions_upto end writes.now) }
 {
@@ -90,7 +91,7 @@ fn upto_first(writes: &[TimedWrite<SharedValue>]) -> usize
     let mut rest = writes;
     while let [first, after @ ..] = rest {
         passed += 1;
-        if first.write.is_some() {
+        if first.value().is_some() {
             return passed;
         }
         rest = after;
@@ -99,11 +100,11 @@ fn upto_first(writes: &[TimedWrite<SharedValue>]) -> usize
 }
 
 /// 1 where the write has a value, of which it looks at the front and the end, and else 0.
-fn one_if_valued(write: &TimedWrite<SharedValue>) -> usize
+fn one_if_valued(write: &StampedWrite) -> usize
     ensures is { (from to : ℕ) → result ≡ length (version_of from to write.now.write) }
     ensures most { result ≤ 1 }
 {
-    let Some(shared) = &write.write else {
+    let Some(shared) = write.value() else {
         return 0;
     };
     let value = shared.value();
@@ -112,11 +113,11 @@ fn one_if_valued(write: &TimedWrite<SharedValue>) -> usize
 }
 
 /// 1 where the write has a value, at which it does not look, and else 0.
-fn one_if_written(write: &TimedWrite<SharedValue>) -> usize
+fn one_if_written(write: &StampedWrite) -> usize
     ensures is { (from to : ℕ) → result ≡ length (version_of from to write.now.write) }
     ensures most { result ≤ 1 }
 {
-    match &write.write {
+    match write.value() {
         Some(_) => 1,
         None => 0,
     }
@@ -125,13 +126,13 @@ fn one_if_written(write: &TimedWrite<SharedValue>) -> usize
 /// How many of these writes have a value. It looks at all of each value that was written before the time
 /// `near`, in turn, with nothing to be done between, so that a processor fetches many at once; who then
 /// goes over them has them near.
-fn version_count(writes: &[TimedWrite<SharedValue>], near: u64) -> usize
+fn version_count(writes: &[StampedWrite], near: u64) -> usize
     ensures is { (end : ℕ) → result ≡ length (versions_upto end writes.now) }
 {
     let mut count = 0;
     let mut rest = writes;
     while let [first, after @ ..] = rest {
-        count += if first.time < near {
+        count += if first.time() < near {
             one_if_valued(first)
         } else {
             one_if_written(first)

@@ -10,75 +10,108 @@ ghost use Rattle.chains.specs.Writes.{last_time, kept_after, is_after};
 use crate::ending::ending_in;
 use crate::rows::{Rows, add_rows_of, near_count};
 use crate::shared_value::SharedValue;
+use crate::stamped::StampedWrite;
 use crate::tree::Share;
-use crate::write::{ended_by, first_time_or, next_in, share_timed, value_count, value_in};
+use crate::write::{ended_by, first_time_or, next_in, value_count, value_in};
 use history::{ENDLESS, TimedWrite, Version};
-use smallvec::SmallVec;
 use std::alloc::{AllocError, Global};
 use std::marker::Model;
+use std::slice;
 use std::sync::Arc;
 
 /// How many writes a piece has at most.
 const MOST: usize = 32;
 
-/// How many writes of a piece need no memory of their own.
-const INLINE: usize = 1;
-
-type Writes = SmallVec<TimedWrite<SharedValue>, INLINE>;
+/// Where the writes of a piece lie.
+#[derive(Drop)]
+pub(crate) enum Slots {
+    /// One write lies in the piece itself, and needs no memory of its own.
+    One(StampedWrite),
+    /// More of them lie in memory that the pieces share that were taken from one another. When the first
+    /// one was made stands beside them, so that a search among pieces reads no piece but the last.
+    Many {
+        first: u64,
+        shared: Arc<Vec<StampedWrite>>,
+    },
+}
 
 /// Some writes of one key, at least one, oldest first. It never changes, and shares its memory with
-/// what it was taken from. The first one's time stands beside them, so that a search among pieces reads
-/// no piece but the last.
+/// what it was taken from.
 #[derive(Drop)]
 pub(crate) struct Piece {
-    first: u64,
-    writes: Arc<Writes>,
+    slots: Slots,
 }
 
 impl Model for Piece {
-    ghost use Rattle.std.specs.Prelude.{◌≡◌, ◌<◌, List, length};
+    ghost use Rattle.std.specs.Prelude.{List};
     ghost use Rattle.chains.specs.Writes.{Write};
-    ghost use Rattle.history.specs.Time.{IsRisingAfter};
-    ghost use Rattle.history.specs.Versions.{first_time};
 
     ghost Value = { List Write };
 
-    ghost view = { λ p. p.writes.value.items };
+    ghost use Rattle.chains.specs.Slots.{writes_at, AreSlots};
 
-    ghost invariant = { λ p. IsRisingAfter 0 p.writes.value.items × (0 < length p.writes.value.items) × (p.first ≡ first_time p.writes.value.items) };
+    ghost view = { λ p. writes_at p.slots };
+
+    ghost invariant = { λ p. AreSlots p.slots };
 }
 
 impl Share for Piece {
     fn share(&self) -> Result<Self, AllocError> {
-        Ok(Piece {
-            first: self.first,
-            writes: Arc::try_clone(&self.writes)?,
-        })
+        let slots = match &self.slots {
+            Slots::One(write) => Slots::One(write.share()?),
+            Slots::Many { first, shared } => Slots::Many {
+                first: *first,
+                shared: Arc::try_clone(shared)?,
+            },
+        };
+        Ok(Piece { slots })
     }
 }
 
 impl Piece {
-    fn of(alloc: Global, writes: Writes) -> Result<Self, AllocError>
+    fn of(alloc: Global, writes: Vec<StampedWrite>) -> Result<Self, AllocError>
         requires rising { IsRisingAfter 0 writes.items }
         requires some { 0 < length writes.items }
         ensures { IfOk result (λ p. p ≡ writes.items) }
     {
         let first = first_time_or(writes.as_slice(), ENDLESS);
+        let shared = Arc::new(alloc, writes)?;
         Ok(Piece {
-            first,
-            writes: Arc::new(alloc, writes)?,
+            slots: Slots::Many { first, shared },
         })
     }
 
-    /// A piece of one write.
-    pub(crate) fn one(alloc: Global, write: TimedWrite<SharedValue>) -> Result<Self, AllocError>
+    /// A piece of the same writes, with their values shared.
+    fn of_shared(alloc: Global, writes: &[StampedWrite]) -> Result<Self, AllocError>
+        requires rising { IsRisingAfter 0 writes.now }
+        requires some { 0 < length writes.now }
+        ensures { IfOk result (λ p. p ≡ writes.now) }
+    {
+        if let [write] = writes {
+            return Ok(Piece {
+                slots: Slots::One(write.share()?),
+            });
+        }
+        Self::of(alloc, shared(alloc, writes, 0)?)
+    }
+
+    /// A piece of one write, behind those of the piece before it.
+    pub(crate) fn one(
+        alloc: Global,
+        write: TimedWrite<SharedValue>,
+        before: Option<&Piece>,
+    ) -> Result<Self, AllocError>
         requires positive { 0 < write.time }
         requires in_range { write.time < 2 ^ 63 }
         ensures { IfOk result (λ p. p ≡ write ∷ []) }
     {
-        let mut writes = SmallVec::new(alloc);
-        writes.push(write)?;
-        Self::of(alloc, writes)
+        let last = match before {
+            None => None,
+            Some(piece) => piece.as_slice().last(),
+        };
+        Ok(Piece {
+            slots: Slots::One(StampedWrite::of(alloc, write, last)?),
+        })
     }
 
     /// The piece with a later write.
@@ -92,7 +125,7 @@ impl Piece {
         ensures { IfOk result (λ p. p ≡ self.now ++ write ∷ []) }
     {
         let mut longer = shared(alloc, self.as_slice(), 1)?;
-        longer.push(write)?;
+        put_last(alloc, &mut longer, write)?;
         Self::of(alloc, longer)
     }
 
@@ -107,11 +140,12 @@ impl Piece {
         ensures ok { OnOk result (self.new ≡ self.old ++ write ∷ []) }
         ensures err { OnErr result (self.new ≡ self.old) }
     {
-        let Some(own) = Arc::get_mut(&mut self.writes) else {
-            *self = self.with_write(alloc, write)?;
-            return Ok(());
-        };
-        own.push(write)?;
+        if let Slots::Many { shared, .. } = &mut self.slots
+            && let Some(own) = Arc::get_mut(shared)
+        {
+            return put_last(alloc, own, write);
+        }
+        *self = self.with_write(alloc, write)?;
         Ok(())
     }
 
@@ -144,7 +178,10 @@ impl Piece {
         ensures some { 0 < length self.now }
         ensures rising { IsRisingAfter 0 self.now }
     {
-        self.first
+        match &self.slots {
+            Slots::One(write) => write.time(),
+            Slots::Many { first, .. } => *first,
+        }
     }
 
     /// When the last of its writes was made.
@@ -154,17 +191,20 @@ impl Piece {
     {
         match self.as_slice().last() {
             None => 0,
-            Some(w) => w.time,
+            Some(w) => w.time(),
         }
     }
 
     /// Its writes.
-    pub(crate) fn as_slice(&self) -> &[TimedWrite<SharedValue>]
+    pub(crate) fn as_slice(&self) -> &[StampedWrite]
         ensures is { result.now ≡ self.now }
         ensures some { 0 < length self.now }
         ensures rising { IsRisingAfter 0 self.now }
     {
-        self.writes.as_slice()
+        match &self.slots {
+            Slots::One(write) => slice::from_ref(write),
+            Slots::Many { shared, .. } => shared.as_slice(),
+        }
     }
 
     /// The value at a time.
@@ -175,7 +215,7 @@ impl Piece {
     }
 
     /// The first write made after a time.
-    pub(crate) fn next_after(&self, time: u64) -> Option<&TimedWrite<SharedValue>>
+    pub(crate) fn next_after(&self, time: u64) -> Option<&StampedWrite>
         ensures { option_copied result ≡ find (is_after time) self.now }
     {
         next_in(self.as_slice(), time)
@@ -199,7 +239,7 @@ impl Piece {
         ensures { OnOk result (found.new.items ≡ found.old.items ++ rows (versions_upto end self.now) a b) }
     {
         let writes = self.as_slice();
-        if a <= self.first && self.last_time() < b {
+        if a <= self.first_time() && self.last_time() < b {
             found.reserve(near_count(writes))?;
         }
         add_rows_of(found, writes, end, a, b)
@@ -225,31 +265,45 @@ impl Piece {
         if ended == writes.len() {
             return Ok(None);
         }
-        let left = shared(alloc, &writes[ended..], 0)?;
-        Ok(Some(Self::of(alloc, left)?))
+        Ok(Some(Self::of_shared(alloc, &writes[ended..])?))
     }
 }
 
 /// The same writes, with their values shared, and with room for some more.
 fn shared(
     alloc: Global,
-    writes: &[TimedWrite<SharedValue>],
+    writes: &[StampedWrite],
     more: usize,
-) -> Result<Writes, AllocError>
+) -> Result<Vec<StampedWrite>, AllocError>
     ensures { IfOk result (λ ws. ws.items ≡ writes.now) }
 {
     let room = writes.len().max(value_count(writes));
-    let mut shared = SmallVec::with_capacity(alloc, room.saturating_add(more))?;
+    let mut shared = Vec::with_capacity(alloc, room.saturating_add(more))?;
     add_shared(&mut shared, writes)?;
     Ok(shared)
 }
 
 /// Puts the same writes behind others, with their values shared.
-fn add_shared(shared: &mut Writes, writes: &[TimedWrite<SharedValue>]) -> Result<(), AllocError>
+fn add_shared(shared: &mut Vec<StampedWrite>, writes: &[StampedWrite]) -> Result<(), AllocError>
     ensures { OnOk result (shared.new.items ≡ shared.old.items ++ writes.now) }
 {
     for w in writes {
-        shared.push(share_timed(w)?)?;
+        shared.push(w.share()?)?;
     }
+    Ok(())
+}
+
+/// Puts a write behind others.
+fn put_last(
+    alloc: Global,
+    writes: &mut Vec<StampedWrite>,
+    write: TimedWrite<SharedValue>,
+) -> Result<(), AllocError>
+    requires { write.time < 2 ^ 63 }
+    ensures ok { OnOk result (writes.new.items ≡ writes.old.items ++ write ∷ []) }
+    ensures err { OnErr result (writes.new.items ≡ writes.old.items) }
+{
+    let write = StampedWrite::of(alloc, write, writes.last())?;
+    writes.push(write)?;
     Ok(())
 }

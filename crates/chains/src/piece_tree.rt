@@ -12,8 +12,9 @@ use crate::part::Part;
 use crate::piece::Piece;
 use crate::rows::Rows;
 use crate::shared_value::SharedValue;
+use crate::stamped::StampedWrite;
 use crate::tree::{Node, Share, Tree};
-use history::{TimedWrite, Version};
+use history::Version;
 use std::alloc::{AllocError, Global};
 
 impl Tree<Piece> {
@@ -38,7 +39,7 @@ impl Tree<Piece> {
         &'a self,
         before: Option<&'a Piece>,
         time: u64,
-    ) -> Option<&'a TimedWrite<SharedValue>>
+    ) -> Option<&'a StampedWrite>
         requires { IsRisingAfter 0 (held (option_copied before) ++ all_writes self.now.pieces) }
         ensures { option_copied result ≡ find (is_after time) (held (option_copied before.entry) ++ all_writes self.now.pieces) }
     {
@@ -120,7 +121,7 @@ impl Tree<Piece> {
         before: Option<&'a Piece>,
         end: u64,
         time: u64,
-    ) -> Option<(&'a [TimedWrite<SharedValue>], u64)>
+    ) -> Option<(&'a [StampedWrite], u64)>
         requires rising { IsRisingAfter 0 (held (option_copied before) ++ all_writes self.now.pieces) }
         requires ended { last_time (held (option_copied before) ++ all_writes self.now.pieces) ≤ end }
         requires later { time < end }

@@ -9,8 +9,9 @@ ghost use Rattle.chains.specs.Rows.{versions_upto, version_of_loan, IsNextPiece}
 use crate::chain::Chain;
 use crate::rows::{near_count, row_of};
 use crate::shared_value::SharedValue;
+use crate::stamped::StampedWrite;
 use crate::write::first_time_or;
-use history::{TimedWrite, Version};
+use history::Version;
 use std::marker::Model;
 
 /// The rows that are left of a key's from one time up to another, in microseconds since 1970, by rising
@@ -21,7 +22,7 @@ pub struct RowWalk<'a> {
     chain: Option<&'a Chain>,
     // The writes that are left of one piece, whose rows begin at `from` and whose last version ends at
     // `end`; the rows of the chain from then on come behind them.
-    left: &'a [TimedWrite<SharedValue>],
+    left: &'a [StampedWrite],
     from: u64,
     end: u64,
     upto: u64,
@@ -47,18 +48,18 @@ impl<'a> Model for RowWalk<'a> {
 /// The first row of these writes, and the writes behind it; the last version ends at `end`. It goes no
 /// further than the interval.
 fn next_row(
-    writes: &[TimedWrite<SharedValue>],
+    writes: &[StampedWrite],
     end: u64,
     from: u64,
     upto: u64,
-) -> Option<(Version<&SharedValue>, &[TimedWrite<SharedValue>])>
+) -> Option<(Version<&SharedValue>, &[StampedWrite])>
     requires { IsRisingAfter 0 writes.now }
     ensures rising { IfSome result (λ found. IsRisingAfter 0 found.1.now) }
     ensures is { MatchOption result (rows (versions_upto end writes.now) from upto ≡ []) (λ found. rows (versions_upto end writes.now) from upto ≡ version_of_loan found.0 ∷ rows (versions_upto end found.1.now) from upto) }
 {
     let mut rest = writes;
     while let [first, after @ ..] = rest {
-        if upto <= first.time {
+        if upto <= first.time() {
             return None;
         }
         if let Some(row) = row_of(first, first_time_or(after, end), from, upto) {
@@ -70,11 +71,11 @@ fn next_row(
 }
 
 /// Whether there are some, and all of them were made from `from` on and before `upto`.
-fn are_between(writes: &[TimedWrite<SharedValue>], from: u64, upto: u64) -> bool {
+fn are_between(writes: &[StampedWrite], from: u64, upto: u64) -> bool {
     if let Some(first) = writes.first()
         && let Some(last) = writes.last()
     {
-        from <= first.time && last.time < upto
+        from <= first.time() && last.time() < upto
     } else {
         false
     }
@@ -82,7 +83,7 @@ fn are_between(writes: &[TimedWrite<SharedValue>], from: u64, upto: u64) -> bool
 
 /// The same writes; none where none of them has a value. Where all of them are between the two times it
 /// looks at each value in turn, so that they are at hand when they are asked for.
-fn looked_at(writes: &[TimedWrite<SharedValue>], from: u64, upto: u64) -> &[TimedWrite<SharedValue>]
+fn looked_at(writes: &[StampedWrite], from: u64, upto: u64) -> &[StampedWrite]
     ensures is { (end : ℕ) → versions_upto end result.now ≡ versions_upto end writes.now }
     ensures rising { IsRisingAfter 0 writes.now → IsRisingAfter 0 result.now }
 {
@@ -98,7 +99,7 @@ fn next_piece<'a>(
     chain: Option<&'a Chain>,
     time: u64,
     upto: u64,
-) -> Option<(&'a [TimedWrite<SharedValue>], u64)>
+) -> Option<(&'a [StampedWrite], u64)>
     ensures { MatchOption result (rows (versions (writes_in (option_copied chain.entry))) time upto ≡ []) (λ found. IsNextPiece time upto (versions (writes_in (option_copied chain.entry))) found.0.now found.1) }
 {
     if upto <= time {

@@ -4,8 +4,9 @@ ghost use Rattle.history.specs.Versions as spans;
 ghost use Rattle.chains.specs.Rows as specs;
 
 use crate::shared_value::SharedValue;
+use crate::stamped::StampedWrite;
 use crate::write::first_time_or;
-use history::{TimedWrite, Version};
+use history::Version;
 use std::alloc::AllocError;
 
 /// Rows, each a part of a version: the value, and from which time on and up to which it stands.
@@ -13,11 +14,11 @@ pub(crate) type Rows = Vec<Version<SharedValue>>;
 
 /// 1 where the write has a value, at which it looks in front and where its second field begins, and else
 /// 0.
-fn one_if_near(write: &TimedWrite<SharedValue>) -> usize
+fn one_if_near(write: &StampedWrite) -> usize
     ensures is { (from to : ℕ) → result ≡ length (spans.version_of from to write.now.write) }
     ensures most { result ≤ 1 }
 {
-    let Some(shared) = &write.write else {
+    let Some(shared) = write.value() else {
         return 0;
     };
     let value = shared.value();
@@ -31,7 +32,7 @@ fn one_if_near(write: &TimedWrite<SharedValue>) -> usize
 /// How many of these writes have a value. It looks at each value in turn, at two places that lie apart, with
 /// nothing to be done between, so that a processor fetches many at once; who then goes over their rows
 /// has them near.
-pub(crate) fn near_count(writes: &[TimedWrite<SharedValue>]) -> usize
+pub(crate) fn near_count(writes: &[StampedWrite]) -> usize
     ensures is { (end : ℕ) → result ≡ length (specs.versions_upto end writes.now) }
 {
     let mut count = 0;
@@ -44,18 +45,13 @@ pub(crate) fn near_count(writes: &[TimedWrite<SharedValue>]) -> usize
 }
 
 /// The part from `a` to `b` of a version that ends at `to`, if there is one.
-pub(crate) fn row_of(
-    write: &TimedWrite<SharedValue>,
-    to: u64,
-    a: u64,
-    b: u64,
-) -> Option<Version<&SharedValue>>
+pub(crate) fn row_of(write: &StampedWrite, to: u64, a: u64, b: u64) -> Option<Version<&SharedValue>>
     ensures { option_to_list (option_map specs.version_of_loan result) ≡ spans.rows (spans.version_of write.now.time to write.now.write) a b }
 {
-    let Some(value) = &write.write else {
+    let Some(value) = write.value() else {
         return None;
     };
-    let from = write.time.max(a);
+    let from = write.time().max(a);
     let to = to.min(b);
     if to <= from {
         return None;
@@ -64,13 +60,7 @@ pub(crate) fn row_of(
 }
 
 /// Puts behind the rows the part from `a` to `b` of a version that ends at `to`, if there is one.
-fn add_row(
-    rows: &mut Rows,
-    write: &TimedWrite<SharedValue>,
-    to: u64,
-    a: u64,
-    b: u64,
-) -> Result<(), AllocError>
+fn add_row(rows: &mut Rows, write: &StampedWrite, to: u64, a: u64, b: u64) -> Result<(), AllocError>
     ensures { OnOk result (rows.new.items ≡ rows.old.items ++ spans.rows (spans.version_of write.now.time to write.now.write) a b) }
 {
     let Some(row) = row_of(write, to, a, b) else {
@@ -99,7 +89,7 @@ pub(crate) fn add_record(
 /// Puts behind the rows those of the versions of these writes, of which the last ends at `end`.
 pub(crate) fn add_rows_of(
     rows: &mut Rows,
-    writes: &[TimedWrite<SharedValue>],
+    writes: &[StampedWrite],
     end: u64,
     a: u64,
     b: u64,

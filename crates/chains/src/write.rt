@@ -6,7 +6,7 @@ ghost use Rattle.chains.specs.Rows as specs;
 ghost use Rattle.chains.specs.Writes.{kept_after, is_after, IsBegun};
 
 use crate::shared_value::SharedValue;
-use history::TimedWrite;
+use crate::stamped::StampedWrite;
 use std::alloc::AllocError;
 
 /// The same write, with its value shared.
@@ -19,33 +19,21 @@ pub(crate) fn share_write(write: &Option<SharedValue>) -> Result<Option<SharedVa
     }
 }
 
-/// The same write at the same time, with its value shared.
-pub(crate) fn share_timed(
-    write: &TimedWrite<SharedValue>,
-) -> Result<TimedWrite<SharedValue>, AllocError>
-    ensures { IfOk result (λ w. w ≡ write.now) }
-{
-    Ok(TimedWrite {
-        time: write.time,
-        write: share_write(&write.write)?,
-    })
-}
-
 /// Whether the write takes the value away, at the mark or before.
-fn is_gone_by(write: &TimedWrite<SharedValue>, mark: u64) -> bool
+fn is_gone_by(write: &StampedWrite, mark: u64) -> bool
     ensures { result ≡ (nat_le write.now.time mark && is_none write.now.write) }
 {
-    write.time <= mark && write.write.is_none()
+    write.time() <= mark && write.is_deletion()
 }
 
 /// How many of these writes have a value. It looks at each value in turn, with nothing to be done
 /// between, so that a processor fetches many at once; who then shares them all has them near.
-pub(crate) fn value_count(writes: &[TimedWrite<SharedValue>]) -> usize
+pub(crate) fn value_count(writes: &[StampedWrite]) -> usize
     ensures { result ≤ length writes.now }
 {
     let mut count = 0;
     for w in writes {
-        if let Some(shared) = &w.write
+        if let Some(shared) = w.value()
             && shared.value().len() > 0
         {
             count += 1;
@@ -55,31 +43,31 @@ pub(crate) fn value_count(writes: &[TimedWrite<SharedValue>]) -> usize
 }
 
 /// When the first of these writes was made, or `end` where there is none.
-pub(crate) fn first_time_or(writes: &[TimedWrite<SharedValue>], end: u64) -> u64
+pub(crate) fn first_time_or(writes: &[StampedWrite], end: u64) -> u64
     ensures { result ≡ specs.first_time_or end writes.now }
 {
     match writes {
         [] => end,
-        [first, ..] => first.time,
+        [first, ..] => first.time(),
     }
 }
 
 /// How many of the writes were made by a time. They are few and lie together, so they are passed one
 /// after another: where they come from far, halving would wait for each step's. The last ones are asked
 /// for most.
-fn begun_by(writes: &[TimedWrite<SharedValue>], time: u64) -> usize
+fn begun_by(writes: &[StampedWrite], time: u64) -> usize
     requires { IsRisingAfter 0 writes.now }
     ensures { IsBegun time writes.now result }
 {
     let mut begun = writes.len();
-    while begun > 0 && time < writes[begun - 1].time {
+    while begun > 0 && time < writes[begun - 1].time() {
         begun -= 1;
     }
     begun
 }
 
 /// The value at a time.
-pub(crate) fn value_in(writes: &[TimedWrite<SharedValue>], time: u64) -> Option<&SharedValue>
+pub(crate) fn value_in(writes: &[StampedWrite], time: u64) -> Option<&SharedValue>
     requires { IsRisingAfter 0 writes.now }
     ensures { option_copied result ≡ value_at writes.now time }
 {
@@ -87,14 +75,11 @@ pub(crate) fn value_in(writes: &[TimedWrite<SharedValue>], time: u64) -> Option<
     if begun == 0 {
         return None;
     }
-    writes[begun - 1].write.as_ref()
+    writes[begun - 1].value()
 }
 
 /// The first write made after a time, a deletion too.
-pub(crate) fn next_in(
-    writes: &[TimedWrite<SharedValue>],
-    time: u64,
-) -> Option<&TimedWrite<SharedValue>>
+pub(crate) fn next_in(writes: &[StampedWrite], time: u64) -> Option<&StampedWrite>
     requires { IsRisingAfter 0 writes.now }
     ensures { option_copied result ≡ find (is_after time) writes.now }
 {
@@ -106,7 +91,7 @@ pub(crate) fn next_in(
 }
 
 /// How many of the first writes say nothing of times from the mark on.
-pub(crate) fn ended_by(writes: &[TimedWrite<SharedValue>], mark: u64) -> usize
+pub(crate) fn ended_by(writes: &[StampedWrite], mark: u64) -> usize
     requires { IsRisingAfter 0 writes.now }
     ensures within { result ≤ length writes.now }
     ensures kept { kept_after mark writes.now ≡ drop result writes.now }

@@ -1,6 +1,5 @@
-use Rattle.std.proofs.Common.{◌≡◌, ◌∙◌, ◌-◌, ℕ, suc, sym, subst, arith}
-use Rattle.chains.specs.Writes.{IsBegun}
-use Rattle.std.proofs.Common.{None}
+use Rattle.std.proofs.Common.{◌≡◌, ◌∙◌, ◌-◌, None, ℕ, suc, ap, sym, subst, arith}
+use Rattle.chains.specs.Writes.{Write, IsBegun}
 use Rattle.chains.proofs.Begun.{value-none, value-begun}
 use Rattle.chains.proofs.write.value_in.Goals as goal
 
@@ -13,4 +12,4 @@ returns c =
     let n = c.begun_by-begun.result - 1 in
     let next : c.begun_by-begun.result ≡ suc n = omega arith in
     let begun : IsBegun c.args.time c.args.writes.now (suc n) = subst (λ (m : ℕ). IsBegun c.args.time c.args.writes.now m) next c.begun_by-begun.ensures in
-    c.as_ref.ensures.value ∙ sym (value-begun None c.args.time c.args.writes.now n c.index-writes-begun.result begun)
+    c.value.ensures ∙ ap (λ (w : Write). w.write) c.index-writes-begun.is ∙ sym (value-begun None c.args.time c.args.writes.now n c.index-writes-begun.result begun)

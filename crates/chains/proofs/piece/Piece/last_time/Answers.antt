@@ -1,4 +1,4 @@
-use Rattle.std.proofs.Common.{◌≡◌, ◌-◌, Some, length, sym}
+use Rattle.std.proofs.Common.{◌≡◌, ◌∙◌, ◌-◌, Some, length, sym}
 use Rattle.std.specs.List.{slice_get}
 use Rattle.chains.proofs.Kept.{last_time-get}
 use Rattle.chains.proofs.piece.Piece.last_time.Goals as goal
@@ -7,4 +7,4 @@ pub returns-in-Some-clause-is : goal.returns-in-Some-clause-is
 returns-in-Some-clause-is c =
     let ps = c.args.self.now in
     let is : slice_get ps (length ps - 1) ≡ Some c.in-Some.w.now = rw c.as_slice.ensures.is at (sym c.in-Some.ensures.value) in
-    sym (last_time-get 0 ps c.in-Some.w.now is)
+    c.time.ensures ∙ sym (last_time-get 0 ps c.in-Some.w.now is)

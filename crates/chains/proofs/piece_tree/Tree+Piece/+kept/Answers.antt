@@ -20,7 +20,7 @@ pub returns-then-mark-first_time : goal.returns-then-mark-first_time
 returns-then-mark-first_time t c =
     let node = c.in-Some.node.now in
     let kept = kept_left node c.in-Some.ensures.some.pieces c.first_time.ensures.some c.first_time.ensures.is c.args.mark (held (option_copied c.args.before)) c.requires c.if-mark-first_time.true in
-    if_joined-writes c.join.result _ _ _ _ c.join.ensures (rw (c.in_ok-left.ensures, c.in_ok-share.ensures, c.in_ok-share-2.ensures) (sym kept))
+    if_joined-writes c.join-then-mark-first_time.result _ _ _ _ c.join-then-mark-first_time.ensures (rw (c.in_ok-left.ensures, c.in_ok-share.ensures, c.in_ok-share-2.ensures) (sym kept))
 
 pub returns : goal.returns
 returns t c =

@@ -6,7 +6,7 @@ use Rattle.chains.specs.Pieces.{all_writes}
 use Rattle.chains.specs.Writes.{is_after}
 use Rattle.chains.proofs.Nexts.{next_older, next_recent}
 use Rattle.chains.proofs.Parts.{rising-front}
-use Rattle.chains.proofs.chain.Chain.next_after.Goals as goal
+use Rattle.chains.proofs.chain.Chain.stamped_after.Goals as goal
 
 pub next_after-requires : goal.next_after-requires
 next_after-requires c = rising-front 0 (all_writes c.self.inside.older.pieces) c.self.inside.last c.self.invariant
