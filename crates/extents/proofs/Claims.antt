@@ -9,7 +9,6 @@ use Rattle.extents.specs.declared.usage.Usage.{Usage}
 use Rattle.extents.specs.declared.usage.Usage.TheVariants.{Free, Kept}
 use Rattle.extents.specs.Usages.{IsFree, IsKept, with_usage, with_usages, IsNoneOf, used_count}
 use Rattle.extents.specs.Live.{IsNumber, AreLive, usages_of_live, IsFirstNotFree}
-use Rattle.extents.proofs.Counts.{none_used}
 use Rattle.extents.proofs.Frames.{distinct-push, all-push, one_more_used}
 
 -- ---- one extent of a list
@@ -62,14 +61,6 @@ none_or_there (n ∷ ns) number = elim (cases_eq n number) [
   ]
 ]
 
-none_is_not_there : (numbers : List ℕ) (number : ℕ) → IsNoneOf number numbers → Contains numbers number → ⊥
-none_is_not_there numbers number none there = at numbers none there.0 there.1 there.2
-  where
-    at : (ns : List ℕ) → IsNoneOf number ns → (k : ℕ) → k < length ns → get_or ns k number ≡ number → ⊥
-    at [] none k lt is = absurd (omega (arith, lt))
-    at (n ∷ ns) none zero lt is = none.0 is
-    at (n ∷ ns) none (suc k) lt is = at ns none.1 k (omega (arith, lt)) is
-
 -- ---- the extents of a list
 
 free_of_none : (numbers : List ℕ) (number : ℕ) → AllByRecursion IsNumber numbers → IsNumber number → IsNoneOf number numbers → IsFree (usages_of_live numbers) number
@@ -109,9 +100,6 @@ pub record AreClaimed (usages : List Usage) (numbers : List ℕ) : Type 0 where
   pub live : AreLive numbers
   pub usages_are : usages ≡ usages_of_live numbers
   pub counted : used_count usages ≡ length numbers
-
-pub none_claimed : (usages : List Usage) → usages ≡ replicate 65536 Free → AreClaimed usages []
-none_claimed usages is = record { live = record { each = tt; distinct = tt }; usages_are = is; counted = ap used_count is ∙ none_used 65536 }
 
 with_usages-push : (usages : List Usage) (numbers : List ℕ) (number : ℕ) → with_usages usages (numbers ++ number ∷ []) Kept ≡ with_usage (with_usages usages numbers Kept) number Kept
 with_usages-push usages [] number = refl

@@ -74,14 +74,6 @@ module _ (header : Header) (layout : Layout) (group : Group) (room : length layo
         written = one_more_held e is done (done_are done e rest parts) (done_apart done e rest parts) old.heap.bytes at.written;
       }
 
-  -- while it is written, the live chains are kept
-  pub torn_kept : (done : List Extent) (e : Extent) (rest : List Extent) (old : Areas) → IsStoring header layout group done (e ∷ rest) old → AreSound old
-      → KeepsExtents (live layout) (loosened (extent_start e.number) (length (extent_bytes e)) old.heap.bytes old.heap)
-  torn_kept done e rest old at sound =
-      let at_e = extent_start e.number in
-      let n = length (extent_bytes e) in
-      (parts_kept layout e old (loosened at_e n old.heap.bytes old.heap) live_are (is_extent done e rest at.parts_are) (live_apart done e rest at.parts_are) (sound Heap) (loosened_is at_e n old.heap) at.rests.parts).extents
-
   all_synced : (done : List Extent) (old : Areas) → IsStoring header layout group done [] old → AreSound old
       → IsTurnAt header layout group.slot (laid_out layout group) Begun (record old { heap = synced old.heap })
   all_synced done old at sound =

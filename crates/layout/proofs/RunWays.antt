@@ -9,17 +9,13 @@ use Rattle.disk.specs.Areas.{AreaState, Areas, AreSound, overlaid}
 use Rattle.disk.specs.Parts.{HoldsPart}
 use Rattle.disk.proofs.Parts.{written_part, part_beside}
 use Rattle.wire.specs.declared.slot.Run.{Run}
-use Rattle.wire.specs.declared.slot.Slot.{Slot}
 use Rattle.image.specs.Reading.{Reading}
 use Rattle.layout.specs.Runs.{StoredRun, IsStoredRun}
-use Rattle.layout.specs.Layouts.{Layout, live, IsLayoutOf}
-use Rattle.layout.specs.Keeping.{KeepsExtents, KeepsRuns}
-use Rattle.layout.specs.Jobs.{archived}
-use Rattle.layout.specs.SlotTurns.{IsTurnAt}
+use Rattle.layout.specs.Layouts.{Layout, IsLayoutOf}
+use Rattle.layout.specs.Keeping.{KeepsRuns}
 use Rattle.layout.specs.Turn.{Group, Stage, Storing, Turning, IsAt}
 use Rattle.status.specs.declared.header.Header.{Header}
 use Rattle.status.specs.Rules.{AreInRow, runs_of, row_end}
-use Rattle.status.specs.SlotCalls.{SlotStage}
 
 -- ---- rows of runs
 
@@ -86,13 +82,4 @@ group-beside header layout group (Turning stage) areas archive keeps at = record
   status = at.status;
   old_parts = record { extents = at.old_parts.extents; runs = keeps };
   new_parts = record { extents = at.new_parts.extents; runs = keeps };
-}
-
--- and what is written of a group beside the live chains is of no run
-pub run-beside : (header : Header) (layout : Layout) (slot : Slot) (run : StoredRun) (stage : SlotStage) (areas : Areas) (heap : AreaState) → KeepsExtents (live layout) heap
-    → IsTurnAt header layout slot (archived layout slot run) stage areas → IsTurnAt header layout slot (archived layout slot run) stage (record areas { heap = heap })
-run-beside header layout slot run stage areas heap keeps at = record {
-  status = at.status;
-  old_parts = record { extents = keeps; runs = at.old_parts.runs };
-  new_parts = record { extents = keeps; runs = at.new_parts.runs };
 }
