@@ -1,5 +1,5 @@
 -- What each step keeps of the order of the transactions.
-use Rattle.std.proofs.Common.{◌≡◌, ℕ, zero, suc, ◌+◌, ◌-◌, ◌<◌, ◌≤◌, ◌==◌, nat_lt, min, cond, true, false, List, [], ◌∷◌, ◌++◌, length, take, drop, slice_get, Option, None, Some, IsSome, MatchOption, refl, arith, ap, sym, subst, inl, inr}
+use Rattle.std.proofs.Common.{◌≡◌, ℕ, zero, suc, ◌+◌, ◌-◌, ◌<◌, ◌≤◌, ◌==◌, nat_lt, min, cond, true, false, List, [], ◌∷◌, ◌++◌, length, take, drop, slice_get, Option, None, Some, MatchOption, refl, arith, ap, subst, inl, inr}
 use Rattle.std.specs.List.{AllByRecursion, flat_map}
 use Rattle.std.proofs.lemmas.Bool.{cases_lt}
 use Rattle.std.proofs.lemmas.Bool.Decides.{nat_tests}
@@ -11,9 +11,9 @@ use Rattle.group.specs.Queued.{QueuedValue, numbers_of}
 use Rattle.transactions.specs.declared.stage.GroupStage.{GroupStage}
 use Rattle.transactions.specs.declared.stage.GroupStage.TheVariants.{NoGroup, Storing, Stored, Turning}
 use Rattle.transactions.specs.declared.stage.NextStep.TheVariants as steps
-use Rattle.transactions.specs.Values.{TransactionsValue, versions_after, claimed, claimed_by, is_turning}
+use Rattle.transactions.specs.Values.{TransactionsValue, versions_after, claimed, claimed_by}
 use Rattle.transactions.specs.Order.{StageFits, HasExtent, AreBy, IsInOrder}
-use Rattle.transactions.specs.Steps.{step_of, due, grouped, next_extent, extent_of, extent_at, place_behind, stage_behind, wrote_extent, at_stage, published}
+use Rattle.transactions.specs.Steps.{step_of, due, grouped, place_behind, stage_behind, wrote_extent, at_stage, published}
 
 -- ---- commits that wait
 
@@ -55,11 +55,6 @@ pub pending-later : (time later : ℕ) (o : Option (List KeyWrites)) → time �
 pending-later time later None le by = tt
 pending-later time later (Some versions) le by = omega (arith, le, by)
 
-some_at : {A : Type 0} (xs : List A) (k : ℕ) → k < length xs → IsSome (slice_get xs k)
-some_at [] k low = absurd (omega arith)
-some_at (x ∷ xs) zero low = refl
-some_at (x ∷ xs) (suc k) low = some_at xs k (omega arith)
-
 -- ---- stages
 
 -- a stage that asks for an extent is at a member
@@ -68,22 +63,6 @@ step-write member extent group asks = elim (cases_lt member group) [
   | inl less ↦ less
   | inr behind ↦ let no : nat_lt member group ≡ false = grind (arith, nat_tests) in let other : step_of (Storing member extent) group ≡ steps.SyncHeap = rw no refl in absurd cc
 ]
-
--- what a stage asks for is there
-extent_is_there : (s : GroupStage) (group : ℕ) (queue : List QueuedValue) → group ≤ length queue → StageFits s group queue → step_of s group ≡ steps.WriteExtent → IsSome (extent_of queue s)
-extent_is_there NoGroup group queue within fits asks = absurd cc
-extent_is_there Stored group queue within fits asks = absurd cc
-extent_is_there Turning group queue within fits asks = absurd cc
-extent_is_there (Storing member extent) group queue within fits asks =
-    let less : member < group = step-write member extent group asks in
-    at_member (slice_get queue member) refl less
-  where
-    at_member : (o : Option QueuedValue) → slice_get queue member ≡ o → member < group → IsSome (extent_at o extent)
-    at_member None none less = absurd (let some : IsSome (slice_get queue member) = some_at queue member (omega (arith, within)) in let not : IsSome {T = QueuedValue} None = subst (λ (o : Option QueuedValue). IsSome o) none some in cc)
-    at_member (Some q) found less = some_at q.stored extent (fits.2 less q found)
-
-pub next_extent-some : (v : TransactionsValue) → IsInOrder v → due v ≡ steps.WriteExtent → IsSome (next_extent v)
-next_extent-some v order asks = extent_is_there v.stage v.group v.queue order.group_within order.stage_fits asks
 
 -- the next place fits too
 place_behind-fits : (group : ℕ) (queue : List QueuedValue) (member extent : ℕ) (o : Option QueuedValue) → slice_get queue member ≡ o → AllByRecursion HasExtent queue → 0 < group → member < group → StageFits (place_behind o member extent) group queue
@@ -148,25 +127,11 @@ advance-is (Storing member extent) group asks =
 
 -- ---- the steps
 
-pub slot_left : (v : TransactionsValue) → IsInOrder v → due v ≡ steps.BeginSlot → v.used < v.slots
-slot_left v order asks =
-    let is : v.stage ≡ Stored = begin-is v.stage v.group asks in
-    let fits : 0 < v.group = subst (λ (s : GroupStage). StageFits s v.group v.queue) is order.stage_fits in
-    let claims : claimed v ≡ length v.queue = ap (λ (s : GroupStage). claimed_by s v.group (length v.queue)) is in
-    omega (arith, fits, claims, order.room, order.group_within)
-
 no_group-claims : (s : GroupStage) (group : ℕ) (queue : List QueuedValue) → StageFits s group queue → group ≡ 0 → claimed_by s group (length queue) ≡ length queue
 no_group-claims NoGroup group queue fits none = refl
 no_group-claims Stored group queue fits none = refl
 no_group-claims Turning group queue fits none = absurd (omega (arith, fits, none))
 no_group-claims (Storing member extent) group queue fits none = refl
-
--- where no group stands no slot is in the writing
-pub no_group-turns : (s : GroupStage) (group : ℕ) (queue : List QueuedValue) → StageFits s group queue → group ≡ 0 → is_turning s ≡ false
-no_group-turns NoGroup group queue fits none = refl
-no_group-turns Stored group queue fits none = refl
-no_group-turns Turning group queue fits none = absurd (omega (arith, fits, none))
-no_group-turns (Storing member extent) group queue fits none = refl
 
 group_begins : (v : TransactionsValue) → IsInOrder v → v.group ≡ 0 → 0 < length v.queue → IsInOrder (record v { group = min (length v.queue) 16; stage = Storing 0 0 })
 group_begins v order none some =

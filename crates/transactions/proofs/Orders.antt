@@ -21,10 +21,6 @@ mark_after-last mark (x ∷ []) (suc n) q e is = absurd (omega arith)
 mark_after-last mark (x ∷ y ∷ ys) zero q e is = absurd (omega arith)
 mark_after-last mark (x ∷ y ∷ ys) (suc n) q e is = mark_after-last x.reclaimed (y ∷ ys) n q (omega arith) is
 
-pub versions_after-push : (v : List KeyWrites) (qs : List QueuedValue) (q : QueuedValue) → versions_after v (qs ++ q ∷ []) ≡ q.after
-versions_after-push v [] q = refl
-versions_after-push v (x ∷ xs) q = versions_after-push x.after xs q
-
 pub last_time-push : (t : ℕ) (heads : List CommitHead) (head : CommitHead) → last_time_after t (heads ++ head ∷ []) ≡ head.time
 last_time-push t [] head = refl
 last_time-push t (h ∷ hs) head = last_time-push h.time hs head

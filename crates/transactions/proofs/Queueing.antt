@@ -24,7 +24,7 @@ use Rattle.transactions.specs.declared.stage.GroupStage.{GroupStage}
 use Rattle.transactions.specs.declared.stage.GroupStage.TheVariants.{NoGroup, Storing, Stored, Turning}
 use Rattle.transactions.specs.Values.{TransactionsValue, ordered, ordered_mark, claimed_by, spare}
 use Rattle.transactions.specs.Order.{StageFits, AreBy, IsInOrder}
-use Rattle.transactions.specs.Submits.{Reads, verdict, verdict_on_writes, bodies_for, bodies_over, queued_as, with_queued}
+use Rattle.transactions.specs.Submits.{bodies_for, bodies_over, queued_as, with_queued}
 use Rattle.transactions.proofs.Kept.{all-push, by-push, pending-later}
 use Rattle.transactions.proofs.Orders.{last_time-push}
 use Rattle.transactions.proofs.Publishing.{numbers-stored, length-stored, out-joined}
@@ -84,15 +84,6 @@ keeps-queued v label time writes numbers order least many some early later room 
       room = rw longer (omega (arith, claims, room, order.room));
       slots_few = order.slots_few;
     }
-
--- the verdict on some writes
-pub verdict-some : (v : TransactionsValue) (snapshot : ℕ) (writes : List (KeyWrite Value)) (now : ℕ) → 0 < length writes → verdict v snapshot writes now ≡ verdict_on_writes v snapshot writes now
-verdict-some v snapshot [] now some = absurd (omega arith)
-verdict-some v snapshot (w ∷ ws) now some = refl
-
-pub verdict-none : (v : TransactionsValue) (snapshot : ℕ) (writes : List (KeyWrite Value)) (now : ℕ) → length writes ≡ 0 → verdict v snapshot writes now ≡ Reads
-verdict-none v snapshot [] now none = refl
-verdict-none v snapshot (w ∷ ws) now none = absurd (omega arith)
 
 -- a commit with these parts is the one that waits
 pub queued-is : (v : TransactionsValue) (label time first extents records : ℕ) (after : List KeyWrites) (reclaimed : ℕ) (stored : List StoredExtent) (writes : List (KeyWrite Value)) (numbers : List ℕ)

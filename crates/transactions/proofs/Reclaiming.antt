@@ -1,20 +1,19 @@
 -- What the steps of a reclaim keep of the order of the transactions.
-use Rattle.std.proofs.Common.{◌≡◌, ℕ, zero, suc, ◌+◌, ◌-◌, ◌<◌, ◌≤◌, nat_lt, true, false, List, [], ◌∷◌, ◌++◌, length, take, drop, slice_get, slice_set, Option, None, Some, MatchOption, refl, arith, ap, sym, subst, ◌∙◌}
+use Rattle.std.proofs.Common.{◌≡◌, ℕ, zero, suc, ◌+◌, ◌-◌, ◌<◌, ◌≤◌, nat_lt, true, List, [], ◌∷◌, ◌++◌, length, slice_get, slice_set, Option, None, Some, MatchOption, refl, arith, ap, sym, subst, ◌∙◌}
 use Rattle.std.specs.List.{AllByRecursion, flat_map}
 use Rattle.std.proofs.lemmas.List.{append-nil}
 use Rattle.std.proofs.lemmas.List.Concat.{flat_map-cons}
 use Rattle.chains.specs.KeyWrites.{KeyWrites, latest, forgotten}
-use Rattle.extents.specs.declared.usage.Usage.{Usage}
-use Rattle.extents.specs.declared.usage.Usage.TheVariants.{Free, Out, Kept}
-use Rattle.extents.specs.Usages.{IsOut, with_usages, AreOut}
+use Rattle.extents.specs.declared.usage.Usage.TheVariants.{Kept}
+use Rattle.extents.specs.Usages.{IsOut, AreOut}
 use Rattle.extents.specs.Times.{all_retired_by}
 use Rattle.group.specs.CommitOrder as orders
 use Rattle.group.specs.Queued.{QueuedValue, numbers_of}
 use Rattle.group.specs.Taking.{AreLeastFree}
 use Rattle.transactions.specs.declared.stage.GroupStage.{GroupStage}
 use Rattle.transactions.specs.declared.stage.GroupStage.TheVariants.{NoGroup, Storing, Stored, Turning}
-use Rattle.transactions.specs.Values.{TransactionsValue, versions_after, claimed_by}
-use Rattle.transactions.specs.Order.{StageFits, HasExtent, AreBy, IsInOrder}
+use Rattle.transactions.specs.Values.{TransactionsValue, claimed_by}
+use Rattle.transactions.specs.Order.{StageFits, HasExtent, IsInOrder}
 use Rattle.transactions.specs.Steps.{fresh_at}
 use Rattle.transactions.specs.Reclaims.{with_reserved, IsReserved, reclaimed_to, versions_once}
 use Rattle.transactions.specs.Submits.{free_count}
@@ -69,10 +68,6 @@ reserved-out v mark order stays =
 pub fresh-is : (mark place : ℕ) (queue : List QueuedValue) (q : QueuedValue) → slice_get queue place ≡ Some q → nat_lt q.reclaimed mark ≡ true
     → fresh_at mark place queue (slice_get queue place) ≡ slice_set queue place (record q { after = forgotten mark q.after; reclaimed = mark })
 fresh-is mark place queue q found stale = rw (found, stale) refl
-
-pub none-fresh : (mark place : ℕ) (queue : List QueuedValue) (o : Option QueuedValue) → MatchOption o (Unit {0}) (λ q. nat_lt q.reclaimed mark ≡ false) → fresh_at mark place queue o ≡ queue
-none-fresh mark place queue None new = refl
-none-fresh mark place queue (Some q) new = rw new refl
 
 module _ (after : List KeyWrites) (mark : ℕ) where
   abbrev anew : QueuedValue → QueuedValue
