@@ -1,6 +1,7 @@
 //! The bytes of fields: in the value itself where they are few.
 
 ghost use Rattle.std.specs.Prelude.{◌≡◌, ◌<◌, ◌≤◌, ◌+◌, [], ◌++◌, length, IsTrue, ◌↔◌, IfOk, OnOk, OnErr};
+ghost use Rattle.wire.specs.Fields.{field_bytes};
 ghost use Rattle.wire.specs.Counted.{with_field};
 
 use std::alloc::{AllocError, Global};
@@ -110,66 +111,35 @@ impl ShortBytes {
         self.count += 1;
     }
 
-    // The same in a piece of memory, with room for so many bytes more.
-    fn spill(&self, room: usize) -> Result<LongBytes, AllocError>
+    // The bytes in a piece of memory with room for so many more, and for as many again as here.
+    fn spill(&self, room: usize) -> Result<Vec<u8>, AllocError>
         requires { room ≤ 256 }
-        ensures { IfOk result (λ long. long ≡ self.now) }
+        ensures { IfOk result (λ bytes. bytes.items ≡ self.now.bytes) }
     {
-        let mut bytes = Vec::with_capacity(self.alloc, self.len as usize + room)?;
+        let capacity = (self.len as usize + room).max(2 * INLINE);
+        let mut bytes = Vec::with_capacity(self.alloc, capacity)?;
         bytes.extend_from_slice(self.bytes())?;
-        Ok(LongBytes {
-            count: self.count,
-            bytes,
-        })
+        Ok(bytes)
     }
 }
 
-// Bytes in a piece of memory of their own.
-#[derive(Drop)]
-struct LongBytes {
-    count: u8,
-    bytes: Vec<u8>,
+// Appends a field. Where there is no memory nothing changes.
+fn push_field(bytes: &mut Vec<u8>, field: &[u8]) -> Result<(), AllocError>
+    requires { length field.now ≤ 255 }
+    ensures ok { OnOk result (bytes.new.items ≡ bytes.old.items ++ field_bytes field.now) }
+    ensures err { OnErr result (bytes.new.items ≡ bytes.old.items) }
+{
+    bytes.reserve(field.len() + 1)?;
+    bytes.push_reserved(field.len() as u8);
+    bytes.extend_from_slice(field).unwrap();
+    Ok(())
 }
 
-impl Model for LongBytes {
-    ghost use Rattle.wire.specs.Counted.{Counted};
-
-    ghost Value = { Counted };
-
-    ghost view = { λ l. record { count = l.count; bytes = l.bytes.items } };
-}
-
-impl LongBytes {
-    fn count(&self) -> u8
-        ensures { result ≡ self.now.count }
-    {
-        self.count
-    }
-
-    fn bytes(&self) -> &[u8]
-        ensures { result.now ≡ self.now.bytes }
-    {
-        self.bytes.as_slice()
-    }
-
-    fn push(&mut self, field: &[u8]) -> Result<(), AllocError>
-        requires few { self.old.count < 255 }
-        requires short { length field.now ≤ 255 }
-        ensures ok { OnOk result (self.new ≡ with_field self.old field.now) }
-        ensures err { OnErr result (self.new ≡ self.old) }
-    {
-        self.bytes.reserve(field.len() + 1)?;
-        self.bytes.push_reserved(field.len() as u8);
-        self.bytes.extend_from_slice(field).unwrap();
-        self.count += 1;
-        Ok(())
-    }
-}
-
+// The count comes first in both, so it is read without asking which of the two it is.
 #[derive(Drop)]
 enum Place {
     Short(ShortBytes),
-    Long(LongBytes),
+    Long { count: u8, bytes: Vec<u8> },
 }
 
 /// How many fields there are, and their bytes. Both kinds of place hold the count beside what they
@@ -209,7 +179,7 @@ impl Spelled {
         }
         let bytes = Vec::with_capacity(alloc, room)?;
         Ok(Spelled {
-            place: Place::Long(LongBytes { count: 0, bytes }),
+            place: Place::Long { count: 0, bytes },
         })
     }
 
@@ -224,7 +194,7 @@ impl Spelled {
         }
         let bytes = Vec::from_slice(alloc, bytes)?;
         Ok(Spelled {
-            place: Place::Long(LongBytes { count, bytes }),
+            place: Place::Long { count, bytes },
         })
     }
 
@@ -236,7 +206,7 @@ impl Spelled {
             Place::Short(short) => Ok(Spelled {
                 place: Place::Short(short.copy()),
             }),
-            Place::Long(long) => Spelled::of(alloc, long.count(), long.bytes()),
+            Place::Long { count, bytes } => Spelled::of(alloc, *count, bytes.as_slice()),
         }
     }
 
@@ -246,7 +216,7 @@ impl Spelled {
     {
         match &self.place {
             Place::Short(short) => short.count(),
-            Place::Long(long) => long.count(),
+            Place::Long { count, .. } => *count,
         }
     }
 
@@ -256,7 +226,7 @@ impl Spelled {
     {
         match &self.place {
             Place::Short(short) => short.bytes(),
-            Place::Long(long) => long.bytes(),
+            Place::Long { bytes, .. } => bytes.as_slice(),
         }
     }
 
@@ -273,12 +243,17 @@ impl Spelled {
                     short.push(field);
                     return Ok(());
                 }
-                let mut long = short.spill(field.len() + 1)?;
-                long.push(field)?;
-                self.place = Place::Long(long);
+                let count = short.count() + 1;
+                let mut bytes = short.spill(field.len() + 1)?;
+                push_field(&mut bytes, field)?;
+                self.place = Place::Long { count, bytes };
                 Ok(())
             }
-            Place::Long(long) => long.push(field),
+            Place::Long { count, bytes } => {
+                push_field(bytes, field)?;
+                *count += 1;
+                Ok(())
+            }
         }
     }
 }
