@@ -2,16 +2,13 @@
 use Rattle.std.proofs.Common.{◌≡◌, inl, inr, ℕ, ◌+◌, ◌<◌, nat_le, true, false, cond, List, [], ◌∷◌, ◌++◌, map, length, Option, refl, sym, ap, subst, ◌∙◌, arith, append_assoc}
 use Rattle.std.specs.Prelude.{flat_map}
 use Rattle.std.specs.List.{AllByRecursion}
-use Rattle.std.proofs.lemmas.Bool.{cases_lt}
-use Rattle.std.proofs.lemmas.Option.{slice_get_within}
+use Rattle.std.proofs.lemmas.Bool.{cases_order}
 use Rattle.disk.specs.Areas.{Image}
-use Rattle.wire.proofs.Again.{one_slot}
 use Rattle.wire.specs.declared.slot.Member.{Member as Entry}
 use Rattle.wire.specs.declared.slot.Anchors.{Anchors}
 use Rattle.wire.specs.declared.slot.Slot.{Slot}
 use Rattle.status.specs.declared.header.Header.{Header}
 use Rattle.status.specs.Header.{IsFront}
-use Rattle.status.specs.Log.{body_at}
 use Rattle.history.specs.declared.key.Key.{Key}
 use Rattle.image.specs.Values.{Value}
 use Rattle.image.specs.Reading.{HeapRecord, OldRecord, Reading}
@@ -24,7 +21,7 @@ use Rattle.layout.specs.Layouts.{StoredMember, Layout, extents_of, live, entries
 use Rattle.layout.specs.Opening.{HoldsLog, Opens, IsLiveMember, values_left, AreLive, FailsAt, HasAnchors, mark_of}
 use Rattle.layout.proofs.Lists.{all_of_front, all_of_back, distinct_parts}
 use Rattle.layout.proofs.Live.{live_of_parts}
-use Rattle.layout.proofs.Unique.{one_chain, slot_within, same_slots}
+use Rattle.layout.proofs.Unique.{one_chain, only_slots}
 
 -- ---- the header
 
@@ -35,12 +32,10 @@ no_fewer h h' front is is' fewer =
 
 pub one_header : (h h' : Header) (front : List ℕ) → IsFront h front → IsFront h' front → h ≡ h'
 one_header h h' front is is' =
-    let pieces : h.pieces ≡ h'.pieces = elim (cases_lt h.pieces h'.pieces) [
-      | inl fewer ↦ absurd (no_fewer h h' front is is' fewer)
-      | inr others ↦ elim (cases_lt h'.pieces h.pieces) [
-        | inl more ↦ absurd (no_fewer h' h front is' is more)
-        | inr same ↦ omega arith
-      ]
+    let pieces : h.pieces ≡ h'.pieces = elim (cases_order h.pieces h'.pieces) [
+      | inl same ↦ same
+      | inr (inl fewer) ↦ absurd (no_fewer h h' front is is' fewer)
+      | inr (inr more) ↦ absurd (no_fewer h' h front is' is more)
     ] in
     let profile : h.profile ≡ h'.profile = sym is.says.profile ∙ is'.says.profile in
     let slots : h.slots ≡ h'.slots = sym is.says.slots ∙ is'.says.slots in
@@ -48,25 +43,8 @@ one_header h h' front is is' =
 
 -- ---- the log
 
-log_no_longer : (header : Header) (bytes : List ℕ) (a b : List Slot) → HoldsLog header bytes a → HoldsLog header bytes b → length a < length b → ⊥
-log_no_longer header bytes a b log_a log_b shorter =
-    let there = slot_within b (length a) shorter in
-    log_a.ended (let fits = log_b.opens.fits in omega arith) (log_b.opens.each_open (length a) there.0 there.1)
-
 pub one_held_log : (header : Header) (bytes : List ℕ) (a b : List Slot) → HoldsLog header bytes a → HoldsLog header bytes b → a ≡ b
-one_held_log header bytes a b log_a log_b =
-    let long : length a ≡ length b = elim (cases_lt (length a) (length b)) [
-      | inl shorter ↦ absurd (log_no_longer header bytes a b log_a log_b shorter)
-      | inr others ↦ elim (cases_lt (length b) (length a)) [
-        | inl longer ↦ absurd (log_no_longer header bytes b a log_b log_a longer)
-        | inr same ↦ omega arith
-      ]
-    ] in
-    same_slots a b long (λ n x y is_x is_y.
-    let within : n < length a = slice_get_within a n x is_x in
-    let fits = log_a.opens.fits in
-    let few = log_a.opens.has_room.few in
-    one_slot header.profile n (body_at bytes n) x y (omega arith) (log_a.opens.each_spelled n x is_x) (log_b.opens.each_spelled n y is_y))
+one_held_log header bytes a b log_a log_b = only_slots header bytes a b log_a.opens log_b.opens log_a.ended log_b.ended
 
 -- ---- the records of a chain
 

@@ -1,17 +1,17 @@
 -- The bytes of an extent say what it is, and so those of a heap which chain begins at an extent.
 use Rattle.std.proofs.Common.{◌≡◌, ℕ, zero, suc, inl, inr, Some, ◌+◌, ◌-◌, ◌^◌, ◌<◌, List, [], ◌∷◌, ◌++◌, length, take, drop, replicate, refl, sym, ap, ◌∙◌, arith}
 use Rattle.std.specs.Prelude.{slice_range, slice_get}
-use Rattle.std.proofs.lemmas.Bool.{cases_lt}
-use Rattle.std.proofs.lemmas.Option.{slice_get_within}
+use Rattle.std.proofs.lemmas.Bool.{cases_lt, cases_order}
+use Rattle.std.proofs.lemmas.Option.{slice_get-get_or}
 use Rattle.wire.specs.declared.slot.Slot.{Slot}
 use Rattle.wire.proofs.Again.{one_slot}
-use Rattle.status.specs.Log.{body_at, IsOpen, IsLog}
+use Rattle.status.specs.Log.{body_at, IsOpen, OpensWith, IsLog}
 use Rattle.disk.specs.Areas.{Image}
 use Rattle.history.specs.Histories.{History}
 use Rattle.image.specs.Values.{Value}
 use Rattle.layout.specs.Layouts.{ImageStandsFor}
 use Rattle.std.specs.List.{AllByRecursion}
-use Rattle.std.proofs.lemmas.List.{take_at}
+use Rattle.std.proofs.lemmas.List.{take_at, same_lists}
 use Rattle.byteorder.specs.Endian.{little_from}
 use Rattle.byteorder.specs.Numbers.{little_from-bytes}
 use Rattle.wire.specs.Spelling.{u32_bytes, IsSpelled}
@@ -94,34 +94,25 @@ slot_within [] n lt = absurd (omega arith)
 slot_within (s ∷ slots) zero lt = (s, refl)
 slot_within (s ∷ slots) (suc n) lt = slot_within slots n (omega arith)
 
-no_longer : (header : Header) (bytes : List ℕ) (a b : List Slot) → IsLog header bytes a → IsLog header bytes b → length a < length b → ⊥
-no_longer header bytes a b log_a log_b shorter =
+no_longer : (header : Header) (bytes : List ℕ) (a b : List Slot) → (length a < total header → ¬ IsOpen bytes (length a)) → OpensWith header bytes b → length a < length b → ⊥
+no_longer header bytes a b ended opens shorter =
     let there = slot_within b (length a) shorter in
-    log_a.closed (length a) (omega arith) (let fits = log_b.opens.fits in omega arith) (log_b.opens.each_open (length a) there.0 there.1)
+    ended (let fits = opens.fits in omega arith) (opens.each_open (length a) there.0 there.1)
 
-pub same_slots : (a b : List Slot) → length a ≡ length b → ((n : ℕ) (x y : Slot) → slice_get a n ≡ Some x → slice_get b n ≡ Some y → x ≡ y) → a ≡ b
-same_slots [] [] long same = refl
-same_slots [] (y ∷ b) long same = absurd (omega arith)
-same_slots (x ∷ a) [] long same = absurd (omega arith)
-same_slots (x ∷ a) (y ∷ b) long same =
-    let first : x ≡ y = same 0 x y refl refl in
-    let rest : a ≡ b = same_slots a b (omega arith) (λ n s t is_s is_t. same (suc n) s t is_s is_t) in
-    λ i. first i ∷ rest i
+-- slots that open, where the gate behind them is closed, are the only ones
+pub only_slots : (header : Header) (bytes : List ℕ) (a b : List Slot) → OpensWith header bytes a → OpensWith header bytes b
+    → (length a < total header → ¬ IsOpen bytes (length a)) → (length b < total header → ¬ IsOpen bytes (length b)) → a ≡ b
+only_slots header bytes a b opens_a opens_b ended_a ended_b = elim (cases_order (length a) (length b)) [
+  | inl long ↦ same_lists a b long (λ n d within.
+      let fits = opens_a.fits in
+      let few = opens_a.has_room.few in
+      one_slot header.profile n (body_at bytes n) _ _ (omega arith) (opens_a.each_spelled n _ (slice_get-get_or a n d within)) (opens_b.each_spelled n _ (slice_get-get_or b n d (omega arith))))
+  | inr (inl shorter) ↦ absurd (no_longer header bytes a b ended_a opens_b shorter)
+  | inr (inr longer) ↦ absurd (no_longer header bytes b a ended_b opens_a longer)
+]
 
 pub one_log : (header : Header) (bytes : List ℕ) (a b : List Slot) → IsLog header bytes a → IsLog header bytes b → a ≡ b
-one_log header bytes a b log_a log_b =
-    let long : length a ≡ length b = elim (cases_lt (length a) (length b)) [
-      | inl shorter ↦ absurd (no_longer header bytes a b log_a log_b shorter)
-      | inr others ↦ elim (cases_lt (length b) (length a)) [
-        | inl longer ↦ absurd (no_longer header bytes b a log_b log_a longer)
-        | inr same ↦ omega arith
-      ]
-    ] in
-    same_slots a b long (λ n x y is_x is_y.
-    let within : n < length a = slice_get_within a n x is_x in
-    let fits = log_a.opens.fits in
-    let few = log_a.opens.has_room.few in
-    one_slot header.profile n (body_at bytes n) x y (omega arith) (log_a.opens.each_spelled n x is_x) (log_b.opens.each_spelled n y is_y))
+one_log header bytes a b log_a log_b = only_slots header bytes a b log_a.opens log_b.opens (log_a.closed (length a) (omega arith)) (log_b.closed (length b) (omega arith))
 
 -- ---- what stands for nothing
 

@@ -23,6 +23,8 @@ use Rattle.vacuum.specs.Anchors.{anchors_of, olds_of, Sourced}
 use Rattle.store.specs.Values.{StoreValue}
 use Rattle.store.specs.Reclaims.{anchor_bodies, anchors_named}
 use Rattle.refinement.specs.OnDisk.{StoredAnchors, IsFilling}
+use Rattle.refinement.proofs.Packed.{length-mapped}
+use Rattle.refinement.proofs.Naming.{bodies-few}
 
 -- ---- extents filled one after the other
 
@@ -166,27 +168,6 @@ some-packed (piece ∷ pieces) each = some-from piece pieces each.0 each.1
 records-some : (rs : List Record) → AreSome (map spelling rs)
 records-some [] = tt
 records-some (r ∷ rs) = (spelling-some r, records-some rs)
-
-few-from : (body : List ℕ) (rs : List (List ℕ)) → length (bodies_from body rs) ≤ 1 + length rs
-few-from body [] = omega arith
-few-from body (r ∷ rs) = ⊎_elim
-    (λ (over : 8176 < length body + length r).
-    let no : nat_le (length body + length r) 8176 ≡ false = grind (arith, nat_tests) in
-    let rest = few-from r rs in
-    rw no (omega (arith, rest)))
-    (λ (room : length body + length r ≤ 8176).
-    let yes : nat_le (length body + length r) 8176 ≡ true = grind (arith, nat_tests) in
-    let rest = few-from (body ++ r) rs in
-    rw yes (omega (arith, rest)))
-    (cases_lt 8176 (length body + length r))
-
-bodies-few : (rs : List (List ℕ)) → length (bodies rs) ≤ length rs
-bodies-few [] = omega arith
-bodies-few (r ∷ rs) = let few = few-from r rs in omega (arith, few)
-
-length-mapped : {X Y : Type 0} (f : X → Y) (xs : List X) → length (map f xs) ≡ length xs
-length-mapped f [] = refl
-length-mapped f (x ∷ xs) = ap suc (length-mapped f xs)
 
 chain-packed : (ns : List ℕ) (rs : List Record) → AllByRecursion IsNumber ns → length (bodies (map spelling rs)) ≡ length ns → AllByRecursion heap.IsRecord rs
     → IsChain (first_number ns) (length ns) (length rs) (chain_of ns (bodies (map spelling rs))) (map spelling rs)

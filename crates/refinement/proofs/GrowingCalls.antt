@@ -1,10 +1,10 @@
 -- The calls that make no device call, of a store in which a piece of slots may be in the making.
-use Rattle.std.proofs.Common.{◌≡◌, ◌⊎◌, ℕ, ◌<◌, ◌^◌, Bool, true, false, is_some, List, [], ◌∷◌, Option, Some, Result, Ok, Err, MatchBool, MatchOption, refl, sym, ap, subst, ◌∙◌, inl, inr, cond}
+use Rattle.std.proofs.Common.{◌≡◌, ◌⊎◌, ℕ, ◌<◌, ◌^◌, Bool, true, false, is_some, Option, Some, Result, Ok, Err, MatchBool, MatchOption, refl, sym, ap, subst, ◌∙◌, inl, inr, cond}
 use Rattle.disk.specs.Calls.{DiskState}
 use Rattle.history.specs.Floors.{Raising}
 use Rattle.history.specs.Machine.{Machine}
 use Rattle.history.specs.Answers as answers
-use Rattle.history.specs.Steps.{Event, Step, Run, Began, BeginRefused, Aborted, Decided, Refused, GroupBegan, Published, FloorStarted, FloorRefused, FloorPublished, GateDue, GateWritten, Broke, begun}
+use Rattle.history.specs.Steps.{Event, Step, Began, BeginRefused, Aborted, Decided, Refused, GroupBegan, Published, FloorStarted, FloorRefused, FloorPublished, GateDue, GateWritten, Broke, begun}
 use Rattle.image.specs.Values.{Value, IsValue}
 use Rattle.snapshot.specs.Txn.{TxnValue, AreTxnWrites}
 use Rattle.group.specs.Tickets.{TicketValue}
@@ -46,10 +46,6 @@ step-on m after (FloorPublished r) step on = step.0
 step-on m after (GateDue change) step on = step.0
 step-on m after (GateWritten change) step on = step.0
 step-on m after Broke step on = step.0
-
-pub run-on : (m after : Machine Value) (es : List (Event Value)) → Run IsValue m es after → after.failed ≡ false → m.failed ≡ false
-run-on m after [] run on = sym (ap (λ (x : Machine Value). x.failed) run) ∙ on
-run-on m after (e ∷ es) run on = step-on m run.0 e run.1 (run-on run.0 after es run.2 on)
 
 -- ---- the transactions alone change
 

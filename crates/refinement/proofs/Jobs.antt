@@ -88,11 +88,6 @@ made_extents (OfRun run) = []
 made_extents (OfAnchors a) = a.extents
 made_extents (OfFloor scope floor) = []
 
-pub made-are : (layout : Layout) (reading : Reading) (h : History Value) (p : Product) → MayBeNext layout reading h p → AllByRecursion IsExtent (made_extents p)
-made-are layout reading h (OfRun run) next = tt
-made-are layout reading h (OfAnchors a) next = next.chain.is_chain.each
-made-are layout reading h (OfFloor scope floor) next = tt
-
 extents-filtered : (P : Extent → Type 0) (late : StoredMember → Bool) (members : List StoredMember) → AllByRecursion P (extents_of members) → AllByRecursion P (extents_of (filter late members))
 extents-filtered P late [] all = tt
 extents-filtered P late (s ∷ members) all =

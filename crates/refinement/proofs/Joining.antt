@@ -10,7 +10,7 @@ use Rattle.history.specs.Machine.{Machine, Gate, MayBeOpen, OfGroup}
 use Rattle.history.specs.Fronts.{OnFront, OnOpened}
 use Rattle.history.specs.Steps.{gated}
 use Rattle.history.proofs.Histories.{may_follow-behind, may_follow-front}
-use Rattle.disk.specs.Areas.{Areas, Image, AreSound, LeavesImage, loosened}
+use Rattle.disk.specs.Areas.{Areas, Image, AreSound, LeavesImage}
 use Rattle.disk.specs.declared.area.DeviceFault.{DeviceFault}
 use Rattle.wire.specs.Spelling.{IsSpelled, spelling, kind_of}
 use Rattle.wire.specs.declared.slot.Body.TheVariants.{Commit as CommitBody}
@@ -24,7 +24,7 @@ use Rattle.image.proofs.Recent.{latest-is, stored-is_group}
 use Rattle.extents.specs.declared.usage.Usage.{Usage}
 use Rattle.extents.specs.declared.usage.Usage.TheVariants.{Out, Kept}
 use Rattle.extents.specs.Usages as usages
-use Rattle.extents.specs.Usages.{HasUsage, IsKept, IsOut, AreOut, IsNoneOf}
+use Rattle.extents.specs.Usages.{IsKept, IsOut, AreOut, IsNoneOf}
 use Rattle.extents.proofs.Frames.{are_apart}
 use Rattle.deltas.specs.Chains.{IsNumber}
 use Rattle.status.specs.declared.header.Header.{Header}
@@ -32,17 +32,15 @@ use Rattle.status.specs.Header.{total}
 use Rattle.status.specs.Rules.{is_built}
 use Rattle.status.specs.SlotCalls.{SlotStage}
 use Rattle.status.specs.SlotCalls as slots
-use Rattle.layout.specs.Extents.{Extent, IsExtent, AreDistinct, extent_start, extent_bytes}
-use Rattle.layout.specs.Keeping.{KeepsExtents}
+use Rattle.layout.specs.Extents.{Extent, IsExtent, AreDistinct}
 use Rattle.layout.specs.Layouts.{Layout, StoredMember, IsStoredMember, IsLayoutOf, HoldsLayout, live, extents_of}
 use Rattle.layout.specs.Opening.{AreBuilt}
 use Rattle.layout.specs.SlotTurns.{MayAt, MayWithin}
-use Rattle.layout.specs.Turn.{Group, laid_out, MayJoin, Stage, IsAt, IsCallOf, stage_after, MayBe, MayBecome, IsStoring}
+use Rattle.layout.specs.Turn.{Group, laid_out, MayJoin, Stage, IsAt, IsCallOf, stage_after}
 use Rattle.layout.specs.Turn as turns
 use Rattle.layout.proofs.Lists.{AreCross, distinct_join}
 use Rattle.layout.proofs.Layouts.{group_extents_are, live_extents_are, stands_more, laid_more}
 use Rattle.layout.proofs.Groups.{group_holds, group_call_holds, group_call_leads}
-use Rattle.layout.proofs.Groups as grouping
 use Rattle.group.specs.Queued.{QueuedValue, numbers_of}
 use Rattle.transactions.specs.Values.{TransactionsValue}
 use Rattle.transactions.proofs.Publishing.{out-front}
@@ -279,11 +277,6 @@ module _ (store : StoreValue) (m : Machine Value) (c : Working store m) (some : 
       inl (old_image image (group_call_holds header layout group room live_are group_are free bytes long spelled (turns.Storing done rest) result old new image at sound call left))
   leaves_within bytes long spelled gate (turns.Turning stage) result old new image open-is at sound call left =
       within-slot gate stage image open-is (group_call_holds header layout group room live_are group_are free bytes long spelled (turns.Turning stage) result old new image at sound call left)
-
-  -- while an extent of the group is written, the live chains are c.works.heap.kept
-  pub torn_kept : (done : List Extent) (e : Extent) (rest : List Extent) (old : Areas) → IsStoring header layout group done (e ∷ rest) old → AreSound old
-      → KeepsExtents (live layout) (loosened (extent_start e.number) (length (extent_bytes e)) old.heap.bytes old.heap)
-  torn_kept done e rest old at sound = grouping.torn_kept header layout group room live_are group_are free done e rest old at sound
 
   -- where a call leads that is answered Ok
   pub leads : (bytes : List ℕ) → length bytes ≡ 511 → IsSpelled header.profile (length layout.slots) bytes group.slot → (stage : Stage) (old new : Areas) → IsAt header layout group stage old → AreSound old

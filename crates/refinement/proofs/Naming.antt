@@ -49,7 +49,7 @@ bodies-some : (rs : List (List ℕ)) → 0 < length rs → 0 < length (bodies rs
 bodies-some [] some = absurd (omega (arith, some))
 bodies-some (r ∷ rs) some = some-from r rs
 
-bodies-few : (rs : List (List ℕ)) → length (bodies rs) ≤ length rs
+pub bodies-few : (rs : List (List ℕ)) → length (bodies rs) ≤ length rs
 bodies-few [] = omega arith
 bodies-few (r ∷ rs) = let few = few-from r rs in omega (arith, few)
 

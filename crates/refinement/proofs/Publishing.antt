@@ -15,7 +15,6 @@ use Rattle.transactions.specs.Values.{TransactionsValue, versions_after, mark_af
 use Rattle.transactions.specs.Steps as groups
 use Rattle.transactions.specs.declared.stage.GroupStage.{GroupStage}
 use Rattle.transactions.specs.declared.stage.GroupStage.TheVariants.{NoGroup, Storing, Stored, Turning}
-use Rattle.transactions.specs.declared.stage.NextStep.TheVariants as next
 use Rattle.refinement.specs.Standing.{name_of, HasWrites, HasForgotten, AllWait, IsStaged, StandsInMemory}
 use Rattle.refinement.specs.Laws.{begins_in}
 use Rattle.refinement.proofs.Held.{many-more}
@@ -233,24 +232,3 @@ begins v m stands machine works =
     by-tests false some b any =
         let here : (v.group == 0) ≡ false = ap (λ (n : ℕ). n == 0) stands.group ∙ some in
         record { mid = m; is = refl; run = λ later after goes. rw some goes; stands = rw here stands; works = refl; gate = refl; few = machine.group_queued }
-
--- ---- stages
-
--- a stage that asks for a write or a sync of the heap is one of a group
-pub write-staged : (s : GroupStage) (group : ℕ) → groups.step_of s group ≡ next.WriteExtent → IsStaged s
-write-staged NoGroup group asks = absurd cc
-write-staged Stored group asks = absurd cc
-write-staged Turning group asks = absurd cc
-write-staged (Storing member extent) group asks = tt
-
-pub sync-staged : (s : GroupStage) (group : ℕ) → groups.step_of s group ≡ next.SyncHeap → IsStaged s
-sync-staged NoGroup group asks = absurd cc
-sync-staged Stored group asks = absurd cc
-sync-staged Turning group asks = absurd cc
-sync-staged (Storing member extent) group asks = tt
-
-pub begin-staged : (s : GroupStage) (group : ℕ) → groups.step_of s group ≡ next.BeginSlot → IsStaged s
-begin-staged NoGroup group asks = absurd cc
-begin-staged Stored group asks = tt
-begin-staged Turning group asks = absurd cc
-begin-staged (Storing member extent) group asks = tt

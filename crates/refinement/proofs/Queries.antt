@@ -34,10 +34,10 @@ use Rattle.refinement.proofs.Held.{state-held, rows-held}
 
 -- ---- scans exist
 
-scan-there : (h : History Value) (relation time : ℕ) → (found : List (ℕ × Value)) × IsScanAt h relation time found
+pub scan-there : (h : History Value) (relation time : ℕ) → (found : List (ℕ × Value)) × IsScanAt h relation time found
 scan-there h relation time = scan-made (state h time) relation (numbers_of h) (λ number value is. state-written h time (key_of relation number) value is)
 
-rows-there : (h : History Value) (relation a b : ℕ) → (found : List (ℕ × Version Value)) × IsScanBetween h relation a b found
+pub rows-there : (h : History Value) (relation a b : ℕ) → (found : List (ℕ × Version Value)) × IsScanBetween h relation a b found
 rows-there h relation a b = scan_of_rows-made (λ key. between h key a b) relation (numbers_of h) (λ number some. between-written h (key_of relation number) a b some)
 
 -- ---- what memory has from the reclaim mark on is the history's
@@ -53,7 +53,7 @@ value-same view h floors key time stands from upto recent =
     let newest = stands.last_is in
     state-held stands.memory up key time (omega arith) recent (omega arith)
 
-scan-same : (view : ViewValue) (h : History Value) (floors : ℕ → ℕ) (relation time : ℕ) → ViewStands view h floors → floor_at view.floors relation ≤ time → time ≤ view.last → view.reclaimed ≤ time → IsScanAt h relation time (scanned relation time view.state)
+pub scan-same : (view : ViewValue) (h : History Value) (floors : ℕ → ℕ) (relation time : ℕ) → ViewStands view h floors → floor_at view.floors relation ≤ time → time ≤ view.last → view.reclaimed ≤ time → IsScanAt h relation time (scanned relation time view.state)
 scan-same view h floors relation time stands from upto recent =
     let is = scan_is view.state relation time stands.memory.ordered in
     record {
@@ -63,10 +63,10 @@ scan-same view h floors relation time stands from upto recent =
           ((λ there. sym same ∙ (is.each number value).0 there), (λ says. (is.each number value).1 (same ∙ says)));
     }
 
-rows-same : (view : ViewValue) (h : History Value) (floors : ℕ → ℕ) (key : Key) (a b : ℕ) → ViewStands view h floors → floor_at view.floors key.relation ≤ a → view.reclaimed ≤ a → rows_in view.state a b key ≡ between h key a b
+pub rows-same : (view : ViewValue) (h : History Value) (floors : ℕ → ℕ) (key : Key) (a b : ℕ) → ViewStands view h floors → floor_at view.floors key.relation ≤ a → view.reclaimed ≤ a → rows_in view.state a b key ≡ between h key a b
 rows-same view h floors key a b stands from recent = let floor = stands.floor_is key.relation in rows-held stands.memory (rises view h floors stands) key a b (omega arith) recent
 
-scan_rows-same : (view : ViewValue) (h : History Value) (floors : ℕ → ℕ) (relation a b : ℕ) → ViewStands view h floors → floor_at view.floors relation ≤ a → view.reclaimed ≤ a → IsScanBetween h relation a b (scanned_rows relation a b view.state)
+pub scan_rows-same : (view : ViewValue) (h : History Value) (floors : ℕ → ℕ) (relation a b : ℕ) → ViewStands view h floors → floor_at view.floors relation ≤ a → view.reclaimed ≤ a → IsScanBetween h relation a b (scanned_rows relation a b view.state)
 scan_rows-same view h floors relation a b stands from recent =
     let found = scanned_rows relation a b view.state in
     let scan = scan_of_rows view.state relation a b stands.memory.ordered in
@@ -79,7 +79,7 @@ scan_rows-same view h floors relation a b stands from recent =
 
 -- ---- what is refused is what the history refuses
 
-time-kept : (view : ViewValue) (h : History Value) (floors : ℕ → ℕ) (relation time : ℕ) → ViewStands view h floors → floor_at view.floors relation ≤ time → time ≤ view.last → answers.time_refusal (last h) (floors relation) time ≡ None
+pub time-kept : (view : ViewValue) (h : History Value) (floors : ℕ → ℕ) (relation time : ℕ) → ViewStands view h floors → floor_at view.floors relation ≤ time → time ≤ view.last → answers.time_refusal (last h) (floors relation) time ≡ None
 time-kept view h floors relation time stands from upto =
     let floor = stands.floor_is relation in
     let last_is = stands.last_is in
@@ -115,18 +115,18 @@ interval-kept newest floor a b from upto some =
     let full : nat_le b a ≡ false = grind (arith, nat_tests) in
     rw (low, high, full) refl
 
-interval-before : (newest floor a b : ℕ) → min a b < floor → answers.interval_refusal newest floor a b ≡ Some (answers.BeforeKept floor)
+pub interval-before : (newest floor a b : ℕ) → min a b < floor → answers.interval_refusal newest floor a b ≡ Some (answers.BeforeKept floor)
 interval-before newest floor a b before =
     let low : nat_lt (min a b) floor ≡ true = grind (arith, nat_tests) in
     rw low refl
 
-interval-late : (newest floor a b : ℕ) → floor ≤ min a b → newest + 1 < b → answers.interval_refusal newest floor a b ≡ Some (answers.NotYet newest)
+pub interval-late : (newest floor a b : ℕ) → floor ≤ min a b → newest + 1 < b → answers.interval_refusal newest floor a b ≡ Some (answers.NotYet newest)
 interval-late newest floor a b from late =
     let low : nat_lt (min a b) floor ≡ false = grind (arith, nat_tests) in
     let high : nat_lt (newest + 1) b ≡ true = grind (arith, nat_tests) in
     rw (low, high) refl
 
-interval-empty : (newest floor a b : ℕ) → floor ≤ min a b → b ≤ newest + 1 → b ≤ a → answers.interval_refusal newest floor a b ≡ Some answers.EmptyInterval
+pub interval-empty : (newest floor a b : ℕ) → floor ≤ min a b → b ≤ newest + 1 → b ≤ a → answers.interval_refusal newest floor a b ≡ Some answers.EmptyInterval
 interval-empty newest floor a b from upto none =
     let low : nat_lt (min a b) floor ≡ false = grind (arith, nat_tests) in
     let high : nat_lt (newest + 1) b ≡ false = grind (arith, nat_tests) in
@@ -134,7 +134,7 @@ interval-empty newest floor a b from upto none =
     rw (low, high, full) refl
 
 -- the same of a view's bounds
-rows-kept : (view : ViewValue) (h : History Value) (floors : ℕ → ℕ) (relation a b : ℕ) → ViewStands view h floors → floor_at view.floors relation ≤ min a b → b ≤ view.last + 1 → a < b → answers.interval_refusal (last h) (floors relation) a b ≡ None
+pub rows-kept : (view : ViewValue) (h : History Value) (floors : ℕ → ℕ) (relation a b : ℕ) → ViewStands view h floors → floor_at view.floors relation ≤ min a b → b ≤ view.last + 1 → a < b → answers.interval_refusal (last h) (floors relation) a b ≡ None
 rows-kept view h floors relation a b stands from upto some =
     let floor = stands.floor_is relation in
     let last_is = stands.last_is in

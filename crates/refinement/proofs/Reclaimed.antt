@@ -7,7 +7,7 @@ use Rattle.history.proofs.Histories.{times-earlier}
 use Rattle.image.specs.Values.{Value}
 use Rattle.chains.specs.KeyWrites.{KeyWrites, forgotten}
 use Rattle.transactions.specs.Values.{TransactionsValue, is_turning}
-use Rattle.transactions.specs.Reclaims.{with_reserved, prepared, versions_once, reclaimed_to}
+use Rattle.transactions.specs.Reclaims.{prepared, versions_once, reclaimed_to}
 use Rattle.refinement.specs.Standing.{HasWrites, HasForgotten, AllWait, StandsInMemory, snapshots_of}
 use Rattle.refinement.proofs.Held.{rising-held}
 use Rattle.refinement.proofs.Waiting.{AreRising, forgotten-forgets, raised-waits}
@@ -15,24 +15,6 @@ use Rattle.refinement.proofs.Forgetting.{forgets}
 use Rattle.refinement.proofs.Names.{rising-named}
 use Rattle.refinement.proofs.Conflicts.{rising-behind}
 use Rattle.refinement.proofs.Memory.{published-rises}
-
--- extents are out for the job
-pub reserves : (v : TransactionsValue) (m : Machine Value) (numbers : List ℕ) → StandsInMemory v m → StandsInMemory (with_reserved v numbers) m
-reserves v m numbers stands = record {
-  names = stands.names;
-  rising = stands.rising;
-  published = stands.published;
-  versions = stands.versions;
-  forgot = stands.forgot;
-  recent = stands.recent;
-  queue = stands.queue;
-  fresh = stands.fresh;
-  group = stands.group;
-  staged = stands.staged;
-  snapshots = stands.snapshots;
-  floors = stands.floors;
-  failed = stands.failed;
-}
 
 -- the versions without what ended by a mark are made beside them
 pub prepares : (v : TransactionsValue) (m : Machine Value) (mark : ℕ) → StandsInMemory v m → StandsInMemory (prepared v mark) m

@@ -89,9 +89,6 @@ grouped-marks v = elim ((v.group == 0) && nat_lt 0 (length v.queue)) as (λ (b :
   | false ↦ record { mark = refl; reclaimed = refl }
 ]
 
-marks-over : (a b c : TransactionsValue) → SameMarks a b → SameMarks b c → SameMarks a c
-marks-over a b c ab bc = record { mark = bc.mark ∙ ab.mark; reclaimed = bc.reclaimed ∙ ab.reclaimed }
-
 stays-of : (tells : Bool) (old new : StoreValue) → SameMarks old.transactions new.transactions → KeepsJob old new → (IsTrue tells → archive_of new.disk ≡ archive_of old.disk) → StaysBeside tells old new
 stays-of tells old new marks job bytes = record {
   keeps = record { runs = ap (λ (a : ArchiveValue). a.runs) job.archive; kept = ap (λ (a : ArchiveValue). a.kept) job.archive; archived = job.archived; runs_end = job.runs_end; mark = marks.mark };

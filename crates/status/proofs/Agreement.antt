@@ -2,7 +2,7 @@
 use Rattle.std.proofs.Common.{◌≡◌, ◌≢◌, ◌⊎◌, inl, inr, ℕ, zero, suc, ◌+◌, ◌<◌, ◌≤◌, List, [], ◌∷◌, ◌++◌, length, get_or, take, drop, Some, refl, sym, ◌∙◌, ap, subst, arith}
 use Rattle.std.specs.Prelude.{slice_get}
 use Rattle.std.proofs.lemmas.Bool.{cases_lt, cases_eq}
-use Rattle.std.proofs.lemmas.List.{length-take, length-drop, length_push, get_or-take, get_or-drop, ext_get_or}
+use Rattle.std.proofs.lemmas.List.{length_push}
 use Rattle.std.proofs.lemmas.Option.{slice_get_within}
 use Rattle.disk.specs.Parts.{IsOutside, Agrees}
 use Rattle.wire.specs.Spelling.{IsSpelled}
@@ -10,19 +10,11 @@ use Rattle.wire.specs.declared.slot.Slot.{Slot}
 use Rattle.status.specs.declared.header.Header.{Header}
 use Rattle.status.specs.Header.{total, piece_gate}
 use Rattle.status.specs.Log.{slot_start, gate_at, body_at, IsOpen, HasHeader, HasRoom, IsLog}
+use Rattle.status.proofs.Frame.{same_bytes}
 
 pub same_part : (at n : ℕ) (old new : List ℕ) → at + n ≤ length old → length old ≤ length new
     → ((k : ℕ) → at ≤ k → k < at + n → get_or new k 0 ≡ get_or old k 0) → take n (drop at new) ≡ take n (drop at old)
-same_part at n old new fits longer same =
-    let long_old : length (take n (drop at old)) ≡ n = omega (arith, length-take n (drop at old), length-drop at old) in
-    let long_new : length (take n (drop at new)) ≡ n = omega (arith, length-take n (drop at new), length-drop at new) in
-    ext_get_or 0 (take n (drop at new)) (take n (drop at old)) (omega arith) (λ i lt.
-    let within : i < n = omega arith in
-    get_or-take n (drop at new) i 0 within
-    ∙ get_or-drop at new i 0
-    ∙ same (at + i) (omega arith) (omega arith)
-    ∙ sym (get_or-drop at old i 0)
-    ∙ sym (get_or-take n (drop at old) i 0 within))
+same_part at n old new fits longer same = same_bytes at n old new fits (omega arith) same
 
 pub slice_get-push : (xs : List Slot) (y x : Slot) (n : ℕ) → slice_get (xs ++ y ∷ []) n ≡ Some x → (slice_get xs n ≡ Some x) ⊎ ((n ≡ length xs) × (y ≡ x))
 slice_get-push [] y x zero is = inr (refl, cc)
