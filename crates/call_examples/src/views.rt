@@ -24,7 +24,10 @@ enum Ask {
 
 fn counts(alloc: Global, view: &View, a: u64, b: u64, count: usize) -> bool {
     let told = matches!(view.between(alloc, SEVEN, a, b), Ok(rows) if rows.len() == count);
-    told && matches!(view.recent_rows(SEVEN, a, b), Ok(walk) if goes_over(walk, count))
+    match view.recent_rows(SEVEN, a, b) {
+        Ok(walk) => told && goes_over(walk, count),
+        Err(_) => false,
+    }
 }
 
 /// Whether the rows of `SEVEN` are lent so.
