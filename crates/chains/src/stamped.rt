@@ -14,7 +14,7 @@ use wire::Value;
 pub(crate) struct StampedWrite {
     // Twice the time, and one more where the key is gone.
     stamp: u64,
-    // Where the key is gone this is no value of it, but stands in the place of one.
+    // Where the key is gone this is no value of it: a pointer has to lead somewhere.
     value: SharedValue,
 }
 
@@ -35,8 +35,9 @@ fn stand_in(alloc: Global) -> Result<SharedValue, AllocError> {
     }
 }
 
-/// What a deletion holds behind the write before it. The value that it takes away is forgotten no later
-/// than the deletion, so it takes no memory and keeps none; an earlier one is not held.
+/// What a deletion holds behind the write before it: the value that it takes away. That one is forgotten no
+/// later than the deletion, so it is kept no longer for it, and takes no memory. What another deletion took
+/// away may be forgotten before, and is not held.
 fn held_behind(alloc: Global, before: Option<&StampedWrite>) -> Result<SharedValue, AllocError> {
     match before {
         Some(write) if write.may_be_held() => write.value.share(),
