@@ -3,7 +3,6 @@ use denote.RattleType.{RattleType}
 use denote.Param.Send.{IsSend, IsSync, view_send, sendable}
 use denote.Param.SendFields.{declared_send, declared_sync, variants_send}
 use Rattle.std.proofs.Crossing.{crosses}
-use Rattle.smallvec.proofs.small_vec.SmallVec.TheSendSync as small_vec
 use Rattle.std.proofs.option.Option.TheSendSync as option
 use Rattle.std.proofs.sync.Mutex.TheSendSync as mutex
 use Rattle.std.proofs.sync.Condvar.TheSendSync as condvar
@@ -14,7 +13,6 @@ use Rattle.atomic_table.proofs.shared.Shared.TheSendSync as words
 use Rattle.crossbeam_utils.proofs.atomic.seq_cell.Wide.TheSendSync as wide
 use Rattle.crossbeam_utils.proofs.sync.event_count.EventCount.TheSendSync as event_count
 use Rattle.disk.specs.declared.device.Disk as devices
-use Rattle.history.proofs.time.TimedWrite.TheSendSync as timed_write
 use Rattle.wire.proofs.slot.Run.TheSendSync as run
 use Rattle.wire.proofs.slot.Anchors.TheSendSync as anchors
 use Rattle.extents.proofs.chain_times.ChainTimes.TheSendSync as chain_times
@@ -60,10 +58,10 @@ use Rattle.shared.proofs.posts.Posts.TheSendSync as posts
 -- ---- the versions
 
 chain_send : IsSend Chain.the_row
-chain_send = search (sendable, crosses, knot.crosses, small_vec.the_send, small_vec.the_sync, shared_value.the_send, shared_value.the_sync, timed_write.the_send, timed_write.the_sync) depth 40
+chain_send = search (sendable, crosses, knot.crosses, shared_value.the_send, shared_value.the_sync) depth 40
 
 chain_sync : IsSync Chain.the_row
-chain_sync = search (sendable, crosses, knot.crosses, small_vec.the_send, small_vec.the_sync, shared_value.the_send, shared_value.the_sync, timed_write.the_send, timed_write.the_sync) depth 40
+chain_sync = search (sendable, crosses, knot.crosses, shared_value.the_send, shared_value.the_sync) depth 40
 
 pub frozen_send : IsSend Frozen.the_row
 frozen_send = search (sendable, crosses, knot.crosses, chain_send, chain_sync) depth 12
