@@ -27,6 +27,6 @@ fn main(rt: HostRuntime) -> io::Result<()> {
     handing_out::measure(&rt, alloc, scale)?;
     packing::measure(&rt, alloc, scale)?;
     finding::measure(&rt, alloc, scale)?;
-    publishing::measure(&rt, alloc, scale)?;
-    asking::measure(&rt, alloc, scale)
+    asking::measure(&rt, alloc, scale)?;
+    publishing::measure(&rt, alloc, scale)
 }
