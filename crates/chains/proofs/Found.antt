@@ -6,18 +6,14 @@ use Rattle.std.proofs.lemmas.List.{take-append-drop, take_rest}
 use Rattle.std.proofs.lemmas.Result.{IfOk-weaker}
 use Rattle.history.specs.declared.time.Version.{Version}
 use Rattle.history.specs.Versions.{first_time, versions, ends_after}
-use Rattle.chains.specs.declared.tree.Node.{Node}
-use Rattle.chains.specs.Nodes.{pieces_of}
-use Rattle.chains.specs.Pieces.{all_writes}
 use Rattle.chains.specs.Found.{IsPartFrom, IsFound}
 use Rattle.chains.specs.Rows.{first_time_or, versions_upto}
 use Rattle.chains.specs.Writes.{Value, Write}
 use Rattle.chains.proofs.Bounds.{find-found, find-past}
-use Rattle.chains.proofs.Endings.{split}
 use Rattle.chains.proofs.RowParts.{versions-append, versions-parts}
 
 -- those that are found among the first ones
-found-front : (t : ℕ) (xs ys ps : List (Version Value)) → IsPartFrom t xs ps → IsPartFrom t (xs ++ ys) ps
+pub found-front : (t : ℕ) (xs ys ps : List (Version Value)) → IsPartFrom t xs ps → IsPartFrom t (xs ++ ys) ps
 found-front t xs ys [] part = absurd (omega (arith, part.some))
 found-front t xs ys (p ∷ ps) part = record {
   before = part.before;
@@ -31,7 +27,7 @@ found-front t xs ys (p ∷ ps) part = record {
 }
 
 -- where none of the first ones ends after the time, those that are found behind them
-found-behind : (t : ℕ) (xs ys : List (Version Value)) (o : Option (List (Version Value))) → find (ends_after t) xs ≡ None → IsFound t ys o → IsFound t (xs ++ ys) o
+pub found-behind : (t : ℕ) (xs ys : List (Version Value)) (o : Option (List (Version Value))) → find (ends_after t) xs ≡ None → IsFound t ys o → IsFound t (xs ++ ys) o
 found-behind t xs ys None none found = find-past (ends_after t) xs ys none ∙ found
 found-behind t xs ys (Some ps) none part = record {
   before = xs ++ part.before;
@@ -40,20 +36,6 @@ found-behind t xs ys (Some ps) none part = record {
   first = part.first ∙ sym (find-past (ends_after t) xs ys none);
   some = part.some;
 }
-
-module _ {m : List (List Write)} (node : Node (List Write)) {first : ℕ} (is : m ≡ pieces_of node) (some : 0 < length node.piece) (place : first ≡ first_time node.piece) (before : List Write) where
-  pub found_left : (t end : ℕ) (ps : List (Version Value)) → IsPartFrom t (versions_upto first (before ++ all_writes node.left.pieces)) ps → IsPartFrom t (versions_upto end (before ++ all_writes m)) ps
-  found_left t end ps part =
-      subst (λ (vs : List (Version Value)). IsPartFrom t vs ps) (sym (split node is some place before end))
-      (found-front t (versions_upto first (before ++ all_writes node.left.pieces)) (versions_upto end (node.piece ++ all_writes node.right.pieces)) ps part)
-
-  pub found_right : {E : Type 0} (t end : ℕ) (r : Result (Option (List (Version Value))) E) → find (ends_after t) (versions_upto first (before ++ all_writes node.left.pieces)) ≡ None
-      → IfOk r (IsFound t (versions_upto end (node.piece ++ all_writes node.right.pieces))) → IfOk r (IsFound t (versions_upto end (before ++ all_writes m)))
-  found_right t end r none found =
-      IfOk-weaker r (IsFound t (versions_upto end (node.piece ++ all_writes node.right.pieces))) (IsFound t (versions_upto end (before ++ all_writes m)))
-      (λ o h. subst (λ (vs : List (Version Value)). IsFound t vs o) (sym (split node is some place before end))
-      (found-behind t (versions_upto first (before ++ all_writes node.left.pieces)) (versions_upto end (node.piece ++ all_writes node.right.pieces)) o none h))
-      found
 
 -- those of the older writes, and those of the recent ones
 pub found_older : (t : ℕ) (xs ys : List Write) (ps : List (Version Value)) → IsPartFrom t (versions_upto (first_time ys) xs) ps → IsPartFrom t (versions (xs ++ ys)) ps

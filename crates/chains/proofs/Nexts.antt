@@ -1,17 +1,13 @@
 -- The first of one key's writes that was made after a time.
-use Rattle.std.proofs.Common.{◌≡◌, ℕ, zero, suc, ◌<◌, ◌≤◌, nat_lt, true, false, List, [], ◌∷◌, ◌++◌, length, get_or, Some, None, refl, ap, ◌∙◌, arith}
+use Rattle.std.proofs.Common.{◌≡◌, ℕ, zero, suc, ◌<◌, ◌≤◌, nat_lt, true, false, List, [], ◌∷◌, ◌++◌, length, get_or, Some, None, refl, arith}
 use Rattle.std.specs.Prelude.{find}
 use Rattle.history.specs.Time.{IsRisingAfter}
 use Rattle.history.specs.Versions.{first_time}
 use Rattle.history.proofs.Orders.{is_lt, not_lt}
-use Rattle.chains.specs.declared.tree.Node.{Node}
-use Rattle.chains.specs.Nodes.{pieces_of}
-use Rattle.chains.specs.Pieces.{all_writes}
 use Rattle.chains.specs.Writes.{Write, IsBegun, is_after}
 use Rattle.chains.proofs.Begun.{behind}
 use Rattle.chains.proofs.Bounds.{find-found, find-past}
 use Rattle.chains.proofs.Parts.{below}
-use Rattle.chains.proofs.Pieces.{parted}
 
 none-after : (s t : ℕ) (xs : List Write) (w : Write) (ys : List Write) → IsRisingAfter s (xs ++ w ∷ ys) → w.time ≤ t → find (is_after t) xs ≡ None
 none-after s t [] w ys up by = refl
@@ -43,31 +39,6 @@ pub next_recent : (t : ℕ) (older recent : List Write) → find (is_after t) ol
 next_recent t older recent e = find-past (is_after t) older recent e
 
 -- none of those before a piece that begins by the time
-none-before : (t : ℕ) (xs ps ys : List Write) → 0 < length ps → first_time ps ≤ t → IsRisingAfter 0 (xs ++ (ps ++ ys)) → find (is_after t) xs ≡ None
+pub none-before : (t : ℕ) (xs ps ys : List Write) → 0 < length ps → first_time ps ≤ t → IsRisingAfter 0 (xs ++ (ps ++ ys)) → find (is_after t) xs ≡ None
 none-before t xs [] ys some h up = absurd (omega arith)
 none-before t xs (p ∷ ps) ys some h up = none-after 0 t xs p (ps ++ ys) up h
-
--- of a piece that begins later the first one
-first-later : (t : ℕ) (ps ys : List Write) → 0 < length ps → t < first_time ps → find (is_after t) (ps ++ ys) ≡ find (is_after t) ps
-first-later t [] ys some h = absurd (omega arith)
-first-later t (p ∷ ps) ys some h =
-    let late : nat_lt t p.time ≡ true = is_lt h in
-    rw late refl
-
-module _ {m : List (List Write)} (node : Node (List Write)) {first : ℕ} (is : m ≡ pieces_of node) (some : 0 < length node.piece) (place : first ≡ first_time node.piece) (before : List Write) where
-  pub next_left : (t : ℕ) (w : Write) → find (is_after t) (before ++ all_writes node.left.pieces) ≡ Some w → find (is_after t) (before ++ all_writes m) ≡ Some w
-  next_left t w e =
-      ap (λ (ws : List Write). find (is_after t) ws) (parted node is before)
-      ∙ find-found (is_after t) (before ++ all_writes node.left.pieces) (node.piece ++ all_writes node.right.pieces) w e
-
-  pub next_here : (t : ℕ) → t < first → find (is_after t) (before ++ all_writes node.left.pieces) ≡ None → find (is_after t) (before ++ all_writes m) ≡ find (is_after t) node.piece
-  next_here t h e =
-      ap (λ (ws : List Write). find (is_after t) ws) (parted node is before)
-      ∙ find-past (is_after t) (before ++ all_writes node.left.pieces) (node.piece ++ all_writes node.right.pieces) e
-      ∙ first-later t node.piece (all_writes node.right.pieces) some (rw place at h)
-
-  pub next_right : (t : ℕ) → IsRisingAfter 0 (before ++ all_writes m) → first ≤ t → find (is_after t) (before ++ all_writes m) ≡ find (is_after t) (node.piece ++ all_writes node.right.pieces)
-  next_right t rising h =
-      let none = none-before t (before ++ all_writes node.left.pieces) node.piece (all_writes node.right.pieces) some (rw place at h) (rw (parted node is before) at rising) in
-      ap (λ (ws : List Write). find (is_after t) ws) (parted node is before)
-      ∙ find-past (is_after t) (before ++ all_writes node.left.pieces) (node.piece ++ all_writes node.right.pieces) none

@@ -83,33 +83,10 @@ no-rows_from end a b s (y ∷ ys) up late =
     rows-append a b (version_of y.time (first_time_or end ys) y.write) (versions_upto end ys)
     ∙ rw (no-row_late y.time (first_time_or end ys) a b y.write late) (no-rows_after end a b y.time ys late up.2)
 
--- ---- the rows of three parts
-
 -- the writes before a piece end where it begins
 pub first-piece : (end : ℕ) (ps ys : List Write) → 0 < length ps → first_time_or end (ps ++ ys) ≡ first_time ps
 first-piece end [] ys some = absurd (omega arith)
 first-piece end (p ∷ ps) ys some = refl
-
-rows-split : (end a b : ℕ) (xs ps ys : List Write) → 0 < length ps
-    → rows (versions_upto end (xs ++ (ps ++ ys))) a b ≡ rows (versions_upto (first_time ps) xs) a b ++ (rows (versions_upto (first_time_or end ys) ps) a b ++ rows (versions_upto end ys) a b)
-rows-split end a b xs ps ys some =
-    ap (λ (vs : List (Version Value)). rows vs a b) (versions-append end xs (ps ++ ys))
-    ∙ rows-append a b (versions_upto (first_time_or end (ps ++ ys)) xs) (versions_upto end (ps ++ ys))
-    ∙ ap (λ (n : ℕ). rows (versions_upto n xs) a b ++ rows (versions_upto end (ps ++ ys)) a b) (first-piece end ps ys some)
-    ∙ ap (λ (vs : List (Version Value)). rows (versions_upto (first_time ps) xs) a b ++ rows vs a b) (versions-append end ps ys)
-    ∙ ap (λ (l : List (Version Value)). rows (versions_upto (first_time ps) xs) a b ++ l) (rows-append a b (versions_upto (first_time_or end ys) ps) (versions_upto end ys))
-
--- rows that were added one part after another
-pub added : (old mid here new : List (Version Value)) (end next a b : ℕ) (all xs ps ys : List Write) → 0 < length ps → all ≡ xs ++ (ps ++ ys) → next ≡ first_time_or end ys
-    → mid ≡ old ++ rows (versions_upto (first_time ps) xs) a b → here ≡ mid ++ rows (versions_upto next ps) a b → new ≡ here ++ rows (versions_upto end ys) a b
-    → new ≡ old ++ rows (versions_upto end all) a b
-added old mid here new end next a b all xs ps ys some is next_is first second third =
-    third
-    ∙ ap (λ (l : List (Version Value)). l ++ rows (versions_upto end ys) a b) (second ∙ ap (λ (l : List (Version Value)). l ++ rows (versions_upto next ps) a b) first)
-    ∙ append_assoc (old ++ rows (versions_upto (first_time ps) xs) a b) (rows (versions_upto next ps) a b) (rows (versions_upto end ys) a b)
-    ∙ append_assoc old (rows (versions_upto (first_time ps) xs) a b) _
-    ∙ ap (λ (n : ℕ). old ++ (rows (versions_upto (first_time ps) xs) a b ++ (rows (versions_upto n ps) a b ++ rows (versions_upto end ys) a b))) next_is
-    ∙ ap (λ (l : List (Version Value)). old ++ l) (sym (ap (λ (ws : List Write). rows (versions_upto end ws) a b) is ∙ rows-split end a b xs ps ys some))
 
 -- no version of the writes before a piece lasts beyond its beginning
 pub no-rows_piece : (a b : ℕ) (xs ps ys : List Write) → 0 < length ps → first_time ps ≤ a → IsRisingAfter 0 (xs ++ (ps ++ ys)) → rows (versions_upto (first_time ps) xs) a b ≡ []

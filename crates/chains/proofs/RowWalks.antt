@@ -1,23 +1,13 @@
 -- The rows that a walk goes over: those of a piece's writes, and behind them those from the time at which its last version ends.
-use Rattle.std.proofs.Common.{◌≡◌, ℕ, ◌^◌, ◌<◌, ◌≤◌, max, min, false, List, [], ◌∷◌, ◌++◌, length, filter, Option, None, Some, refl, ap, sym, subst, ◌∙◌, arith, append_assoc, append-nil, length-append}
-use Rattle.std.specs.Prelude.{MatchOption}
+use Rattle.std.proofs.Common.{◌≡◌, ℕ, ◌^◌, ◌<◌, ◌≤◌, max, min, false, List, [], ◌∷◌, ◌++◌, length, filter, Option, None, Some, refl, ap, sym, subst, ◌∙◌, arith, append_assoc, append-nil}
 use Rattle.std.proofs.lemmas.Bool.Decides.{nat_tests}
 use Rattle.history.specs.declared.time.Version.{Version}
 use Rattle.history.specs.Time.{IsRisingAfter}
 use Rattle.history.specs.Versions.{first_time, version_of, versions, cut, lasts, rows}
-use Rattle.chains.specs.declared.tree.Node.{Node}
-use Rattle.chains.specs.Nodes.{pieces_of}
-use Rattle.chains.specs.Pieces.{all_writes}
 use Rattle.chains.specs.Rows.{first_time_or, versions_upto, IsFront}
 use Rattle.chains.specs.Writes.{Value, Write, last_time, last_time_after}
-use Rattle.chains.proofs.Parts.{rising-back, last_time-back}
-use Rattle.chains.proofs.Pieces.{parted}
+use Rattle.chains.proofs.Parts.{rising-back}
 use Rattle.chains.proofs.RowParts.{rows-append, versions-append, versions-endless, no-row_early, no-rows_before}
-
--- what is found, or else nothing, told in other words
-pub found-weaker : {A P Q : Type 0} {F G : A → Type 0} (o : Option A) → (P → Q) → ((x : A) → F x → G x) → MatchOption o P F → MatchOption o Q G
-found-weaker None none some found = none found
-found-weaker (Some x) none some found = some x found
 
 -- ---- where there are no rows
 
@@ -32,7 +22,7 @@ last-from : (s : ℕ) (ws : List Write) → IsRisingAfter s ws → s ≤ last_ti
 last-from s [] up = omega arith
 last-from s (w ∷ ws) up = omega (arith, up.0, last-from w.time ws up.2)
 
-first-upto : (end s : ℕ) (ws : List Write) → IsRisingAfter s ws → last_time_after s ws ≤ end → first_time_or end ws ≤ end
+pub first-upto : (end s : ℕ) (ws : List Write) → IsRisingAfter s ws → last_time_after s ws ≤ end → first_time_or end ws ≤ end
 first-upto end s [] up by = omega arith
 first-upto end s (w ∷ ws) up by = omega (arith, last-from w.time ws up.2, by)
 
@@ -81,7 +71,7 @@ first_or-some : (end : ℕ) (zs : List Write) → 0 < length zs → first_time_o
 first_or-some end [] some = absurd (omega arith)
 first_or-some end (z ∷ zs) some = refl
 
-last-before : (s : ℕ) (xs zs : List Write) → 0 < length zs → IsRisingAfter s (xs ++ zs) → last_time_after s xs ≤ first_time zs
+pub last-before : (s : ℕ) (xs zs : List Write) → 0 < length zs → IsRisingAfter s (xs ++ zs) → last_time_after s xs ≤ first_time zs
 last-before s xs [] some up = absurd (omega arith)
 last-before s [] (z ∷ zs) some up = omega (arith, up.0)
 last-before s (x ∷ xs) (z ∷ zs) some up = last-before x.time xs (z ∷ zs) some up.2
@@ -128,60 +118,9 @@ front-whole time end ws up by later = record {
 
 -- ---- those of a node
 
-first-front : (ps ys : List Write) → 0 < length ps → first_time (ps ++ ys) ≡ first_time ps
+pub first-front : (ps ys : List Write) → 0 < length ps → first_time (ps ++ ys) ≡ first_time ps
 first-front [] ys some = absurd (omega arith)
 first-front (p ∷ ps) ys some = refl
-
-module _ {m : List (List Write)} (node : Node (List Write)) {first : ℕ} (is : m ≡ pieces_of node) (some : 0 < length node.piece) (place : first ≡ first_time node.piece) (before : List Write)
-    (rising : IsRisingAfter 0 (before ++ all_writes m)) where
-  abbrev early : List Write
-  early = before ++ all_writes node.left.pieces
-
-  abbrev late : List Write
-  late = node.piece ++ all_writes node.right.pieces
-
-  some_late : 0 < length late
-  some_late = omega (arith, some, length-append node.piece (all_writes node.right.pieces))
-
-  parts_rising : IsRisingAfter 0 (early ++ late)
-  parts_rising = rw (parted node is before) at rising
-
-  place_late : first ≡ first_time late
-  place_late = place ∙ sym (first-front node.piece (all_writes node.right.pieces) some)
-
-  pub last_left : last_time (before ++ all_writes node.left.pieces) ≤ first
-  last_left = subst (λ (n : ℕ). last_time early ≤ n) (sym place_late) (last-before 0 early late some_late parts_rising)
-
-  pub last_right : (end : ℕ) → last_time (before ++ all_writes m) ≤ end → last_time (node.piece ++ all_writes node.right.pieces) ≤ end
-  last_right end by = subst (λ (n : ℕ). n ≤ end) (ap (λ (ws : List Write). last_time ws) (parted node is before) ∙ last_time-back 0 early late some_late) by
-
-  pub first_ended : (end : ℕ) → last_time (before ++ all_writes m) ≤ end → first ≤ end
-  first_ended end by =
-      let up = rising-back 0 early late parts_rising in
-      rw (place_late, ← first_or-some end late some_late) (first-upto end 0 late up (last_right end by))
-
-  pub front_right : (end time upto : ℕ) (part : List (Version Value)) → first ≤ time → IsFront time upto (versions_upto end (node.piece ++ all_writes node.right.pieces)) part
-      → IsFront time upto (versions_upto end (before ++ all_writes m)) part
-  front_right end time upto part by front =
-      subst (λ (ws : List Write). IsFront time upto (versions_upto end ws) part) (sym (parted node is before))
-      (front-later early late some_late parts_rising end time upto part (subst (λ (n : ℕ). n ≤ time) place_late by) front)
-
-  pub front_left : (end time upto : ℕ) (part : List (Version Value)) → time < first → upto ≤ first → IsFront time upto (versions_upto first (before ++ all_writes node.left.pieces)) part
-      → IsFront time upto (versions_upto end (before ++ all_writes m)) part
-  front_left end time upto part later by front =
-      subst (λ (ws : List Write). IsFront time upto (versions_upto end ws) part) (sym (parted node is before))
-      (front-earlier early late some_late parts_rising end time upto part
-      (subst (λ (n : ℕ). time < n) place_late later) (subst (λ (n : ℕ). upto ≤ n) place_late by) (subst (λ (n : ℕ). IsFront time upto (versions_upto n early) part) place_late front))
-
-  -- where there is nothing before the piece
-  pub front_first : (end time upto : ℕ) (part : List (Version Value)) → before ++ all_writes node.left.pieces ≡ [] → IsFront time upto (versions_upto end (node.piece ++ all_writes node.right.pieces)) part
-      → IsFront time upto (versions_upto end (before ++ all_writes m)) part
-  front_first end time upto part none front =
-      let all : late ≡ before ++ all_writes m = sym (parted node is before ∙ ap (λ (ws : List Write). ws ++ late) none) in
-      subst (λ (ws : List Write). IsFront time upto (versions_upto end ws) part) all front
-
-  pub some_right : {P : Type 0} → node.piece ++ all_writes node.right.pieces ≡ [] → P
-  some_right none = let long : length late ≡ 0 = ap (λ (ws : List Write). length ws) none in absurd (omega (arith, long, some_late))
 
 -- ---- those of a chain
 

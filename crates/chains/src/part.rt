@@ -5,6 +5,7 @@ ghost use Rattle.chains.specs.Found.{IsFound};
 ghost use Rattle.chains.specs.Rows.{versions_upto, version_of_loan};
 
 use crate::piece::Piece;
+use crate::rows::one_if_near;
 use crate::shared_value::SharedValue;
 use crate::stamped::StampedWrite;
 use crate::tree::Share;
@@ -99,19 +100,6 @@ fn upto_first(writes: &[StampedWrite]) -> usize
     passed
 }
 
-/// 1 where the write has a value, of which it looks at the front and the end, and else 0.
-fn one_if_valued(write: &StampedWrite) -> usize
-    ensures is { (from to : ℕ) → result ≡ length (version_of from to write.now.write) }
-    ensures most { result ≤ 1 }
-{
-    let Some(shared) = write.value() else {
-        return 0;
-    };
-    let value = shared.value();
-    let front = value.len().min(1) as usize;
-    value.fields().spelled().len().min(front)
-}
-
 /// 1 where the write has a value, at which it does not look, and else 0.
 fn one_if_written(write: &StampedWrite) -> usize
     ensures is { (from to : ℕ) → result ≡ length (version_of from to write.now.write) }
@@ -123,8 +111,8 @@ fn one_if_written(write: &StampedWrite) -> usize
     }
 }
 
-/// How many of these writes have a value. It looks at all of each value that was written before the time
-/// `near`, in turn, with nothing to be done between, so that a processor fetches many at once; who then
+/// How many of these writes have a value. It looks at each value that was written before the time
+/// `near`, in turn, at two places that lie apart, with nothing to be done between, so that a processor fetches many at once; who then
 /// goes over them has them near.
 fn version_count(writes: &[StampedWrite], near: u64) -> usize
     ensures is { (end : ℕ) → result ≡ length (versions_upto end writes.now) }
@@ -133,7 +121,7 @@ fn version_count(writes: &[StampedWrite], near: u64) -> usize
     let mut rest = writes;
     while let [first, after @ ..] = rest {
         count += if first.time() < near {
-            one_if_valued(first)
+            one_if_near(first)
         } else {
             one_if_written(first)
         };

@@ -14,7 +14,7 @@ pub(crate) type Rows = Vec<Version<SharedValue>>;
 
 /// 1 where the write has a value, at which it looks in front and where its second field begins, and else
 /// 0.
-fn one_if_near(write: &StampedWrite) -> usize
+pub(crate) fn one_if_near(write: &StampedWrite) -> usize
     ensures is { (from to : ℕ) → result ≡ length (spans.version_of from to write.now.write) }
     ensures most { result ≤ 1 }
 {

@@ -19,9 +19,13 @@ use Rattle.extents.proofs.chain_times.ChainTimes.TheSendSync as chain_times
 use Rattle.extents.proofs.extent.Extent.TheSendSync as extent
 use Rattle.extents.proofs.extents.Extents.TheSendSync as extents
 use Rattle.chains.proofs.tree.Tree.TheLaws.TheKnot as knot
+use Rattle.chains.proofs.branch.Branch.TheLaws.TheKnot as branches
 use Rattle.chains.proofs.shared_value.SharedValue.TheSendSync as shared_value
+use Rattle.chains.specs.contracts.branch.Branch as Branch
 use Rattle.chains.specs.contracts.chain.Chain as Chain
 use Rattle.chains.specs.contracts.frozen.Frozen as Frozen
+use Rattle.chains.specs.contracts.older.Older as Older
+use Rattle.chains.specs.contracts.piece.Piece as Piece
 use Rattle.snapshot.proofs.open_table.OpenTable.TheSendSync as open_table
 use Rattle.floors.proofs.floors.Floors.TheSendSync as floors
 use Rattle.status.proofs.growth.Growth.TheSendSync as growth
@@ -57,11 +61,29 @@ use Rattle.shared.proofs.posts.Posts.TheSendSync as posts
 
 -- ---- the versions
 
+piece_send : IsSend Piece.the_row
+piece_send = search (sendable, crosses, shared_value.the_send, shared_value.the_sync) depth 40
+
+piece_sync : IsSync Piece.the_row
+piece_sync = search (sendable, crosses, shared_value.the_send, shared_value.the_sync) depth 40
+
+branch_send : IsSend Branch.the_row
+branch_send = search (sendable, crosses, branches.crosses, piece_send, piece_sync) depth 40
+
+branch_sync : IsSync Branch.the_row
+branch_sync = search (sendable, crosses, branches.crosses, piece_send, piece_sync) depth 40
+
+older_send : IsSend Older.the_row
+older_send = search (sendable, crosses, branch_send, branch_sync) depth 40
+
+older_sync : IsSync Older.the_row
+older_sync = search (sendable, crosses, branch_send, branch_sync) depth 40
+
 chain_send : IsSend Chain.the_row
-chain_send = search (sendable, crosses, knot.crosses, shared_value.the_send, shared_value.the_sync) depth 40
+chain_send = search (sendable, crosses, older_send, older_sync, piece_send, piece_sync) depth 40
 
 chain_sync : IsSync Chain.the_row
-chain_sync = search (sendable, crosses, knot.crosses, shared_value.the_send, shared_value.the_sync) depth 40
+chain_sync = search (sendable, crosses, older_send, older_sync, piece_send, piece_sync) depth 40
 
 pub frozen_send : IsSend Frozen.the_row
 frozen_send = search (sendable, crosses, knot.crosses, chain_send, chain_sync) depth 12

@@ -3,20 +3,15 @@ use Rattle.std.specs.Prelude.{find, option_map}
 use Rattle.history.specs.declared.time.Version.{Version}
 use Rattle.history.specs.Versions.{first_time, versions, ends_after}
 use Rattle.chains.specs.KeyWrites.{KeyWrites}
-use Rattle.chains.specs.Pieces.{all_writes}
 use Rattle.chains.specs.Rows.{versions_upto, version_of_loan}
 use Rattle.chains.specs.Writes.{Value}
-use Rattle.chains.proofs.Parts.{rising-front}
 use Rattle.chains.proofs.RowParts.{versions-endless}
 use Rattle.chains.proofs.Endings.{find_older, find_recent}
 use Rattle.chains.proofs.chain.Chain.ending_after.Goals as goal
 
-pub ending_after-requires : goal.ending_after-requires
-ending_after-requires c = rising-front 0 (all_writes c.self.inside.older.pieces) c.self.inside.last c.self.invariant
-
 pub returns-in-Some-clause-is : goal.returns-in-Some-clause-is
 returns-in-Some-clause-is c =
-    let older = all_writes c.self.inside.older.pieces in
+    let older = c.self.inside.older in
     let last = c.self.inside.last in
     let v = version_of_loan c.in-Some.version in
     let found : find (ends_after c.args.time) (versions_upto (first_time last) older) ≡ Some v = rw c.first_time-first.ensures.is at (sym c.in-Some.ensures) in
@@ -24,7 +19,7 @@ returns-in-Some-clause-is c =
 
 pub returns-in-None-clause-is : goal.returns-in-None-clause-is
 returns-in-None-clause-is c =
-    let older = all_writes c.self.inside.older.pieces in
+    let older = c.self.inside.older in
     let last = c.self.inside.last in
     let none : find (ends_after c.args.time) (versions_upto (first_time last) older) ≡ None = rw c.first_time-first.ensures.is at (sym c.in-None.ensures) in
     subst (λ (k : KeyWrites). option_map version_of_loan c.ending_after-in-None.result ≡ find (ends_after c.args.time) (versions k.writes)) c.self.view_is

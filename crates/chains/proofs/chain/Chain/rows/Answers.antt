@@ -2,19 +2,14 @@ use Rattle.std.proofs.Common.{◌≡◌, ◌∙◌, ◌++◌, List, ap, sym, sub
 use Rattle.history.specs.declared.time.Version.{Version}
 use Rattle.history.specs.Versions.{first_time, versions, rows}
 use Rattle.chains.specs.KeyWrites.{KeyWrites}
-use Rattle.chains.specs.Pieces.{all_writes}
 use Rattle.chains.specs.Rows.{versions_upto}
 use Rattle.chains.specs.Writes.{Value}
-use Rattle.chains.proofs.Parts.{rising-front}
 use Rattle.chains.proofs.RowParts.{rows-append, versions-parts, versions-endless}
 use Rattle.chains.proofs.chain.Chain.rows.Goals as goal
 
-pub add_rows-requires : goal.add_rows-requires
-add_rows-requires c = rising-front 0 (all_writes c.self.inside.older.pieces) c.self.inside.last c.self.invariant
-
 pub returns : goal.returns
 returns c =
-    let older = all_writes c.self.inside.older.pieces in
+    let older = c.self.inside.older in
     let last = c.self.inside.last in
     let first : c.add_rows.new.found.items ≡ rows (versions_upto (first_time last) older) c.args.a c.args.b =
     rw (c.new-found.ensures.items, c.first_time.ensures.is) at c.in_ok-add_rows.ensures in
