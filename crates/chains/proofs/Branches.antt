@@ -7,7 +7,8 @@ use Rattle.history.specs.declared.time.Version.{Version}
 use Rattle.history.specs.Time.{IsRisingAfter, value_after, value_at}
 use Rattle.history.specs.Versions.{first_time, rows, ends_after}
 use Rattle.history.proofs.Values.{value_after-append, value_after-later}
-use Rattle.chains.specs.Branches.{all_of, highest, BeginBy, BeginAfter, BeginByBehind, AreLaterBehind, IsFrom, IsFork}
+use Rattle.chains.specs.Branches.{BeginBy, BeginAfter, BeginByBehind, AreLaterBehind, IsFrom, IsFork}
+use Rattle.chains.specs.Shapes.{all_of, highest}
 use Rattle.chains.specs.Found.{Versions, IsPartFrom, IsFound}
 use Rattle.chains.specs.Rows.{first_time_or, versions_upto, IsFront}
 use Rattle.chains.specs.Shapes.{Shape}
@@ -20,15 +21,8 @@ use Rattle.chains.proofs.Parts.{rising-back, kept-front, last_time-back}
 use Rattle.chains.proofs.Pieces.{later-piece, value-behind, kept-behind}
 use Rattle.chains.proofs.Rising.{kept_after-rising}
 use Rattle.chains.proofs.RowParts.{rows-append, versions-append, first-piece, no-rows_piece, no-rows_from}
+use Rattle.chains.proofs.Shapes.{all_of-append, highest-append, at_low, behind, before, last-of, rest_is, pieces_are, first_low}
 use Rattle.chains.proofs.RowWalks.{front-earlier, front-later, first-front, first-upto, last-before}
-
-pub all_of-append : (bs cs : List (Shape Write)) → all_of (bs ++ cs) ≡ all_of bs ++ all_of cs
-all_of-append [] cs = refl
-all_of-append (b ∷ bs) cs = ap (λ (ws : List Write). b.pieces ++ ws) (all_of-append bs cs) ∙ sym (append_assoc b.pieces (all_of bs) (all_of cs))
-
-highest-append : (bs cs : List (Shape Write)) → highest cs ≤ highest (bs ++ cs)
-highest-append [] cs = omega arith
-highest-append (b ∷ bs) cs = omega (arith, highest-append bs cs)
 
 -- ---- the branches from the last one on that begins by a time
 
@@ -67,14 +61,6 @@ is-from-begun time (suc n) m bs is before after up =
 
 pub is-from : (time n m : ℕ) (bs : List (Shape Write)) → m ≡ n - 1 → (0 < n → BeginBy time (drop (n - 1) bs)) → BeginAfter time (drop n bs) → IsRisingAfter 0 (all_of bs) → IsFrom time bs (drop m bs)
 is-from time n m bs is before after up = is-from-begun time n m bs is (λ h. subst (λ (k : ℕ). BeginBy time (drop k bs)) (sym is) (before h)) after up
-
--- those behind the first of some branches
-abbrev pub behind : List (Shape Write) → List (Shape Write)
-behind rest = take (length rest - 1) (drop 1 rest)
-
-pub first-of-rest : (rest : List (Shape Write)) (b : Shape Write) → 1 ≤ length rest → b ≡ get_or rest 0 b → rest ≡ b ∷ behind rest
-first-of-rest [] b some is = absurd (omega (arith, some))
-first-of-rest (c ∷ cs) b some is = λ i. sym is i ∷ sym (take_rest (c ∷ cs) 1) i
 
 -- ---- what lies before them says nothing of the time
 
@@ -219,26 +205,8 @@ same_from {t} {all} {rest} from same = equal from.front from.parts
 -- ---- the first of some branches, and those behind it
 
 module _ (rest : List (Shape Write)) {b : Shape Write} (some : 1 ≤ length rest) (is : b ≡ get_or rest 0 b) where
-  rest_is : rest ≡ b ∷ behind rest
-  rest_is = first-of-rest rest b some is
-
-  writes_are : all_of rest ≡ b.pieces ++ all_of (behind rest)
-  writes_are = ap all_of rest_is
-
-  pub first_low : b.height ≤ highest rest
-  first_low = rw rest_is (omega arith)
-
-  pub behind_low : highest (behind rest) ≤ highest rest
-  behind_low = let whole = ap highest rest_is in omega (arith, whole)
-
   versions_are : (end : ℕ) → versions_upto end (all_of rest) ≡ versions_upto (first_time_or end (all_of (behind rest))) b.pieces ++ versions_upto end (all_of (behind rest))
-  versions_are end = ap (λ (ws : List Write). versions_upto end ws) writes_are ∙ versions-append end b.pieces (all_of (behind rest))
-
-  pub next_first : (t : ℕ) (w : Write) → find (is_after t) b.pieces ≡ Some w → find (is_after t) (all_of rest) ≡ Some w
-  next_first t w e = ap (λ (ws : List Write). find (is_after t) ws) writes_are ∙ find-found (is_after t) b.pieces (all_of (behind rest)) w e
-
-  pub next_behind : (t : ℕ) → find (is_after t) b.pieces ≡ None → find (is_after t) (all_of (behind rest)) ≡ find (is_after t) (all_of rest)
-  next_behind t e = sym (ap (λ (ws : List Write). find (is_after t) ws) writes_are ∙ find-past (is_after t) b.pieces (all_of (behind rest)) e)
+  versions_are end = ap (λ (ws : List Write). versions_upto end ws) (pieces_are rest some is) ∙ versions-append end b.pieces (all_of (behind rest))
 
   pub ending_first : (t end : ℕ) (v : Version Value) → find (ends_after t) (versions_upto (first_time_or end (all_of (behind rest))) b.pieces) ≡ Some v → find (ends_after t) (versions_upto end (all_of rest)) ≡ Some v
   ending_first t end v e =
@@ -267,22 +235,16 @@ module _ (rest : List (Shape Write)) {b : Shape Write} (some : 1 ≤ length rest
 
   pub no_rows_late : (end a upto : ℕ) → IsRisingAfter 0 (all_of rest) → 0 < length b.pieces → upto ≤ first_time b.pieces → rows (versions_upto end (all_of rest)) a upto ≡ []
   no_rows_late end a upto rising long late =
-      let place : first_time_or end (all_of rest) ≡ first_time b.pieces = ap (λ (ws : List Write). first_time_or end ws) writes_are ∙ first-piece end b.pieces (all_of (behind rest)) long in
+      let place : first_time_or end (all_of rest) ≡ first_time b.pieces = ap (λ (ws : List Write). first_time_or end ws) (pieces_are rest some is) ∙ first-piece end b.pieces (all_of (behind rest)) long in
       no-rows_from end a upto 0 (all_of rest) rising (subst (λ (n : ℕ). upto ≤ n) (sym place) late)
 
   pub behind_rising : IsRisingAfter 0 (all_of rest) → IsRisingAfter 0 (all_of (behind rest))
-  behind_rising rising = rising-back 0 b.pieces (all_of (behind rest)) (rw writes_are at rising)
+  behind_rising rising = rising-back 0 b.pieces (all_of (behind rest)) (rw (pieces_are rest some is) at rising)
 
 -- where none is left, there is no version
 pub none_left : (t end : ℕ) (rest : List (Shape Write)) → length rest < 1 → find (ends_after t) (versions_upto end (all_of rest)) ≡ None
 none_left t end [] none = refl
 none_left t end (b ∷ bs) none = absurd (omega (arith, none))
-
--- none of them is higher than the highest
-pub at_low : (bs : List (Shape Write)) (k : ℕ) (b : Shape Write) → k < length bs → b ≡ get_or bs k b → b.height ≤ highest bs
-at_low [] k b inside is = absurd (omega (arith, inside))
-at_low (c ∷ cs) zero b inside is = let same = ap (λ (x : Shape Write). x.height) is in omega (arith, same)
-at_low (c ∷ cs) (suc k) b inside is = omega (arith, at_low cs k b (omega (arith, inside)) is)
 
 -- ---- a fork's branches, from the one on in which a time lies
 
@@ -333,16 +295,12 @@ module _ {self : Shape Write} {bs : List (Shape Write)} (fork : IsFork self bs) 
 
     -- where as many are left as there are, all are
     pub fork_whole : length rest ≡ length bs → self.pieces ≡ b.pieces ++ all_of (behind rest)
-    fork_whole same = sym fork.writes ∙ ap all_of (same_from from same) ∙ writes_are rest some is
+    fork_whole same = sym fork.writes ∙ ap all_of (same_from from same) ∙ (pieces_are rest some is)
 
     pub kept_rising : IsRisingAfter 0 (kept_after t b.pieces ++ all_of (behind rest))
     kept_rising = subst (IsRisingAfter 0) fork_kept (kept_after-rising 0 t self.pieces (subst (IsRisingAfter 0) fork.writes fork.rising))
 
 -- ---- a fork's branches, and a piece behind them
-
--- those before the last of some branches
-abbrev pub before : List (Shape Write) → List (Shape Write)
-before bs = take (length bs - 1) bs
 
 module _ {self : Shape Write} {bs : List (Shape Write)} (fork : IsFork self bs) (p : List Write) where
   -- beside the last
@@ -353,19 +311,12 @@ module _ {self : Shape Write} {bs : List (Shape Write)} (fork : IsFork self bs) 
       ∙ ap (λ (ws : List Write). ws ++ p) fork.writes
 
   module _ {last : Shape Write} (some : 1 ≤ length bs) (is : last ≡ get_or bs (length bs - 1) last) where
-    last-is : bs ≡ before bs ++ last ∷ []
-    last-is =
-        let n = length bs - 1 in
-        let end : drop (suc n) bs ≡ [] = drop_all (suc n) bs (omega (arith, some)) in
-        sym (take-append-drop n bs)
-        ∙ ap (λ (l : List (Shape Write)). before bs ++ l) (drop-cons bs n last (omega (arith, some)) ∙ (λ i. sym is i ∷ end i))
-
     pub last_lower : last.height < self.height
     last_lower = omega (arith, fork.height, at_low bs (length bs - 1) last (omega (arith, some)) is)
 
     whole : self.pieces ++ p ≡ all_of (before bs) ++ (last.pieces ++ p)
     whole =
-        ap (λ (ws : List Write). ws ++ p) (sym fork.writes ∙ ap all_of last-is ∙ all_of-append (before bs) (last ∷ []) ∙ ap (λ (ws : List Write). all_of (before bs) ++ ws) (append-nil last.pieces))
+        ap (λ (ws : List Write). ws ++ p) (sym fork.writes ∙ ap all_of (last-of bs last some is) ∙ all_of-append (before bs) (last ∷ []) ∙ ap (λ (ws : List Write). all_of (before bs) ++ ws) (append-nil last.pieces))
         ∙ append_assoc (all_of (before bs)) last.pieces p
 
     pub last_rising : IsRisingAfter 0 (self.pieces ++ p) → IsRisingAfter 0 (last.pieces ++ p)

@@ -1,5 +1,5 @@
 -- What the writes of a commit make of a tree's chains, on the two sides of one.
-use Rattle.std.proofs.Common.{◌≡◌, ℕ, zero, suc, ◌<◌, ◌≤◌, ◌^◌, true, false, Bool, cond, List, [], ◌∷◌, ◌++◌, length, get_or, take, drop, Option, None, Some, refl, ap, sym, ◌∙◌, subst, arith}
+use Rattle.std.proofs.Common.{◌≡◌, ℕ, zero, suc, ◌<◌, ◌≤◌, ◌^◌, true, false, Bool, cond, List, [], ◌∷◌, ◌++◌, length, get_or, take, drop, Option, None, Some, refl, ap, sym, ◌∙◌, subst, arith, append-nil, append_assoc}
 use Rattle.std.specs.Prelude.{map}
 use Rattle.std.specs.List.{AllByRecursion}
 use Rattle.std.specs.List.Sorted.{IsStrictlySortedBy, IsPartitionedBy}
@@ -10,12 +10,10 @@ use Rattle.history.specs.declared.key.Key.{Key}
 use Rattle.history.specs.declared.key.KeyWrite.{KeyWrite}
 use Rattle.history.specs.Key.{key_cmp, key_lt}
 use Rattle.history.proofs.Keys.{key_lt-from_less}
-use Rattle.chains.specs.Committing.{AreBefore, AreBehind, BeginFrom, IsParted, IsOwn, only, HasOwn, with_own}
+use Rattle.chains.specs.Committing.{AreBefore, AreBehind, BeginFrom, IsParted, IsOwn, only, HasOwn, ArePartedAt, with_own}
 use Rattle.chains.specs.Writes.{Value, Write, last_time}
 use Rattle.chains.specs.KeyWrites.{KeyWrites, IsOrdered, AreRising, latest, with_write, with_commit}
-use Rattle.chains.specs.declared.tree.Node.{Node}
-use Rattle.chains.specs.Nodes.{pieces_of}
-use Rattle.chains.proofs.Order.{lt-trans, lt-not, neither-same, with_write-left, with_write-right, with_write-middle, ordered-with_write}
+use Rattle.chains.proofs.Order.{above-back, lt-trans, lt-not, neither-same, with_write-left, with_write-right, with_write-middle, ordered-with_write}
 use Rattle.chains.proofs.Commits.{stamped, MayAllFollow, key-same}
 use Rattle.chains.proofs.Rising.{rising-with_write}
 
@@ -268,29 +266,94 @@ pub rising-with_commit : (time : ℕ) (m : List KeyWrites) (ws : WriteSet) → t
 rising-with_commit time m [] small follow up = up
 rising-with_commit time m (w ∷ ws) small follow up = rising-with_commit time (with_write m w.key (stamped time w)) ws small follow.1 (rising-with_write w.key (stamped time w) m up follow.0 small)
 
-module _ {m : List KeyWrites} (node : Node KeyWrites) (is : m ≡ pieces_of node) (time : ℕ) (later : latest m < time) where
-  pub left_earlier : latest node.left.pieces < time
-  left_earlier = let h : latest (pieces_of node) < time = rw is at later in omega (arith, h, latest-front node.left.pieces (node.piece ∷ node.right.pieces))
+module _ {m : List KeyWrites} (l : List KeyWrites) (c : KeyWrites) (r : List KeyWrites) (is : m ≡ l ++ c ∷ r) (time : ℕ) (later : latest m < time) where
+  pub left_earlier : latest l < time
+  left_earlier = let h : latest (l ++ c ∷ r) < time = rw is at later in omega (arith, h, latest-front l (c ∷ r))
 
-  pub right_earlier : latest node.right.pieces < time
-  right_earlier =
-      let h : latest (pieces_of node) < time = rw is at later in
-      let back : latest (node.piece ∷ node.right.pieces) ≤ latest (pieces_of node) = latest-back node.left.pieces (node.piece ∷ node.right.pieces) in
-      omega (arith, h, back)
+  pub right_earlier : latest r < time
+  right_earlier = let h : latest (l ++ c ∷ r) < time = rw is at later in omega (arith, h, latest-back l (c ∷ r))
 
-  pub piece_earlier : last_time node.piece.writes < time
-  piece_earlier =
-      let h : latest (pieces_of node) < time = rw is at later in
-      let back : latest (node.piece ∷ node.right.pieces) ≤ latest (pieces_of node) = latest-back node.left.pieces (node.piece ∷ node.right.pieces) in
-      omega (arith, h, back)
+  pub chain_earlier : last_time c.writes < time
+  chain_earlier = let h : latest (l ++ c ∷ r) < time = rw is at later in omega (arith, h, latest-back l (c ∷ r))
 
--- the chains of a tree with a write set that is parted at the key of its top
-module _ {m : List KeyWrites} (node : Node KeyWrites) {key : Key} (is : m ≡ pieces_of node) (place : key ≡ node.piece.key) (ordered : IsOrdered m) where
-  pub commit-node : (time : ℕ) (ws before rest : WriteSet) (found : Option (KeyWrite Value)) (after : WriteSet) → IsParted key ws before rest → HasOwn key rest found after
-      → with_commit m time ws ≡ with_commit node.left.pieces time before ++ with_own time node.piece found ∷ with_commit node.right.pieces time after
-  commit-node time ws before rest found after parted has =
-      ap (λ (l : List KeyWrites). with_commit l time ws) is
-      ∙ ap (λ (vs : WriteSet). with_commit (pieces_of node) time vs) (parted.all ∙ ap (λ (vs : WriteSet). before ++ vs) has.all)
-      ∙ commit-parted node.left.pieces node.piece node.right.pieces time before found after
-      (subst (λ (k : Key). AreBefore k before) place parted.earlier) (subst (λ (k : Key). IsOwn k found) place has.found_is) (subst (λ (k : Key). AreBehind k after) place has.behind)
-      (subst IsOrdered is ordered)
+-- chains with a write set that is parted at the key of one of them
+pub commit-around_chain : {m : List KeyWrites} (l : List KeyWrites) (c : KeyWrites) (r : List KeyWrites) {key : Key} → m ≡ l ++ c ∷ r → key ≡ c.key → IsOrdered m
+    → (time : ℕ) (ws before rest : WriteSet) (found : Option (KeyWrite Value)) (after : WriteSet) → IsParted key ws before rest → HasOwn key rest found after
+    → with_commit m time ws ≡ with_commit l time before ++ with_own time c found ∷ with_commit r time after
+commit-around_chain {m} l c r {key} is place ordered time ws before rest found after parted has =
+    ap (λ (n : List KeyWrites). with_commit n time ws) is
+    ∙ ap (λ (vs : WriteSet). with_commit (l ++ c ∷ r) time vs) (parted.all ∙ ap (λ (vs : WriteSet). before ++ vs) has.all)
+    ∙ commit-parted l c r time before found after
+    (subst (λ (k : Key). AreBefore k before) place parted.earlier) (subst (λ (k : Key). IsOwn k found) place has.found_is) (subst (λ (k : Key). AreBehind k after) place has.behind)
+    (subst IsOrdered is ordered)
+
+-- ---- chains in two parts, and a write set that is parted at the first key of the later ones
+
+under-ordered : (l : List KeyWrites) (c : KeyWrites) (r : List KeyWrites) → IsOrdered (l ++ c ∷ r) → AreUnder c.key l
+unfolding AreUnder
+under-ordered [] c r o = tt
+under-ordered (d ∷ ds) c r o = ((above-back d.key ds (c ∷ r) o.0).0, under-ordered ds c r o.1)
+
+under-later : (a b : Key) (m : List KeyWrites) → key_lt b a ≡ false → AreUnder a m → AreUnder b m
+unfolding AreUnder
+under-later a b [] h up = tt
+under-later a b (d ∷ ds) h up = (lt-upto d.key a b up.0 h, under-later a b ds h up.1)
+  where
+    lt-upto : (k a b : Key) → key_lt k a ≡ true → key_lt b a ≡ false → key_lt k b ≡ true
+    lt-upto k a b h i = grind (arith, nat_tests)
+
+with_write-over : (key : Key) (w : Write) (l m : List KeyWrites) → AreUnder key l → with_write (l ++ m) key w ≡ l ++ with_write m key w
+unfolding AreUnder
+with_write-over key w [] m up = refl
+with_write-over key w (d ∷ ds) m up =
+    rw (lt-not d.key key up.0, up.0) (ap (λ (x : List KeyWrites). d ∷ x) (with_write-over key w ds m up.1))
+
+-- each of these is of no key before this one
+AreFrom : Key → WriteSet → Type 0
+AreFrom key [] = Unit {0}
+AreFrom key (w ∷ ws) = (key_lt w.key key ≡ false) × AreFrom key ws
+
+from-sorted : (key k : Key) (ws : WriteSet) → key_lt k key ≡ false → AllByRecursion (λ y. key_cmp k y ≡ Less) (keys ws) → AreFrom key ws
+unfolding AreFrom
+from-sorted key k [] h up = tt
+from-sorted key k (w ∷ ws) h up = (not-before key k w.key h (key_lt-from_less k w.key up.0), from-sorted key k ws h up.1)
+  where
+    not-before : (a b c : Key) → key_lt b a ≡ false → key_lt b c ≡ true → key_lt c a ≡ false
+    not-before a b c h i = grind (arith, nat_tests)
+
+all-from : (key : Key) (ws : WriteSet) → BeginFrom key ws → IsStrictlySortedBy key_cmp (keys ws) → AreFrom key ws
+unfolding AreFrom IsStrictlySortedBy
+all-from key [] begins sorted = tt
+all-from key (w ∷ ws) begins sorted = (begins, from-sorted key w.key ws begins sorted.0)
+
+commit-over : (l m : List KeyWrites) (key : Key) (time : ℕ) (ws : WriteSet) → AreUnder key l → AreFrom key ws → with_commit (l ++ m) time ws ≡ l ++ with_commit m time ws
+unfolding AreFrom
+commit-over l m key time [] up from = refl
+commit-over l m key time (w ∷ ws) up from =
+    ap (λ (n : List KeyWrites). with_commit n time ws) (with_write-over w.key (stamped time w) l m (under-later key w.key l from.0 up))
+    ∙ commit-over l (with_write m w.key (stamped time w)) key time ws up from.1
+
+pub commit-two : (l m : List KeyWrites) (time : ℕ) (ws before rest : WriteSet) → ArePartedAt m ws before rest → IsOrdered (l ++ m) → with_commit (l ++ m) time ws ≡ with_commit l time before ++ with_commit m time rest
+commit-two l [] time ws before rest parted o =
+    (λ i. with_commit (append-nil l i) time (parted.0 i)) ∙ sym (append-nil (with_commit l time before)) ∙ ap (λ (n : List KeyWrites). with_commit l time before ++ n) (ap (λ (vs : WriteSet). with_commit [] time vs) (sym parted.1))
+commit-two l (c ∷ cs) time ws before rest parted o =
+    let under : AreUnder c.key (with_commit l time before) = under-with_commit c.key l time before parted.earlier (under-ordered l c cs o) in
+    ap (λ (vs : WriteSet). with_commit (l ++ c ∷ cs) time vs) parted.all
+    ∙ commit-append (l ++ c ∷ cs) time before rest
+    ∙ ap (λ (n : List KeyWrites). with_commit n time rest) (commit-before l c cs time before parted.earlier)
+    ∙ commit-over (with_commit l time before) (c ∷ cs) c.key time rest under (all-from c.key rest parted.begins parted.rising_rest)
+
+-- both parts of it rise
+pub two-rising : (m : List KeyWrites) (ws before rest : WriteSet) → ArePartedAt m ws before rest → IsStrictlySortedBy key_cmp (keys ws) → IsStrictlySortedBy key_cmp (keys before) × IsStrictlySortedBy key_cmp (keys rest)
+unfolding IsStrictlySortedBy
+two-rising [] ws before rest parted sorted =
+    (subst (λ (vs : WriteSet). IsStrictlySortedBy key_cmp (keys vs)) parted.0 sorted, subst (λ (vs : WriteSet). IsStrictlySortedBy key_cmp (keys vs)) (sym parted.1) tt)
+two-rising (c ∷ cs) ws before rest parted sorted = (parted.rising_before, parted.rising_rest)
+
+pub latest-parts : (l m : List KeyWrites) (time : ℕ) → latest (l ++ m) < time → (latest l < time) × (latest m < time)
+latest-parts l m time h = (omega (arith, h, latest-front l m), omega (arith, h, latest-back l m))
+
+-- what was put behind others one after another
+pub put-around : {X : Type 0} (old first second new a c : List X) (x : X) → first ≡ old ++ a → second ≡ first ++ x ∷ [] → new ≡ second ++ c → new ≡ old ++ (a ++ x ∷ c)
+put-around {X} old first second new a c x e f g =
+    g ∙ ap (λ (l : List X). l ++ c) (f ∙ ap (λ (l : List X). l ++ x ∷ []) e) ∙ append_assoc (old ++ a) (x ∷ []) c ∙ append_assoc old a (x ∷ c)

@@ -4,73 +4,38 @@ use Rattle.std.proofs.lemmas.Bool.Decides.{nat_tests}
 use Rattle.history.specs.declared.key.Key.{Key}
 use Rattle.history.specs.Key.{key_lt}
 use Rattle.chains.specs.KeyWrites.{KeyWrites, AllAbove, IsOrdered}
-use Rattle.chains.specs.declared.tree.Node.{Node}
-use Rattle.chains.specs.Nodes.{pieces_of}
 use Rattle.chains.specs.Rows.{of_relation}
 use Rattle.chains.specs.Scans.{shown, scanned, shown_value}
 use Rattle.chains.specs.Writes.{Value}
 use Rattle.chains.proofs.Order.{above-back, ordered-back}
 use Rattle.chains.proofs.Scans.{above-relation}
 
-other-part : {X : Type 0} (relation : ℕ) (shown : KeyWrites → List X) (c : KeyWrites) → c.key.relation ≢ relation → cond (c.key.relation == relation) (shown c) [] ≡ []
+pub other-part : {X : Type 0} (relation : ℕ) (shown : KeyWrites → List X) (c : KeyWrites) → c.key.relation ≢ relation → cond (c.key.relation == relation) (shown c) [] ≡ []
 other-part relation shown c other =
     let differs : (c.key.relation == relation) ≡ false = grind (arith, nat_tests) in
     rw differs refl
 
-relation-above : {X : Type 0} (relation : ℕ) (shown : KeyWrites → List X) (k : Key) (m : List KeyWrites) → relation < k.relation → AllAbove k m → of_relation relation shown m ≡ []
+pub relation-above : {X : Type 0} (relation : ℕ) (shown : KeyWrites → List X) (k : Key) (m : List KeyWrites) → relation < k.relation → AllAbove k m → of_relation relation shown m ≡ []
 relation-above relation shown k [] h up = refl
 relation-above relation shown k (c ∷ cs) h up =
     let later = above-relation k c.key up.0 in
     let other : c.key.relation ≢ relation = omega arith in
     rw (other-part relation shown c other) (relation-above relation shown k cs h up.1)
 
-relation-append : {X : Type 0} (relation : ℕ) (shown : KeyWrites → List X) (l : List KeyWrites) (r : List KeyWrites) → of_relation relation shown (l ++ r) ≡ of_relation relation shown l ++ of_relation relation shown r
+pub relation-append : {X : Type 0} (relation : ℕ) (shown : KeyWrites → List X) (l : List KeyWrites) (r : List KeyWrites) → of_relation relation shown (l ++ r) ≡ of_relation relation shown l ++ of_relation relation shown r
 relation-append relation shown [] r = refl
 relation-append {X} relation shown (d ∷ ds) r =
     let here : List X = cond (d.key.relation == relation) (shown d) [] in
     ap (λ (x : List X). here ++ x) (relation-append relation shown ds r) ∙ sym (append_assoc here (of_relation relation shown ds) (of_relation relation shown r))
 
 -- chains before one of an earlier relation
-relation-below : {X : Type 0} (relation : ℕ) (shown : KeyWrites → List X) (l : List KeyWrites) (c : KeyWrites) (r : List KeyWrites) → c.key.relation < relation → IsOrdered (l ++ c ∷ r) → of_relation relation shown l ≡ []
+pub relation-below : {X : Type 0} (relation : ℕ) (shown : KeyWrites → List X) (l : List KeyWrites) (c : KeyWrites) (r : List KeyWrites) → c.key.relation < relation → IsOrdered (l ++ c ∷ r) → of_relation relation shown l ≡ []
 relation-below relation shown [] c r h o = refl
 relation-below relation shown (d ∷ ds) c r h o =
     let below : key_lt d.key c.key ≡ true = (above-back d.key ds (c ∷ r) o.0).0 in
     let upto = above-relation d.key c.key below in
     let other : d.key.relation ≢ relation = omega arith in
     rw (other-part relation shown d other) (relation-below relation shown ds c r h o.1)
-
-module _ {X : Type 0} (relation : ℕ) (shown : KeyWrites → List X) {m : List KeyWrites} (node : Node KeyWrites) {here : Key} (is : m ≡ pieces_of node) (place : here ≡ node.piece.key) where
-  parts : of_relation relation shown m ≡ of_relation relation shown node.left.pieces ++ of_relation relation shown (node.piece ∷ node.right.pieces)
-  parts = rw is (relation-append relation shown node.left.pieces (node.piece ∷ node.right.pieces))
-
-  -- of an earlier relation than that of the chain
-  pub relation_left : IsOrdered m → relation < here.relation → of_relation relation shown m ≡ of_relation relation shown node.left.pieces
-  relation_left ordered h =
-      let later : relation < node.piece.key.relation = rw place at h in
-      let behind = ordered-back node.left.pieces (node.piece ∷ node.right.pieces) (rw is at ordered) in
-      let other : node.piece.key.relation ≢ relation = omega arith in
-      let none : of_relation relation shown (node.piece ∷ node.right.pieces) ≡ [] = rw (other-part relation shown node.piece other) (relation-above relation shown node.piece.key node.right.pieces later behind.0) in
-      parts ∙ rw none (append-nil (of_relation relation shown node.left.pieces))
-
-  -- of a later one
-  pub relation_right : IsOrdered m → here.relation < relation → of_relation relation shown m ≡ of_relation relation shown node.right.pieces
-  relation_right ordered h =
-      let earlier : node.piece.key.relation < relation = rw place at h in
-      let other : node.piece.key.relation ≢ relation = omega arith in
-      parts ∙ rw (relation-below relation shown node.left.pieces node.piece node.right.pieces earlier (rw is at ordered), other-part relation shown node.piece other) refl
-
-  -- of the same: what was found goes on with what is left of it, with its own, and with what is right of it
-  pub relation_both : (old left mid new : List X) → here.relation ≡ relation
-      → left ≡ old ++ of_relation relation shown node.left.pieces → mid ≡ left ++ shown node.piece → new ≡ mid ++ of_relation relation shown node.right.pieces → new ≡ old ++ of_relation relation shown m
-  relation_both old left mid new same first second third =
-      let of_it : node.piece.key.relation ≡ relation = rw place at same in
-      let test : (node.piece.key.relation == relation) ≡ true = grind (arith, nat_tests) in
-      let whole : of_relation relation shown m ≡ of_relation relation shown node.left.pieces ++ (shown node.piece ++ of_relation relation shown node.right.pieces) = parts ∙ rw test refl in
-      third
-      ∙ ap (λ (l : List X). l ++ of_relation relation shown node.right.pieces) (second ∙ ap (λ (l : List X). l ++ shown node.piece) first)
-      ∙ append_assoc (old ++ of_relation relation shown node.left.pieces) (shown node.piece) (of_relation relation shown node.right.pieces)
-      ∙ append_assoc old (of_relation relation shown node.left.pieces) (shown node.piece ++ of_relation relation shown node.right.pieces)
-      ∙ ap (λ (l : List X). old ++ l) (sym whole)
 
 -- what is shown of a relation at a time, as what its chains show
 pub scanned-is : (relation time : ℕ) (m : List KeyWrites) → of_relation relation (shown_value time) m ≡ scanned relation time m

@@ -1,8 +1,8 @@
 -- One key's writes in branches: pieces of them, and below one another several branches that lie together.
-use Rattle.std.specs.Prelude.{ℕ, ◌≡◌, ◌+◌, ◌<◌, ◌≤◌, max, List, [], ◌∷◌, ◌++◌, length, Option, None, Some}
+use Rattle.std.specs.Prelude.{ℕ, ◌≡◌, ◌+◌, ◌<◌, ◌≤◌, List, [], ◌∷◌, ◌++◌, length, Option, None, Some}
 use Rattle.history.specs.Time.{IsRisingAfter}
 use Rattle.history.specs.Versions.{first_time}
-use Rattle.chains.specs.Shapes.{Shape}
+use Rattle.chains.specs.Shapes.{Shape, all_of, highest}
 use Rattle.chains.specs.Writes.{Write}
 use Rattle.std.specs.declared.alloc.Global.{Global}
 use Rattle.std.specs.declared.sync.Arc.{Arc}
@@ -10,16 +10,6 @@ use Rattle.chains.specs.declared.branch.Parts.{Parts}
 use Rattle.chains.specs.declared.branch.Parts.TheVariants.{OnePiece, Branches}
 use Rattle.chains.specs.declared.branch.Inside.{Inside}
 use Rattle.chains.specs.declared.branch.Inside.TheVariants.{Leaf, Fork}
-
--- the writes of branches, one behind another
-abbrev pub all_of : List (Shape Write) → List Write
-all_of [] = []
-all_of (b ∷ bs) = b.pieces ++ all_of bs
-
--- how high the highest of them is
-abbrev pub highest : List (Shape Write) → ℕ
-highest [] = 0
-highest (b ∷ bs) = max b.height (highest bs)
 
 -- the writes of a branch that may be there, none where it is not
 abbrev pub held_in : Option (Shape Write) → List Write

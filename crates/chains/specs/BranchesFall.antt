@@ -3,7 +3,8 @@ use Rattle.std.specs.Prelude.{◌+◌, ◌≤◌, max, List, [], ◌∷◌}
 use Rattle.std.proofs.Common.{arith}
 use Rattle.chains.specs.Shapes.{Shape}
 use Rattle.chains.specs.Writes.{Write}
-use Rattle.chains.specs.Branches.{highest, branch_in}
+use Rattle.chains.specs.Branches.{branch_in}
+use Rattle.chains.specs.Shapes.{highest}
 use Rattle.chains.specs.declared.branch.Inside.{Inside}
 use Rattle.chains.specs.declared.branch.Inside.TheVariants.{Leaf, Fork}
 use Rattle.chains.specs.declared.branch.Branch.TheDeep.{deep-Inside}

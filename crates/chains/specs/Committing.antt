@@ -55,3 +55,8 @@ pub record HasOwn (key : Key) (writes : List (KeyWrite Value)) (found : Option (
 abbrev pub with_own : ℕ → KeyWrites → Option (KeyWrite Value) → KeyWrites
 with_own time c None = c
 with_own time c (Some w) = record { key = c.key; writes = c.writes ++ record { time = time; write = w.write } ∷ [] }
+
+-- a write set is one of keys before the first of some chains and one of others; all and nothing where there is no chain
+abbrev pub ArePartedAt : List KeyWrites → (writes before rest : List (KeyWrite Value)) → Type 0
+ArePartedAt [] writes before rest = (writes ≡ before) × (rest ≡ [])
+ArePartedAt (c ∷ cs) writes before rest = IsParted c.key writes before rest

@@ -2,11 +2,12 @@
 ghost use Rattle.std.specs.Prelude.{◌≡◌, ◌<◌, ◌≤◌, ◌-◌, IfOk, IsTrue, drop, length};
 ghost use Rattle.history.specs.Time.{IsRisingAfter};
 ghost use Rattle.history.specs.Versions.{first_time};
-ghost use Rattle.chains.specs.Branches.{all_of, BeginBy, BeginAfter, IsFrom, IsMadeOf};
+ghost use Rattle.chains.specs.Branches.{BeginBy, BeginAfter, IsFrom, IsMadeOf};
+ghost use Rattle.chains.specs.Shapes.{all_of};
 ghost use Rattle.chains.specs.Rows as specs;
 
 use crate::piece::Piece;
-use crate::tree::Share;
+use crate::share::Share;
 use history::ENDLESS;
 use std::alloc::{AllocError, Global};
 use std::marker::Model;

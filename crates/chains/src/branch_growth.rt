@@ -1,12 +1,13 @@
 //! A key's older writes with a piece more, and without those that nothing asks for any more.
 ghost use Rattle.std.specs.Prelude.{◌≡◌, ◌<◌, ◌∷◌, ◌++◌, [], IfOk, IsTrue, OnOk, length};
 ghost use Rattle.history.specs.Time.{IsRisingAfter};
-ghost use Rattle.chains.specs.Branches.{all_of, held_in};
+ghost use Rattle.chains.specs.Branches.{held_in};
+ghost use Rattle.chains.specs.Shapes.{all_of};
 ghost use Rattle.chains.specs.Writes.{kept_after};
 
 use crate::branch::{Branch, Parts, WIDTH, from_begun};
 use crate::piece::Piece;
-use crate::tree::Share;
+use crate::share::Share;
 use std::alloc::{AllocError, Global};
 
 /// Puts the same branches behind others.

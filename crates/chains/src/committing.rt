@@ -1,5 +1,5 @@
-//! A tree of chains with the writes of a commit.
-ghost use Rattle.std.specs.Prelude.{◌≡◌, ◌<◌, ◌^◌, [], IfOk, OnOk, map};
+//! The chains of some keys with the writes of a commit.
+ghost use Rattle.std.specs.Prelude.{◌≡◌, ◌<◌, ◌^◌, ◌++◌, [], IfOk, OnOk, map};
 ghost use Rattle.std.specs.List.Sorted.{IsStrictlySortedBy};
 ghost use Rattle.std.specs.Option.{option_copied};
 ghost use Rattle.history.specs.Key.{key_cmp};
@@ -8,16 +8,14 @@ ghost use Rattle.chains.specs.KeyWrites.{with_commit, latest, IsOrdered};
 ghost use Rattle.chains.specs.Writes.{last_time};
 
 use crate::chain::Chain;
+use crate::share::Share;
 use crate::shared_value::SharedValue;
-use crate::tree::{Share, Tree};
 use crate::write::share_write;
 use history::{Key, KeyWrite, TimedWrite};
 use std::alloc::{AllocError, Global};
-use std::mem;
-use std::sync::Arc;
 
 /// The writes of keys before this one, and the others.
-fn parted(
+pub(crate) fn parted(
     writes: &[KeyWrite<SharedValue>],
     key: Key,
 ) -> (&[KeyWrite<SharedValue>], &[KeyWrite<SharedValue>])
@@ -90,89 +88,79 @@ fn put_own(
     }
 }
 
-impl Tree<Chain> {
-    /// The tree with the writes of a commit, made in one walk in the order of the keys: what no write
-    /// is of is shared.
-    pub(crate) fn with_writes(
-        &self,
-        alloc: Global,
-        time: u64,
-        writes: &[KeyWrite<SharedValue>],
-    ) -> Result<Self, AllocError>
-        requires ordered { IsOrdered self.now.pieces }
-        requires rising { IsStrictlySortedBy key_cmp (map (λ w. w.key) writes.now) }
-        requires later { latest self.now.pieces < time }
-        requires in_range { time < 2 ^ 63 }
-        ensures { IfOk result (λ t. t.pieces ≡ with_commit self.now.pieces time writes.now) }
-    {
-        if writes.is_empty() {
-            return self.share();
-        }
-        let Some(node) = self.top() else {
-            return Self::of_writes(alloc, time, writes);
-        };
-        let key = node.piece.key();
-        let (before, rest) = parted(writes, key);
-        let (own, after) = own_write(rest, key);
-        let left = node.left.with_writes(alloc, time, before)?;
-        let chain = with_own(alloc, time, &node.piece, own)?;
-        let right = node.right.with_writes(alloc, time, after)?;
-        Tree::join(alloc, left, chain, right)
-    }
+/// Puts behind others the chains of a commit's writes alone.
+pub(crate) fn add_new(
+    alloc: Global,
+    found: &mut Vec<Chain>,
+    time: u64,
+    writes: &[KeyWrite<SharedValue>],
+) -> Result<(), AllocError>
+    requires rising { IsStrictlySortedBy key_cmp (map (λ w. w.key) writes.now) }
+    requires positive { 0 < time }
+    requires in_range { time < 2 ^ 63 }
+    ensures { OnOk result (found.new.items ≡ found.old.items ++ with_commit [] time writes.now) }
+{
+    let (before, rest) = writes.split_at(writes.len() / 2);
+    let Some((write, after)) = rest.split_first() else {
+        return Ok(());
+    };
+    add_new(alloc, found, time, before)?;
+    found.push(Chain::new(alloc, write.key, stamped(time, write)?)?)?;
+    add_new(alloc, found, time, after)
+}
 
-    /// The tree with the writes of a commit, made in one walk in the order of the keys: what no other tree
-    /// holds is changed in place.
-    pub(crate) fn into_writes(
-        self,
-        alloc: Global,
-        time: u64,
-        writes: &[KeyWrite<SharedValue>],
-    ) -> Result<Self, AllocError>
-        requires ordered { IsOrdered self.pieces }
-        requires rising { IsStrictlySortedBy key_cmp (map (λ w. w.key) writes.now) }
-        requires later { latest self.pieces < time }
-        requires in_range { time < 2 ^ 63 }
-        ensures { IfOk result (λ t. t.pieces ≡ with_commit self.pieces time writes.now) }
-    {
-        if writes.is_empty() {
-            return Ok(self);
-        }
-        let Some(mut shared) = self.root else {
-            return Self::of_writes(alloc, time, writes);
-        };
-        let Some(node) = Arc::get_mut(&mut shared) else {
-            let tree = Tree { root: Some(shared) };
-            return tree.with_writes(alloc, time, writes);
-        };
-        let key = node.piece.key();
-        let (before, rest) = parted(writes, key);
-        let (own, after) = own_write(rest, key);
-        let left = mem::replace(&mut node.left, Tree::new());
-        node.left = left.into_writes(alloc, time, before)?;
-        put_own(alloc, time, &mut node.piece, own)?;
-        let right = mem::replace(&mut node.right, Tree::new());
-        node.right = right.into_writes(alloc, time, after)?;
-        Tree::levelled(alloc, shared)
-    }
+/// Puts behind others the chains with the writes of a commit, each shared: in one walk in the order of the
+/// keys, found by halving.
+pub(crate) fn add_with_writes(
+    alloc: Global,
+    found: &mut Vec<Chain>,
+    time: u64,
+    chains: &[Chain],
+    writes: &[KeyWrite<SharedValue>],
+) -> Result<(), AllocError>
+    requires ordered { IsOrdered chains.now }
+    requires rising { IsStrictlySortedBy key_cmp (map (λ w. w.key) writes.now) }
+    requires later { latest chains.now < time }
+    requires in_range { time < 2 ^ 63 }
+    ensures { OnOk result (found.new.items ≡ found.old.items ++ with_commit chains.now time writes.now) }
+{
+    let (left, right) = chains.split_at(chains.len() / 2);
+    let Some((chain, behind)) = right.split_first() else {
+        return add_new(alloc, found, time, writes);
+    };
+    let key = chain.key();
+    let (before, rest) = parted(writes, key);
+    let (own, after) = own_write(rest, key);
+    add_with_writes(alloc, found, time, left, before)?;
+    found.push(with_own(alloc, time, chain, own)?)?;
+    add_with_writes(alloc, found, time, behind, after)
+}
 
-    /// A tree of the writes of a commit alone.
-    fn of_writes(
-        alloc: Global,
-        time: u64,
-        writes: &[KeyWrite<SharedValue>],
-    ) -> Result<Self, AllocError>
-        requires rising { IsStrictlySortedBy key_cmp (map (λ w. w.key) writes.now) }
-        requires positive { 0 < time }
-        requires in_range { time < 2 ^ 63 }
-        ensures { IfOk result (λ t. t.pieces ≡ with_commit [] time writes.now) }
-    {
-        let (before, rest) = writes.split_at(writes.len() / 2);
-        let Some((write, after)) = rest.split_first() else {
-            return Ok(Tree::new());
-        };
-        let left = Self::of_writes(alloc, time, before)?;
-        let chain = Chain::new(alloc, write.key, stamped(time, write)?)?;
-        let right = Self::of_writes(alloc, time, after)?;
-        Tree::join(alloc, left, chain, right)
+/// The same of chains that are given away: each is changed in its place in memory.
+pub(crate) fn into_with_writes(
+    alloc: Global,
+    time: u64,
+    chains: Vec<Chain>,
+    writes: &[KeyWrite<SharedValue>],
+) -> Result<Vec<Chain>, AllocError>
+    requires ordered { IsOrdered chains.items }
+    requires rising { IsStrictlySortedBy key_cmp (map (λ w. w.key) writes.now) }
+    requires later { latest chains.items < time }
+    requires in_range { time < 2 ^ 63 }
+    ensures { IfOk result (λ cs. cs.items ≡ with_commit chains.items time writes.now) }
+{
+    let room = chains.len().saturating_add(writes.len());
+    let mut found = Vec::with_capacity(alloc, room)?;
+    let mut left = writes;
+    for mut chain in chains {
+        let key = chain.key();
+        let (before, rest) = parted(left, key);
+        let (own, after) = own_write(rest, key);
+        add_new(alloc, &mut found, time, before)?;
+        put_own(alloc, time, &mut chain, own)?;
+        found.push(chain)?;
+        left = after;
     }
+    add_new(alloc, &mut found, time, left)?;
+    Ok(found)
 }

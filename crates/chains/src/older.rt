@@ -13,7 +13,7 @@ use crate::piece::Piece;
 use crate::rows::Rows;
 use crate::shared_value::SharedValue;
 use crate::stamped::StampedWrite;
-use crate::tree::Share;
+use crate::share::Share;
 use history::Version;
 use std::alloc::{AllocError, Global};
 use std::marker::Model;

@@ -8,7 +8,7 @@ use crate::piece::Piece;
 use crate::rows::one_if_near;
 use crate::shared_value::SharedValue;
 use crate::stamped::StampedWrite;
-use crate::tree::Share;
+use crate::share::Share;
 use crate::write::first_time_or;
 use history::Version;
 use std::alloc::AllocError;

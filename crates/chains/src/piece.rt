@@ -11,7 +11,7 @@ use crate::ending::ending_in;
 use crate::rows::{Rows, add_rows_of, near_count};
 use crate::shared_value::SharedValue;
 use crate::stamped::StampedWrite;
-use crate::tree::Share;
+use crate::share::Share;
 use crate::write::{ended_by, first_time_or, next_in, value_count, value_in};
 use history::{ENDLESS, TimedWrite, Version};
 use std::alloc::{AllocError, Global};

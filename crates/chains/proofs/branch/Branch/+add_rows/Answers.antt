@@ -1,10 +1,11 @@
 use Rattle.std.proofs.Common.{◌≡◌, ◌≤◌, ◌∙◌, ◌++◌, List, ap, sym, arith, append-nil, append_assoc}
 use Rattle.history.specs.declared.time.Version.{Version}
 use Rattle.history.specs.Versions.{first_time, rows}
-use Rattle.chains.specs.Branches.{all_of}
+use Rattle.chains.specs.Shapes.{all_of}
 use Rattle.chains.specs.Rows.{first_time_or, versions_upto}
 use Rattle.chains.specs.Writes.{Value}
-use Rattle.chains.proofs.Branches.{behind, behind_low, behind_rising, rows_first, no_rows_late, rest_low, rest_rising, rest_rows}
+use Rattle.chains.proofs.Branches.{behind_rising, rows_first, no_rows_late, rest_low, rest_rising, rest_rows}
+use Rattle.chains.proofs.Shapes.{behind, behind_low}
 use Rattle.chains.proofs.branch.Branch.+add_rows.Goals as goal
 
 pub loop-rest-init : goal.loop-rest-init

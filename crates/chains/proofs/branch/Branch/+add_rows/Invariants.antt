@@ -1,7 +1,7 @@
 use Rattle.std.proofs.Common.{◌≡◌, ◌++◌, ◌<◌, length}
 use Rattle.history.specs.Time.{IsRisingAfter}
 use Rattle.history.specs.Versions.{rows}
-use Rattle.chains.specs.Branches.{all_of, highest}
+use Rattle.chains.specs.Shapes.{all_of, highest}
 use Rattle.chains.specs.Rows.{versions_upto}
 use Rattle.chains.proofs.branch.Branch.+add_rows.Given as goal
 

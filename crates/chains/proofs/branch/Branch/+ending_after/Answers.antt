@@ -1,9 +1,10 @@
 use Rattle.std.proofs.Common.{◌≡◌, ◌∙◌, Some, None, sym, arith}
 use Rattle.std.specs.Prelude.{find}
 use Rattle.history.specs.Versions.{ends_after}
-use Rattle.chains.specs.Branches.{all_of}
+use Rattle.chains.specs.Shapes.{all_of}
 use Rattle.chains.specs.Rows.{first_time_or, versions_upto, version_of_loan}
-use Rattle.chains.proofs.Branches.{behind, behind_low, ending_first, ending_behind, rest_low, rest_ending}
+use Rattle.chains.proofs.Branches.{ending_first, ending_behind, rest_low, rest_ending}
+use Rattle.chains.proofs.Shapes.{behind, behind_low}
 use Rattle.chains.proofs.branch.Branch.+ending_after.Goals as goal
 
 pub loop-rest-init : goal.loop-rest-init

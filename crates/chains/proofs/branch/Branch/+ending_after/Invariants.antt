@@ -1,7 +1,7 @@
 use Rattle.std.proofs.Common.{◌≡◌, ◌<◌, length}
 use Rattle.std.specs.Prelude.{find}
 use Rattle.history.specs.Versions.{ends_after}
-use Rattle.chains.specs.Branches.{all_of, highest}
+use Rattle.chains.specs.Shapes.{all_of, highest}
 use Rattle.chains.specs.Rows.{versions_upto}
 use Rattle.chains.proofs.branch.Branch.+ending_after.Given as goal
 

@@ -1,5 +1,5 @@
 use Rattle.std.proofs.Common.{◌-◌, ◌<◌, length, arith, rules}
-use Rattle.chains.proofs.Branches.{at_low}
+use Rattle.chains.proofs.Shapes.{at_low}
 use Rattle.chains.proofs.branch.Branch.+has_room_for.Goals as goal
 
 pub has_room_for-requires-in-len1-up : goal.has_room_for-requires-in-len1-up

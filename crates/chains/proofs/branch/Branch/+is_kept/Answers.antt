@@ -1,7 +1,8 @@
 use Rattle.std.proofs.Common.{◌∙◌, ◌++◌, List, ap, sym}
-use Rattle.chains.specs.Branches.{all_of}
+use Rattle.chains.specs.Shapes.{all_of}
 use Rattle.chains.specs.Writes.{Write}
-use Rattle.chains.proofs.Branches.{behind, fork_kept, fork_whole}
+use Rattle.chains.proofs.Branches.{fork_kept, fork_whole}
+use Rattle.chains.proofs.Shapes.{behind}
 use Rattle.chains.proofs.branch.Branch.+is_kept.Goals as goal
 
 pub returns-in-len1-up : goal.returns-in-len1-up

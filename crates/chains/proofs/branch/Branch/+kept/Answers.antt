@@ -1,7 +1,9 @@
 use Rattle.std.proofs.Common.{◌≡◌, ◌∙◌, ◌++◌, List, IfOk, ap, sym, subst, rules}
-use Rattle.chains.specs.Branches.{all_of, held_in}
+use Rattle.chains.specs.Branches.{held_in}
+use Rattle.chains.specs.Shapes.{all_of}
 use Rattle.chains.specs.Writes.{Write}
-use Rattle.chains.proofs.Branches.{behind, lower, fork_kept, kept_rising}
+use Rattle.chains.proofs.Branches.{lower, fork_kept, kept_rising}
+use Rattle.chains.proofs.Shapes.{behind}
 use Rattle.chains.proofs.branch.Branch.+kept.Goals as goal
 
 pub kept-requires-2 : goal.kept-requires-2

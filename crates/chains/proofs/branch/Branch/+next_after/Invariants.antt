@@ -1,6 +1,6 @@
 use Rattle.std.proofs.Common.{◌≡◌, ◌<◌, length}
 use Rattle.std.specs.Prelude.{find}
-use Rattle.chains.specs.Branches.{all_of, highest}
+use Rattle.chains.specs.Shapes.{all_of, highest}
 use Rattle.chains.specs.Writes.{is_after}
 use Rattle.chains.proofs.branch.Branch.+next_after.Given as goal
 

@@ -1,10 +1,11 @@
 use Rattle.std.proofs.Common.{◌≡◌, Some, None, arith}
 use Rattle.std.specs.Prelude.{find}
 use Rattle.history.specs.Versions.{ends_after}
-use Rattle.chains.specs.Branches.{all_of}
+use Rattle.chains.specs.Shapes.{all_of}
 use Rattle.chains.specs.Found.{IsPartFrom}
 use Rattle.chains.specs.Rows.{first_time_or, versions_upto}
-use Rattle.chains.proofs.Branches.{behind, behind_low, found_first, found_later, none_left, rest_low, rest_found}
+use Rattle.chains.proofs.Branches.{found_first, found_later, none_left, rest_low, rest_found}
+use Rattle.chains.proofs.Shapes.{behind, behind_low}
 use Rattle.chains.proofs.branch.Branch.+part_after.Goals as goal
 
 pub loop-rest-init : goal.loop-rest-init

@@ -1,5 +1,5 @@
 use Rattle.std.proofs.Common.{◌<◌, Option, length}
-use Rattle.chains.specs.Branches.{all_of, highest}
+use Rattle.chains.specs.Shapes.{all_of, highest}
 use Rattle.chains.specs.Found.{Versions, IsFound}
 use Rattle.chains.specs.Rows.{versions_upto}
 use Rattle.chains.proofs.branch.Branch.+part_after.Given as goal

@@ -1,0 +1,18 @@
+-- A fork is higher than each node below it.
+use Rattle.std.specs.Prelude.{ℕ, ◌+◌, ◌≤◌, max, List, [], ◌∷◌}
+use Rattle.std.proofs.Common.{arith}
+use Rattle.chains.specs.KeyWrites.{KeyWrites}
+use Rattle.chains.specs.Shapes.{Shape, highest}
+use Rattle.chains.specs.KeyNodes.{chains_in}
+use Rattle.chains.specs.declared.key_node.KeyInside.{KeyInside}
+use Rattle.chains.specs.declared.key_node.KeyInside.TheVariants.{Leaf, Fork}
+use Rattle.chains.specs.declared.key_node.KeyNode.TheDeep.{deep-KeyInside}
+use denote.Param.Weighed.{most}
+
+most-highest : (ns : List (Shape KeyWrites)) → most (λ n. n.height + 1) ns ≤ highest ns + 1
+most-highest [] = omega arith
+most-highest (n ∷ ns) = omega (arith, most-highest ns)
+
+pub depth_le-height : (i : KeyInside) → max (deep-KeyInside i) 0 ≤ (chains_in i).height
+depth_le-height (Leaf first shared) = omega arith
+depth_le-height (Fork first shared) = omega (arith, most-highest shared.value.items)

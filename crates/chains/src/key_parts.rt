@@ -1,0 +1,123 @@
+//! How chains and nodes are laid together in nodes.
+ghost use Rattle.std.specs.Prelude.{◌≡◌, ◌++◌, IfOk, OnOk};
+ghost use Rattle.chains.specs.KeyNodes.{chains_below};
+ghost use Rattle.chains.specs.KeyWrites.{IsOrdered};
+ghost use Rattle.chains.specs.Shapes.{all_of};
+
+use crate::chain::Chain;
+use crate::key_node::KeyNode;
+use std::alloc::{AllocError, Global};
+use std::mem;
+
+/// How many chains, or nodes, lie together at most.
+pub(crate) const WIDTH: usize = 16;
+
+/// How long parts are, of nearly one length, of as many as are more than lie together.
+fn part_length(count: usize) -> usize {
+    let parts = (count / WIDTH).saturating_add(1);
+    (count / parts).saturating_add(1)
+}
+
+/// Puts behind other nodes one of chains, if there are some.
+pub(crate) fn add_leaf(
+    alloc: Global,
+    found: &mut Vec<KeyNode>,
+    chains: Vec<Chain>,
+) -> Result<(), AllocError>
+    requires { IsOrdered chains.items }
+    ensures { OnOk result (all_of found.new.items ≡ all_of found.old.items ++ chains.items) }
+{
+    let Some(chain) = chains.first() else {
+        return Ok(());
+    };
+    let first = chain.key();
+    found.push(KeyNode::leaf(alloc, first, chains)?)?;
+    Ok(())
+}
+
+/// Puts behind other nodes those of chains.
+pub(crate) fn add_leaves(
+    alloc: Global,
+    found: &mut Vec<KeyNode>,
+    chains: Vec<Chain>,
+) -> Result<(), AllocError>
+    requires { IsOrdered chains.items }
+    ensures { OnOk result (all_of found.new.items ≡ all_of found.old.items ++ chains.items) }
+{
+    if chains.len() <= WIDTH {
+        return add_leaf(alloc, found, chains);
+    }
+    let length = part_length(chains.len());
+    let mut part = Vec::with_capacity(alloc, length)?;
+    for chain in chains {
+        if part.len() >= length {
+            let next = Vec::with_capacity(alloc, length)?;
+            add_leaf(alloc, found, mem::replace(&mut part, next))?;
+        }
+        part.push(chain)?;
+    }
+    add_leaf(alloc, found, part)
+}
+
+/// Puts behind other nodes a fork of nodes, if there are some; one alone stands for itself.
+pub(crate) fn add_fork(
+    alloc: Global,
+    found: &mut Vec<KeyNode>,
+    nodes: Vec<KeyNode>,
+) -> Result<(), AllocError>
+    requires { IsOrdered (all_of nodes.items) }
+    ensures { OnOk result (all_of found.new.items ≡ all_of found.old.items ++ all_of nodes.items) }
+{
+    let Some(node) = nodes.first() else {
+        return Ok(());
+    };
+    let first = node.first_key();
+    found.push(KeyNode::fork(alloc, first, nodes)?)?;
+    Ok(())
+}
+
+/// Puts behind other nodes forks of nodes.
+pub(crate) fn add_forks(
+    alloc: Global,
+    found: &mut Vec<KeyNode>,
+    nodes: Vec<KeyNode>,
+) -> Result<(), AllocError>
+    requires { IsOrdered (all_of nodes.items) }
+    ensures { OnOk result (all_of found.new.items ≡ all_of found.old.items ++ all_of nodes.items) }
+{
+    if nodes.len() <= WIDTH {
+        return add_fork(alloc, found, nodes);
+    }
+    let length = part_length(nodes.len());
+    let mut part = Vec::with_capacity(alloc, length)?;
+    for node in nodes {
+        if part.len() >= length {
+            let next = Vec::with_capacity(alloc, length)?;
+            add_fork(alloc, found, mem::replace(&mut part, next))?;
+        }
+        part.push(node)?;
+    }
+    add_fork(alloc, found, part)
+}
+
+/// One node of all of these, if there are some.
+pub(crate) fn top_of(
+    alloc: Global,
+    nodes: Vec<KeyNode>,
+) -> Result<Option<KeyNode>, AllocError>
+    requires { IsOrdered (all_of nodes.items) }
+    ensures { IfOk result (λ node. chains_below node ≡ all_of nodes.items) }
+{
+    let mut nodes = nodes;
+    if nodes.len() <= 1 {
+        return Ok(nodes.pop());
+    }
+    let mut forks = Vec::with_capacity(alloc, 1)?;
+    add_forks(alloc, &mut forks, nodes)?;
+    if forks.len() <= 1 {
+        return Ok(forks.pop());
+    }
+    let mut top = Vec::with_capacity(alloc, 1)?;
+    add_fork(alloc, &mut top, forks)?;
+    Ok(top.pop())
+}

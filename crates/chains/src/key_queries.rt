@@ -1,0 +1,139 @@
+//! What is asked of the chains of all keys.
+ghost use Rattle.std.specs.Prelude.{◌≡◌, ◌++◌, OnOk, find};
+ghost use Rattle.std.specs.Option.{option_copied, option_or};
+ghost use Rattle.chains.specs.Bounds.{is_in};
+ghost use Rattle.chains.specs.KeyWrites.{is_of, IsOrdered};
+ghost use Rattle.chains.specs.Rows.{of_relation, shown_rows};
+ghost use Rattle.chains.specs.Scans.{shown_value};
+
+use crate::bound::Bound;
+use crate::chain::Chain;
+use crate::key_node::{KeyNode, KeyParts, from_bound};
+use crate::scanning::{Found, add_rows_of_relation, add_values_of_relation};
+use crate::shared_value::SharedValue;
+use history::{Key, Version};
+use std::alloc::{AllocError, Global};
+
+/// The chain of a key among chains, found by halving.
+fn chain_of(chains: &[Chain], key: Key) -> Option<&Chain>
+    requires { IsOrdered chains.now }
+    ensures { option_copied result ≡ find (is_of key) chains.now }
+{
+    let (left, right) = chains.split_at(chains.len() / 2);
+    let Some((chain, behind)) = right.split_first() else {
+        return None;
+    };
+    let here = chain.key();
+    if key.is_before(here) {
+        chain_of(left, key)
+    } else if here.is_before(key) {
+        chain_of(behind, key)
+    } else {
+        Some(chain)
+    }
+}
+
+/// The chain of the least key within the bound among chains, found by halving, or else the one behind them.
+fn least_or<'a>(chains: &'a [Chain], bound: Bound, other: Option<&'a Chain>) -> Option<&'a Chain>
+    requires { IsOrdered chains.now }
+    ensures { option_copied result ≡ option_or (find (λ c. is_in bound c.key) chains.now) (option_copied other.entry) }
+{
+    let (left, right) = chains.split_at(chains.len() / 2);
+    let Some((chain, behind)) = right.split_first() else {
+        return other;
+    };
+    if bound.admits(chain.key()) {
+        least_or(left, bound, Some(chain))
+    } else {
+        least_or(behind, bound, other)
+    }
+}
+
+impl KeyNode {
+    /// The chain of a key.
+    pub(crate) fn get(&self, key: Key) -> Option<&Chain>
+        ensures { option_copied result ≡ find (is_of key) self.now.pieces }
+    {
+        match self.parts() {
+            KeyParts::Chains(chains) => chain_of(chains, key),
+            KeyParts::Nodes(nodes) => match from_bound(nodes, Bound::After(key)) {
+                [] => None,
+                [node, ..] => node.get(key),
+            },
+        }
+    }
+
+    /// The chain of the least key within the bound.
+    pub(crate) fn least(&self, bound: Bound) -> Option<&Chain>
+        ensures { option_copied result ≡ find (λ c. is_in bound c.key) self.now.pieces }
+    {
+        let nodes = match self.parts() {
+            KeyParts::Chains(chains) => return least_or(chains, bound, None),
+            KeyParts::Nodes(nodes) => nodes,
+        };
+        let mut rest = from_bound(nodes, bound);
+        while let [node, behind @ ..] = rest {
+            if let Some(chain) = node.least(bound) {
+                return Some(chain);
+            }
+            rest = behind;
+        }
+        None
+    }
+
+    /// Puts behind what was found the records of a relation that have a value at a time, in rising order,
+    /// with their values. It goes only where there may be some.
+    pub(crate) fn add_values(
+        &self,
+        found: &mut Found<SharedValue>,
+        relation: u16,
+        time: u64,
+    ) -> Result<(), AllocError>
+        ensures { OnOk result (found.new.items ≡ found.old.items ++ of_relation relation (shown_value time) self.now.pieces) }
+    {
+        let nodes = match self.parts() {
+            KeyParts::Chains(chains) => {
+                return add_values_of_relation(found, chains, relation, time);
+            }
+            KeyParts::Nodes(nodes) => nodes,
+        };
+        let mut rest = from_bound(nodes, Bound::From(Key { relation, record: 0 }));
+        while let [node, behind @ ..] = rest {
+            if relation < node.first_key().relation {
+                return Ok(());
+            }
+            node.add_values(found, relation, time)?;
+            rest = behind;
+        }
+        Ok(())
+    }
+
+    /// Puts behind what was found the rows of a relation's records from `a` to `b`, by record and then by
+    /// time, each with its record. It goes only where there may be some.
+    pub(crate) fn add_records(
+        &self,
+        alloc: Global,
+        found: &mut Found<Version<SharedValue>>,
+        relation: u16,
+        a: u64,
+        b: u64,
+    ) -> Result<(), AllocError>
+        ensures { OnOk result (found.new.items ≡ found.old.items ++ of_relation relation (shown_rows a b) self.now.pieces) }
+    {
+        let nodes = match self.parts() {
+            KeyParts::Chains(chains) => {
+                return add_rows_of_relation(alloc, found, chains, relation, a, b);
+            }
+            KeyParts::Nodes(nodes) => nodes,
+        };
+        let mut rest = from_bound(nodes, Bound::From(Key { relation, record: 0 }));
+        while let [node, behind @ ..] = rest {
+            if relation < node.first_key().relation {
+                return Ok(());
+            }
+            node.add_records(alloc, found, relation, a, b)?;
+            rest = behind;
+        }
+        Ok(())
+    }
+}
