@@ -9,11 +9,11 @@ use Rattle.chains.specs.declared.bound.Bound.{Bound}
 use Rattle.chains.specs.declared.bound.Bound.TheVariants.{From, After}
 use Rattle.chains.specs.Bounds.{is_in}
 use Rattle.chains.specs.KeyNodes.{BeginAt, BeginWithout, BeginWithin, FirstWithout, FirstWithin, WithoutBehind, AreWithin, AreWithinBehind, IsFromBound, IsKeyFork}
-use Rattle.chains.specs.KeyWrites.{KeyWrites, is_of, AllAbove, IsOrdered}
+use Rattle.chains.specs.KeyWrites.{KeyWrites, is_of, forgotten, AllAbove, IsOrdered}
 use Rattle.chains.specs.Rows.{of_relation}
 use Rattle.chains.specs.Shapes.{Shape, all_of, highest}
 use Rattle.chains.proofs.Bounds.{find-past, out-below}
-use Rattle.chains.proofs.Order.{above-back, find-left, find-right, find-middle, ordered-back, lt-other}
+use Rattle.chains.proofs.Order.{above-back, find-left, find-right, find-middle, forgotten-two, ordered-back, lt-other}
 use Rattle.chains.proofs.Relations.{other-part, relation-above, relation-append, relation-below}
 use Rattle.chains.proofs.Shapes.{all_of-append, highest-append, behind, rest_is, pieces_are, first_low}
 use Rattle.chains.proofs.Walks.{in-later}
@@ -182,6 +182,12 @@ module _ (rest : List (Shape KeyWrites)) {n : Shape KeyWrites} (some : 1 ≤ len
   pub relation_first : {X : Type 0} (relation : ℕ) (shown : KeyWrites → List X) → of_relation relation shown (all_of rest) ≡ of_relation relation shown n.pieces ++ of_relation relation shown (all_of (behind rest))
   relation_first relation shown = ap (λ (m : List KeyWrites). of_relation relation shown m) (pieces_are rest some is) ∙ relation-append relation shown n.pieces (all_of (behind rest))
 
+  pub kept_first : (mark : ℕ) → forgotten mark (all_of rest) ≡ forgotten mark n.pieces ++ forgotten mark (all_of (behind rest))
+  kept_first mark = ap (λ (m : List KeyWrites). forgotten mark m) (pieces_are rest some is) ∙ forgotten-two mark n.pieces (all_of (behind rest))
+
+  pub same_first : (mark : ℕ) → forgotten mark n.pieces ≡ n.pieces → forgotten mark (all_of (behind rest)) ≡ all_of (behind rest) → forgotten mark (all_of rest) ≡ all_of rest
+  same_first mark e f = kept_first mark ∙ (λ i. e i ++ f i) ∙ sym (pieces_are rest some is)
+
   pub behind_ordered : IsOrdered (all_of rest) → IsOrdered (all_of (behind rest))
   behind_ordered o = ordered-back n.pieces (all_of (behind rest)) (rw (pieces_are rest some is) at o)
 
@@ -198,12 +204,12 @@ module _ (rest : List (Shape KeyWrites)) {n : Shape KeyWrites} (some : 1 ≤ len
 
 -- ---- chains parted in the middle
 
-pub split-is : {X : Type 0} {m l r : List X} {x : X} {xs : List X} → m ≡ l ++ r → r ≡ x ∷ xs → m ≡ l ++ x ∷ xs
-split-is {X} {m} {l} whole first = whole ∙ ap (λ (r : List X). l ++ r) first
+pub split-is : {X : Type 0} (l : List X) {m r : List X} {x : X} {xs : List X} → m ≡ l ++ r → r ≡ x ∷ xs → m ≡ l ++ x ∷ xs
+split-is {X} l whole first = whole ∙ ap (λ (r : List X). l ++ r) first
 
-module _ {m l r : List KeyWrites} {c : KeyWrites} {cs : List KeyWrites} {here : Key} (key : Key) (whole : m ≡ l ++ r) (first : r ≡ c ∷ cs) (place : here ≡ c.key) (o : IsOrdered m) where
+module _ (l : List KeyWrites) {m r : List KeyWrites} {c : KeyWrites} {cs : List KeyWrites} {here : Key} (key : Key) (whole : m ≡ l ++ r) (first : r ≡ c ∷ cs) (place : here ≡ c.key) (o : IsOrdered m) where
   is : m ≡ l ++ c ∷ cs
-  is = split-is whole first
+  is = split-is l whole first
 
   pub in-left : key_lt key here ≡ true → find (is_of key) m ≡ find (is_of key) l
   in-left h = rw is (find-left key l c cs (rw place at h) (rw is at o))

@@ -61,3 +61,30 @@ module _ {E : Type 0} (rest : List (Shape E)) {t : Shape E} (some : 1 ≤ length
 
   pub find_behind : (p : E → Bool) → find p t.pieces ≡ None → find p (all_of (behind rest)) ≡ find p (all_of rest)
   find_behind p e = sym (ap (λ (xs : List E). find p xs) pieces_are ∙ find-past p t.pieces (all_of (behind rest)) e)
+
+-- what was put behind others, and a part that grows, are as much as they were with what came next
+pub put-part : {X : Type 0} (f f' p p' p'' xs rest rest' total : List X) → f' ++ p' ≡ f ++ p → p'' ≡ p' ++ xs → rest ≡ xs ++ rest' → f ++ (p ++ rest) ≡ total → f' ++ (p'' ++ rest') ≡ total
+put-part {X} f f' p p' p'' xs rest rest' total put grown first is =
+    ap (λ (l : List X). f' ++ (l ++ rest')) grown
+    ∙ ap (λ (l : List X). f' ++ l) (append_assoc p' xs rest')
+    ∙ sym (append_assoc f' p' (xs ++ rest'))
+    ∙ ap (λ (l : List X). l ++ (xs ++ rest')) put
+    ∙ append_assoc f p (xs ++ rest')
+    ∙ ap (λ (l : List X). f ++ (p ++ l)) (sym first)
+    ∙ is
+
+-- two parts put one after another
+pub put-two : {X : Type 0} (f f2 f3 p q whole : List X) → f2 ≡ f ++ p → f3 ≡ f2 ++ q → whole ≡ p ++ q → f3 ≡ f ++ whole
+put-two {X} f f2 f3 p q whole first second is =
+    second ∙ ap (λ (l : List X). l ++ q) first ∙ append_assoc f p q ∙ ap (λ (l : List X). f ++ l) (sym is)
+
+-- the last of them and those before it
+pub popped : {E : Type 0} {ts : List (Shape E)} (us : List (Shape E)) (t : Shape E) → ts ≡ us ++ t ∷ [] → all_of ts ≡ all_of us ++ t.pieces
+popped {E} {ts} us t is = ap all_of is ∙ all_of-push us t
+
+pub popped_low : {E : Type 0} {ts : List (Shape E)} (us : List (Shape E)) (t : Shape E) → ts ≡ us ++ t ∷ [] → t.height ≤ highest ts
+popped_low {E} {ts} us t is = let whole = ap highest is in omega (arith, whole, highest-append us (t ∷ []))
+
+pub none-left : {E : Type 0} (rest : List (Shape E)) → length rest < 1 → all_of rest ≡ []
+none-left [] none = refl
+none-left (t ∷ ts) none = absurd (omega (arith, none))

@@ -1,5 +1,5 @@
 -- The chains of all keys in nodes: chains that lie together, and below one another several nodes that lie together.
-use Rattle.std.specs.Prelude.{ℕ, ◌≡◌, ◌+◌, ◌<◌, ◌≤◌, true, false, List, [], ◌∷◌, ◌++◌, Option, None, Some, Result, Ok, Err}
+use Rattle.std.specs.Prelude.{ℕ, ◌≡◌, ◌+◌, ◌<◌, ◌≤◌, true, false, List, [], ◌∷◌, ◌++◌, length, Option, None, Some, Result, Ok, Err}
 use Rattle.history.specs.declared.key.Key.{Key}
 use Rattle.chains.specs.declared.bound.Bound.{Bound}
 use Rattle.chains.specs.declared.key_node.KeyParts.{KeyParts}
@@ -37,6 +37,7 @@ pub record IsKeyFork (fork : Shape KeyWrites) (nodes : List (Shape KeyWrites)) :
   pub chains : all_of nodes ≡ fork.pieces
   pub height : fork.height ≡ highest nodes + 1
   pub ordered : IsOrdered (all_of nodes)
+  pub some : 1 ≤ length nodes
 
 -- what a node is made of
 abbrev pub AreKeyParts : Shape KeyWrites → KeyParts → Type 0

@@ -257,8 +257,10 @@ impl KeyNode {
         };
         let mut all = Vec::with_capacity(alloc, nodes.len())?;
         let mut is_same = true;
-        for node in nodes {
+        let mut rest = nodes;
+        while let [node, behind @ ..] = rest {
             is_same = node.add_kept(alloc, &mut all, mark)? && is_same;
+            rest = behind;
         }
         if is_same {
             found.push(self.share()?)?;

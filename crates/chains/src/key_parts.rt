@@ -1,7 +1,7 @@
 //! How chains and nodes are laid together in nodes.
-ghost use Rattle.std.specs.Prelude.{◌≡◌, ◌++◌, IfOk, OnOk};
+ghost use Rattle.std.specs.Prelude.{◌≡◌, ◌++◌, List, IfOk, OnOk};
 ghost use Rattle.chains.specs.KeyNodes.{chains_below};
-ghost use Rattle.chains.specs.KeyWrites.{IsOrdered};
+ghost use Rattle.chains.specs.KeyWrites.{KeyWrites, IsOrdered};
 ghost use Rattle.chains.specs.Shapes.{all_of};
 
 use crate::chain::Chain;
@@ -35,6 +35,25 @@ pub(crate) fn add_leaf(
     Ok(())
 }
 
+/// Puts behind other nodes a leaf of some chains where they are as many as that, so that none are left of them.
+fn put_full_leaf(
+    alloc: Global,
+    found: &mut Vec<KeyNode>,
+    part: &mut Vec<Chain>,
+    length: usize,
+) -> Result<(), AllocError>
+    requires { IsOrdered part.old.items }
+    ensures is { OnOk result (all_of found.new.items ++ part.new.items ≡ all_of found.old.items ++ part.old.items) }
+    ensures ordered { OnOk result ((rest : List KeyWrites) → IsOrdered (part.old.items ++ rest) → IsOrdered (part.new.items ++ rest)) }
+{
+    if part.len() < length {
+        return Ok(());
+    }
+    let next = Vec::with_capacity(alloc, length)?;
+    let full = mem::replace(part, next);
+    add_leaf(alloc, found, full)
+}
+
 /// Puts behind other nodes those of chains.
 pub(crate) fn add_leaves(
     alloc: Global,
@@ -50,10 +69,7 @@ pub(crate) fn add_leaves(
     let length = part_length(chains.len());
     let mut part = Vec::with_capacity(alloc, length)?;
     for chain in chains {
-        if part.len() >= length {
-            let next = Vec::with_capacity(alloc, length)?;
-            add_leaf(alloc, found, mem::replace(&mut part, next))?;
-        }
+        put_full_leaf(alloc, found, &mut part, length)?;
         part.push(chain)?;
     }
     add_leaf(alloc, found, part)
@@ -76,6 +92,25 @@ pub(crate) fn add_fork(
     Ok(())
 }
 
+/// Puts behind other nodes a fork of some nodes where they are as many as that, so that none are left of them.
+fn put_full_fork(
+    alloc: Global,
+    found: &mut Vec<KeyNode>,
+    part: &mut Vec<KeyNode>,
+    length: usize,
+) -> Result<(), AllocError>
+    requires { IsOrdered (all_of part.old.items) }
+    ensures is { OnOk result (all_of found.new.items ++ all_of part.new.items ≡ all_of found.old.items ++ all_of part.old.items) }
+    ensures ordered { OnOk result ((rest : List KeyWrites) → IsOrdered (all_of part.old.items ++ rest) → IsOrdered (all_of part.new.items ++ rest)) }
+{
+    if part.len() < length {
+        return Ok(());
+    }
+    let next = Vec::with_capacity(alloc, length)?;
+    let full = mem::replace(part, next);
+    add_fork(alloc, found, full)
+}
+
 /// Puts behind other nodes forks of nodes.
 pub(crate) fn add_forks(
     alloc: Global,
@@ -91,10 +126,7 @@ pub(crate) fn add_forks(
     let length = part_length(nodes.len());
     let mut part = Vec::with_capacity(alloc, length)?;
     for node in nodes {
-        if part.len() >= length {
-            let next = Vec::with_capacity(alloc, length)?;
-            add_fork(alloc, found, mem::replace(&mut part, next))?;
-        }
+        put_full_fork(alloc, found, &mut part, length)?;
         part.push(node)?;
     }
     add_fork(alloc, found, part)
@@ -117,7 +149,9 @@ pub(crate) fn top_of(
     if forks.len() <= 1 {
         return Ok(forks.pop());
     }
-    let mut top = Vec::with_capacity(alloc, 1)?;
-    add_fork(alloc, &mut top, forks)?;
-    Ok(top.pop())
+    let Some(node) = forks.first() else {
+        return Ok(None);
+    };
+    let first = node.first_key();
+    Ok(Some(KeyNode::fork(alloc, first, forks)?))
 }

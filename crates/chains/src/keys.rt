@@ -132,6 +132,22 @@ impl Keys {
         })
     }
 
+    /// The chains of a commit's writes alone.
+    fn of_writes(
+        alloc: Global,
+        time: u64,
+        writes: &[KeyWrite<SharedValue>],
+    ) -> Result<Self, AllocError>
+        requires rising { IsStrictlySortedBy key_cmp (map (λ w. w.key) writes.now) }
+        requires positive { 0 < time }
+        requires in_range { time < 2 ^ 63 }
+        ensures { IfOk result (λ k. k ≡ with_commit [] time writes.now) }
+    {
+        let mut nodes = Vec::with_capacity(alloc, 1)?;
+        add_alone(alloc, &mut nodes, time, writes)?;
+        Keys::of(alloc, nodes)
+    }
+
     /// The same with the writes of a commit: what no write is of is shared.
     pub(crate) fn with_writes(
         &self,
@@ -145,11 +161,11 @@ impl Keys {
         requires in_range { time < 2 ^ 63 }
         ensures { IfOk result (λ k. k ≡ with_commit self.now time writes.now) }
     {
+        let Some(node) = &self.root else {
+            return Keys::of_writes(alloc, time, writes);
+        };
         let mut nodes = Vec::with_capacity(alloc, 1)?;
-        match &self.root {
-            None => add_alone(alloc, &mut nodes, time, writes)?,
-            Some(node) => node.add_written(alloc, &mut nodes, time, writes)?,
-        }
+        node.add_written(alloc, &mut nodes, time, writes)?;
         Keys::of(alloc, nodes)
     }
 
@@ -166,11 +182,11 @@ impl Keys {
         requires in_range { time < 2 ^ 63 }
         ensures { IfOk result (λ k. k ≡ with_commit self time writes.now) }
     {
+        let Some(node) = self.root else {
+            return Keys::of_writes(alloc, time, writes);
+        };
         let mut nodes = Vec::with_capacity(alloc, 1)?;
-        match self.root {
-            None => add_alone(alloc, &mut nodes, time, writes)?,
-            Some(node) => node.into_written(alloc, &mut nodes, time, writes)?,
-        }
+        node.into_written(alloc, &mut nodes, time, writes)?;
         Keys::of(alloc, nodes)
     }
 
@@ -180,10 +196,11 @@ impl Keys {
         ensures { IfOk result (λ k. k ≡ self ++ chain ∷ []) }
     {
         let mut nodes = Vec::with_capacity(alloc, 1)?;
-        match self.root {
-            None => add_leaf(alloc, &mut nodes, one(alloc, chain)?)?,
-            Some(node) => node.into_longer(alloc, &mut nodes, chain)?,
-        }
+        let Some(node) = self.root else {
+            add_leaf(alloc, &mut nodes, one(alloc, chain)?)?;
+            return Keys::of(alloc, nodes);
+        };
+        node.into_longer(alloc, &mut nodes, chain)?;
         Keys::of(alloc, nodes)
     }
 
@@ -192,10 +209,11 @@ impl Keys {
         requires { IsOrdered self.now }
         ensures { IfOk result (λ k. k ≡ forgotten mark self.now) }
     {
+        let Some(node) = &self.root else {
+            return Ok(Keys::new());
+        };
         let mut nodes = Vec::with_capacity(alloc, 1)?;
-        if let Some(node) = &self.root {
-            node.add_kept(alloc, &mut nodes, mark)?;
-        }
+        node.add_kept(alloc, &mut nodes, mark)?;
         Keys::of(alloc, nodes)
     }
 }

@@ -19,13 +19,13 @@ chain_of-requires-then-is_before-2 t c =
 
 pub returns-then-is_before : goal.returns-then-is_before
 returns-then-is_before t c =
-    c.chain_of.ensures ∙ sym (in-left c.args.key c.split_at.ensures.by_index.0 c.in-Some.ensures.cases.0 c.key-here.ensures c.requires (sym c.is_before.ensures ∙ c.if-is_before.true))
+    c.chain_of.ensures ∙ sym (in-left c.split_at.result.0.now c.args.key c.split_at.ensures.by_index.0 c.in-Some.ensures.cases.0 c.key-here.ensures c.requires (sym c.is_before.ensures ∙ c.if-is_before.true))
 
 pub returns-then-is_before-2 : goal.returns-then-is_before-2
 returns-then-is_before-2 t c =
     c.chain_of-then-is_before-2.ensures
-    ∙ sym (in-right c.args.key c.split_at.ensures.by_index.0 c.in-Some.ensures.cases.0 c.key-here.ensures c.requires (sym c.is_before-else-is_before.ensures ∙ c.if-is_before-2.true))
+    ∙ sym (in-right c.split_at.result.0.now c.args.key c.split_at.ensures.by_index.0 c.in-Some.ensures.cases.0 c.key-here.ensures c.requires (sym c.is_before-else-is_before.ensures ∙ c.if-is_before-2.true))
 
 pub returns-else-is_before-2 : goal.returns-else-is_before-2
 returns-else-is_before-2 t c =
-    sym (in-middle c.args.key c.split_at.ensures.by_index.0 c.in-Some.ensures.cases.0 c.key-here.ensures c.requires (sym c.is_before.ensures ∙ c.if-is_before.false) (sym c.is_before-else-is_before.ensures ∙ c.if-is_before-2.false))
+    sym (in-middle c.split_at.result.0.now c.args.key c.split_at.ensures.by_index.0 c.in-Some.ensures.cases.0 c.key-here.ensures c.requires (sym c.is_before.ensures ∙ c.if-is_before.false) (sym c.is_before-else-is_before.ensures ∙ c.if-is_before-2.false))

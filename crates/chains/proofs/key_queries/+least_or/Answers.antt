@@ -21,8 +21,8 @@ least_or-requires-else-admits t c =
 
 pub returns-then-admits : goal.returns-then-admits
 returns-then-admits t c =
-    c.least_or.ensures ∙ sym (least_left c.args.bound c.split_at.result.0.now c.in-Some.chain.now c.in-Some.behind.now (split-is c.split_at.ensures.by_index.0 c.in-Some.ensures.cases.0) (option_copied c.args.other) c.key.ensures (sym c.admits.ensures ∙ c.if-admits.true))
+    c.least_or.ensures ∙ sym (least_left c.args.bound c.split_at.result.0.now c.in-Some.chain.now c.in-Some.behind.now (split-is c.split_at.result.0.now c.split_at.ensures.by_index.0 c.in-Some.ensures.cases.0) (option_copied c.args.other) c.key.ensures (sym c.admits.ensures ∙ c.if-admits.true))
 
 pub returns-else-admits : goal.returns-else-admits
 returns-else-admits t c =
-    c.least_or-else-admits.ensures ∙ sym (least_right c.args.bound c.split_at.result.0.now c.in-Some.chain.now c.in-Some.behind.now (split-is c.split_at.ensures.by_index.0 c.in-Some.ensures.cases.0) (option_copied c.args.other) c.key.ensures (sym c.admits.ensures ∙ c.if-admits.false) c.requires)
+    c.least_or-else-admits.ensures ∙ sym (least_right c.args.bound c.split_at.result.0.now c.in-Some.chain.now c.in-Some.behind.now (split-is c.split_at.result.0.now c.split_at.ensures.by_index.0 c.in-Some.ensures.cases.0) (option_copied c.args.other) c.key.ensures (sym c.admits.ensures ∙ c.if-admits.false) c.requires)

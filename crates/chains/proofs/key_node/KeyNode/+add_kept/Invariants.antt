@@ -1,4 +1,4 @@
-use Rattle.std.proofs.Common.{◌≡◌, ◌++◌, ◌<◌, take}
+use Rattle.std.proofs.Common.{◌≡◌, ◌++◌, ◌<◌, length}
 use Rattle.std.specs.Prelude.{IsTrue}
 use Rattle.chains.specs.KeyWrites.{forgotten}
 use Rattle.chains.specs.Shapes.{all_of, highest}
@@ -7,9 +7,13 @@ use Rattle.chains.proofs.key_node.KeyNode.+add_kept.Given as goal
 abbrev pub decreases-add_kept : goal.decreases-add_kept
 decreases-add_kept l = goal.size-add_kept l
 
--- what was put is what is kept of the nodes so far, all of it where they are the same
-abbrev pub invariant-loop-node : goal.invariant-loop-node
-invariant-loop-node l = record {
-  put : all_of l.all.items ≡ forgotten l.mark (all_of (take l.node-index l.nodes));
-  same : IsTrue l.is_same → forgotten l.mark (all_of (take l.node-index l.nodes)) ≡ all_of (take l.node-index l.nodes);
+-- what was put and what is kept of the nodes that are left is all; where these too are the same, all is
+abbrev pub invariant-loop-rest : goal.invariant-loop-rest
+invariant-loop-rest l = record {
+  low : highest l.rest < l.self.height;
+  put : all_of l.all.items ++ forgotten l.mark (all_of l.rest) ≡ forgotten l.mark l.self.pieces;
+  same : IsTrue l.is_same → forgotten l.mark (all_of l.rest) ≡ all_of l.rest → forgotten l.mark l.self.pieces ≡ l.self.pieces;
 }
+
+abbrev pub decreases-loop-rest : goal.decreases-loop-rest
+decreases-loop-rest l = length l.rest

@@ -1,4 +1,4 @@
-use Rattle.std.proofs.Common.{◌≡◌, ◌++◌, ◌<◌, length, map}
+use Rattle.std.proofs.Common.{◌≡◌, ◌++◌, ◌<◌, [], length, map}
 use Rattle.std.specs.List.Sorted.{IsStrictlySortedBy}
 use Rattle.history.specs.declared.key.KeyWrite.{KeyWrite}
 use Rattle.history.specs.Key.{key_cmp}
@@ -17,6 +17,7 @@ invariant-loop-rest l = record {
   ordered : IsOrdered (all_of l.rest);
   earlier : latest (all_of l.rest) < l.time;
   rising : IsStrictlySortedBy key_cmp (map (λ (w : KeyWrite Value). w.key) l.left);
+  none : length l.rest < 1 → l.left ≡ [];
   put : all_of l.all.items ++ with_commit (all_of l.rest) l.time l.left ≡ with_commit l.self.pieces l.time l.fn.writes;
 }
 
