@@ -11,6 +11,7 @@ use Rattle.history.specs.declared.key.KeyWrite.{KeyWrite}
 use Rattle.history.specs.Key.{key_cmp, key_lt}
 use Rattle.history.proofs.Keys.{key_lt-from_less}
 use Rattle.chains.specs.Committing.{AreBefore, AreBehind, BeginFrom, IsParted, IsOwn, only, HasOwn, ArePartedAt, with_own}
+use Rattle.chains.specs.KeyNodes.{BeginAt}
 use Rattle.chains.specs.Writes.{Value, Write, last_time}
 use Rattle.chains.specs.KeyWrites.{KeyWrites, IsOrdered, AreRising, latest, with_write, with_commit}
 use Rattle.chains.proofs.Order.{above-back, lt-trans, lt-not, neither-same, with_write-left, with_write-right, with_write-middle, ordered-with_write}
@@ -357,3 +358,8 @@ latest-parts l m time h = (omega (arith, h, latest-front l m), omega (arith, h, 
 pub put-around : {X : Type 0} (old first second new a c : List X) (x : X) → first ≡ old ++ a → second ≡ first ++ x ∷ [] → new ≡ second ++ c → new ≡ old ++ (a ++ x ∷ c)
 put-around {X} old first second new a c x e f g =
     g ∙ ap (λ (l : List X). l ++ c) (f ∙ ap (λ (l : List X). l ++ x ∷ []) e) ∙ append_assoc (old ++ a) (x ∷ []) c ∙ append_assoc old a (x ∷ c)
+
+-- a write set that is parted at the first key of some chains, with others behind them
+pub parted-first : (ps qs : List KeyWrites) (key : Key) (ws before rest : WriteSet) → BeginAt key ps → IsParted key ws before rest → ArePartedAt (ps ++ qs) ws before rest
+parted-first [] qs key ws before rest begin parted = absurd (omega (arith, begin))
+parted-first (c ∷ cs) qs key ws before rest begin parted = subst (λ (k : Key). IsParted k ws before rest) begin parted

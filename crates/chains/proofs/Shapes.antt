@@ -88,3 +88,7 @@ popped_low {E} {ts} us t is = let whole = ap highest is in omega (arith, whole, 
 pub none-left : {E : Type 0} (rest : List (Shape E)) → length rest < 1 → all_of rest ≡ []
 none-left [] none = refl
 none-left (t ∷ ts) none = absurd (omega (arith, none))
+
+pub nothing : {X : Type 0} (xs : List X) → length xs ≡ 0 → xs ≡ []
+nothing [] none = refl
+nothing (x ∷ xs) none = absurd (omega (arith, none))
