@@ -1,8 +1,7 @@
 -- One key's writes in branches: those of a fork, from the branch on in which a time lies.
 use Rattle.std.proofs.Common.{◌≡◌, ℕ, zero, suc, ◌-◌, ◌<◌, ◌≤◌, List, [], ◌∷◌, ◌++◌, length, get_or, take, drop, Option, None, Some, refl, ap, sym, subst, ◌∙◌, arith, append_assoc, append-nil, length-append}
 use Rattle.std.specs.Prelude.{find}
-use Rattle.std.proofs.lemmas.List.{take-append-drop, take_rest, drop_all}
-use Rattle.std.proofs.Math.Seq.{drop-cons}
+use Rattle.std.proofs.lemmas.List.{take-append-drop}
 use Rattle.history.specs.declared.time.Version.{Version}
 use Rattle.history.specs.Time.{IsRisingAfter, value_after, value_at}
 use Rattle.history.specs.Versions.{first_time, rows, ends_after}

@@ -1,5 +1,5 @@
 -- What a tree of chains shows of a relation, on the two sides of a chain.
-use Rattle.std.proofs.Common.{◌≡◌, ◌≢◌, ℕ, ◌<◌, ◌==◌, true, false, cond, List, [], ◌∷◌, ◌++◌, refl, ap, sym, ◌∙◌, arith, append_assoc, append-nil}
+use Rattle.std.proofs.Common.{◌≡◌, ◌≢◌, ℕ, ◌<◌, ◌==◌, true, false, cond, List, [], ◌∷◌, ◌++◌, refl, ap, sym, ◌∙◌, arith, append_assoc}
 use Rattle.std.proofs.lemmas.Bool.Decides.{nat_tests}
 use Rattle.history.specs.declared.key.Key.{Key}
 use Rattle.history.specs.Key.{key_lt}
@@ -7,7 +7,7 @@ use Rattle.chains.specs.KeyWrites.{KeyWrites, AllAbove, IsOrdered}
 use Rattle.chains.specs.Rows.{of_relation}
 use Rattle.chains.specs.Scans.{shown, scanned, shown_value}
 use Rattle.chains.specs.Writes.{Value}
-use Rattle.chains.proofs.Order.{above-back, ordered-back}
+use Rattle.chains.proofs.Order.{above-back}
 use Rattle.chains.proofs.Scans.{above-relation}
 
 pub other-part : {X : Type 0} (relation : ℕ) (shown : KeyWrites → List X) (c : KeyWrites) → c.key.relation ≢ relation → cond (c.key.relation == relation) (shown c) [] ≡ []

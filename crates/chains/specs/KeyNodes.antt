@@ -1,5 +1,5 @@
 -- The chains of all keys in nodes: chains that lie together, and below one another several nodes that lie together.
-use Rattle.std.specs.Prelude.{ℕ, ◌≡◌, ◌+◌, ◌<◌, ◌≤◌, true, false, List, [], ◌∷◌, ◌++◌, length, Option, None, Some, Result, Ok, Err}
+use Rattle.std.specs.Prelude.{◌≡◌, ◌+◌, ◌≤◌, true, false, List, [], ◌∷◌, ◌++◌, length, Option, None, Some, Result, Ok, Err}
 use Rattle.history.specs.declared.key.Key.{Key}
 use Rattle.chains.specs.declared.bound.Bound.{Bound}
 use Rattle.chains.specs.declared.key_node.KeyParts.{KeyParts}

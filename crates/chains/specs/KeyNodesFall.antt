@@ -1,5 +1,5 @@
 -- A fork is higher than each node below it.
-use Rattle.std.specs.Prelude.{ℕ, ◌+◌, ◌≤◌, max, List, [], ◌∷◌}
+use Rattle.std.specs.Prelude.{◌+◌, ◌≤◌, max, List, [], ◌∷◌}
 use Rattle.std.proofs.Common.{arith}
 use Rattle.chains.specs.KeyWrites.{KeyWrites}
 use Rattle.chains.specs.Shapes.{Shape, highest}

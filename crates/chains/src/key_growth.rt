@@ -9,7 +9,7 @@ ghost use Rattle.chains.specs.Shapes.{all_of};
 use crate::chain::Chain;
 use crate::committing::{add_new, add_with_writes, into_with_writes, parted};
 use crate::key_node::{KeyNode, KeyParts, OwnParts};
-use crate::key_parts::{WIDTH, add_fork, add_forks, add_leaf, add_leaves};
+use crate::key_parts::{FORK_WIDTH, LEAF_WIDTH, add_fork, add_forks, add_leaf, add_leaves};
 use crate::share::Share;
 use crate::shared_value::SharedValue;
 use history::KeyWrite;
@@ -79,7 +79,7 @@ fn kept_of(alloc: Global, chains: &[Chain], mark: u64) -> Result<Vec<Chain>, All
 pub(crate) fn one(alloc: Global, chain: Chain) -> Result<Vec<Chain>, AllocError>
     ensures { IfOk result (λ cs. cs.items ≡ chain ∷ []) }
 {
-    let mut chains = Vec::with_capacity(alloc, WIDTH)?;
+    let mut chains = Vec::with_capacity(alloc, LEAF_WIDTH)?;
     chains.push(chain)?;
     Ok(chains)
 }
@@ -95,7 +95,7 @@ fn add_longer_leaf(
     ensures { OnOk result (all_of found.new.items ≡ all_of found.old.items ++ (chains.items ++ chain ∷ [])) }
 {
     let mut chains = chains;
-    if chains.len() < WIDTH {
+    if chains.len() < LEAF_WIDTH {
         chains.push(chain)?;
         return add_leaf(alloc, found, chains);
     }
@@ -113,13 +113,13 @@ fn add_longer_fork(
     ensures { OnOk result (all_of found.new.items ≡ all_of found.old.items ++ all_of nodes.items) }
 {
     let mut nodes = nodes;
-    if nodes.len() <= WIDTH {
+    if nodes.len() <= FORK_WIDTH {
         return add_fork(alloc, found, nodes);
     }
     let Some(node) = nodes.pop() else {
         return Ok(());
     };
-    let mut last = Vec::with_capacity(alloc, WIDTH)?;
+    let mut last = Vec::with_capacity(alloc, FORK_WIDTH)?;
     last.push(node)?;
     add_fork(alloc, found, nodes)?;
     add_fork(alloc, found, last)

@@ -1,5 +1,5 @@
 //! How chains and nodes are laid together in nodes.
-ghost use Rattle.std.specs.Prelude.{◌≡◌, ◌++◌, List, IfOk, OnOk};
+ghost use Rattle.std.specs.Prelude.{◌≡◌, ◌<◌, ◌++◌, List, IfOk, OnOk};
 ghost use Rattle.chains.specs.KeyNodes.{chains_below};
 ghost use Rattle.chains.specs.KeyWrites.{KeyWrites, IsOrdered};
 ghost use Rattle.chains.specs.Shapes.{all_of};
@@ -9,12 +9,18 @@ use crate::key_node::KeyNode;
 use std::alloc::{AllocError, Global};
 use std::mem;
 
-/// How many chains, or nodes, lie together at most.
-pub(crate) const WIDTH: usize = 16;
+/// How many chains lie together at most. A commit to one of them counts one holder more of what stands in
+/// each, so they are fewer than the nodes of a fork.
+pub(crate) const LEAF_WIDTH: usize = 8;
 
-/// How long parts are, of nearly one length, of as many as are more than lie together.
-fn part_length(count: usize) -> usize {
-    let parts = (count / WIDTH).saturating_add(1);
+/// How many nodes lie together at most.
+pub(crate) const FORK_WIDTH: usize = 16;
+
+/// How long parts are, of nearly one length, of as many as are more than lie together at most.
+fn part_length(count: usize, most: usize) -> usize
+    requires { 0 < most }
+{
+    let parts = (count / most).saturating_add(1);
     (count / parts).saturating_add(1)
 }
 
@@ -63,10 +69,10 @@ pub(crate) fn add_leaves(
     requires { IsOrdered chains.items }
     ensures { OnOk result (all_of found.new.items ≡ all_of found.old.items ++ chains.items) }
 {
-    if chains.len() <= WIDTH {
+    if chains.len() <= LEAF_WIDTH {
         return add_leaf(alloc, found, chains);
     }
-    let length = part_length(chains.len());
+    let length = part_length(chains.len(), LEAF_WIDTH);
     let mut part = Vec::with_capacity(alloc, length)?;
     for chain in chains {
         put_full_leaf(alloc, found, &mut part, length)?;
@@ -120,10 +126,10 @@ pub(crate) fn add_forks(
     requires { IsOrdered (all_of nodes.items) }
     ensures { OnOk result (all_of found.new.items ≡ all_of found.old.items ++ all_of nodes.items) }
 {
-    if nodes.len() <= WIDTH {
+    if nodes.len() <= FORK_WIDTH {
         return add_fork(alloc, found, nodes);
     }
-    let length = part_length(nodes.len());
+    let length = part_length(nodes.len(), FORK_WIDTH);
     let mut part = Vec::with_capacity(alloc, length)?;
     for node in nodes {
         put_full_fork(alloc, found, &mut part, length)?;
@@ -133,10 +139,7 @@ pub(crate) fn add_forks(
 }
 
 /// One node of all of these, if there are some.
-pub(crate) fn top_of(
-    alloc: Global,
-    nodes: Vec<KeyNode>,
-) -> Result<Option<KeyNode>, AllocError>
+pub(crate) fn top_of(alloc: Global, nodes: Vec<KeyNode>) -> Result<Option<KeyNode>, AllocError>
     requires { IsOrdered (all_of nodes.items) }
     ensures { IfOk result (λ node. chains_below node ≡ all_of nodes.items) }
 {

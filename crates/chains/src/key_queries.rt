@@ -97,7 +97,13 @@ impl KeyNode {
             }
             KeyParts::Nodes(nodes) => nodes,
         };
-        let mut rest = from_bound(nodes, Bound::From(Key { relation, record: 0 }));
+        let mut rest = from_bound(
+            nodes,
+            Bound::From(Key {
+                relation,
+                record: 0,
+            }),
+        );
         while let [node, behind @ ..] = rest {
             if relation < node.first_key().relation {
                 return Ok(());
@@ -126,7 +132,13 @@ impl KeyNode {
             }
             KeyParts::Nodes(nodes) => nodes,
         };
-        let mut rest = from_bound(nodes, Bound::From(Key { relation, record: 0 }));
+        let mut rest = from_bound(
+            nodes,
+            Bound::From(Key {
+                relation,
+                record: 0,
+            }),
+        );
         while let [node, behind @ ..] = rest {
             if relation < node.first_key().relation {
                 return Ok(());

@@ -6,9 +6,9 @@ ghost use Rattle.chains.specs.Rows.{versions_upto, version_of_loan};
 
 use crate::piece::Piece;
 use crate::rows::one_if_near;
+use crate::share::Share;
 use crate::shared_value::SharedValue;
 use crate::stamped::StampedWrite;
-use crate::share::Share;
 use crate::write::first_time_or;
 use history::Version;
 use std::alloc::AllocError;

@@ -9,9 +9,9 @@ ghost use Rattle.chains.specs.Writes.{last_time, kept_after, is_after};
 
 use crate::ending::ending_in;
 use crate::rows::{Rows, add_rows_of, near_count};
+use crate::share::Share;
 use crate::shared_value::SharedValue;
 use crate::stamped::StampedWrite;
-use crate::share::Share;
 use crate::write::{ended_by, first_time_or, next_in, value_count, value_in};
 use history::{ENDLESS, TimedWrite, Version};
 use std::alloc::{AllocError, Global};

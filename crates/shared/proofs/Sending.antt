@@ -18,12 +18,14 @@ use Rattle.wire.proofs.slot.Anchors.TheSendSync as anchors
 use Rattle.extents.proofs.chain_times.ChainTimes.TheSendSync as chain_times
 use Rattle.extents.proofs.extent.Extent.TheSendSync as extent
 use Rattle.extents.proofs.extents.Extents.TheSendSync as extents
-use Rattle.chains.proofs.tree.Tree.TheLaws.TheKnot as knot
+use Rattle.chains.proofs.key_node.KeyNode.TheLaws.TheKnot as key_nodes
 use Rattle.chains.proofs.branch.Branch.TheLaws.TheKnot as branches
 use Rattle.chains.proofs.shared_value.SharedValue.TheSendSync as shared_value
 use Rattle.chains.specs.contracts.branch.Branch as Branch
 use Rattle.chains.specs.contracts.chain.Chain as Chain
 use Rattle.chains.specs.contracts.frozen.Frozen as Frozen
+use Rattle.chains.specs.contracts.key_node.KeyNode as KeyNode
+use Rattle.chains.specs.contracts.keys.Keys as Keys
 use Rattle.chains.specs.contracts.older.Older as Older
 use Rattle.chains.specs.contracts.piece.Piece as Piece
 use Rattle.snapshot.proofs.open_table.OpenTable.TheSendSync as open_table
@@ -85,8 +87,14 @@ chain_send = search (sendable, crosses, older_send, older_sync, piece_send, piec
 chain_sync : IsSync Chain.the_row
 chain_sync = search (sendable, crosses, older_send, older_sync, piece_send, piece_sync) depth 40
 
+key_node_send : IsSend KeyNode.the_row
+key_node_send = search (sendable, crosses, key_nodes.crosses, chain_send, chain_sync) depth 40
+
+keys_send : IsSend Keys.the_row
+keys_send = search (sendable, crosses, key_node_send) depth 40
+
 pub frozen_send : IsSend Frozen.the_row
-frozen_send = search (sendable, crosses, knot.crosses, chain_send, chain_sync) depth 12
+frozen_send = search (sendable, crosses, keys_send) depth 12
 
 -- ---- the transactions
 

@@ -1,6 +1,6 @@
-use Rattle.std.proofs.Common.{◌≡◌, ◌<◌, ◌∙◌, ◌++◌, [], length, List, ap, sym, arith, rules, append_assoc}
+use Rattle.std.proofs.Common.{◌≡◌, ◌<◌, ◌∙◌, ◌++◌, [], length, List, ap, sym, arith, rules}
 use Rattle.chains.specs.KeyWrites.{KeyWrites, with_commit}
-use Rattle.chains.proofs.CommitParts.{sorted-front, sorted-back, commit-around, commit-nothing, put-around}
+use Rattle.chains.proofs.CommitParts.{sorted-front, sorted-back, commit-around, put-around}
 use Rattle.chains.proofs.RowParts.{on-ok}
 use Rattle.chains.proofs.committing.+add_new.Goals as goal
 

@@ -1,4 +1,4 @@
-use Rattle.std.proofs.Common.{ℕ, ◌<◌, ◌≤◌, ◌-◌, length, drop}
+use Rattle.std.proofs.Common.{◌<◌, ◌≤◌, ◌-◌, length, drop}
 use Rattle.chains.specs.KeyNodes.{FirstWithout, FirstWithin}
 use Rattle.chains.proofs.key_node.without_count.Given as goal
 

@@ -1,4 +1,4 @@
-use Rattle.std.proofs.Common.{◌≡◌, ◌∙◌, ◌∷◌, ◌++◌, [], List, sym, subst, append_assoc}
+use Rattle.std.proofs.Common.{◌∷◌, ◌++◌, [], List, sym, subst, append_assoc}
 use Rattle.chains.specs.KeyWrites.{KeyWrites, IsOrdered}
 use Rattle.chains.specs.Shapes.{all_of}
 use Rattle.chains.proofs.Order.{ordered-front}

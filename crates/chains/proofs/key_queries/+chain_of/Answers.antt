@@ -1,6 +1,6 @@
-use Rattle.std.proofs.Common.{◌≡◌, ◌<◌, ◌∷◌, ◌++◌, List, length, ap, sym, subst, ◌∙◌, arith, rules}
-use Rattle.chains.specs.KeyWrites.{KeyWrites, IsOrdered}
-use Rattle.chains.proofs.Order.{find-left, find-right, find-middle, ordered-front, ordered-back}
+use Rattle.std.proofs.Common.{◌<◌, length, sym, subst, ◌∙◌, arith, rules}
+use Rattle.chains.specs.KeyWrites.{IsOrdered}
+use Rattle.chains.proofs.Order.{ordered-front, ordered-back}
 use Rattle.chains.proofs.KeyNodes.{in-left, in-right, in-middle}
 use Rattle.chains.proofs.key_queries.+chain_of.Goals as goal
 

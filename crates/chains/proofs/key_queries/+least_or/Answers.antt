@@ -1,6 +1,6 @@
-use Rattle.std.proofs.Common.{◌≡◌, ◌<◌, ◌∷◌, ◌++◌, List, length, ap, sym, subst, ◌∙◌, arith, rules}
+use Rattle.std.proofs.Common.{◌<◌, length, sym, subst, ◌∙◌, arith, rules}
 use Rattle.std.specs.Option.{option_copied}
-use Rattle.chains.specs.KeyWrites.{KeyWrites, IsOrdered}
+use Rattle.chains.specs.KeyWrites.{IsOrdered}
 use Rattle.chains.proofs.Bounds.{least_left, least_right}
 use Rattle.chains.proofs.Order.{ordered-front, ordered-back}
 use Rattle.chains.proofs.KeyNodes.{split-is}

@@ -1,4 +1,4 @@
-use Rattle.std.proofs.Common.{◌≡◌, ◌∙◌, ◌++◌, [], List, ap, sym, refl, subst, arith, append-nil, append_assoc, rules}
+use Rattle.std.proofs.Common.{◌≡◌, ◌∙◌, ◌++◌, [], List, ap, sym, refl, subst, arith, append-nil, append_assoc}
 use Rattle.chains.specs.KeyWrites.{KeyWrites, IsOrdered, forgotten}
 use Rattle.chains.specs.Shapes.{Shape, all_of}
 use Rattle.chains.proofs.KeyNodes.{kept_first, same_first}
