@@ -44,10 +44,14 @@ abbrev pub AreKeyParts : Shape KeyWrites → KeyParts → Type 0
 AreKeyParts node (Chains chains) = (node ≡ record { pieces = chains.now; height = 0 }) × IsOrdered chains.now
 AreKeyParts node (Nodes nodes) = IsKeyFork node nodes.now
 
--- what a node is made of, of its own, or else the node itself
+-- what a node is made of, that can be given away
+abbrev pub IsMadeOf : Shape KeyWrites → OwnParts → Type 0
+IsMadeOf node (own.Chains chains) = (node ≡ record { pieces = chains.items; height = 0 }) × IsOrdered chains.items
+IsMadeOf node (own.Nodes nodes) = IsKeyFork node nodes.items
+
+-- what a node is made of, or else the node itself
 abbrev pub IsMadeOfOwn : Shape KeyWrites → Result OwnParts (Shape KeyWrites) → Type 0
-IsMadeOfOwn node (Ok (own.Chains chains)) = (node ≡ record { pieces = chains.items; height = 0 }) × IsOrdered chains.items
-IsMadeOfOwn node (Ok (own.Nodes nodes)) = IsKeyFork node nodes.items
+IsMadeOfOwn node (Ok parts) = IsMadeOf node parts
 IsMadeOfOwn node (Err same) = same ≡ node
 
 -- there are chains, of which the first is without the bound

@@ -7,18 +7,8 @@ ghost use Rattle.chains.specs.Writes.{kept_after};
 
 use crate::branch::{Branch, Parts, WIDTH, from_begun};
 use crate::piece::Piece;
-use crate::share::Share;
+use crate::share::{Share, add_shared};
 use std::alloc::{AllocError, Global};
-
-/// Puts the same branches behind others.
-fn add_shared(found: &mut Vec<Branch>, branches: &[Branch]) -> Result<(), AllocError>
-    ensures { OnOk result (found.new.items ≡ found.old.items ++ branches.now) }
-{
-    for branch in branches {
-        found.push(branch.share()?)?;
-    }
-    Ok(())
-}
 
 /// The same branches, and one more behind them.
 fn with_last(alloc: Global, front: &[Branch], last: Branch) -> Result<Vec<Branch>, AllocError>

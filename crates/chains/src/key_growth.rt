@@ -1,5 +1,5 @@
 //! The chains of all keys with the writes of a commit, and without what nothing asks for any more.
-ghost use Rattle.std.specs.Prelude.{◌≡◌, ◌<◌, ◌^◌, ◌∷◌, ◌++◌, [], IfOk, IsTrue, OnOk, map};
+ghost use Rattle.std.specs.Prelude.{◌≡◌, ◌<◌, ◌≤◌, ◌^◌, ◌∷◌, ◌++◌, [], IfOk, IsTrue, OnOk, length, map};
 ghost use Rattle.std.specs.List.Sorted.{IsStrictlySortedBy};
 ghost use Rattle.history.specs.Key.{key_cmp};
 ghost use Rattle.chains.specs.Committing as specs;
@@ -44,6 +44,20 @@ pub(crate) fn add_alone(
     let mut chains = Vec::with_capacity(alloc, writes.len())?;
     add_new(alloc, &mut chains, time, writes)?;
     add_leaves(alloc, found, chains)
+}
+
+/// How many of these chains are at hand. It looks at each in turn, with nothing to be done between, so that
+/// a processor fetches many at once; who then shares them all has them near.
+fn at_hand_count(chains: &[Chain]) -> usize
+    ensures { result ≤ length chains.now }
+{
+    let mut count = 0;
+    for chain in chains {
+        if chain.is_at_hand() {
+            count += 1;
+        }
+    }
+    count
 }
 
 /// Whether all writes of the chains say something of times from the mark on.
@@ -145,8 +159,8 @@ impl KeyNode {
         }
         let nodes = match self.parts() {
             KeyParts::Chains(chains) => {
-                let room = chains.len().saturating_add(writes.len());
-                let mut all = Vec::with_capacity(alloc, room)?;
+                let room = chains.len().max(at_hand_count(chains));
+                let mut all = Vec::with_capacity(alloc, room.saturating_add(writes.len()))?;
                 add_with_writes(alloc, &mut all, time, chains, writes)?;
                 return add_leaves(alloc, found, all);
             }
@@ -206,7 +220,8 @@ impl KeyNode {
         add_forks(alloc, found, all)
     }
 
-    /// Puts behind other nodes those of this one with a chain behind its own.
+    /// Puts behind other nodes those of this one with a chain behind its own. Where something else holds a
+    /// node on the way to the last chain, its other parts are shared.
     pub(crate) fn into_longer(
         self,
         alloc: Global,
@@ -216,13 +231,10 @@ impl KeyNode {
         requires { IsOrdered (self.pieces ++ chain ∷ []) }
         ensures { OnOk result (all_of found.new.items ≡ all_of found.old.items ++ (self.pieces ++ chain ∷ [])) }
     {
-        match self.into_parts() {
-            Err(node) => {
-                found.push(node)?;
-                add_leaf(alloc, found, one(alloc, chain)?)
-            }
-            Ok(OwnParts::Chains(chains)) => add_longer_leaf(alloc, found, chains, chain),
-            Ok(OwnParts::Nodes(nodes)) => {
+        let parts = self.into_own_parts(alloc)?;
+        match parts {
+            OwnParts::Chains(chains) => add_longer_leaf(alloc, found, chains, chain),
+            OwnParts::Nodes(nodes) => {
                 let mut nodes = nodes;
                 let Some(last) = nodes.pop() else {
                     return add_leaf(alloc, found, one(alloc, chain)?);

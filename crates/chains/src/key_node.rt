@@ -1,12 +1,12 @@
 //! The chains of all keys: a search tree whose nodes are wide.
 ghost use Rattle.std.specs.Prelude.{◌≡◌, ◌<◌, ◌≤◌, ◌-◌, ◌++◌, ◌∷◌, IfOk, drop, length};
-ghost use Rattle.chains.specs.KeyNodes.{BeginAt, FirstWithout, FirstWithin, IsFromBound, AreKeyParts, IsMadeOfOwn};
+ghost use Rattle.chains.specs.KeyNodes.{BeginAt, FirstWithout, FirstWithin, IsFromBound, AreKeyParts, IsMadeOf, IsMadeOfOwn};
 ghost use Rattle.chains.specs.KeyWrites.{IsOrdered};
 ghost use Rattle.chains.specs.Shapes.{all_of};
 
 use crate::bound::Bound;
 use crate::chain::Chain;
-use crate::share::Share;
+use crate::share::{Share, add_shared};
 use history::Key;
 use std::alloc::{AllocError, Global};
 use std::marker::Model;
@@ -136,6 +136,34 @@ impl KeyNode {
                     inside: KeyInside::Fork { first, shared },
                 }),
             },
+        }
+    }
+
+    /// What it is made of, with one more holder of each part.
+    fn shared_parts(&self, alloc: Global) -> Result<OwnParts, AllocError>
+        ensures { IfOk result (λ parts. IsMadeOf self.now parts) }
+    {
+        match self.parts() {
+            KeyParts::Chains(chains) => {
+                let mut shared = Vec::with_capacity(alloc, chains.len())?;
+                add_shared(&mut shared, chains)?;
+                Ok(OwnParts::Chains(shared))
+            }
+            KeyParts::Nodes(nodes) => {
+                let mut shared = Vec::with_capacity(alloc, nodes.len().saturating_add(1))?;
+                add_shared(&mut shared, nodes)?;
+                Ok(OwnParts::Nodes(shared))
+            }
+        }
+    }
+
+    /// What it is made of: each part with one more holder, where something else holds them all.
+    pub(crate) fn into_own_parts(self, alloc: Global) -> Result<OwnParts, AllocError>
+        ensures { IfOk result (λ parts. IsMadeOf self parts) }
+    {
+        match self.into_parts() {
+            Ok(parts) => Ok(parts),
+            Err(node) => node.shared_parts(alloc),
         }
     }
 

@@ -81,7 +81,7 @@ pub(crate) fn add_leaves(
     add_leaf(alloc, found, part)
 }
 
-/// Puts behind other nodes a fork of nodes, if there are some; one alone stands for itself.
+/// Puts behind other nodes a fork of nodes, if there are some.
 pub(crate) fn add_fork(
     alloc: Global,
     found: &mut Vec<KeyNode>,

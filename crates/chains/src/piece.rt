@@ -9,7 +9,7 @@ ghost use Rattle.chains.specs.Writes.{last_time, kept_after, is_after};
 
 use crate::ending::ending_in;
 use crate::rows::{Rows, add_rows_of, near_count};
-use crate::share::Share;
+use crate::share::{Share, add_shared};
 use crate::shared_value::SharedValue;
 use crate::stamped::StampedWrite;
 use crate::write::{ended_by, first_time_or, next_in, value_count, value_in};
@@ -195,6 +195,15 @@ impl Piece {
         }
     }
 
+    /// Whether it has a value, or several writes. It looks at the memory that one more holder is counted
+    /// in.
+    pub(crate) fn is_at_hand(&self) -> bool {
+        match &self.slots {
+            Slots::One(write) => write.has_bytes(),
+            Slots::Many { shared, .. } => shared.len() > 1,
+        }
+    }
+
     /// Its writes.
     pub(crate) fn as_slice(&self) -> &[StampedWrite]
         ensures is { result.now ≡ self.now }
@@ -281,16 +290,6 @@ fn shared(
     let mut shared = Vec::with_capacity(alloc, room.saturating_add(more))?;
     add_shared(&mut shared, writes)?;
     Ok(shared)
-}
-
-/// Puts the same writes behind others, with their values shared.
-fn add_shared(shared: &mut Vec<StampedWrite>, writes: &[StampedWrite]) -> Result<(), AllocError>
-    ensures { OnOk result (shared.new.items ≡ shared.old.items ++ writes.now) }
-{
-    for w in writes {
-        shared.push(w.share()?)?;
-    }
-    Ok(())
 }
 
 /// Puts a write behind others.

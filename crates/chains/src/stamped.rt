@@ -3,6 +3,7 @@ ghost use Rattle.std.specs.Prelude.{◌≡◌, ◌<◌, ◌^◌, IfOk, is_none};
 ghost use Rattle.std.specs.Option.{option_copied};
 ghost use Rattle.chains.specs.Stamps.{write_of_loan};
 
+use crate::share::Share;
 use crate::shared_value::SharedValue;
 use history::TimedWrite;
 use std::alloc::{AllocError, Global};
@@ -45,6 +46,15 @@ fn held_behind(alloc: Global, before: Option<&StampedWrite>) -> Result<SharedVal
     }
 }
 
+impl Share for StampedWrite {
+    fn share(&self) -> Result<Self, AllocError> {
+        Ok(StampedWrite {
+            stamp: self.stamp,
+            value: self.value.share()?,
+        })
+    }
+}
+
 impl StampedWrite {
     /// The same write, behind the one before it.
     pub(crate) fn of(
@@ -66,16 +76,6 @@ impl StampedWrite {
                 value: held_behind(alloc, before)?,
             }),
         }
-    }
-
-    /// The same write, with its value shared.
-    pub(crate) fn share(&self) -> Result<Self, AllocError>
-        ensures { IfOk result (λ w. w ≡ self.now) }
-    {
-        Ok(StampedWrite {
-            stamp: self.stamp,
-            value: self.value.share()?,
-        })
     }
 
     /// When it was made.
@@ -103,6 +103,14 @@ impl StampedWrite {
             return None;
         }
         Some(&self.value)
+    }
+
+    /// Whether it is of a value with some bytes. It looks at the value.
+    pub(crate) fn has_bytes(&self) -> bool {
+        match self.value() {
+            None => false,
+            Some(shared) => shared.value().len() > 0,
+        }
     }
 
     /// The same write, with its value in a loan.

@@ -33,9 +33,7 @@ pub(crate) fn value_count(writes: &[StampedWrite]) -> usize
 {
     let mut count = 0;
     for w in writes {
-        if let Some(shared) = w.value()
-            && shared.value().len() > 0
-        {
+        if w.has_bytes() {
             count += 1;
         }
     }

@@ -9,7 +9,7 @@ use Rattle.chains.proofs.key_node.KeyNode.+into_longer.Goals as goal
 
 pub into_longer-requires : goal.into_longer-requires
 into_longer-requires t c =
-    let fork : IsKeyFork c.args.self c.in-Ok-Nodes.nodes.items = rw c.in-Ok-Nodes.field-0-is at c.in-Ok-Nodes.ensures in
+    let fork : IsKeyFork c.args.self c.in-Nodes.nodes.items = rw c.in-Nodes.is at c.in_ok-parts.ensures in
     let low : c.in-Some.last.height < c.args.self.height = omega (arith, fork.height, popped_low _ _ c.in-Some.ensures.items) in
     let whole : c.args.self.pieces ++ c.args.chain ∷ [] ≡ all_of c.pop.new.self.items ++ (c.in-Some.last.pieces ++ c.args.chain ∷ []) =
     ap (λ (l : List KeyWrites). l ++ c.args.chain ∷ []) (sym fork.chains ∙ popped _ _ c.in-Some.ensures.items) ∙ append_assoc (all_of c.pop.new.self.items) c.in-Some.last.pieces (c.args.chain ∷ []) in
@@ -18,22 +18,14 @@ into_longer-requires t c =
 
 pub add_longer_fork-requires : goal.add_longer_fork-requires
 add_longer_fork-requires t c =
-    let fork : IsKeyFork c.args.self c.in-Ok-Nodes.nodes.items = rw c.in-Ok-Nodes.field-0-is at c.in-Ok-Nodes.ensures in
+    let fork : IsKeyFork c.args.self c.in-Nodes.nodes.items = rw c.in-Nodes.is at c.in_ok-parts.ensures in
     let whole : c.args.self.pieces ++ c.args.chain ∷ [] ≡ all_of c.pop.new.self.items ++ (c.in-Some.last.pieces ++ c.args.chain ∷ []) =
     ap (λ (l : List KeyWrites). l ++ c.args.chain ∷ []) (sym fork.chains ∙ popped _ _ c.in-Some.ensures.items) ∙ append_assoc (all_of c.pop.new.self.items) c.in-Some.last.pieces (c.args.chain ∷ []) in
-    subst IsOrdered (whole ∙ sym c.in_ok-into_longer-in-Ok-Nodes.ensures) c.requires
+    subst IsOrdered (whole ∙ sym c.in_ok-into_longer-in-Nodes.ensures) c.requires
 
-pub returns-in_ok-one-in-Err : goal.returns-in_ok-one-in-Err
-returns-in_ok-one-in-Err t c =
-    let found = all_of c.args.found.now.items in
-    let put : all_of c.push.new.self.items ≡ found ++ c.args.self.pieces = popped _ _ c.in_ok-push-in-Err.ensures.items ∙ ap (λ (n : Shape KeyWrites). found ++ n.pieces) c.in-Err.ensures in
-    on-ok c.add_leaf.result
-    (λ e. e ∙ (λ i. put i ++ c.in_ok-one-in-Err.ensures i) ∙ append_assoc found c.args.self.pieces (c.args.chain ∷ []))
-    c.add_leaf.ensures
-
-pub returns-in_ok-into_longer-in-Ok-Nodes : goal.returns-in_ok-into_longer-in-Ok-Nodes
-returns-in_ok-into_longer-in-Ok-Nodes t c =
-    let fork : IsKeyFork c.args.self c.in-Ok-Nodes.nodes.items = rw c.in-Ok-Nodes.field-0-is at c.in-Ok-Nodes.ensures in
+pub returns-in_ok-into_longer-in-Nodes : goal.returns-in_ok-into_longer-in-Nodes
+returns-in_ok-into_longer-in-Nodes t c =
+    let fork : IsKeyFork c.args.self c.in-Nodes.nodes.items = rw c.in-Nodes.is at c.in_ok-parts.ensures in
     let whole : c.args.self.pieces ++ c.args.chain ∷ [] ≡ all_of c.pop.new.self.items ++ (c.in-Some.last.pieces ++ c.args.chain ∷ []) =
     ap (λ (l : List KeyWrites). l ++ c.args.chain ∷ []) (sym fork.chains ∙ popped _ _ c.in-Some.ensures.items) ∙ append_assoc (all_of c.pop.new.self.items) c.in-Some.last.pieces (c.args.chain ∷ []) in
-    on-ok c.add_longer_fork.result (λ e. e ∙ ap (λ (l : List KeyWrites). all_of c.args.found.now.items ++ l) (c.in_ok-into_longer-in-Ok-Nodes.ensures ∙ sym whole)) c.add_longer_fork.ensures
+    on-ok c.add_longer_fork.result (λ e. e ∙ ap (λ (l : List KeyWrites). all_of c.args.found.now.items ++ l) (c.in_ok-into_longer-in-Nodes.ensures ∙ sym whole)) c.add_longer_fork.ensures
