@@ -4,6 +4,7 @@
 mod actions;
 mod dump;
 mod needs;
+mod stress_answer;
 mod vacuuming;
 
 pub use actions::{act, refuse_folder};
@@ -11,3 +12,4 @@ pub use command_line::{Action, WordsFault, read_words};
 pub use dump::{DumpFault, write_dump};
 pub use needs::{Need, folder_need};
 pub use recovery::OpenFault;
+pub use stress_answer::write_stress_answer;

@@ -1,11 +1,11 @@
 //! The command `stress`.
-ghost use Rattle.std.specs.Prelude.{◌≡◌, ◌≤◌, ◌*◌, ◌++◌, ℕ, OnOk, codes};
+ghost use Rattle.std.specs.Prelude.{◌≡◌, ◌≤◌, ◌*◌, ◌++◌, ℕ, codes};
 ghost use Rattle.std.specs.Fmt.{decimal};
 ghost use Rattle.std.specs.Io.KnownBytes.{Appends};
 
 use shared::{Plan, stress};
+use shell::write_stress_answer;
 use std::alloc::Global;
-use std::io;
 use std::io::Write;
 use std::sync::Wait;
 use std::thread::Threads;
@@ -16,14 +16,6 @@ const DONE: u8 = 0;
 /// The status where a worker was refused, a record has not the value of its last round, or the
 /// answer could not be written.
 const REFUSED: u8 = 1;
-
-/// Writes the answer: the commits, and the time of the last, and gives it out.
-fn write_answer<W: Write>(output: &mut W, commits: u64, last: u64) -> io::Result<()>
-    ensures { OnOk result (Appends (W.contents output.old) (W.contents output.new) (codes "commits " ++ (decimal commits ++ (codes " last " ++ (decimal last ++ codes "\n"))))) }
-{
-    writeln!(output, "commits {commits} last {last}")?;
-    output.flush()
-}
 
 /// Lets the plan's threads write and read a new store in memory, and says how many commits there
 /// were and the time of the last. Gives the program's status.
@@ -39,7 +31,7 @@ pub fn run_stress<R: Threads + Wait + Sync, W: Write>(
     let Some((commits, last)) = stress(rt, alloc, plan) else {
         return REFUSED;
     };
-    match write_answer(output, commits, last) {
+    match write_stress_answer(output, commits, last) {
         Ok(()) => DONE,
         Err(_) => REFUSED,
     }
