@@ -1,9 +1,7 @@
 # `make try` shows the program before any proof, `make demo` builds it and shows it; `make test` is the gate.
 # `make more-edits` tries the edits that the gate leaves out, all or (`make more-edits CRATES="wire disk"`) those of some crates.
 PROGRAM = crates/timestore/out/timestore
-LEAVES = crates/leaves_bench/out/leaves_bench
-STORE = crates/store_bench/out/store_bench
-SHARED = crates/shared_bench/out/shared_bench
+BENCH = crates/bench/out/bench
 # The most processor minutes that the gate may take: what three hours on four cores hold, with a little to spare. It is to stay under 330 on a machine at rest; four checks side by side on four cores take a third more, and a slower machine more than that.
 BUDGET = 680
 
@@ -56,8 +54,8 @@ torture-short:
 
 # Many threads over one store for some minutes, and then all that they were told compared with a small machine. FOLDER=DIR makes the store there.
 soak: build
-	cd crates/shared_bench && rt run > /dev/null
-	torture/soak.py $(SHARED) $(PROGRAM) --minutes $(or $(MINUTES),10) --seed $(or $(SEED),1) $(if $(FOLDER),--folder $(FOLDER))
+	cd crates/bench && rt run > /dev/null
+	torture/soak.py $(BENCH) $(PROGRAM) --minutes $(or $(MINUTES),10) --seed $(or $(SEED),1) $(if $(FOLDER),--folder $(FOLDER))
 
 # Each call of the system refused in turn; each check of opening broken, and pairs of them; each byte of a small store; a job with commits
 # between stopped at each device call, and again; kills, full disks, folders without rights.
@@ -90,14 +88,12 @@ examples: build
 
 # All that is measured, in one command, for a machine at rest. FOLDER=DIR measures the disk of DIR.
 bench: build
-	cd crates/leaves_bench && rt run > /dev/null
-	cd crates/store_bench && rt run > /dev/null
-	cd crates/shared_bench && rt run > /dev/null
-	bench/store_bench.py $(STORE) --program $(PROGRAM) $(if $(FOLDER),--folder $(FOLDER))
-	bench/shared_bench.py $(SHARED) $(if $(FOLDER),--folder $(FOLDER))
+	cd crates/bench && rt run > /dev/null
+	bench/store_bench.py $(BENCH) --program $(PROGRAM) $(if $(FOLDER),--folder $(FOLDER))
+	bench/shared_bench.py $(BENCH) $(if $(FOLDER),--folder $(FOLDER))
 	bench/bench.py $(PROGRAM) $(FOLDER)
 	bench/rates.py $(PROGRAM) $(if $(FOLDER),--folder $(FOLDER))
-	$(LEAVES) times
+	$(BENCH) leaves
 
 # The store in the process of its user, docs/LIBRARY.md: `make lib` proves and builds it, the others take it as it was built.
 lib:

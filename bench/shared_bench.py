@@ -1,9 +1,9 @@
 #!/usr/bin/env python3
 """Measures a store on real files that threads share, round after round, and prints medians as a table.
 
-    bench/shared_bench.py SHARED_BENCH [--rounds N] [--folder FOLDER] [--verbs c1,r2] [--share S]
+    bench/shared_bench.py BENCH [--rounds N] [--folder FOLDER] [--verbs c1,r2] [--share S]
 
-SHARED_BENCH is the built program of crates/shared_bench, which says what each verb does. FOLDER is where
+BENCH is the built program of crates/bench, which says what each verb does. FOLDER is where
 stores are made (a temporary folder if left out: name one on the disk that you mean to measure, since /tmp
 may be memory). S makes each count smaller or larger. Where a C compiler is there, as many callers of raw
 groups in C (bench/peers/callers.c), who sleep as those of the store do, run in the same rounds, in both of its forms.

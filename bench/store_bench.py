@@ -1,10 +1,10 @@
 #!/usr/bin/env python3
 """Measures the store on real files, round after round, and prints medians as a table.
 
-    bench/store_bench.py STORE_BENCH [--rounds N] [--folder FOLDER] [--verbs w1,w4] [--share S]
+    bench/store_bench.py BENCH [--rounds N] [--folder FOLDER] [--verbs w1,w4] [--share S]
                          [--vacuums 100000,1000000x10] [--program TIMESTORE] [--alone]
 
-STORE_BENCH is the built program of crates/store_bench, which says what each verb does. FOLDER is where stores
+BENCH is the built program of crates/bench, which says what each verb does. FOLDER is where stores
 are made (a temporary folder if left out: name one on the disk that you mean to measure, since /tmp may be
 memory). S makes each count smaller or larger. Each vacuum is so many ended versions, in so many runs (one if
 left out), of 1,000 keys, or, with a k behind, one of each key; `--verbs= ` or `--vacuums= ` leaves the verbs

@@ -3,9 +3,9 @@
 store on real files, beside a committer and a vacuum; then all that they were told is compared with
 the list of write sets, and so is what the files hold.
 
-soak.py SHARED_BENCH PROGRAM [--minutes M] [--seed S] [--rush] [--notes FILE] [--keep]
+soak.py BENCH PROGRAM [--minutes M] [--seed S] [--rush] [--notes FILE] [--keep]
 
-SHARED_BENCH is the built program of crates/shared_bench, PROGRAM the program timestore. Writers begin
+BENCH is the built program of crates/bench, PROGRAM the program timestore. Writers begin
 a round every 40 ms, all at once, for M minutes; with --rush they make no pause, and M minutes are as
 many rounds as they make in M times 1,500. Half of the writers commit by one call: a put, and a put
 or a delete of another record. The others read a record in a transaction and write it. Readers ask a

@@ -1,7 +1,7 @@
 /* What a machine allows to callers that sleep: CALLERS FOLDER WRITERS GROUPS LOCKED [posted], with one line of JSON.
    FOLDER is there; two files are made in it. Each writer takes a lock, holds it for LOCKED microseconds, in place
    of what a store does of its commit, gives it up, and sleeps until its group is written. One thread waits until all
-   have come, makes the writes and the three syncs of a group, as `raw` of shared_bench does, and wakes one writer,
+   have come, makes the writes and the three syncs of a group, as `raw` of crates/bench does, and wakes one writer,
    each of whom wakes the next. With the word posted no writer takes a lock: it counts itself and sleeps, and the one
    thread works for LOCKED microseconds for each, as they come, and wakes all at once by one call of the system.
    Half of as many raw groups are made before, and half behind.

@@ -1,5 +1,5 @@
-/* The workloads of store_bench on another store: PEER VERB FOLDER [COUNT], with one line of JSON. The store
-   is made in FOLDER, which is there and empty. Keys, versions, values and counts are those of store_bench.
+/* The workloads of crates/bench with one caller, on another store: PEER VERB FOLDER [COUNT], with one line of JSON. The store
+   is made in FOLDER, which is there and empty. Keys, versions, values and counts are those of crates/bench.
 
    w1   commits a second of one record, one at a time
    w2g  commits a second of one record, 16 in one transaction, as an application does that gathers its writers

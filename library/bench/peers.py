@@ -29,7 +29,7 @@ def built_library(out: Path, base: str) -> str:
 def main(out: Path, folder: str, rounds: int = 3, share: float = 1.0) -> None:
     with tempfile.TemporaryDirectory(dir=folder) as base:
         contenders = {NAME: built_library(out, base)}
-        store = TOP / "crates/store_bench/out/store_bench"
+        store = TOP / "crates/bench/out/bench"
         if store.exists():
             contenders["program's store"] = str(store)
         contenders.update(store_bench.built_peers(base))

@@ -1,0 +1,10 @@
+use denote.Param.Send.{sendable}
+use Rattle.std.proofs.Crossing.{crosses}
+use Rattle.shared.proofs.Sending.{shared-sync}
+use Rattle.shared.proofs.observer.Observer.TheSendSync as observer
+use Rattle.bench.proofs.many_callers.crew.Load.TheSendSync as load
+use Rattle.bench.proofs.many_callers.crew.Writer.TheSendSync as writer
+use Rattle.bench.proofs.many_callers.crew.run_threads.Goals as goal
+
+pub join-requires-send-F : goal.join-requires-send-F
+join-requires-send-F g c κs within = search (shared-sync, load.the_send, writer.the_send, observer.the_send, sendable, crosses) depth 20

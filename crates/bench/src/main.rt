@@ -1,0 +1,87 @@
+//! Measures the store, beside what the files and the memory can do themselves, and soaks one.
+//!
+//! `bench VERB FOLDER [COUNT [NUMBER]]` makes its stores in FOLDER, which is there and empty, and prints one
+//! line of JSON, of a soak a line for each answer. `bench leaves` times the crates that hold the store's
+//! data, and `bench trial` does a little of that. Without words it prints how it is called.
+#![tactic(auto)]
+
+mod fault;
+mod leaves;
+mod many_callers;
+mod numbers;
+mod one_caller;
+mod raw;
+mod records;
+mod stores;
+mod words;
+
+use fault::Fault;
+use std::io;
+use std::process::ExitCode;
+use words::Asked;
+
+/// How the program is called.
+const USAGE: &str = "usage: bench VERB FOLDER [COUNT [NUMBER]], or bench leaves, or bench trial
+FOLDER is there and empty; COUNT says how often
+leaves of extents, records, runs and versions in memory a line each: a name, a number and its unit
+trial a little of that, without numbers
+w1   commits a second of one record each, one at a time
+w2g  commits a second of one record each, 16 under one gate
+w3   records a second, in commits of 1,024
+w4   values a second, each of a key as of a random time
+w5   rows a second, of all versions of a key
+w5w  the same, walked over in a loan
+w6   scans a second of 1,000 records as of a random time
+w7   milliseconds of opening after COUNT commits, with a first answer
+w8   bytes on disk a version
+v0   milliseconds of making a store that v1 to v6 then take from FOLDER: COUNT ended versions of 1,000 keys
+v0k  the same with one ended version of each of COUNT keys, for v1, v2, v5 and v6
+v1   milliseconds of archiving the COUNT ended versions, in NUMBER runs
+v2   milliseconds of reclaiming them
+v3   values a second, each of a key as of a random time before the last commit
+v4   scans a second of 1,000 records as of such a time
+v5   milliseconds of opening with a first answer, the median of COUNT
+v6   bytes of memory that the opened store holds, for each of COUNT versions
+c1   commits a second of one record each, COUNT by one writer; c2, c4, c8, c16, c32: by so many together
+r1   views a second, COUNT by one reader beside a writer; r2, r3, r4: by so many, COUNT each
+q1   values a second by one view, COUNT by one reader beside a writer; q2, q3, q4: by so many, COUNT each
+h    microseconds that the lock is held, over COUNT groups of 16 commits and a vacuum
+soak a line for each thing that a thread was told: 8 writers in COUNT rounds of 40 ms, 8 readers, a committer and a vacuum, with numbers that begin with NUMBER; rush: with no pause
+";
+
+/// The status of words that ask for nothing.
+const MISUSED: u8 = 2;
+
+/// The program's status. Where nothing was measured it says why.
+fn status_of<R: Eprint>(rt: &R, measured: Result<(), Fault>) -> io::Result<ExitCode> {
+    match measured {
+        Ok(()) => Ok(ExitCode::from(0)),
+        Err(fault) => {
+            eprintln!(rt; "bench: {fault}")?;
+            Ok(ExitCode::from(1))
+        }
+    }
+}
+
+fn main(rt: HostRuntime) -> io::Result<ExitCode> {
+    let alloc = rt.alloc();
+    let words: Vec<String> = std::env::args(&rt)?.collect(alloc)?;
+    let texts: Vec<&str> = words.iter().map(|word| word.as_str()).collect(alloc)?;
+    match words::read(&texts) {
+        Asked::Usage => {
+            print!(rt; "{USAGE}")?;
+            Ok(ExitCode::from(0))
+        }
+        Asked::Nothing => {
+            eprint!(rt; "{USAGE}")?;
+            Ok(ExitCode::from(MISUSED))
+        }
+        Asked::Leaves(scale) => status_of(&rt, leaves::measure(&rt, alloc, scale)),
+        Asked::OneCaller(verb, request) => {
+            status_of(&rt, one_caller::measure(&rt, alloc, verb, &request))
+        }
+        Asked::ManyCallers(verb, request) => {
+            status_of(&rt, many_callers::measure(&rt, alloc, verb, &request))
+        }
+    }
+}

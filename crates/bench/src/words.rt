@@ -1,0 +1,81 @@
+//! What the words ask for.
+
+use crate::leaves::Scale;
+use crate::{many_callers, one_caller};
+
+/// Where the files of a measurement are, and how much of it is done.
+#[derive(Clone, Copy, Debug)]
+pub(crate) struct Request<'a> {
+    pub(crate) folder: &'a str,
+    /// How often it is done, or of how many versions.
+    pub(crate) count: u64,
+    /// In how many runs, or where the numbers of a soak come from.
+    pub(crate) number: u64,
+}
+
+pub(crate) enum Asked<'a> {
+    /// There were no words.
+    Usage,
+    /// The words are none that the program knows.
+    Nothing,
+    /// The crates that hold the store's data.
+    Leaves(Scale),
+    /// A store with one caller.
+    OneCaller(one_caller::Verb, Request<'a>),
+    /// A store that threads share.
+    ManyCallers(many_callers::Verb, Request<'a>),
+}
+
+/// What needs no folder.
+fn without_files<'a>(name: &str) -> Asked<'a> {
+    match name {
+        "leaves" => Asked::Leaves(Scale::Whole),
+        "trial" => Asked::Leaves(Scale::Trial),
+        _ => Asked::Nothing,
+    }
+}
+
+/// The measurement of this name, if there is one; the count is that of the name, where none is given.
+fn named<'a>(name: &str, folder: &'a str, count: Option<u64>, number: u64) -> Asked<'a> {
+    if let Some((verb, often)) = one_caller::known(name) {
+        let count = count.unwrap_or(often);
+        return Asked::OneCaller(
+            verb,
+            Request {
+                folder,
+                count,
+                number,
+            },
+        );
+    }
+    let Some((verb, often)) = many_callers::known(name) else {
+        return Asked::Nothing;
+    };
+    let count = count.unwrap_or(often);
+    Asked::ManyCallers(
+        verb,
+        Request {
+            folder,
+            count,
+            number,
+        },
+    )
+}
+
+/// What the words ask for; the first is the program's name.
+pub(crate) fn read<'a>(words: &[&'a str]) -> Asked<'a> {
+    match words {
+        [] | [_] => Asked::Usage,
+        [_, name] => without_files(name),
+        [_, name, folder] => named(name, folder, None, 1),
+        [_, name, folder, count] => match count.parse::<u64>() {
+            Ok(count) => named(name, folder, Some(count), 1),
+            Err(_) => Asked::Nothing,
+        },
+        [_, name, folder, count, number] => match (count.parse::<u64>(), number.parse::<u64>()) {
+            (Ok(count), Ok(number)) => named(name, folder, Some(count), number),
+            _ => Asked::Nothing,
+        },
+        _ => Asked::Nothing,
+    }
+}

@@ -1,9 +1,0 @@
-use denote.Param.Send.{sendable}
-use Rattle.std.proofs.Crossing.{crosses}
-use Rattle.shared.proofs.Sending.{shared-sync}
-use Rattle.shared_bench.proofs.soak.Writing.TheSendSync as writing
-use Rattle.shared_bench.proofs.soak.Reading.TheSendSync as reading
-use Rattle.shared_bench.proofs.soak.run_threads.Goals as goal
-
-pub join-noted-requires-send-F : goal.join-noted-requires-send-F
-join-noted-requires-send-F g c κs within = search (shared-sync, writing.the_send, reading.the_send, sendable, crosses) depth 20
