@@ -4,7 +4,6 @@ use Rattle.history.specs.Time.{IsRisingAfter}
 use Rattle.history.specs.Versions.{first_time}
 use Rattle.chains.specs.Writes.{Write, last_time}
 use Rattle.chains.proofs.Kept.{rising-push}
-use Rattle.chains.proofs.Parts.{recent-rising}
 
 -- what a piece says of its writes, and when the first of them was made
 abbrev pub IsPiece : ℕ → List Write → Type 0
@@ -20,8 +19,3 @@ pub pushed : {T E : Type 0} (r : Result T E) (first : ℕ) (old new : List Write
 pushed (Ok x) first old new w ok err is later small =
     rw ok (rising-push 0 old w is.0 later small, omega (arith, is.1, length-append old (w ∷ [])), is.2 ∙ sym (first-push old w is.1))
 pushed (Err e) first old new w ok err is later small = rw err is
-
--- they rise behind the older ones, whether the write was put there or not
-pub put-rising : {T E : Type 0} (r : Result T E) (older last new : List Write) (w : Write) → OnOk r (new ≡ last ++ w ∷ []) → OnErr r (new ≡ last) → IsRisingAfter 0 (older ++ last) → last_time (older ++ last) < w.time → w.time < 2 ^ 63 → IsRisingAfter 0 (older ++ new)
-put-rising (Ok x) older last new w ok err up later small = rw ok (recent-rising older last w up later small)
-put-rising (Err e) older last new w ok err up later small = rw err up

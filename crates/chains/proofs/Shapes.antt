@@ -17,6 +17,11 @@ pub highest-append : {E : Type 0} (ts us : List (Shape E)) → highest us ≤ hi
 highest-append [] us = omega arith
 highest-append (t ∷ ts) us = omega (arith, highest-append ts us)
 
+pub highest-take : {E : Type 0} (n : ℕ) (ts : List (Shape E)) → highest (take n ts) ≤ highest ts
+highest-take zero ts = omega arith
+highest-take (suc n) [] = omega arith
+highest-take (suc n) (t ∷ ts) = omega (arith, highest-take n ts)
+
 -- none of them is higher than the highest
 pub at_low : {E : Type 0} (ts : List (Shape E)) (k : ℕ) (t : Shape E) → k < length ts → t ≡ get_or ts k t → t.height ≤ highest ts
 at_low [] k t inside is = absurd (omega (arith, inside))

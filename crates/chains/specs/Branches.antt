@@ -1,5 +1,5 @@
 -- One key's writes in branches: pieces of them, and below one another several branches that lie together.
-use Rattle.std.specs.Prelude.{ℕ, ◌≡◌, ◌+◌, ◌<◌, ◌≤◌, List, [], ◌∷◌, ◌++◌, length, Option, None, Some}
+use Rattle.std.specs.Prelude.{ℕ, ◌≡◌, ◌+◌, ◌<◌, ◌≤◌, List, [], ◌∷◌, ◌++◌, length, take, Option, None, Some}
 use Rattle.history.specs.Time.{IsRisingAfter}
 use Rattle.history.specs.Versions.{first_time}
 use Rattle.chains.specs.Shapes.{Shape, all_of, highest}
@@ -9,7 +9,7 @@ use Rattle.std.specs.declared.sync.Arc.{Arc}
 use Rattle.chains.specs.declared.branch.Parts.{Parts}
 use Rattle.chains.specs.declared.branch.Parts.TheVariants.{OnePiece, Branches}
 use Rattle.chains.specs.declared.branch.Inside.{Inside}
-use Rattle.chains.specs.declared.branch.Inside.TheVariants.{Leaf, Fork}
+use Rattle.chains.specs.declared.branch.Inside.TheVariants.{Leaf, Fork, Wide}
 
 -- the writes of a branch that may be there, none where it is not
 abbrev pub held_in : Option (Shape Write) → List Write
@@ -25,16 +25,22 @@ writes_below (Some shared) = shared.value.pieces
 abbrev pub branch_in : Inside → Shape Write
 branch_in (Leaf piece) = record { pieces = piece; height = 0 }
 branch_in (Fork first shared) = record { pieces = all_of shared.value.items; height = highest shared.value.items + 1 }
+branch_in (Wide first count shared) = record { pieces = all_of (take count shared.value); height = highest shared.value + 1 }
+
+-- some writes by rising times, of which the first was made at that time
+abbrev pub BeginAt : ℕ → List Write → Type 0
+BeginAt first writes = IsRisingAfter 0 writes × (0 < length writes) × (first ≡ first_time writes)
 
 -- what lies below a fork are some writes by rising times, and it says when the first of them was made
 abbrev pub IsBranch : Inside → Type 0
 IsBranch (Leaf piece) = Unit {0}
-IsBranch (Fork first shared) = IsRisingAfter 0 (all_of shared.value.items) × (0 < length (all_of shared.value.items)) × (first ≡ first_time (all_of shared.value.items))
+IsBranch (Fork first shared) = BeginAt first (all_of shared.value.items)
+IsBranch (Wide first count shared) = BeginAt first (all_of (take count shared.value)) × (count ≤ 32)
 
 -- a branch is a fork of these
 pub record IsFork (fork : Shape Write) (branches : List (Shape Write)) : Type 0 where
   pub writes : all_of branches ≡ fork.pieces
-  pub height : fork.height ≡ highest branches + 1
+  pub height : highest branches < fork.height
   pub some : 0 < length (all_of branches)
   pub rising : IsRisingAfter 0 (all_of branches)
 

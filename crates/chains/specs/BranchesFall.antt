@@ -6,7 +6,7 @@ use Rattle.chains.specs.Writes.{Write}
 use Rattle.chains.specs.Branches.{branch_in}
 use Rattle.chains.specs.Shapes.{highest}
 use Rattle.chains.specs.declared.branch.Inside.{Inside}
-use Rattle.chains.specs.declared.branch.Inside.TheVariants.{Leaf, Fork}
+use Rattle.chains.specs.declared.branch.Inside.TheVariants.{Leaf, Fork, Wide}
 use Rattle.chains.specs.declared.branch.Branch.TheDeep.{deep-Inside}
 use denote.Param.Weighed.{most}
 
@@ -17,3 +17,4 @@ most-highest (b ∷ bs) = omega (arith, most-highest bs)
 pub depth_le-height : (i : Inside) → max (deep-Inside i) 0 ≤ (branch_in i).height
 depth_le-height (Leaf piece) = omega arith
 depth_le-height (Fork first shared) = omega (arith, most-highest shared.value.items)
+depth_le-height (Wide first count shared) = omega (arith, most-highest shared.value)

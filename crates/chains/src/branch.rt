@@ -1,5 +1,5 @@
 //! One key's older writes: pieces in a search tree whose nodes are wide.
-ghost use Rattle.std.specs.Prelude.{◌≡◌, ◌<◌, ◌≤◌, ◌-◌, IfOk, IsTrue, drop, length};
+ghost use Rattle.std.specs.Prelude.{◌≡◌, ◌<◌, ◌≤◌, ◌-◌, IfOk, IsTrue, drop, length, take};
 ghost use Rattle.history.specs.Time.{IsRisingAfter};
 ghost use Rattle.history.specs.Versions.{first_time};
 ghost use Rattle.chains.specs.Branches.{BeginBy, BeginAfter, IsFrom, IsMadeOf};
@@ -15,6 +15,9 @@ use std::sync::Arc;
 
 /// How many branches lie together at most.
 pub(crate) const WIDTH: usize = 32;
+
+/// From so many branches on they take the memory of as many as lie together at most.
+const NEARLY_ALL: usize = 24;
 
 /// Some writes of one key, at least one, oldest first, in pieces. It never changes, and shares its memory
 /// with what it was taken from.
@@ -33,6 +36,13 @@ enum Inside {
     Fork {
         first: u64,
         shared: Arc<Vec<Branch>>,
+    },
+    /// Nearly as many as can, or as many, beside the count of those who share them: one place of memory less
+    /// on the way to them. Those behind so many are the last of them again.
+    Wide {
+        first: u64,
+        count: usize,
+        shared: Arc<[Branch; WIDTH]>,
     },
 }
 
@@ -69,6 +79,15 @@ impl Share for Branch {
                 first: *first,
                 shared: Arc::try_clone(shared)?,
             },
+            Inside::Wide {
+                first,
+                count,
+                shared,
+            } => Inside::Wide {
+                first: *first,
+                count: *count,
+                shared: Arc::try_clone(shared)?,
+            },
         };
         Ok(Branch { inside })
     }
@@ -90,10 +109,36 @@ impl Branch {
         requires some { 0 < length branches.items }
         ensures { IfOk result (λ b. b.pieces ≡ all_of branches.items) }
     {
+        let count = branches.len();
+        if NEARLY_ALL <= count && count <= WIDTH {
+            return Self::wide(alloc, branches);
+        }
         let first = first_time_or(branches.as_slice(), ENDLESS);
         let shared = Arc::new(alloc, branches)?;
         Ok(Branch {
             inside: Inside::Fork { first, shared },
+        })
+    }
+
+    /// The same, in the memory of as many as lie together at most.
+    fn wide(alloc: Global, branches: Vec<Branch>) -> Result<Self, AllocError>
+        requires rising { IsRisingAfter 0 (all_of branches.items) }
+        requires some { 0 < length branches.items }
+        requires few { length branches.items ≤ 32 }
+        ensures { IfOk result (λ b. b.pieces ≡ all_of branches.items) }
+    {
+        let first = first_time_or(branches.as_slice(), ENDLESS);
+        let count = branches.len();
+        let Ok(full) = <[Branch; WIDTH]>::try_from(padded(branches)?) else {
+            unreachable!()
+        };
+        let shared = Arc::new(alloc, full)?;
+        Ok(Branch {
+            inside: Inside::Wide {
+                first,
+                count,
+                shared,
+            },
         })
     }
 
@@ -105,6 +150,7 @@ impl Branch {
         match &self.inside {
             Inside::Leaf(piece) => Parts::OnePiece(piece),
             Inside::Fork { shared, .. } => Parts::Branches(shared.as_slice()),
+            Inside::Wide { count, shared, .. } => Parts::Branches(&shared[..*count]),
         }
     }
 
@@ -117,8 +163,33 @@ impl Branch {
         match &self.inside {
             Inside::Leaf(piece) => piece.first_time(),
             Inside::Fork { first, .. } => *first,
+            Inside::Wide { first, .. } => *first,
         }
     }
+}
+
+/// The memory that a fork of so many branches takes, in branches.
+pub(crate) fn room_for(count: usize) -> usize {
+    if count < NEARLY_ALL {
+        count
+    } else {
+        count.max(WIDTH)
+    }
+}
+
+/// These branches, and the last one again and again behind them, up to as many as lie together at most.
+fn padded(branches: Vec<Branch>) -> Result<Vec<Branch>, AllocError>
+    requires some { 0 < length branches.items }
+    requires few { length branches.items ≤ 32 }
+    ensures front { IfOk result (λ all. take (length branches.items) all.items ≡ branches.items) }
+    ensures full { IfOk result (λ all. length all.items ≡ 32) }
+{
+    let mut all = branches;
+    while all.len() < WIDTH {
+        let last = all[all.len() - 1].share()?;
+        all.push(last)?;
+    }
+    Ok(all)
 }
 
 /// When the first write of these branches was made, or `end` where there is none.
@@ -132,21 +203,16 @@ pub(crate) fn first_time_or(branches: &[Branch], end: u64) -> u64
     }
 }
 
-/// How many of the branches begin by a time, found by halving.
+/// How many of the branches begin by a time. They are few and lie together, so they are passed one after
+/// another, the last ones first: where they come from far, halving would wait for each step's.
 fn begun_by(branches: &[Branch], time: u64) -> usize
     ensures within { result ≤ length branches.now }
     ensures before { 0 < result → BeginBy time (drop (result - 1) branches.now) }
     ensures after { BeginAfter time (drop result branches.now) }
 {
-    let mut begun = 0;
-    let mut upto = branches.len();
-    while begun < upto {
-        let middle = begun + (upto - begun) / 2;
-        if branches[middle].first_time() <= time {
-            begun = middle + 1;
-        } else {
-            upto = middle;
-        }
+    let mut begun = branches.len();
+    while begun > 0 && time < branches[begun - 1].first_time() {
+        begun -= 1;
     }
     begun
 }

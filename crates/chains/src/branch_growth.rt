@@ -5,7 +5,7 @@ ghost use Rattle.chains.specs.Branches.{held_in};
 ghost use Rattle.chains.specs.Shapes.{all_of};
 ghost use Rattle.chains.specs.Writes.{kept_after};
 
-use crate::branch::{Branch, Parts, WIDTH, from_begun};
+use crate::branch::{Branch, Parts, WIDTH, from_begun, room_for};
 use crate::piece::Piece;
 use crate::share::{Share, add_shared};
 use std::alloc::{AllocError, Global};
@@ -14,7 +14,7 @@ use std::alloc::{AllocError, Global};
 fn with_last(alloc: Global, front: &[Branch], last: Branch) -> Result<Vec<Branch>, AllocError>
     ensures { IfOk result (λ bs. bs.items ≡ front.now ++ last ∷ []) }
 {
-    let mut all = Vec::with_capacity(alloc, front.len().saturating_add(1))?;
+    let mut all = Vec::with_capacity(alloc, room_for(front.len().saturating_add(1)))?;
     add_shared(&mut all, front)?;
     all.push(last)?;
     Ok(all)
@@ -32,7 +32,7 @@ fn with_first(
     if behind.is_empty() {
         return Ok(first);
     }
-    let mut all = Vec::with_capacity(alloc, behind.len().saturating_add(1))?;
+    let mut all = Vec::with_capacity(alloc, room_for(behind.len().saturating_add(1)))?;
     if let Some(branch) = first {
         all.push(branch)?;
     }
@@ -53,34 +53,34 @@ impl Branch {
     }
 
     /// A branch of a piece alone that is as high as this one.
-    fn beside(&self, alloc: Global, piece: &Piece) -> Result<Self, AllocError>
-        requires { IsRisingAfter 0 piece.now }
-        ensures { IfOk result (λ b. b.pieces ≡ piece.now) }
+    fn beside(&self, alloc: Global, piece: Piece) -> Result<Self, AllocError>
+        requires { IsRisingAfter 0 piece }
+        ensures { IfOk result (λ b. b.pieces ≡ piece) }
     {
         let branches = match self.parts() {
-            Parts::OnePiece(_) => return Ok(Branch::leaf(piece.share()?)),
+            Parts::OnePiece(_) => return Ok(Branch::leaf(piece.into_packed(alloc)?)),
             Parts::Branches(branches) => branches,
         };
         let [branch, ..] = branches else {
-            return Ok(Branch::leaf(piece.share()?));
+            return Ok(Branch::leaf(piece));
         };
         let below = branch.beside(alloc, piece)?;
         Branch::fork(alloc, with_last(alloc, &[], below)?)
     }
 
     /// The branch with a later piece behind its own; the last two are made one where they are small.
-    fn with_piece(&self, alloc: Global, piece: &Piece) -> Result<Self, AllocError>
-        requires { IsRisingAfter 0 (self.now.pieces ++ piece.now) }
-        ensures { IfOk result (λ b. b.pieces ≡ self.now.pieces ++ piece.now) }
+    fn with_piece(&self, alloc: Global, piece: Piece) -> Result<Self, AllocError>
+        requires { IsRisingAfter 0 (self.now.pieces ++ piece) }
+        ensures { IfOk result (λ b. b.pieces ≡ self.now.pieces ++ piece) }
     {
         let branches = match self.parts() {
-            Parts::OnePiece(last) => return Ok(Branch::leaf(last.with_piece(alloc, piece)?)),
+            Parts::OnePiece(last) => return Ok(Branch::leaf(last.with_piece(alloc, &piece)?)),
             Parts::Branches(branches) => branches,
         };
         let [front @ .., last] = branches else {
-            return Ok(Branch::leaf(piece.share()?));
+            return Ok(Branch::leaf(piece));
         };
-        if last.has_room_for(piece) {
+        if last.has_room_for(&piece) {
             let longer = last.with_piece(alloc, piece)?;
             return Branch::fork(alloc, with_last(alloc, front, longer)?);
         }
@@ -89,11 +89,11 @@ impl Branch {
     }
 
     /// The same, in a higher branch where this one has no room.
-    pub(crate) fn grown(&self, alloc: Global, piece: &Piece) -> Result<Self, AllocError>
-        requires { IsRisingAfter 0 (self.now.pieces ++ piece.now) }
-        ensures { IfOk result (λ b. b.pieces ≡ self.now.pieces ++ piece.now) }
+    pub(crate) fn grown(&self, alloc: Global, piece: Piece) -> Result<Self, AllocError>
+        requires { IsRisingAfter 0 (self.now.pieces ++ piece) }
+        ensures { IfOk result (λ b. b.pieces ≡ self.now.pieces ++ piece) }
     {
-        if self.has_room_for(piece) {
+        if self.has_room_for(&piece) {
             return self.with_piece(alloc, piece);
         }
         let mut both = Vec::with_capacity(alloc, 2)?;

@@ -71,20 +71,20 @@ fn with_own(
     }
 }
 
-/// What the commit writes of the chain's key, if it does, is put behind its writes.
-fn put_own(
+/// The same of a chain that is given away.
+fn into_with_own(
     alloc: Global,
     time: u64,
-    chain: &mut Chain,
+    chain: Chain,
     own: Option<&KeyWrite<SharedValue>>,
-) -> Result<(), AllocError>
-    requires later { last_time chain.old.writes < time }
+) -> Result<Chain, AllocError>
+    requires later { last_time chain.writes < time }
     requires in_range { time < 2 ^ 63 }
-    ensures { OnOk result (chain.new ≡ specs.with_own time chain.old (option_copied own.entry)) }
+    ensures { IfOk result (λ c. c ≡ specs.with_own time chain (option_copied own.entry)) }
 {
     match own {
-        None => Ok(()),
-        Some(write) => chain.put_write(alloc, stamped(time, write)?),
+        None => Ok(chain),
+        Some(write) => chain.into_with_write(alloc, stamped(time, write)?),
     }
 }
 
@@ -152,13 +152,13 @@ pub(crate) fn into_with_writes(
     let room = chains.len().saturating_add(writes.len());
     let mut found = Vec::with_capacity(alloc, room)?;
     let mut left = writes;
-    for mut chain in chains {
+    for chain in chains {
         let key = chain.key();
         let (before, rest) = parted(left, key);
         let (own, after) = own_write(rest, key);
         add_new(alloc, &mut found, time, before)?;
-        put_own(alloc, time, &mut chain, own)?;
-        found.push(chain)?;
+        let written = into_with_own(alloc, time, chain, own)?;
+        found.push(written)?;
         left = after;
     }
     add_new(alloc, &mut found, time, left)?;

@@ -170,12 +170,12 @@ impl Older {
     }
 
     /// The same with a piece behind: the last two are made one where they are small.
-    pub(crate) fn with_piece(&self, alloc: Global, piece: &Piece) -> Result<Self, AllocError>
-        requires { IsRisingAfter 0 (self.now ++ piece.now) }
-        ensures { IfOk result (λ o. o ≡ self.now ++ piece.now) }
+    pub(crate) fn with_piece(&self, alloc: Global, piece: Piece) -> Result<Self, AllocError>
+        requires { IsRisingAfter 0 (self.now ++ piece) }
+        ensures { IfOk result (λ o. o ≡ self.now ++ piece) }
     {
         match &self.root {
-            None => Older::of(alloc, Branch::leaf(piece.share()?)),
+            None => Older::of(alloc, Branch::leaf(piece.into_packed(alloc)?)),
             Some(branch) => Older::of(alloc, branch.grown(alloc, piece)?),
         }
     }

@@ -33,6 +33,12 @@ pub(crate) enum Slots {
         first: u64,
         shared: Arc<Vec<StampedWrite>>,
     },
+    /// As many as one piece has at most, which lie beside the count of those who share them: one place of
+    /// memory less on the way to them.
+    Full {
+        first: u64,
+        shared: Arc<[StampedWrite; MOST]>,
+    },
 }
 
 /// Some writes of one key, at least one, oldest first. It never changes, and shares its memory with
@@ -63,6 +69,11 @@ impl Share for Piece {
                 first: *first,
                 shared: Arc::try_clone(shared)?,
             },
+            Slots::Full { first, shared } => {
+                let first = *first;
+                let shared = Arc::try_clone(shared)?;
+                Slots::Full { first, shared }
+            }
         };
         Ok(Piece { slots })
     }
@@ -74,11 +85,49 @@ impl Piece {
         requires some { 0 < length writes.items }
         ensures { IfOk result (λ p. p ≡ writes.items) }
     {
+        if writes.len() == MOST {
+            return Self::full(alloc, writes);
+        }
         let first = first_time_or(writes.as_slice(), ENDLESS);
         let shared = Arc::new(alloc, writes)?;
         Ok(Piece {
             slots: Slots::Many { first, shared },
         })
+    }
+
+    /// The same, where they are as many as one piece has at most: a function of its own, so that no other
+    /// piece takes the way of so many bytes.
+    fn full(alloc: Global, writes: Vec<StampedWrite>) -> Result<Self, AllocError>
+        requires rising { IsRisingAfter 0 writes.items }
+        requires some { 0 < length writes.items }
+        requires full { length writes.items ≡ 32 }
+        ensures { IfOk result (λ p. p ≡ writes.items) }
+    {
+        let first = first_time_or(writes.as_slice(), ENDLESS);
+        let Ok(full) = <[StampedWrite; MOST]>::try_from(writes) else {
+            unreachable!()
+        };
+        let shared = Arc::new(alloc, full)?;
+        Ok(Piece {
+            slots: Slots::Full { first, shared },
+        })
+    }
+
+    /// The same piece, for a place among older ones: a full one in the form of full ones, where nothing else
+    /// holds it.
+    pub(crate) fn into_packed(self, alloc: Global) -> Result<Self, AllocError>
+        ensures { IfOk result (λ p. p ≡ self) }
+    {
+        let (first, shared) = match self.slots {
+            Slots::Many { first, shared } => (first, shared),
+            slots => return Ok(Piece { slots }),
+        };
+        match Arc::try_unwrap(shared) {
+            Ok(writes) => Self::of(alloc, writes),
+            Err(shared) => Ok(Piece {
+                slots: Slots::Many { first, shared },
+            }),
+        }
     }
 
     /// A piece of the same writes, with their values shared.
@@ -181,6 +230,7 @@ impl Piece {
         match &self.slots {
             Slots::One(write) => write.time(),
             Slots::Many { first, .. } => *first,
+            Slots::Full { first, .. } => *first,
         }
     }
 
@@ -201,6 +251,7 @@ impl Piece {
         match &self.slots {
             Slots::One(write) => write.has_bytes(),
             Slots::Many { shared, .. } => shared.len() > 1,
+            Slots::Full { shared, .. } => shared[0].time() > 0,
         }
     }
 
@@ -213,6 +264,7 @@ impl Piece {
         match &self.slots {
             Slots::One(write) => slice::from_ref(write),
             Slots::Many { shared, .. } => shared.as_slice(),
+            Slots::Full { shared, .. } => shared.as_slice(),
         }
     }
 

@@ -2,9 +2,8 @@ use Rattle.std.proofs.Common.{◌<◌, ◌++◌, sym, subst}
 use Rattle.chains.specs.KeyWrites.{KeyWrites}
 use Rattle.chains.specs.Writes.{last_time}
 use Rattle.chains.proofs.Kept.{rising-push}
-use Rattle.chains.proofs.Parts.{last_time-back}
-use Rattle.chains.proofs.Puts.{put-rising}
-use Rattle.chains.proofs.chain.Chain.put_write.Goals as goal
+use Rattle.chains.proofs.Parts.{last_time-back, recent-rising}
+use Rattle.chains.proofs.chain.Chain.into_with_write.Goals as goal
 
 pub put_write-requires-clause-later : goal.put_write-requires-clause-later
 put_write-requires-clause-later c =
@@ -13,16 +12,16 @@ put_write-requires-clause-later c =
     let later : last_time (older ++ last) < c.args.write.time = subst (λ (k : KeyWrites). last_time k.writes < c.args.write.time) (sym c.self.view_is) c.requires.later in
     rw (last_time-back 0 older last c.is_full.ensures) at later
 
-pub invariant_of-self : goal.invariant_of-self
-invariant_of-self c =
-    let older = c.self.inside.older in
-    let last = c.self.inside.last in
-    let later : last_time (older ++ last) < c.args.write.time = subst (λ (k : KeyWrites). last_time k.writes < c.args.write.time) (sym c.self.view_is) c.requires.later in
-    put-rising c.put_write.result older last c.put_write.new.self c.args.write c.put_write.ensures.ok c.put_write.ensures.err c.self.invariant later c.requires.in_range
-
 pub of-requires : goal.of-requires
 of-requires c =
     let older = c.self.inside.older in
     let last = c.self.inside.last in
     let later : last_time (older ++ last) < c.args.write.time = subst (λ (k : KeyWrites). last_time k.writes < c.args.write.time) (sym c.self.view_is) c.requires.later in
-    rw (c.in_ok-full.ensures, c.in_ok-last.ensures) (rising-push 0 (older ++ last) c.args.write c.self.invariant later c.requires.in_range)
+    rw c.in_ok-put_write.ensures.ok (recent-rising older last c.args.write c.self.invariant later c.requires.in_range)
+
+pub of-requires-2 : goal.of-requires-2
+of-requires-2 c =
+    let older = c.self.inside.older in
+    let last = c.self.inside.last in
+    let later : last_time (older ++ last) < c.args.write.time = subst (λ (k : KeyWrites). last_time k.writes < c.args.write.time) (sym c.self.view_is) c.requires.later in
+    rw (c.in_ok-older.ensures, c.in_ok-next.ensures) (rising-push 0 (older ++ last) c.args.write c.self.invariant later c.requires.in_range)
