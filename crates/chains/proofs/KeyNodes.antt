@@ -13,7 +13,7 @@ use Rattle.chains.specs.KeyWrites.{KeyWrites, is_of, forgotten, AllAbove, IsOrde
 use Rattle.chains.specs.Rows.{of_relation}
 use Rattle.chains.specs.Shapes.{Shape, all_of, highest}
 use Rattle.chains.proofs.Bounds.{find-past, out-below}
-use Rattle.chains.proofs.Order.{above-back, find-left, find-right, find-middle, forgotten-two, ordered-back, lt-other}
+use Rattle.chains.proofs.Order.{above-back, forgotten-two, ordered-back, lt-other}
 use Rattle.chains.proofs.Relations.{other-part, relation-above, relation-append, relation-below}
 use Rattle.chains.proofs.Shapes.{all_of-append, highest-append, behind, rest_is, pieces_are, first_low}
 use Rattle.chains.proofs.Walks.{in-later}
@@ -206,16 +206,3 @@ module _ (rest : List (Shape KeyWrites)) {n : Shape KeyWrites} (some : 1 ≤ len
 
 pub split-is : {X : Type 0} (l : List X) {m r : List X} {x : X} {xs : List X} → m ≡ l ++ r → r ≡ x ∷ xs → m ≡ l ++ x ∷ xs
 split-is {X} l whole first = whole ∙ ap (λ (r : List X). l ++ r) first
-
-module _ (l : List KeyWrites) {m r : List KeyWrites} {c : KeyWrites} {cs : List KeyWrites} {here : Key} (key : Key) (whole : m ≡ l ++ r) (first : r ≡ c ∷ cs) (place : here ≡ c.key) (o : IsOrdered m) where
-  is : m ≡ l ++ c ∷ cs
-  is = split-is l whole first
-
-  pub in-left : key_lt key here ≡ true → find (is_of key) m ≡ find (is_of key) l
-  in-left h = rw is (find-left key l c cs (rw place at h) (rw is at o))
-
-  pub in-right : key_lt here key ≡ true → find (is_of key) m ≡ find (is_of key) cs
-  in-right h = rw is (find-right key l c cs (rw place at h) (rw is at o))
-
-  pub in-middle : key_lt key here ≡ false → key_lt here key ≡ false → find (is_of key) m ≡ Some c
-  in-middle h k = rw is (find-middle key l c cs (rw place at h) (rw place at k) (rw is at o))

@@ -4,8 +4,6 @@ use Rattle.history.specs.Time.{IsRisingAfter}
 use Rattle.history.specs.Versions.{first_time}
 use Rattle.chains.specs.Shapes.{Shape, all_of, highest}
 use Rattle.chains.specs.Writes.{Write}
-use Rattle.std.specs.declared.alloc.Global.{Global}
-use Rattle.std.specs.declared.sync.Arc.{Arc}
 use Rattle.chains.specs.declared.branch.Parts.{Parts}
 use Rattle.chains.specs.declared.branch.Parts.TheVariants.{OnePiece, Branches}
 use Rattle.chains.specs.declared.branch.Inside.{Inside}
@@ -15,11 +13,6 @@ use Rattle.chains.specs.declared.branch.Inside.TheVariants.{Leaf, Fork, Wide}
 abbrev pub held_in : Option (Shape Write) → List Write
 held_in None = []
 held_in (Some b) = b.pieces
-
--- the writes of the branch below a link, none where there is none
-abbrev pub writes_below : Option (Arc (Shape Write) Global) → List Write
-writes_below None = []
-writes_below (Some shared) = shared.value.pieces
 
 -- the writes of a branch, oldest first, and how many forks stand above one another in it
 abbrev pub branch_in : Inside → Shape Write

@@ -178,21 +178,16 @@ impl KeyNode {
     }
 }
 
-/// How many of the nodes begin without the bound, found by halving.
+/// How many of the nodes begin without the bound. They are few and lie together, so they are passed one
+/// after another: which way a step of halving goes a processor cannot foresee.
 fn without_count(nodes: &[KeyNode], bound: Bound) -> usize
     ensures within { result ≤ length nodes.now }
     ensures before { 0 < result → FirstWithout bound (drop (result - 1) nodes.now) }
     ensures after { FirstWithin bound (drop result nodes.now) }
 {
     let mut without = 0;
-    let mut upto = nodes.len();
-    while without < upto {
-        let middle = without + (upto - without) / 2;
-        if bound.admits(nodes[middle].first_key()) {
-            upto = middle;
-        } else {
-            without = middle + 1;
-        }
+    while without < nodes.len() && !bound.admits(nodes[without].first_key()) {
+        without += 1;
     }
     without
 }

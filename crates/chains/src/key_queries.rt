@@ -1,8 +1,8 @@
 //! What is asked of the chains of all keys.
 ghost use Rattle.std.specs.Prelude.{◌≡◌, ◌++◌, OnOk, find};
-ghost use Rattle.std.specs.Option.{option_copied, option_or};
+ghost use Rattle.std.specs.Option.{option_copied};
 ghost use Rattle.chains.specs.Bounds.{is_in};
-ghost use Rattle.chains.specs.KeyWrites.{is_of, IsOrdered};
+ghost use Rattle.chains.specs.KeyWrites.{is_of};
 ghost use Rattle.chains.specs.Rows.{of_relation, shown_rows};
 ghost use Rattle.chains.specs.Scans.{shown_value};
 
@@ -14,39 +14,32 @@ use crate::shared_value::SharedValue;
 use history::{Key, Version};
 use std::alloc::{AllocError, Global};
 
-/// The chain of a key among chains, found by halving.
+/// The chain of a key among chains. They are few and lie together, so they are passed one after another.
 fn chain_of(chains: &[Chain], key: Key) -> Option<&Chain>
-    requires { IsOrdered chains.now }
     ensures { option_copied result ≡ find (is_of key) chains.now }
 {
-    let (left, right) = chains.split_at(chains.len() / 2);
-    let Some((chain, behind)) = right.split_first() else {
-        return None;
-    };
-    let here = chain.key();
-    if key.is_before(here) {
-        chain_of(left, key)
-    } else if here.is_before(key) {
-        chain_of(behind, key)
-    } else {
-        Some(chain)
+    let mut rest = chains;
+    while let [chain, behind @ ..] = rest {
+        if chain.key() == key {
+            return Some(chain);
+        }
+        rest = behind;
     }
+    None
 }
 
-/// The chain of the least key within the bound among chains, found by halving, or else the one behind them.
-fn least_or<'a>(chains: &'a [Chain], bound: Bound, other: Option<&'a Chain>) -> Option<&'a Chain>
-    requires { IsOrdered chains.now }
-    ensures { option_copied result ≡ option_or (find (λ c. is_in bound c.key) chains.now) (option_copied other.entry) }
+/// The first of the chains that is within the bound.
+fn first_within(chains: &[Chain], bound: Bound) -> Option<&Chain>
+    ensures { option_copied result ≡ find (λ c. is_in bound c.key) chains.now }
 {
-    let (left, right) = chains.split_at(chains.len() / 2);
-    let Some((chain, behind)) = right.split_first() else {
-        return other;
-    };
-    if bound.admits(chain.key()) {
-        least_or(left, bound, Some(chain))
-    } else {
-        least_or(behind, bound, other)
+    let mut rest = chains;
+    while let [chain, behind @ ..] = rest {
+        if bound.admits(chain.key()) {
+            return Some(chain);
+        }
+        rest = behind;
     }
+    None
 }
 
 impl KeyNode {
@@ -68,7 +61,7 @@ impl KeyNode {
         ensures { option_copied result ≡ find (λ c. is_in bound c.key) self.now.pieces }
     {
         let nodes = match self.parts() {
-            KeyParts::Chains(chains) => return least_or(chains, bound, None),
+            KeyParts::Chains(chains) => return first_within(chains, bound),
             KeyParts::Nodes(nodes) => nodes,
         };
         let mut rest = from_bound(nodes, bound);

@@ -17,13 +17,12 @@ use crate::stamped::StampedWrite;
 use history::Version;
 use std::alloc::{AllocError, Global};
 use std::marker::Model;
-use std::sync::Arc;
 
 /// The older writes of a key, oldest first; most keys have none. It never changes, and shares its memory
 /// with what it was taken from.
 #[derive(Drop)]
 pub(crate) struct Older {
-    root: Option<Arc<Branch>>,
+    root: Option<Branch>,
 }
 
 impl Model for Older {
@@ -32,16 +31,16 @@ impl Model for Older {
 
     ghost Value = { List Write };
 
-    ghost use Rattle.chains.specs.Branches.{writes_below};
+    ghost use Rattle.chains.specs.Branches.{held_in};
 
-    ghost view = { λ o. writes_below o.root };
+    ghost view = { λ o. held_in o.root };
 }
 
 impl Share for Older {
     fn share(&self) -> Result<Self, AllocError> {
         let root = match &self.root {
             None => None,
-            Some(root) => Some(Arc::try_clone(root)?),
+            Some(root) => Some(root.share()?),
         };
         Ok(Older { root })
     }
@@ -55,12 +54,10 @@ impl Older {
         Older { root: None }
     }
 
-    fn of(alloc: Global, branch: Branch) -> Result<Self, AllocError>
-        ensures { IfOk result (λ o. o ≡ branch.pieces) }
+    fn of(branch: Branch) -> Self
+        ensures { result ≡ branch.pieces }
     {
-        Ok(Older {
-            root: Some(Arc::new(alloc, branch)?),
-        })
+        Older { root: Some(branch) }
     }
 
     /// Whether there are none.
@@ -165,7 +162,7 @@ impl Older {
         };
         match root.kept(alloc, mark)? {
             None => Ok(Older::new()),
-            Some(branch) => Older::of(alloc, branch),
+            Some(branch) => Ok(Older::of(branch)),
         }
     }
 
@@ -174,9 +171,10 @@ impl Older {
         requires { IsRisingAfter 0 (self.now ++ piece) }
         ensures { IfOk result (λ o. o ≡ self.now ++ piece) }
     {
-        match &self.root {
-            None => Older::of(alloc, Branch::leaf(piece.into_packed(alloc)?)),
-            Some(branch) => Older::of(alloc, branch.grown(alloc, piece)?),
-        }
+        let longer = match &self.root {
+            None => Branch::leaf(piece.into_packed(alloc)?),
+            Some(branch) => branch.grown(alloc, piece)?,
+        };
+        Ok(Older::of(longer))
     }
 }

@@ -1,7 +1,7 @@
 use Rattle.std.proofs.Common.{◌≡◌, ◌<◌, ◌∙◌, ◌∷◌, ◌++◌, [], List, ap, sym, subst, arith, rules, append_assoc}
 use Rattle.chains.specs.KeyNodes.{IsKeyFork}
 use Rattle.chains.specs.KeyWrites.{KeyWrites, IsOrdered}
-use Rattle.chains.specs.Shapes.{Shape, all_of}
+use Rattle.chains.specs.Shapes.{all_of}
 use Rattle.chains.proofs.Order.{ordered-back}
 use Rattle.chains.proofs.RowParts.{on-ok}
 use Rattle.chains.proofs.Shapes.{popped, popped_low}
