@@ -230,9 +230,6 @@ module _ {R : Type 0} where
   few_parts Gives time runs [] each = omega arith
   few_parts Gives time runs (part ∷ parts) each = omega (arith, slice_get_within runs (length parts) each.0.0 each.0.1)
 
-  pub through_first : (Gives : RunEntry → List R → Type 0) (time : ℕ) (runs : List RunEntry) (rows : List R) → rows ≡ [] → IsThrough Gives time runs 0 rows
-  through_first Gives time runs rows none = record { parts = []; each = tt; count = refl; are = none }
-
   module _ (Gives : RunEntry → List R → Type 0) (time : ℕ) (runs : List RunEntry) (i : ℕ) (rows : List R) (way : IsThrough Gives time runs i rows) where
     pub through_done : length runs ≤ i → IsOfRuns Gives time runs rows
     through_done past = record {

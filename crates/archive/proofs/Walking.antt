@@ -135,29 +135,6 @@ skip_cases w h key is = by_tests (nat_lt h.key.record w.last.record) (nat_le h.t
   by_tests true false true early late e = inr (grind (arith, nat_tests), cc)
   by_tests true false false early late e = absurd (cc)
 
--- the search for where it goes on is for what is behind
-pub skip_before : (w : Wanted) (h : Head) (key : Key) → skip_to w h ≡ Some key → precedes key w.a h ≡ true
-skip_before w h key is = elim (skip_cases w h key is) [
-  | inl ended ↦
-      let relation : h.key.relation ≡ key.relation = ap (λ (k : Key). k.relation) ended.1 in
-      let number : h.key.record ≡ key.record = ap (λ (k : Key). k.record) ended.1 in
-      let end = ended.0 in
-      grind (arith, nat_tests)
-  | inr lasts ↦
-      let relation : h.key.relation ≡ key.relation = ap (λ (k : Key). k.relation) lasts.1 in
-      let number : h.key.record + 1 ≡ key.record = ap (λ (k : Key). k.record) lasts.1 in
-      grind (arith, nat_tests)
-]
-
--- of one key each is looked at
-pub one_reads_all : (w : Wanted) (h : Head) (key : Key) → IsOneKey w → IsTrue (is_wanted w h) → skip_to w h ≡ Some key → ⊥
-one_reads_all w h key one wanted skips =
-    let relation : w.first.relation ≡ w.last.relation = ap (λ (k : Key). k.relation) one.0 in
-    let number : w.first.record ≡ w.last.record = ap (λ (k : Key). k.record) one.0 in
-    let last : nat_lt h.key.record w.last.record ≡ false = grind (arith, nat_tests) in
-    let none : skip_to w h ≡ None = ap (λ (b : Bool). cond (b && (nat_le h.to w.a || nat_le w.b h.to)) (Some (cond (nat_le h.to w.a) h.key (key_of h.key.relation (h.key.record + 1)))) None) last in
-    cc
-
 -- what is skipped has no part in the interval
 pub skipped_short : (w : Wanted) (r s : ArchiveRecord) (key : Key) → skip_to w (head_of r) ≡ Some key → IsBefore r s → precedes key w.a (head_of s) ≡ true
     → min s.version.to w.b ≤ max s.version.from w.a

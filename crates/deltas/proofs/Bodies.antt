@@ -5,7 +5,6 @@ use Rattle.std.proofs.lemmas.List.{append-nil, nil_from_length, length-take, len
 use Rattle.wire.specs.Numbers.{u32_bytes}
 use Rattle.deltas.specs.Extents.{extent_bytes}
 use Rattle.deltas.specs.Images.{IsBegun, IsSameFrom, records_in}
-use Rattle.deltas.proofs.Images.{length-u32_bytes}
 
 -- no record yet
 pub none_begun : (bytes before : List ℕ) (n : ℕ) → bytes ≡ take 8192 before ++ replicate (8192 - n) 0 → before ≡ [] → n ≡ 0 → IsBegun bytes 0

@@ -26,19 +26,6 @@ pub record IsFilling (before left : List Record) (count used : ℕ) (body : List
   pub len : length body ≡ 8176
   pub packed : 0 < count → bodies (map spelling before) ≡ bodies_from (flat_map spelling taken) (map spelling left)
 
-pub none_filled : (before : List Record) (body : List ℕ) → length body ≡ 8176 → IsFilling before before 0 0 body
-none_filled before body len = record {
-  taken = [];
-  all = refl;
-  counted = refl;
-  bytes = refl;
-  used_is = refl;
-  fits = omega arith;
-  few = omega arith;
-  len = len;
-  packed = λ some. absurd (omega (arith, some));
-}
-
 flat_map-push : (records : List Record) (r : Record) → flat_map spelling (records ++ r ∷ []) ≡ flat_map spelling records ++ spelling r
 flat_map-push [] r = append-nil (spelling r)
 flat_map-push (x ∷ xs) r = ap (λ (l : List ℕ). spelling x ++ l) (flat_map-push xs r) ∙ sym (append_assoc (spelling x) (flat_map spelling xs) (spelling r))

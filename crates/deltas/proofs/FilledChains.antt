@@ -1,5 +1,5 @@
 -- Chains of extents that are filled one after the other.
-use Rattle.std.proofs.Common.{◌≡◌, ◌≢◌, ℕ, ◌+◌, ◌≤◌, ◌<◌, nat_le, true, false, Some, None, List, [], ◌∷◌, ◌++◌, length, map, drop, replicate, refl, sym, ◌∙◌, ap, subst, arith, append_assoc, length-append, inl, inr}
+use Rattle.std.proofs.Common.{◌≡◌, ◌≢◌, ℕ, ◌+◌, ◌≤◌, ◌<◌, nat_le, true, false, Some, None, List, [], ◌∷◌, ◌++◌, length, map, drop, replicate, refl, sym, ◌∙◌, ap, subst, arith, length-append, inl, inr}
 use Rattle.std.specs.Prelude.{slice_get}
 use Rattle.std.proofs.lemmas.Bool.{cases_lt}
 use Rattle.std.proofs.lemmas.Bool.Decides.{nat_tests}
@@ -38,23 +38,6 @@ filled_is_packed (n ∷ ns) records (image ∷ images) are =
 pub record IsFillingChain (numbers rest : List ℕ) (before left : List Record) (images : List (List ℕ)) : Type 0 where
   pub so_far : images ++ images_of rest (bodies (map spelling left)) ≡ images_of numbers (bodies (map spelling before))
   pub as_many : length rest ≡ length (bodies (map spelling left))
-
-pub next_in_chain : (numbers rest after : List ℕ) (before left behind : List Record) (images more : List (List ℕ)) (number : ℕ) (image : List ℕ) (filled : FilledExtent) → rest ≡ number ∷ after → more ≡ images ++ image ∷ []
-    → IsFilled number (first_number after) left image filled behind → IsFillingChain numbers rest before left images → IsFillingChain numbers after before behind more
-next_in_chain numbers rest after before left behind images more number image filled rest_is more_is is so_far =
-    let as_many = so_far.as_many in
-    let len = ap (λ (l : List ℕ). length l) rest_is in
-    let some : left ≢ [] = λ none. let empty : length (bodies (map spelling left)) ≡ 0 = ap (λ (l : List Record). length (bodies (map spelling l))) none in omega (arith, as_many, len, empty) in
-    let count = one_body number (first_number after) left behind image filled some is in
-    record {
-      so_far =
-          ap (λ (l : List (List ℕ)). l ++ images_of after (bodies (map spelling behind))) more_is
-          ∙ append_assoc images (image ∷ []) (images_of after (bodies (map spelling behind)))
-          ∙ ap (λ (l : List (List ℕ)). images ++ l) (sym (one_image number after left behind image filled some is))
-          ∙ ap (λ (l : List ℕ). images ++ images_of l (bodies (map spelling left))) (sym rest_is)
-          ∙ so_far.so_far;
-      as_many = omega (arith, as_many, len, count);
-    }
 
 some_bodies : (body : List ℕ) (pieces : List (List ℕ)) → 0 < length (bodies_from body pieces)
 some_bodies body [] = omega arith

@@ -2,29 +2,12 @@
 use Rattle.std.proofs.Common.{◌≡◌, ℕ, List, [], ◌∷◌, ◌++◌, map, refl, sym, ◌∙◌, ap}
 use Rattle.std.specs.List.{flat_map, AllByRecursion}
 use Rattle.image.specs.Reading as readings
-use Rattle.deltas.specs.declared.«record».Content.{Content}
-use Rattle.deltas.specs.declared.«record».Content.TheVariants.{Anchor, Delta, Gone, Old}
 use Rattle.deltas.specs.declared.«record».Record.{Record}
-use Rattle.deltas.specs.declared.chain.Kinds.TheVariants.{OfCommit, OfAnchors}
-use Rattle.deltas.specs.Records.{spelling, IsRecord, content_of, record_of, old_record_of, heap_content, heap_record, old_record}
-use Rattle.deltas.specs.Chains.{IsPermitted}
+use Rattle.deltas.specs.Records.{spelling, IsRecord, record_of, old_record_of, heap_record, old_record}
 use Rattle.deltas.proofs.Writes.{heap_content_again}
 use Rattle.deltas.proofs.OneList.{one_list}
 
 -- ---- a commit's records
-
-same_content : (c : Content) → IsPermitted OfCommit c → content_of (heap_content c) ≡ c
-same_content (Anchor value) is = refl
-same_content (Delta mask changed) is = refl
-same_content Gone is = refl
-same_content (Old from value) is = absurd is
-
-pub commit_records : (records : List Record) → AllByRecursion (λ r. IsPermitted OfCommit r.content) records → map record_of (map heap_record records) ≡ records
-commit_records [] are = refl
-commit_records (r ∷ records) are =
-    let content = same_content r.content are.0 in
-    let others = commit_records records are.1 in
-    λ i. record { key = r.key; content = content i } ∷ others i
 
 heap_again : (records : List readings.HeapRecord) → map heap_record (map record_of records) ≡ records
 heap_again [] = refl
@@ -34,22 +17,6 @@ heap_again (r ∷ records) =
     λ i. record { key = r.key; content = content i } ∷ others i
 
 -- ---- the anchor chain's
-
-same_old : (upto : ℕ) (r : Record) → IsPermitted (OfAnchors upto) r.content → old_record_of (old_record r) ≡ r
-same_old upto r is = by_content r.content is
-  where
-    by_content : (c : Content) → IsPermitted (OfAnchors upto) c → old_record_of (old_record (record { key = r.key; content = c })) ≡ record { key = r.key; content = c }
-    by_content (Anchor value) is = absurd is
-    by_content (Delta mask changed) is = absurd is
-    by_content Gone is = absurd is
-    by_content (Old from value) is = refl
-
-pub anchor_records : (upto : ℕ) (records : List Record) → AllByRecursion (λ r. IsPermitted (OfAnchors upto) r.content) records → map old_record_of (map old_record records) ≡ records
-anchor_records upto [] are = refl
-anchor_records upto (r ∷ records) are =
-    let first = same_old upto r are.0 in
-    let others = anchor_records upto records are.1 in
-    λ i. first i ∷ others i
 
 old_again : (records : List readings.OldRecord) → map old_record (map old_record_of records) ≡ records
 old_again [] = refl

@@ -1,7 +1,7 @@
 -- Chains of bodies in extents.
 use Rattle.std.proofs.Common.{◌≡◌, ℕ, suc, List, [], ◌∷◌, length, map, refl, arith, ap}
 use Rattle.deltas.specs.Extents.{extent_bytes}
-use Rattle.group.specs.Sealing.{chain_of}
+use Rattle.deltas.specs.Chains.{chain_of}
 
 pub length-sealed : (numbers : List ℕ) (bodies : List (List ℕ)) → length bodies ≡ length numbers → length (map extent_bytes (chain_of numbers bodies)) ≡ length numbers
 length-sealed [] bodies same = refl

@@ -2,4 +2,3 @@ pub mod CommitOrder
 pub mod Tickets
 pub mod Queued
 pub mod Taking
-pub mod Sealing

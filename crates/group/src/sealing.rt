@@ -3,7 +3,7 @@ ghost use Rattle.std.specs.Prelude.{[], ◌≡◌, ◌≤◌, length, map, IfOk,
 ghost use Rattle.std.specs.Vec.{vec_capacity};
 ghost use Rattle.deltas.specs.Extents.{extent_bytes};
 ghost use Rattle.group.specs.Queued.{stored_as};
-ghost use Rattle.group.specs.Sealing.{chain_of, first_number};
+ghost use Rattle.deltas.specs.Chains.{chain_of, first_number};
 
 use crate::queued::StoredExtent;
 use deltas::{ExtentBody, Image, seal};

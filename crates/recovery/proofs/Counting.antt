@@ -1,14 +1,7 @@
 -- What has changed before the first write or sync of a disk is counted: nothing.
-use Rattle.std.proofs.Common.{◌≡◌, Result, ◌∙◌, arith}
+use Rattle.std.proofs.Common.{Result, ◌∙◌, arith}
 use Rattle.disk.specs.Calls.{DiskState, Counts}
 use Rattle.recovery.specs.Format.{CountsFirst}
-
-pub first_none : (old new : DiskState) → new.areas ≡ old.areas → new.made ≡ old.made → CountsFirst old new
-first_none old new areas made = record {
-  high = λ few. omega (arith, made);
-  no_fewer = λ few. omega (arith, made);
-  same = λ few e. areas;
-}
 
 pub first_call : {T E : Type 0} (result : Result T E) (old new : DiskState) → Counts result old new → CountsFirst old new
 first_call result old new counts = record {

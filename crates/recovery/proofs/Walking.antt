@@ -1,6 +1,6 @@
 -- A walk that is under way.
 use Rattle.std.proofs.Common.{◌≡◌, ℕ, suc, ◌+◌, ◌-◌, ◌<◌, List, [], ◌∷◌, ◌++◌, map, refl, sym, ap, subst, ◌∙◌, arith, append_assoc}
-use Rattle.std.proofs.lemmas.List.{append-nil, map-append}
+use Rattle.std.proofs.lemmas.List.{map-append}
 use Rattle.extents.specs.declared.usage.Usage.{Usage}
 use Rattle.extents.specs.declared.usage.Usage.TheVariants.{Kept}
 use Rattle.extents.specs.Usages.{IsFree, with_usage}
@@ -25,14 +25,6 @@ pub record IsWalking (heap : List ℕ) (len : ℕ) (old : List Usage) (first cou
   pub images_are : images ≡ map (extent_at heap) numbers
   pub claimable : AreClaimable len old numbers
   pub kept : new ≡ claimed old numbers
-
-pub walk_begins : (heap : List ℕ) (len : ℕ) (old : List Usage) (first count : ℕ) → IsWalking heap len old first count 0 first [] [] old
-walk_begins heap len old first count = record {
-  numbers_are = let same : count - 0 ≡ count = omega arith in ap (numbers_at heap first) same;
-  images_are = refl;
-  claimable = tt;
-  kept = refl;
-}
 
 module _ (heap : List ℕ) (len : ℕ) (old : List Usage) (first count done next : ℕ) (numbers : List ℕ) (images : List (List ℕ)) (new : List Usage)
     (walking : IsWalking heap len old first count done next numbers images new) (more : done < count) where
@@ -64,10 +56,3 @@ module _ (heap : List ℕ) (len : ℕ) (old : List Usage) (first count done next
     claimable = claimable_join len old numbers (next ∷ []) walking.claimable (there, subst (λ (u : List Usage). IsFree u next) walking.kept free, tt);
     kept = ap (λ (u : List Usage). with_usage u next Kept) walking.kept ∙ sym (claimed-append old numbers (next ∷ []));
   }
-
--- all of them were read
-pub walk_ends : (heap : List ℕ) (len : ℕ) (old : List Usage) (first count done next : ℕ) (numbers : List ℕ) (images : List (List ℕ)) (new : List Usage)
-    → IsWalking heap len old first count done next numbers images new → done ≡ count → numbers ≡ numbers_at heap first count
-walk_ends heap len old first count done next numbers images new walking end =
-    let none : count - done ≡ 0 = omega arith in
-    sym (append-nil numbers) ∙ ap (λ (n : ℕ). numbers ++ numbers_at heap next n) (sym none) ∙ walking.numbers_are

@@ -10,13 +10,6 @@ use Rattle.disk.proofs.Stops.{IsTorn-overlaid, slice_range-overlaid_same}
 use Rattle.disk.proofs.Parts.{length-overlaid}
 use Rattle.recovery.specs.Format.{KeepsBefore, IsZeroed, KeepsFront}
 
-pub kept_itself : (from : ℕ) (a : AreaState) → KeepsBefore from a a
-kept_itself from a = record { firm = refl; no_shorter = omega arith; same = λ k below inside. refl; untouched = λ k below was. was }
-
--- nothing was written yet
-pub zeroed_none : (from : ℕ) (a : AreaState) → IsZeroed from from a a
-zeroed_none from a = record { before = kept_itself from a; long = λ more. absurd (omega arith); zeros = λ k low high. absurd (omega arith) }
-
 -- a write behind the place, in full or in part
 pub kept_torn : (from at n : ℕ) (old a new : AreaState) → from ≤ at → KeepsBefore from old a → IsTorn at n a.bytes new.bytes → new.firm ≡ a.firm → new.loose ≡ (at, n) ∷ a.loose → KeepsBefore from old new
 kept_torn from at n old a new behind keeps torn firm loose = record {

@@ -44,9 +44,10 @@ use Rattle.refinement.specs.Standing.{StandsInMemory}
 use Rattle.refinement.specs.OnDisk.{OfRun, IsNextRun, IsRested, Works}
 use Rattle.refinement.specs.Stands.{job_gate, raising_of, StandsBeside as Stands}
 use Rattle.refinement.proofs.Pumping.{raises-so}
-use Rattle.refinement.proofs.Working.{gate-beside}
+use Rattle.refinement.proofs.Working.{none-there, gate-beside}
 use Rattle.refinement.proofs.Held.{rising-held}
 use Rattle.refinement.proofs.Memory.{last-is}
+use Rattle.refinement.proofs.Orders.{memory-beside, order-beside}
 use Rattle.refinement.proofs.JobPumping.{keeps-parts}
 use Rattle.refinement.proofs.Ranges.{IsInRange, each-chain, all-rising, versions-in-range, facts-in-range}
 
@@ -120,10 +121,6 @@ record MayBegin (v : StoreValue) (upto : ℕ) : Type 0 where
   pub by_last : upto ≤ stores.last v
   pub room : 0 < spare v.transactions
 
-none-there : {X : Type 0} (o : Option X) → is_some o ≡ false → o ≡ None
-none-there None nothing = refl
-none-there (Some x) nothing = absurd cc
-
 may-begin : (v : StoreValue) (upto : ℕ) → refusal_now v upto ≡ None → MayBegin v upto
 may-begin v upto none =
     by-tests v.transactions.failed refl (is_some v.job) refl (nat_le upto v.archived) refl (nat_lt (stores.last v) upto) refl (spare v.transactions == 0) refl none
@@ -141,35 +138,10 @@ may-begin v upto none =
 -- ---- the archive begins
 
 pub lent-memory : (v : TransactionsValue) (m : Machine Value) → StandsInMemory v m → StandsInMemory (with_slot_lent v) m
-lent-memory v m stands = record {
-  names = stands.names;
-  rising = stands.rising;
-  published = stands.published;
-  versions = stands.versions;
-  forgot = stands.forgot;
-  recent = stands.recent;
-  queue = stands.queue;
-  fresh = stands.fresh;
-  group = stands.group;
-  staged = stands.staged;
-  snapshots = stands.snapshots;
-  floors = stands.floors;
-  failed = stands.failed;
-}
+lent-memory v m stands = memory-beside v v.pending v.usages v.reserved (v.slots - 1) v.used m m.raising m.gate stands
 
 pub lent-order : (v : TransactionsValue) → 0 < spare v → IsInOrder v → IsInOrder (with_slot_lent v)
-lent-order v room order = record {
-  split = order.split;
-  pending = order.pending;
-  latest = order.latest;
-  group_within = order.group_within;
-  group_few = order.group_few;
-  stage_fits = order.stage_fits;
-  stored = order.stored;
-  out = order.out;
-  room = omega (arith, order.room, room);
-  slots_few = omega (arith, order.slots_few);
-}
+lent-order v room order = order-beside v v.opened (v.slots - 1) v.used v.floors v.failed (omega (arith, order.room, room)) (omega (arith, order.slots_few)) order
 
 -- nothing is held at a place within the content
 none-held : (at : ℕ) (content : List ℕ) → at ≤ length content → HoldsPart at [] content

@@ -30,7 +30,7 @@ use Rattle.snapshot.specs.Txn.{TxnValue, AreTxnWrites}
 use Rattle.snapshot.specs.OpenTable.{with_opened, with_closed}
 use Rattle.group.specs.CommitOrder as orders
 use Rattle.group.specs.Queued.{QueuedValue, numbers_of, stored_as}
-use Rattle.group.specs.Sealing.{chain_of, first_number}
+use Rattle.deltas.specs.Chains.{chain_of, first_number}
 use Rattle.group.specs.Taking.{AreLeastFree}
 use Rattle.group.specs.Tickets.{TicketValue}
 use Rattle.group.specs.declared.commit_order.CommitHead.{CommitHead}
@@ -68,6 +68,7 @@ use Rattle.refinement.specs.Laws.{submission_of, event_of, RedeemsAs}
 use Rattle.refinement.specs.Calls.{BeginsTo}
 use Rattle.refinement.proofs.Memory.{last-is, opened-were, closed-were, own-is, begin-step, abort-step}
 use Rattle.refinement.proofs.Conflicts.{rising-behind}
+use Rattle.refinement.proofs.Orders.{order-beside}
 use Rattle.refinement.proofs.Submitting.{order-has, order-sorted, order-rising, submit-step}
 use Rattle.refinement.proofs.Answering.{redeem-answered}
 use Rattle.refinement.proofs.Packed.{bodies-packed, packed-more, as-many}
@@ -100,18 +101,7 @@ same-disk v m opened heads snapshots d = record {
 }
 
 opened-order : (v : TransactionsValue) (opened : List (Option ℕ)) → IsInOrder v → IsInOrder (record v { opened = opened })
-opened-order v opened order = record {
-  split = order.split;
-  pending = order.pending;
-  latest = order.latest;
-  group_within = order.group_within;
-  group_few = order.group_few;
-  stage_fits = order.stage_fits;
-  stored = order.stored;
-  out = order.out;
-  room = order.room;
-  slots_few = order.slots_few;
-}
+opened-order v opened order = order-beside v opened v.slots v.used v.floors v.failed order.room order.slots_few order
 
 -- the store that has these transactions
 abbrev with_transactions : StoreValue → TransactionsValue → StoreValue

@@ -1,5 +1,5 @@
 -- The chain of anchors that a reclaim makes: as it begins, and while its extents are filled one after the other.
-use Rattle.std.proofs.Common.{◌≡◌, ◌≢◌, ℕ, zero, suc, ◌+◌, ◌<◌, ◌≤◌, ◌^◌, nat_le, true, false, List, [], ◌∷◌, ◌++◌, length, map, take, drop, slice_get, None, Some, refl, arith, ap, sym, subst, ◌∙◌, ⊎_elim, inl, inr, length-append}
+use Rattle.std.proofs.Common.{◌≡◌, ◌≢◌, ℕ, zero, suc, ◌+◌, ◌<◌, ◌≤◌, ◌^◌, nat_le, true, false, List, [], ◌∷◌, ◌++◌, length, map, take, drop, slice_get, None, Some, refl, arith, ap, sym, subst, ◌∙◌, ⊎_elim, inl, inr}
 use Rattle.std.specs.List.{AllByRecursion}
 use Rattle.std.proofs.lemmas.Bool.{cases_lt, cases_eq}
 use Rattle.std.proofs.lemmas.Bool.Decides.{nat_tests}
@@ -10,12 +10,10 @@ use Rattle.deltas.specs.declared.filled_extent.FilledExtent.{FilledExtent}
 use Rattle.deltas.specs.Records.{spelling, old_record_of}
 use Rattle.deltas.specs.Records as heap
 use Rattle.deltas.specs.Packing.{bodies_from, bodies}
-use Rattle.deltas.specs.Extents.{Extent, extent_bytes, IsExtent, AreLinked, first_of, IsChain}
+use Rattle.deltas.specs.Extents.{Extent, extent_bytes, AreLinked, first_of, IsChain}
 use Rattle.deltas.specs.Chains.{IsNumber, first_number, chain_of}
 use Rattle.deltas.specs.Filling.{IsFilled}
-use Rattle.deltas.proofs.Images.{FitEach}
-use Rattle.deltas.proofs.Packed.{bodies_of_records_fit}
-use Rattle.deltas.proofs.Holding.{spelling-some}
+use Rattle.deltas.proofs.Holding.{chain-bodies, chain-numbers, chain_packed}
 use Rattle.disk.specs.Areas.{AreaState}
 use Rattle.layout.specs.Records.{old_bytes, IsOldRecord}
 use Rattle.layout.specs.Layouts.{IsAnchorChain}
@@ -111,76 +109,6 @@ none-left (e ∷ es) (suc written) is = ap (λ (l : List Extent). e ∷ l) (none
 pub all-filled : (a : StoredAnchors) (reserved : List ℕ) (written : ℕ) → map (λ (e : Extent). e.number) a.extents ≡ reserved → slice_get reserved written ≡ None → take written a.extents ≡ a.extents
 all-filled a reserved written named none = none-left a.extents written (subst (λ (ns : List ℕ). slice_get ns written ≡ None) (sym named) none)
 
--- ---- a chain of packed records
-
-length-chain : (ns : List ℕ) (bs : List (List ℕ)) → length bs ≡ length ns → length (chain_of ns bs) ≡ length ns
-length-chain [] bs len = refl
-length-chain (n ∷ ns) [] len = absurd (omega (arith, len))
-length-chain (n ∷ ns) (b ∷ bs) len = ap suc (length-chain ns bs (omega (arith, len)))
-
-first-chain : (ns : List ℕ) (bs : List (List ℕ)) → length bs ≡ length ns → first_of (chain_of ns bs) ≡ first_number ns
-first-chain [] bs len = refl
-first-chain (n ∷ ns) [] len = absurd (omega (arith, len))
-first-chain (n ∷ ns) (b ∷ bs) len = refl
-
-chain-bodies : (ns : List ℕ) (bs : List (List ℕ)) → length bs ≡ length ns → bodies_in (chain_of ns bs) ≡ bs
-chain-bodies [] [] len = refl
-chain-bodies [] (b ∷ bs) len = absurd (omega (arith, len))
-chain-bodies (n ∷ ns) [] len = absurd (omega (arith, len))
-chain-bodies (n ∷ ns) (b ∷ bs) len = ap (λ (l : List (List ℕ)). b ∷ l) (chain-bodies ns bs (omega (arith, len)))
-
-chain-numbers : (ns : List ℕ) (bs : List (List ℕ)) → length bs ≡ length ns → numbers_in (chain_of ns bs) ≡ ns
-chain-numbers [] bs len = refl
-chain-numbers (n ∷ ns) [] len = absurd (omega (arith, len))
-chain-numbers (n ∷ ns) (b ∷ bs) len = ap (λ (l : List ℕ). n ∷ l) (chain-numbers ns bs (omega (arith, len)))
-
-chain-linked : (ns : List ℕ) (bs : List (List ℕ)) → length bs ≡ length ns → AreLinked (chain_of ns bs)
-chain-linked [] bs len = tt
-chain-linked (n ∷ ns) [] len = tt
-chain-linked (n ∷ ns) (b ∷ bs) len = (sym (first-chain ns bs (omega (arith, len))), chain-linked ns bs (omega (arith, len)))
-
-abbrev AreSome : List (List ℕ) → Type 0
-AreSome bs = AllByRecursion (λ (b : List ℕ). 0 < length b) bs
-
-chain-extents : (ns : List ℕ) (bs : List (List ℕ)) → AllByRecursion IsNumber ns → FitEach bs → AreSome bs → AllByRecursion IsExtent (chain_of ns bs)
-chain-extents [] bs numbered fit some = tt
-chain-extents (n ∷ ns) [] numbered fit some = tt
-chain-extents (n ∷ ns) (b ∷ bs) numbered fit some =
-    let low = numbered.0.0 in
-    (record { low = omega (arith, low); high = numbered.0.1; some = some.0; fits = fit.0 }, chain-extents ns bs numbered.1 fit.1 some.1)
-
--- each body has a record
-some-from : (body : List ℕ) (pieces : List (List ℕ)) → 0 < length body → AreSome pieces → AreSome (bodies_from body pieces)
-some-from body [] some each = (some, tt)
-some-from body (piece ∷ pieces) some each = ⊎_elim
-    (λ (over : 8176 < length body + length piece).
-    let no : nat_le (length body + length piece) 8176 ≡ false = grind (arith, nat_tests) in
-    rw no (some, some-from piece pieces each.0 each.1))
-    (λ (room : length body + length piece ≤ 8176).
-    let yes : nat_le (length body + length piece) 8176 ≡ true = grind (arith, nat_tests) in
-    rw yes (some-from (body ++ piece) pieces (omega (arith, length-append body piece, some)) each.1))
-    (cases_lt 8176 (length body + length piece))
-
-some-packed : (pieces : List (List ℕ)) → AreSome pieces → AreSome (bodies pieces)
-some-packed [] each = tt
-some-packed (piece ∷ pieces) each = some-from piece pieces each.0 each.1
-
-records-some : (rs : List Record) → AreSome (map spelling rs)
-records-some [] = tt
-records-some (r ∷ rs) = (spelling-some r, records-some rs)
-
-chain-packed : (ns : List ℕ) (rs : List Record) → AllByRecursion IsNumber ns → length (bodies (map spelling rs)) ≡ length ns → AllByRecursion heap.IsRecord rs
-    → IsChain (first_number ns) (length ns) (length rs) (chain_of ns (bodies (map spelling rs))) (map spelling rs)
-chain-packed ns rs numbered len each =
-    let packed : List (List ℕ) = bodies (map spelling rs) in record {
-      first_is = first-chain ns packed len;
-      extents_are = length-chain ns packed len;
-      records_are = length-mapped spelling rs;
-      linked = chain-linked ns packed len;
-      each = chain-extents ns packed numbered (bodies_of_records_fit rs each) (some-packed (map spelling rs) (records-some rs));
-      bodies_are = chain-bodies ns packed len;
-    }
-
 -- ---- the chain of a reclaim that begins
 
 old-record : (r : OldRecord) → IsOldRecord r → heap.IsRecord (old_record_of r)
@@ -229,7 +157,7 @@ module _ (v : StoreValue) (numbers : List ℕ) (numbered : AllByRecursion IsNumb
   pub begun-chain : AllByRecursion IsOldRecord (anchors_of v.archived v.transactions.versions) → IsAnchorChain (begun v numbers).entry (begun v numbers).extents (begun v numbers).olds
   begun-chain each =
       let rs : List OldRecord = anchors_of v.archived v.transactions.versions in
-      let packed = chain-packed numbers (map old_record_of rs) numbered (sym many) (old-records rs each) in record {
+      let packed = chain_packed numbers (map old_record_of rs) numbered many (old-records rs each) in record {
         is_chain = subst (λ (l : List (List ℕ)). IsChain (first_number numbers) (length numbers) (length (map old_record_of rs)) (chain_of numbers (anchor_bodies v)) l) (old-bytes rs) packed;
         each = each;
       }

@@ -35,9 +35,10 @@ use Rattle.refinement.specs.OnDisk.{OfFloor, IsNextFloor, IsRested, Works}
 use Rattle.refinement.specs.Stands.{job_gate, raising_of, RaisesFloor, StandsBeside as Stands}
 use Rattle.refinement.proofs.Archiving.{lent-memory, lent-order}
 use Rattle.refinement.proofs.Memory.{last-is}
+use Rattle.refinement.proofs.Orders.{memory-beside}
 use Rattle.refinement.proofs.Pumping.{goes-on-working}
-use Rattle.refinement.proofs.Reclaiming.{least-is-low, none-reads-below}
-use Rattle.refinement.proofs.Working.{working, gate-beside}
+use Rattle.refinement.proofs.Reclaiming.{not-in-use, least-is-low, none-reads-below}
+use Rattle.refinement.proofs.Working.{none-there, working, gate-beside}
 
 -- ---- the refusals
 
@@ -50,18 +51,6 @@ record MayBegin (v : StoreValue) (scope : Option ℕ) (floor : ℕ) : Type 0 whe
   pub by_last : floor ≤ stores.last v
   pub unused : below (oldest v.transactions) floor ≡ None
   pub room : 0 < spare v.transactions
-
-none-there : {X : Type 0} (o : Option X) → is_some o ≡ false → o ≡ None
-none-there None nothing = refl
-none-there (Some x) nothing = absurd cc
-
-not-in-use : (v : StoreValue) (o : Option ℕ) → refusal_for_use v o ≡ None → (o ≡ None) × (0 < spare v.transactions)
-not-in-use v (Some snapshot) is = absurd cc
-not-in-use v None is =
-    elim (spare v.transactions == 0) as (λ (b : Bool). (spare v.transactions == 0) ≡ b → Path (Option StartFault) (cond b (Some fault.StatusFull) None) None → Path (Option ℕ) None None × (0 < spare v.transactions)) [
-      | true ↦ λ test no. absurd cc
-      | false ↦ λ test no. (refl, grind (arith, nat_tests))
-    ] refl is
 
 -- the tests in their order
 record Tests (v : StoreValue) (scope : Option ℕ) (floor : ℕ) (a w b c d : Bool) : Type 0 where
@@ -219,21 +208,7 @@ all-reached [] floor each = tt
 all-reached (s ∷ ss) floor each = (each s (Contains-head s ss s refl), all-reached ss floor (λ x there. each x (Contains-tail s ss x there)))
 
 started-memory : (v : TransactionsValue) (m : Machine Value) (r : Raising) → StandsInMemory v m → StandsInMemory v (floor_started m r)
-started-memory v m r stands = record {
-  names = stands.names;
-  rising = stands.rising;
-  published = stands.published;
-  versions = stands.versions;
-  forgot = stands.forgot;
-  recent = stands.recent;
-  queue = stands.queue;
-  fresh = stands.fresh;
-  group = stands.group;
-  staged = stands.staged;
-  snapshots = stands.snapshots;
-  floors = stands.floors;
-  failed = stands.failed;
-}
+started-memory v m r stands = memory-beside v v.pending v.usages v.reserved v.slots v.used m (Some r) m.gate stands
 
 -- the floor is of the store's profile
 of-relations : (profile : ℕ) (scope : Option ℕ) → is_wrong_profile profile scope ≡ false → IsRelation scope → IsRelationOf profile scope

@@ -31,6 +31,7 @@ use Rattle.refinement.specs.OnDisk.{IsImageOf}
 use Rattle.refinement.specs.Stands.{Stands, StandsStill, StandsGrowing, GrowsBeside, without_growth}
 use Rattle.refinement.proofs.Growing.{as-growing, by-kind, front-map, header-stays}
 use Rattle.refinement.proofs.GrowingCalls.{bars, busy-job, kept}
+use Rattle.refinement.proofs.Working.{none-there}
 
 -- ---- the piece that comes next
 
@@ -169,10 +170,6 @@ begun-grows tells v new m growth s works free next is =
     } in
     subst (λ (x : StoreValue). Stands tells x m) (sym is) (as-growing tells growth made m grows)
 
-not-busy : (o : Option Job) → is_some o ≡ false → o ≡ None
-not-busy None is = refl
-not-busy (Some job) is = absurd (let no : true ≡ false = is in cc)
-
 pub grow-start-stands : (tells : Bool) (old new : StoreValue) (answer : Result (Unit {0}) StartFault) (m : Machine Value) → Stands tells old m → StartsGrowth old answer new → Stands tells new m
 grow-start-stands tells old new answer m stands starts =
     by-kind tells old m (Stands tells new m) stands of-still
@@ -189,7 +186,7 @@ grow-start-stands tells old new answer m stands starts =
         → MatchOption (cond failed (Some start.Failed) (cond busy (Some start.JobBusy) None)) (BeginsPiece old (next_piece old.log) answer new) (λ why. (answer ≡ Err why) × (new ≡ old)) → Stands tells new m
     by-tests s true failed busy is said = same said.1
     by-tests s false works true is said = same said.1
-    by-tests s false works false is said = by-piece s works (not-busy old.job is) (next_piece old.log) refl said
+    by-tests s false works false is said = by-piece s works (none-there old.job is) (next_piece old.log) refl said
 
     of-still : StandsStill tells old m → Stands tells new m
     of-still s = by-tests s old.transactions.failed refl (is_some old.job) refl starts

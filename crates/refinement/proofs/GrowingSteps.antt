@@ -35,6 +35,7 @@ use Rattle.store.specs.Values.{StoreValue}
 use Rattle.refinement.specs.Standing.{StandsInMemory}
 use Rattle.refinement.specs.OnDisk.{IsAtStage, Works, group_of}
 use Rattle.refinement.specs.Stands.{without_growth}
+use Rattle.refinement.proofs.Orders.{memory-beside, order-beside}
 
 -- ---- a sync of the status area
 
@@ -110,35 +111,10 @@ module _ (header : Header) (layout : Layout) (areas : Areas) (a : AreaState) (ma
 -- ---- the transactions with more slots
 
 pub more-memory : (v : TransactionsValue) (m : Machine Value) (count : ℕ) → StandsInMemory v m → StandsInMemory (with_more_slots count v) m
-more-memory v m count stands = record {
-  names = stands.names;
-  rising = stands.rising;
-  published = stands.published;
-  versions = stands.versions;
-  forgot = stands.forgot;
-  recent = stands.recent;
-  queue = stands.queue;
-  fresh = stands.fresh;
-  group = stands.group;
-  staged = stands.staged;
-  snapshots = stands.snapshots;
-  floors = stands.floors;
-  failed = stands.failed;
-}
+more-memory v m count stands = memory-beside v v.pending v.usages v.reserved (v.slots + count) v.used m m.raising m.gate stands
 
 pub more-order : (v : TransactionsValue) (count : ℕ) → v.slots + count ≤ 65536 → IsInOrder v → IsInOrder (with_more_slots count v)
-more-order v count few order = record {
-  split = order.split;
-  pending = order.pending;
-  latest = order.latest;
-  group_within = order.group_within;
-  group_few = order.group_few;
-  stage_fits = order.stage_fits;
-  stored = order.stored;
-  out = order.out;
-  room = omega (arith, order.room);
-  slots_few = few;
-}
+more-order v count few order = order-beside v v.opened (v.slots + count) v.used v.floors v.failed (omega (arith, order.room)) few order
 
 -- ---- the disk with a piece more
 

@@ -98,6 +98,7 @@ use Rattle.refinement.proofs.HeapForgets.{heap-forgets}
 use Rattle.refinement.proofs.Joining as joining
 use Rattle.refinement.proofs.Joining.{MayOpenWithin, numbers-split}
 use Rattle.refinement.proofs.Publishing.{regated, breaks}
+use Rattle.refinement.proofs.Orders.{memory-beside, order-beside}
 use Rattle.refinement.proofs.Reclaimed.{prepares, reclaims}
 use Rattle.refinement.proofs.Retired.{reclaimed-kept, reclaimed-times, reclaimed-order, times-long}
 use Rattle.refinement.proofs.Jobs.{made-lends, floors_with, MayStand, IsFree, adds, laid-after, stands-after, built-after, product-leaves-within, product-leads}
@@ -1013,35 +1014,10 @@ module _ (v new : StoreValue) (m : Machine Value) (c : Working v m) (j : Job) (i
 -- ---- the transactions once a lent slot is used
 
 used-memory : (v : TransactionsValue) (m : Machine Value) → StandsInMemory v m → StandsInMemory (with_slot_used v) m
-used-memory v m stands = record {
-  names = stands.names;
-  rising = stands.rising;
-  published = stands.published;
-  versions = stands.versions;
-  forgot = stands.forgot;
-  recent = stands.recent;
-  queue = stands.queue;
-  fresh = stands.fresh;
-  group = stands.group;
-  staged = stands.staged;
-  snapshots = stands.snapshots;
-  floors = stands.floors;
-  failed = stands.failed;
-}
+used-memory v m stands = memory-beside v v.pending v.usages v.reserved (v.slots + 1) (v.used + 1) m m.raising m.gate stands
 
 used-order : (v : TransactionsValue) → v.slots < 65536 → IsInOrder v → IsInOrder (with_slot_used v)
-used-order v few order = record {
-  split = order.split;
-  pending = order.pending;
-  latest = order.latest;
-  group_within = order.group_within;
-  group_few = order.group_few;
-  stage_fits = order.stage_fits;
-  stored = order.stored;
-  out = order.out;
-  room = omega (arith, order.room);
-  slots_few = omega (arith, few);
-}
+used-order v few order = order-beside v v.opened (v.slots + 1) (v.used + 1) v.floors v.failed (omega (arith, order.room)) (omega (arith, few)) order
 
 -- ---- the floor is raised
 
@@ -1086,18 +1062,7 @@ raises-memory v m scope floor floors stands is up = record {
 }
 
 raised-order : (v : TransactionsValue) (floors : FloorsValue) → IsInOrder v → IsInOrder (with_floors v floors)
-raised-order v floors order = record {
-  split = order.split;
-  pending = order.pending;
-  latest = order.latest;
-  group_within = order.group_within;
-  group_few = order.group_few;
-  stage_fits = order.stage_fits;
-  stored = order.stored;
-  out = order.out;
-  room = order.room;
-  slots_few = order.slots_few;
-}
+raised-order v floors order = order-beside v v.opened v.slots v.used floors v.failed order.room order.slots_few order
 
 -- floors that are raised are of the store's profile
 of-profile-done : (v : StoreValue) (m : Machine Value) → RaisesFloor v m → (work : JobWork) → m.raising ≡ raising_by work → AreOfProfile v.log.profile (machine_done work m).floors

@@ -7,6 +7,7 @@ mod FloorStarts
 mod Forgetting
 pub mod Names
 pub mod Memory
+pub mod Orders
 pub mod Conflicts
 pub mod Deciding
 pub mod Submitting

@@ -12,10 +12,9 @@ use Rattle.wire.specs.declared.slot.Member.{Member as Entry}
 use Rattle.wire.specs.declared.slot.Body.TheVariants.{Commit as CommitBody}
 use Rattle.wire.specs.Spelling.{member_bytes, front_of, fields_of, spelling, IsMember, Rises, IsSpelled, u32_bytes, u64_bytes}
 use Rattle.deltas.specs.Packing.{bodies_from, bodies}
-use Rattle.deltas.specs.Chains.{IsNumber}
+use Rattle.deltas.specs.Chains.{IsNumber, first_number}
 use Rattle.layout.specs.Records.{record_bytes}
 use Rattle.group.specs.Queued.{QueuedValue, numbers_of}
-use Rattle.group.specs.Sealing.{first_number}
 use Rattle.chains.specs.KeyWrites.{KeyWrites}
 use Rattle.refinement.specs.Standing.{Waits, AllWait}
 use Rattle.refinement.specs.OnDisk.{values_in, packed, IsPacked, AllPacked, slot_for}

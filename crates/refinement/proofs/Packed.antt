@@ -1,7 +1,5 @@
 -- The commits that wait, stored in their extents over what comes before them.
-use Rattle.std.proofs.Common.{◌≡◌, ℕ, zero, suc, ◌+◌, ◌<◌, ◌≤◌, ◌^◌, nat_le, true, false, cond, List, [], ◌∷◌, ◌++◌, length, take, drop, map, Option, None, Some, refl, arith, ap, sym, subst, ◌∙◌, append_assoc, append-nil, length-append, ⊎_elim}
-use Rattle.std.proofs.lemmas.Bool.{cases_lt}
-use Rattle.std.proofs.lemmas.Bool.Decides.{nat_tests}
+use Rattle.std.proofs.Common.{◌≡◌, ℕ, zero, suc, ◌+◌, ◌<◌, ◌≤◌, ◌^◌, nat_le, true, cond, List, [], ◌∷◌, ◌++◌, length, take, drop, map, Option, None, Some, refl, arith, ap, sym, subst, ◌∙◌, append_assoc, append-nil}
 use Rattle.std.specs.Prelude.{unwrap_or, option_map}
 use Rattle.std.specs.List.{AllByRecursion, flat_map, cons_option}
 use Rattle.std.proofs.lemmas.List.{map-append}
@@ -23,18 +21,18 @@ use Rattle.image.specs.Plans.{stored_record, stored_member, stored_members}
 use Rattle.chains.specs.KeyWrites.{KeyWrites, IsOrdered, forgotten}
 use Rattle.chains.proofs.Versions.{writes_of-forgotten}
 use Rattle.chains.specs.KeyWrites as chains
-use Rattle.deltas.specs.Extents.{Extent, IsExtent, AreLinked, first_of}
+use Rattle.deltas.specs.Extents.{Extent}
 use Rattle.deltas.specs.Records.{spelling, record_of}
 use Rattle.deltas.specs.Records as heap
-use Rattle.deltas.specs.Packing.{bodies_from, bodies}
+use Rattle.deltas.specs.Packing.{bodies}
 use Rattle.deltas.specs.Chains.{IsNumber}
+use Rattle.deltas.proofs.Holding.{AreSome, length-chain, first-chain, chain-bodies, chain-numbers, chain-linked, chain-extents, some_packed, records-some}
 use Rattle.deltas.proofs.Images.{FitEach}
 use Rattle.deltas.proofs.Packed.{bodies_of_records_fit}
 use Rattle.wire.specs.declared.slot.Member.{Member as Entry}
 use Rattle.layout.specs.Records.{record_bytes, IsRecord}
 use Rattle.layout.specs.Layouts.{StoredMember, IsStoredMember, extents_of}
 use Rattle.group.specs.Queued.{QueuedValue, numbers_of}
-use Rattle.group.specs.Sealing.{chain_of, first_number}
 use Rattle.group.specs.declared.queued.StoredExtent.{StoredExtent}
 use Rattle.transactions.specs.Submits.{bodies_over}
 use Rattle.refinement.specs.Standing.{HasWrites, Waits, AllWait}
@@ -84,67 +82,7 @@ bodies-packed floors reclaimed versions h c ordered has rising reached =
     ap (λ (f : Key → Option Value). bodies (map spelling (map record_of (map (stored_record f) c.writes)))) (values-held floors reclaimed versions h ordered has rising reached)
     ∙ ap bodies (bytes-are (map (stored_record (values_in h)) c.writes))
 
--- ---- the chain of numbers and bodies
-
-length-chain : (ns : List ℕ) (bs : List (List ℕ)) → length bs ≡ length ns → length (chain_of ns bs) ≡ length ns
-length-chain [] bs len = refl
-length-chain (n ∷ ns) [] len = absurd (omega (arith, len))
-length-chain (n ∷ ns) (b ∷ bs) len = ap suc (length-chain ns bs (omega (arith, len)))
-
-first-chain : (ns : List ℕ) (bs : List (List ℕ)) → length bs ≡ length ns → first_of (chain_of ns bs) ≡ first_number ns
-first-chain [] bs len = refl
-first-chain (n ∷ ns) [] len = absurd (omega (arith, len))
-first-chain (n ∷ ns) (b ∷ bs) len = refl
-
-chain-bodies : (ns : List ℕ) (bs : List (List ℕ)) → length bs ≡ length ns → map (λ (e : Extent). e.body) (chain_of ns bs) ≡ bs
-chain-bodies [] [] len = refl
-chain-bodies [] (b ∷ bs) len = absurd (omega (arith, len))
-chain-bodies (n ∷ ns) [] len = absurd (omega (arith, len))
-chain-bodies (n ∷ ns) (b ∷ bs) len = ap (λ (l : List (List ℕ)). b ∷ l) (chain-bodies ns bs (omega (arith, len)))
-
-chain-linked : (ns : List ℕ) (bs : List (List ℕ)) → length bs ≡ length ns → AreLinked (chain_of ns bs)
-chain-linked [] bs len = tt
-chain-linked (n ∷ ns) [] len = tt
-chain-linked (n ∷ ns) (b ∷ bs) len = (sym (first-chain ns bs (omega (arith, len))), chain-linked ns bs (omega (arith, len)))
-
-abbrev AreSome : List (List ℕ) → Type 0
-AreSome bs = AllByRecursion (λ (b : List ℕ). 0 < length b) bs
-
-chain-extents : (ns : List ℕ) (bs : List (List ℕ)) → AllByRecursion IsNumber ns → FitEach bs → AreSome bs → AllByRecursion IsExtent (chain_of ns bs)
-chain-extents [] bs numbered fit some = tt
-chain-extents (n ∷ ns) [] numbered fit some = tt
-chain-extents (n ∷ ns) (b ∷ bs) numbered fit some =
-    let low = numbered.0.0 in
-    (record { low = omega (arith, low); high = numbered.0.1; some = some.0; fits = fit.0 }, chain-extents ns bs numbered.1 fit.1 some.1)
-
--- each body has a record
-some-from : (body : List ℕ) (pieces : List (List ℕ)) → 0 < length body → AreSome pieces → AreSome (bodies_from body pieces)
-some-from body [] some each = (some, tt)
-some-from body (piece ∷ pieces) some each = ⊎_elim
-    (λ (over : 8176 < length body + length piece).
-    let no : nat_le (length body + length piece) 8176 ≡ false = grind (arith, nat_tests) in
-    rw no (some, some-from piece pieces each.0 each.1))
-    (λ (room : length body + length piece ≤ 8176).
-    let yes : nat_le (length body + length piece) 8176 ≡ true = grind (arith, nat_tests) in
-    rw yes (some-from (body ++ piece) pieces (omega (arith, length-append body piece, some)) each.1))
-    (cases_lt 8176 (length body + length piece))
-
-some-packed : (pieces : List (List ℕ)) → AreSome pieces → AreSome (bodies pieces)
-some-packed [] each = tt
-some-packed (piece ∷ pieces) each = some-from piece pieces each.0 each.1
-
-spelling-some : (r : HeapRecord) → 0 < length (spelling (record_of r))
-unfolding spelling
-spelling-some r = omega arith
-
-records-some : (rs : List HeapRecord) → AreSome (map spelling (map record_of rs))
-records-some [] = tt
-records-some (r ∷ rs) = (spelling-some r, records-some rs)
-
-chain-numbers : (ns : List ℕ) (bs : List (List ℕ)) → length ns ≡ length bs → map (λ (e : Extent). e.number) (chain_of ns bs) ≡ ns
-chain-numbers [] bs len = refl
-chain-numbers (n ∷ ns) [] len = absurd (omega (arith, len))
-chain-numbers (n ∷ ns) (b ∷ bs) len = ap (λ (l : List ℕ). n ∷ l) (chain-numbers ns bs (omega (arith, len)))
+-- ---- how many there are
 
 pub length-numbers : (q : QueuedValue) → length (numbers_of q) ≡ length q.stored
 length-numbers q = go q.stored
@@ -174,7 +112,7 @@ member-stored reclaimed versions before q c waits is writes numbered =
     let len : length bs ≡ length ns = sym (length-numbers q ∙ is.many) in
     let same = bytes-are rs in
     let fit : FitEach bs = subst (λ (l : List (List ℕ)). FitEach (bodies l)) same (bodies_of_records_fit (map record_of rs) (each-spelled rs each)) in
-    let some : AreSome bs = subst (λ (l : List (List ℕ)). AreSome (bodies l)) same (some-packed (map spelling (map record_of rs)) (records-some rs)) in
+    let some : AreSome bs = subst (λ (l : List (List ℕ)). AreSome (bodies l)) same (some_packed (map spelling (map record_of rs)) (records-some (map record_of rs))) in
     let time = sym waits.time in
     let label = sym waits.label in
     record {
@@ -268,6 +206,6 @@ extents-numbered h (q ∷ qs) (c ∷ cs) all =
     let rest = members_of (h ++ c ∷ []) qs cs in
     ap (map (λ (e : Extent). e.number)) (flat_map-cons (λ (x : StoredMember). x.extents) s rest)
     ∙ map-append (λ (e : Extent). e.number) s.extents (extents_of rest)
-    ∙ ap (λ (l : List ℕ). l ++ map (λ (e : Extent). e.number) (extents_of rest)) (chain-numbers (numbers_of q) (packed h c) (length-numbers q ∙ (all.0).many))
+    ∙ ap (λ (l : List ℕ). l ++ map (λ (e : Extent). e.number) (extents_of rest)) (chain-numbers (numbers_of q) (packed h c) (sym (length-numbers q ∙ (all.0).many)))
     ∙ ap (λ (l : List ℕ). numbers_of q ++ l) (extents-numbered (h ++ c ∷ []) qs cs all.1)
     ∙ sym (flat_map-cons numbers_of q qs)

@@ -9,7 +9,7 @@ use Rattle.image.specs.Values.{Value}
 use Rattle.deltas.specs.Extents.{Extent, extent_bytes}
 use Rattle.layout.specs.Layouts.{StoredMember, extents_of}
 use Rattle.group.specs.Queued.{QueuedValue, numbers_of, stored_as}
-use Rattle.group.specs.Sealing.{chain_of, first_number}
+use Rattle.deltas.specs.Chains.{chain_of, first_number}
 use Rattle.group.specs.declared.queued.StoredExtent.{StoredExtent}
 use Rattle.transactions.specs.Steps.{extent_at, place_behind}
 use Rattle.transactions.specs.declared.stage.GroupStage.{GroupStage}

@@ -18,6 +18,7 @@ use Rattle.transactions.specs.declared.stage.GroupStage.TheVariants.{NoGroup, St
 use Rattle.refinement.specs.Standing.{name_of, HasWrites, HasForgotten, AllWait, IsStaged, StandsInMemory}
 use Rattle.refinement.specs.Laws.{begins_in}
 use Rattle.refinement.proofs.Held.{many-more}
+use Rattle.refinement.proofs.Orders.{memory-beside}
 use Rattle.refinement.proofs.Waiting.{ordered-behind, forgot-behind, fresh-waits, fresh-mark}
 use Rattle.refinement.proofs.Conflicts.{rising-front, rising-behind, behind-group}
 use Rattle.refinement.proofs.Packed.{as-many, wait-front}
@@ -64,21 +65,7 @@ restaged v m stage stands staged fresh = record {
 
 -- nor is where the gate is
 pub regated : (v : TransactionsValue) (m : Machine Value) (gate : Gate) → StandsInMemory v m → StandsInMemory v (steps.gated m gate)
-regated v m gate stands = record {
-  names = stands.names;
-  rising = stands.rising;
-  published = stands.published;
-  versions = stands.versions;
-  forgot = stands.forgot;
-  recent = stands.recent;
-  queue = stands.queue;
-  fresh = stands.fresh;
-  group = stands.group;
-  staged = stands.staged;
-  snapshots = stands.snapshots;
-  floors = stands.floors;
-  failed = stands.failed;
-}
+regated v m gate stands = memory-beside v v.pending v.usages v.reserved v.slots v.used m m.raising gate stands
 
 pub breaks : (v : TransactionsValue) (m : Machine Value) → StandsInMemory v m → StandsInMemory (groups.broken v) (steps.broken m)
 breaks v m stands = record {

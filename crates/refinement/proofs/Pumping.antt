@@ -85,6 +85,7 @@ use Rattle.std.specs.List.{AllByRecursion}
 use Rattle.refinement.specs.Stands.{StandsBeside as Stands, KeepsWork, KeepsJobOf, HasGate, gate_at, gate_for, gate_in, job_gate, gate_of, raising_by, raising_of, AreOfProfile, RaisesFloor}
 use Rattle.refinement.specs.Laws.{begins_in, breaks_in, ends_in}
 use Rattle.refinement.proofs.Conflicts.{rising-front, behind-group}
+use Rattle.refinement.proofs.Orders.{order-beside}
 use Rattle.refinement.proofs.Packed.{packed-rest, length-mapped}
 use Rattle.refinement.proofs.Retired.{reserved-out, published-times, chains-long}
 use Rattle.refinement.proofs.Places.{IsNext, next-is, behind-is, take-next, drop-next, none-left}
@@ -770,18 +771,7 @@ same-store v new transactions log turn keeps a b c =
     λ i. record { transactions = x i; log = y i; turn = z i; job = j i; archived = k i; runs_end = l i; archive = n i; disk = new.disk }
 
 pub broken-order : (v : TransactionsValue) → IsInOrder v → IsInOrder (groups.broken v)
-broken-order v order = record {
-  split = order.split;
-  pending = order.pending;
-  latest = order.latest;
-  group_within = order.group_within;
-  group_few = order.group_few;
-  stage_fits = order.stage_fits;
-  stored = order.stored;
-  out = order.out;
-  room = order.room;
-  slots_few = order.slots_few;
-}
+broken-order v order = order-beside v v.opened v.slots v.used v.floors true order.room order.slots_few order
 
 -- a machine that has failed is one
 pub broken-machine : (m : Machine Value) (gate : Gate) → IsMachine IsValue m → IsMachine IsValue (steps.broken (steps.gated m gate))

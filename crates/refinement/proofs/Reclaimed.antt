@@ -14,25 +14,12 @@ use Rattle.refinement.proofs.Waiting.{AreRising, forgotten-forgets, raised-waits
 use Rattle.refinement.proofs.Forgetting.{forgets}
 use Rattle.refinement.proofs.Names.{rising-named}
 use Rattle.refinement.proofs.Conflicts.{rising-behind}
+use Rattle.refinement.proofs.Orders.{memory-beside}
 use Rattle.refinement.proofs.Memory.{published-rises}
 
 -- the versions without what ended by a mark are made beside them
 pub prepares : (v : TransactionsValue) (m : Machine Value) (mark : ℕ) → StandsInMemory v m → StandsInMemory (prepared v mark) m
-prepares v m mark stands = record {
-  names = stands.names;
-  rising = stands.rising;
-  published = stands.published;
-  versions = stands.versions;
-  forgot = stands.forgot;
-  recent = stands.recent;
-  queue = stands.queue;
-  fresh = stands.fresh;
-  group = stands.group;
-  staged = stands.staged;
-  snapshots = stands.snapshots;
-  floors = stands.floors;
-  failed = stands.failed;
-}
+prepares v m mark stands = memory-beside v (Some (forgotten mark v.versions)) v.usages v.reserved v.slots v.used m m.raising m.gate stands
 
 -- the reclaim is done: what ended by the mark is forgotten
 pub reclaims : (v : TransactionsValue) (m : Machine Value) (mark : ℕ) → StandsInMemory v m → v.pending ≡ Some (forgotten mark v.versions) → v.reclaimed ≤ mark → mark ≤ last m.published

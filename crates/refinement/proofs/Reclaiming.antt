@@ -1,5 +1,5 @@
 -- A reclaim begins: its chain of anchors is the plan of a reclaim that may come next.
-use Rattle.std.proofs.Common.{◌≡◌, ◌≢◌, ℕ, ◌<◌, ◌≤◌, ◌^◌, ◌==◌, nat_lt, Bool, true, false, cond, List, [], ◌∷◌, length, Option, None, Some, is_some, ◌||◌, Result, Ok, Err, MatchOption, refl, arith, ap, sym, subst, ◌∙◌, ⊎_elim}
+use Rattle.std.proofs.Common.{◌≡◌, ◌≢◌, ℕ, ◌-◌, ◌<◌, ◌≤◌, ◌^◌, ◌==◌, nat_lt, Bool, true, false, cond, List, [], ◌∷◌, length, Option, None, Some, is_some, ◌||◌, Result, Ok, Err, MatchOption, refl, arith, ap, sym, subst, ◌∙◌, ⊎_elim}
 use Rattle.std.specs.Prelude.{Contains}
 use Rattle.std.specs.List.{AllByRecursion}
 use Rattle.std.proofs.lemmas.Bool.{cases_lt}
@@ -39,7 +39,8 @@ use Rattle.refinement.specs.Standing.{StandsInMemory, Reclaims, snapshots_of}
 use Rattle.refinement.specs.OnDisk.{OfAnchors, IsNextChain, IsRested, Works}
 use Rattle.refinement.specs.Stands.{HasMarks, job_gate, raising_of, StandsBeside as Stands}
 use Rattle.refinement.proofs.Pumping.{raises-so}
-use Rattle.refinement.proofs.Working.{gate-beside}
+use Rattle.refinement.proofs.Working.{none-there, gate-beside}
+use Rattle.refinement.proofs.Orders.{memory-beside, order-beside}
 use Rattle.refinement.proofs.Retired.{reserved-live}
 use Rattle.refinement.proofs.Chains.{begun, begun-named, begun-filling, begun-chain, begun-range}
 use Rattle.refinement.proofs.Ranges.{IsInRange, each-chain, all-rising, facts-in-range, anchors-in-range}
@@ -53,11 +54,7 @@ pub record MayReclaim (v : StoreValue) : Type 0 where
   pub none_below : below (oldest v.transactions) v.archived ≡ None
   pub room : 0 < spare v.transactions
 
-none-there : {X : Type 0} (o : Option X) → is_some o ≡ false → o ≡ None
-none-there None nothing = refl
-none-there (Some x) nothing = absurd cc
-
-not-in-use : (v : StoreValue) (o : Option ℕ) → refusal_for_use v o ≡ None → (o ≡ None) × (0 < spare v.transactions)
+pub not-in-use : (v : StoreValue) (o : Option ℕ) → refusal_for_use v o ≡ None → (o ≡ None) × (0 < spare v.transactions)
 not-in-use v (Some snapshot) is = absurd cc
 not-in-use v None is =
     elim (spare v.transactions == 0) as (λ (b : Bool). (spare v.transactions == 0) ≡ b → Path (Option StartFault) (cond b (Some fault.StatusFull) None) None → Path (Option ℕ) None None × (0 < spare v.transactions)) [
@@ -140,36 +137,11 @@ few-anchors v none fits = ⊎_elim
 -- ---- the reclaim begins
 
 begun-memory : (v : TransactionsValue) (numbers : List ℕ) (m : Machine Value) → StandsInMemory v m → StandsInMemory (with_slot_lent (with_reserved v numbers)) m
-begun-memory v numbers m stands = record {
-  names = stands.names;
-  rising = stands.rising;
-  published = stands.published;
-  versions = stands.versions;
-  forgot = stands.forgot;
-  recent = stands.recent;
-  queue = stands.queue;
-  fresh = stands.fresh;
-  group = stands.group;
-  staged = stands.staged;
-  snapshots = stands.snapshots;
-  floors = stands.floors;
-  failed = stands.failed;
-}
+begun-memory v numbers m stands = memory-beside v v.pending (with_reserved v numbers).usages numbers (v.slots - 1) v.used m m.raising m.gate stands
 
 pub begun-order : (v : TransactionsValue) (numbers : List ℕ) → 0 < spare v → AreLeastFree v.usages numbers → IsInOrder v → IsInOrder (with_slot_lent (with_reserved v numbers))
 begun-order v numbers room least order =
-    let reserved = keeps-reserved v numbers order least in record {
-      split = reserved.split;
-      pending = reserved.pending;
-      latest = reserved.latest;
-      group_within = reserved.group_within;
-      group_few = reserved.group_few;
-      stage_fits = reserved.stage_fits;
-      stored = reserved.stored;
-      out = reserved.out;
-      room = omega (arith, order.room, room);
-      slots_few = omega (arith, order.slots_few);
-    }
+    order-beside (with_reserved v numbers) v.opened (v.slots - 1) v.used v.floors v.failed (omega (arith, order.room, room)) (omega (arith, order.slots_few)) (keeps-reserved v numbers order least)
 
 module _ (header : Header) (v : StoreValue) (m : Machine Value) (memory : StandsInMemory v.transactions m) (order : IsInOrder v.transactions) (marks : HasMarks v m) (w : Works header v m)
     (none : reclaim_refusal v ≡ None) (numbers : List ℕ) (least : AreLeastFree v.transactions.usages numbers) (many : length numbers ≡ length (anchor_bodies v)) (fits : length (anchor_bodies v) ≤ free_count v.transactions) where

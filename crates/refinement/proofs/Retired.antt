@@ -22,7 +22,7 @@ use Rattle.layout.specs.Jobs.{reclaimed}
 use Rattle.layout.specs.Turn.{laid_out}
 use Rattle.layout.proofs.Lists.{weaker, three, all_of_front, all_of_back}
 use Rattle.group.specs.Queued.{QueuedValue, numbers_of}
-use Rattle.group.specs.Sealing.{chain_of}
+use Rattle.deltas.specs.Chains.{chain_of}
 use Rattle.group.specs.Taking.{AreLeastFree}
 use Rattle.transactions.specs.Values.{TransactionsValue}
 use Rattle.transactions.specs.Order.{IsInOrder}

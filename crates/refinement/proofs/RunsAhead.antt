@@ -1,26 +1,21 @@
 -- What stands of the run that a job makes.
-use Rattle.std.proofs.Common.{◌≡◌, ℕ, ◌<◌, ◌≤◌, ◌&&◌, max, List, [], ◌∷◌, ◌++◌, length, filter, Option, Some, arith, ap, sym, subst, ◌∙◌}
+use Rattle.std.proofs.Common.{◌≡◌, ℕ, ◌<◌, ◌≤◌, max, List, [], ◌∷◌, ◌++◌, length, filter, Option, Some, arith, ap, sym, subst, ◌∙◌}
 use Rattle.std.specs.List.{AllByRecursion}
-use Rattle.std.proofs.lemmas.Bool.Decides.{nat_tests}
-use Rattle.std.proofs.lemmas.List.Elements.{filter-append}
 use Rattle.disk.specs.Parts.{HoldsPart}
 use Rattle.disk.specs.declared.area.Area.TheVariants as areas
 use Rattle.disk.proofs.Parts.{read_part}
 use Rattle.history.specs.declared.key.Key.{Key}
-use Rattle.history.specs.declared.time.Version.{Version}
-use Rattle.history.specs.Versions.{ends_after, ends_by, FollowOneAnotherFrom}
+use Rattle.history.specs.Versions.{ends_after, ends_by}
 use Rattle.history.specs.Histories.{last, versions_of, writes_of}
 use Rattle.history.specs.Machine.{Machine}
-use Rattle.history.proofs.Appending.{ends_by-then-after}
-use Rattle.history.proofs.Filters.{filter-filter, filter-swap, filter-both}
 use Rattle.history.proofs.Histories.{writes_of-rising}
 use Rattle.history.proofs.Values.{versions-apart}
-use Rattle.history.proofs.Views.{filter-later}
 use Rattle.image.specs.Values.{Value}
 use Rattle.image.specs.Reading.{ArchiveRecord}
 use Rattle.image.specs.Log.{floor_of}
 use Rattle.image.specs.Facts.{run_versions, heap_versions}
 use Rattle.image.specs.StandsFor.{IsRun, IsArchived, archived_upto, reclaimed_upto}
+use Rattle.image.proofs.ArchiveStep.{joined}
 use Rattle.image.proofs.Standing.{rises}
 use Rattle.wire.specs.declared.slot.Run.{Run}
 use Rattle.archive.specs.Pieces.{InWriting}
@@ -41,31 +36,6 @@ use Rattle.refinement.specs.OnDisk.{Product, OfRun, OfAnchors, OfFloor, IsNextRu
 use Rattle.refinement.proofs.Archiving.{run-same}
 
 -- ---- what a plan adds
-
-after-both : (a b : ℕ) (v : Version Value) → ends_after (max a b) v ≡ (ends_after a v && ends_after b v)
-after-both a b v = grind (arith, nat_tests)
-
-filter-by : (early late : ℕ) (vs : List (Version Value)) → early ≤ late → filter (ends_by early) (filter (ends_by late) vs) ≡ filter (ends_by early) vs
-filter-by early late vs le = filter-filter (ends_by early) (ends_by late) vs (λ v is. grind (arith, nat_tests))
-
--- of the versions of a history, those that ended by a mark, and behind them those of a plan, are those that ended by the plan's mark
-joined : (f r a upto s : ℕ) (hv vs : List (Version Value)) → r ≤ a → a ≤ upto → FollowOneAnotherFrom s vs → filter (ends_after f) hv ≡ filter (ends_after f) (filter (ends_after r) vs)
-    → filter (ends_after f) (filter (ends_by a) vs) ++ filter (ends_after f) (filter (ends_by upto) (filter (ends_after (max a f)) hv)) ≡ filter (ends_after f) (filter (ends_by upto) vs)
-joined f r a upto s hv vs ra au apart same =
-    let plan : filter (ends_after f) (filter (ends_by upto) (filter (ends_after (max a f)) hv)) ≡ filter (ends_after f) (filter (ends_by upto) (filter (ends_after a) vs)) =
-    ap (λ l. filter (ends_after f) (filter (ends_by upto) l)) (
-    filter-both (ends_after (max a f)) (ends_after a) (ends_after f) hv (λ v. after-both a f v)
-    ∙ ap (filter (ends_after a)) same
-    ∙ filter-swap (ends_after a) (ends_after f) (filter (ends_after r) vs)
-    ∙ ap (filter (ends_after f)) (filter-later r a vs ra))
-    ∙ ap (filter (ends_after f)) (filter-swap (ends_by upto) (ends_after f) (filter (ends_after a) vs))
-    ∙ filter-filter (ends_after f) (ends_after f) (filter (ends_by upto) (filter (ends_after a) vs)) (λ v e. e) in
-    let old : filter (ends_by a) vs ≡ filter (ends_by upto) (filter (ends_by a) vs) = sym (filter-swap (ends_by upto) (ends_by a) vs ∙ filter-by a upto vs au) in
-    ap (λ l. filter (ends_after f) (filter (ends_by a) vs) ++ l) plan
-    ∙ ap (λ l. filter (ends_after f) l ++ filter (ends_after f) (filter (ends_by upto) (filter (ends_after a) vs))) old
-    ∙ sym (filter-append (ends_after f) (filter (ends_by upto) (filter (ends_by a) vs)) (filter (ends_by upto) (filter (ends_after a) vs)))
-    ∙ ap (filter (ends_after f)) (sym (filter-append (ends_by upto) (filter (ends_by a) vs) (filter (ends_after a) vs)))
-    ∙ ap (λ l. filter (ends_after f) (filter (ends_by upto) l)) (ends_by-then-after s a vs apart)
 
 -- ---- a run whose slot is in the writing
 

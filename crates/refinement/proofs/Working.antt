@@ -1,5 +1,5 @@
 -- A store that works: what is said of it in memory and of its disk, in one place.
-use Rattle.std.proofs.Common.{◌≡◌, ℕ, ◌<◌, ◌≤◌, false, IsTrue, Bool, length, Option, None, Some, refl, arith, sym, ◌∙◌}
+use Rattle.std.proofs.Common.{◌≡◌, ℕ, ◌<◌, ◌≤◌, false, IsTrue, Bool, length, Option, None, Some, is_some, refl, arith, sym, ◌∙◌}
 use Rattle.history.specs.Machine.{Machine, Shut, IsMachine}
 use Rattle.image.specs.Values.{Value, IsValue}
 use Rattle.status.specs.declared.header.Header.{Header}
@@ -18,6 +18,10 @@ use Rattle.store.specs.declared.job.JobStage.TheVariants as job
 use Rattle.refinement.specs.Standing.{StandsInMemory}
 use Rattle.refinement.specs.OnDisk.{Works, group_of}
 use Rattle.refinement.specs.Stands.{StandsBeside, gate_in, job_gate, gate_of, HasGate, RaisesFloor, HasMarks, KeepsJobIn}
+
+pub none-there : {X : Type 0} (o : Option X) → is_some o ≡ false → o ≡ None
+none-there None nothing = refl
+none-there (Some x) nothing = absurd cc
 
 -- what is said of a store in memory
 pub record Inside (v : StoreValue) (m : Machine Value) : Type 0 where

@@ -42,7 +42,7 @@ use Rattle.layout.specs.Opening.{AreBuilt}
 use Rattle.layout.specs.SlotTurns.{IsTurnAt}
 use Rattle.layout.specs.Turn.{Group, laid_out, IsStoring}
 use Rattle.group.specs.Queued.{QueuedValue, numbers_of, stored_as}
-use Rattle.group.specs.Sealing.{chain_of, first_number}
+use Rattle.deltas.specs.Chains.{chain_of, first_number}
 use Rattle.transactions.specs.Values.{TransactionsValue}
 use Rattle.transactions.specs.declared.stage.GroupStage.{GroupStage}
 use Rattle.transactions.specs.declared.stage.GroupStage.TheVariants.{NoGroup, Storing, Stored, Turning}

@@ -1,18 +1,16 @@
 -- What a view answers from memory alone is what the history of its moment says.
-use Rattle.std.proofs.Common.{◌≡◌, ℕ, ◌+◌, ◌^◌, ◌<◌, ◌≤◌, min, nat_lt, nat_le, true, false, Bor, List, [], Option, Some, None, Result, Ok, Err, Vec, MatchResult, refl, arith, ap, sym, subst, ◌∙◌}
+use Rattle.std.proofs.Common.{◌≡◌, ℕ, ◌<◌, ◌≤◌, nat_lt, true, false, Bor, List, Option, Some, None, Result, Ok, Err, Vec, MatchResult, refl, arith, ap, sym, subst, ◌∙◌}
 use Rattle.std.specs.declared.alloc.Global.{Global}
 use Rattle.std.specs.Option.{option_copied}
 use Rattle.std.proofs.lemmas.Bool.Decides.{nat_tests}
 use Rattle.history.specs.declared.key.Key.{Key}
 use Rattle.history.specs.declared.time.Version.{Version}
-use Rattle.history.specs.Key.{key_of}
 use Rattle.history.specs.Time.{value_at}
-use Rattle.history.specs.Queries.{IsScanAt, IsScanBetween, IsScanOfRows}
-use Rattle.history.specs.Histories.{History, HasRisingTimes, last, state, between}
+use Rattle.history.specs.Queries.{IsScanAt, IsScanBetween}
+use Rattle.history.specs.Histories.{History, last, state, between}
 use Rattle.history.specs.Answers as answers
 use Rattle.history.specs.Machine.{Machine}
-use Rattle.history.proofs.Histories.{rising-from_following, last_after-range}
-use Rattle.image.specs.Values.{Value, IsValue}
+use Rattle.image.specs.Values.{Value}
 use Rattle.chains.specs.KeyWrites.{writes_of}
 use Rattle.chains.specs.Rows.{rows_in, scanned_rows}
 use Rattle.chains.specs.Scans.{scanned}
@@ -26,64 +24,14 @@ use Rattle.timequery.specs.declared.fault.QueryFault.{QueryFault}
 use Rattle.timequery.specs.declared.fault.QueryFault.TheVariants as query
 use Rattle.refinement.specs.Homes.{ViewStands}
 use Rattle.refinement.specs.Views.{SaysRecent}
-use Rattle.refinement.proofs.Held.{state-held, rows-held}
-use Rattle.refinement.proofs.Queries.{recent-answered}
+use Rattle.refinement.proofs.Queries.{scan-there, rows-there, scan-same, rows-same, scan_rows-same, time-kept, interval-before, interval-late, interval-empty, rows-kept, recent-answered}
 use Rattle.shared.specs.Archives.{ArchiveSeen}
 use Rattle.shared.specs.Moments.{ViewMoment, OfSeen, answer_copied}
 use Rattle.shared.specs.Recent.{Recalls, RecallsScan, RecallsBetween, RecallsWalk, RecallsScanBetween}
 use Rattle.shared.specs.Seen.{Seen}
 use Rattle.shared.specs.Shared.{Shows}
 
--- ---- what the history answers
-
-scan-there : (h : History Value) (relation time : ℕ) → (found : List (ℕ × Value)) × IsScanAt h relation time found
-scan-there h relation time = scan-made (state h time) relation (numbers_of h) (λ number value is. state-written h time (key_of relation number) value is)
-
-rows-there : (h : History Value) (relation a b : ℕ) → (found : List (ℕ × Version Value)) × IsScanBetween h relation a b found
-rows-there h relation a b = scan_of_rows-made (λ key. between h key a b) relation (numbers_of h) (λ number some. between-written h (key_of relation number) a b some)
-
--- ---- what memory has from the reclaim mark on is the history's
-
-rises : (view : ViewValue) (h : History Value) (floors : ℕ → ℕ) → ViewStands view h floors → HasRisingTimes 0 h
-rises view h floors stands = rising-from_following IsValue [] h stands.history
-
-scan-same : (view : ViewValue) (h : History Value) (floors : ℕ → ℕ) (relation time : ℕ) → ViewStands view h floors → floor_at view.floors relation ≤ time → time ≤ view.last → view.reclaimed ≤ time → IsScanAt h relation time (scanned relation time view.state)
-scan-same view h floors relation time stands from upto recent =
-    let is = scan_is view.state relation time stands.memory.ordered in
-    let up = rises view h floors stands in
-    let range : last h < 2 ^ 63 = last_after-range 0 h (omega arith) up in
-    let floor = stands.floor_is relation in
-    let newest = stands.last_is in
-    record {
-      rising = is.rising;
-      each = λ number value.
-          let same : value_at (writes_of view.state (key_of relation number)) time ≡ state h time (key_of relation number) = state-held stands.memory up (key_of relation number) time (omega arith) recent (omega arith) in
-          ((λ there. sym same ∙ (is.each number value).0 there), (λ says. (is.each number value).1 (same ∙ says)));
-    }
-
-rows-same : (view : ViewValue) (h : History Value) (floors : ℕ → ℕ) (key : Key) (a b : ℕ) → ViewStands view h floors → floor_at view.floors key.relation ≤ a → view.reclaimed ≤ a → rows_in view.state a b key ≡ between h key a b
-rows-same view h floors key a b stands from recent = let floor = stands.floor_is key.relation in rows-held stands.memory (rises view h floors stands) key a b (omega arith) recent
-
-scan_rows-same : (view : ViewValue) (h : History Value) (floors : ℕ → ℕ) (relation a b : ℕ) → ViewStands view h floors → floor_at view.floors relation ≤ a → view.reclaimed ≤ a → IsScanBetween h relation a b (scanned_rows relation a b view.state)
-scan_rows-same view h floors relation a b stands from recent =
-    let found = scanned_rows relation a b view.state in
-    let scan = scan_of_rows view.state relation a b stands.memory.ordered in
-    let held : Key → List (Version Value) = λ key. rows_in view.state a b (key_of relation key.record) in
-    let written : Key → List (Version Value) = λ key. between h (key_of relation key.record) a b in
-    let same : Path (Key → List (Version Value)) held written = λ i key. rows-same view h floors (key_of relation key.record) a b stands from recent i in
-    let own : IsScanOfRows held relation found = record { numbers = scan.numbers; rising = scan.rising; each = scan.each; found_is = scan.found_is } in
-    let shown = subst (λ (of : Key → List (Version Value)). IsScanOfRows of relation found) same own in
-    record { numbers = shown.numbers; rising = shown.rising; each = shown.each; found_is = shown.found_is }
-
 -- ---- what is refused is what the history refuses
-
-time-kept : (view : ViewValue) (h : History Value) (floors : ℕ → ℕ) (relation time : ℕ) → ViewStands view h floors → floor_at view.floors relation ≤ time → time ≤ view.last → answers.time_refusal (last h) (floors relation) time ≡ None
-time-kept view h floors relation time stands from upto =
-    let floor = stands.floor_is relation in
-    let last_is = stands.last_is in
-    let low : nat_lt time (floors relation) ≡ false = let above : floors relation ≤ time = omega arith in grind (arith, nat_tests) in
-    let high : nat_lt (last h) time ≡ false = let below : time ≤ last h = omega arith in grind (arith, nat_tests) in
-    rw (low, high) refl
 
 time-refused : {T X : Type 0} (held : T → X) (Found : X → Type 0) (view : ViewValue) (h : History Value) (floors : ℕ → ℕ) (relation time : ℕ) (fault : QueryFault) → ViewStands view h floors → (found : X) × Found found
     → RefusesRecentScan view relation time fault → Recalls view time held (answers.IsScanAnswer (answers.time_refusal (last h) (floors relation) time) Found) (Err fault)
@@ -105,38 +53,6 @@ time-refused held Found view h floors relation time query.Device stands some say
 time-refused held Found view h floors relation time (query.Damaged start) stands some says = absurd says
 time-refused held Found view h floors relation time query.EmptyInterval stands some says = absurd says
 time-refused held Found view h floors relation time query.Stranger stands some says = absurd says
-
-interval-kept : (newest floor a b : ℕ) → floor ≤ min a b → b ≤ newest + 1 → a < b → answers.interval_refusal newest floor a b ≡ None
-interval-kept newest floor a b from upto some =
-    let low : nat_lt (min a b) floor ≡ false = grind (arith, nat_tests) in
-    let high : nat_lt (newest + 1) b ≡ false = grind (arith, nat_tests) in
-    let full : nat_le b a ≡ false = grind (arith, nat_tests) in
-    rw (low, high, full) refl
-
-interval-before : (newest floor a b : ℕ) → min a b < floor → answers.interval_refusal newest floor a b ≡ Some (answers.BeforeKept floor)
-interval-before newest floor a b before =
-    let low : nat_lt (min a b) floor ≡ true = grind (arith, nat_tests) in
-    rw low refl
-
-interval-late : (newest floor a b : ℕ) → floor ≤ min a b → newest + 1 < b → answers.interval_refusal newest floor a b ≡ Some (answers.NotYet newest)
-interval-late newest floor a b from late =
-    let low : nat_lt (min a b) floor ≡ false = grind (arith, nat_tests) in
-    let high : nat_lt (newest + 1) b ≡ true = grind (arith, nat_tests) in
-    rw (low, high) refl
-
-interval-empty : (newest floor a b : ℕ) → floor ≤ min a b → b ≤ newest + 1 → b ≤ a → answers.interval_refusal newest floor a b ≡ Some answers.EmptyInterval
-interval-empty newest floor a b from upto none =
-    let low : nat_lt (min a b) floor ≡ false = grind (arith, nat_tests) in
-    let high : nat_lt (newest + 1) b ≡ false = grind (arith, nat_tests) in
-    let full : nat_le b a ≡ true = grind (arith, nat_tests) in
-    rw (low, high, full) refl
-
--- the same of a view's bounds
-rows-kept : (view : ViewValue) (h : History Value) (floors : ℕ → ℕ) (relation a b : ℕ) → ViewStands view h floors → floor_at view.floors relation ≤ min a b → b ≤ view.last + 1 → a < b → answers.interval_refusal (last h) (floors relation) a b ≡ None
-rows-kept view h floors relation a b stands from upto some =
-    let floor = stands.floor_is relation in
-    let last_is = stands.last_is in
-    interval-kept (last h) (floors relation) a b (omega arith) (omega arith) some
 
 rows-refused : {T X : Type 0} (held : T → X) (Is : Result X answers.QueryRefusal → Type 0) (view : ViewValue) (h : History Value) (floors : ℕ → ℕ) (relation a b : ℕ) (fault : QueryFault) → ViewStands view h floors
     → ((why : answers.QueryRefusal) → answers.interval_refusal (last h) (floors relation) a b ≡ Some why → Is (Err why)) → (answers.interval_refusal (last h) (floors relation) a b ≡ None → (found : X) × Is (Ok found)) → RefusesRecentRows view relation a b fault → Recalls view a held Is (Err fault)

@@ -16,7 +16,7 @@ use Rattle.extents.specs.declared.usage.Usage.TheVariants.{Out}
 use Rattle.extents.specs.Usages.{AreOut, with_usages}
 use Rattle.group.specs.CommitOrder.{last_time}
 use Rattle.group.specs.Queued.{QueuedValue, numbers_of, stored_as}
-use Rattle.group.specs.Sealing.{chain_of, first_number}
+use Rattle.deltas.specs.Chains.{chain_of, first_number}
 use Rattle.group.specs.declared.queued.StoredExtent.{StoredExtent}
 use Rattle.group.specs.Taking.{AreLeastFree}
 use Rattle.group.proofs.Sealed.{length-sealed}

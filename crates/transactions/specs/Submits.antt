@@ -17,7 +17,7 @@ use Rattle.extents.specs.Usages.{used_count, with_usages}
 use Rattle.snapshot.specs.Txn.{TxnValue}
 use Rattle.group.specs.CommitOrder as orders
 use Rattle.group.specs.Queued.{QueuedValue, stored_as}
-use Rattle.group.specs.Sealing.{chain_of, first_number}
+use Rattle.deltas.specs.Chains.{chain_of, first_number}
 use Rattle.group.specs.Taking.{AreLeastFree}
 use Rattle.group.specs.declared.queued.StoredExtent.{StoredExtent}
 use Rattle.group.specs.declared.answers.Submitted.{Submitted}

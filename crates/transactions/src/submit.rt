@@ -5,7 +5,7 @@ ghost use Rattle.std.specs.List.Sorted.{IsStrictlySortedBy};
 ghost use Rattle.history.specs.Key.{key_cmp};
 ghost use Rattle.group.specs.CommitOrder.{last_time};
 ghost use Rattle.extents.specs.Usages.{used_count};
-ghost use Rattle.group.specs.Sealing.{first_number};
+ghost use Rattle.deltas.specs.Chains.{first_number};
 ghost use Rattle.transactions.specs.Values.{is_of_value, spare, KeepsSlots};
 ghost use Rattle.transactions.specs.Submits.{Submits, verdict_on_writes, Queues, bodies_for, bodies_over, JoinsQueue, IsRefusalOf, IsStored};
 

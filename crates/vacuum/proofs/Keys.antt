@@ -8,21 +8,10 @@ use Rattle.history.specs.Time.{IsRisingAfter}
 use Rattle.chains.specs.declared.bound.Bound.{Bound}
 use Rattle.chains.specs.declared.bound.Bound.TheVariants.{From, After}
 use Rattle.chains.specs.Bounds.{is_in}
-use Rattle.chains.specs.KeyWrites.{KeyWrites, AllAbove, IsOrdered, AreRising}
-use Rattle.chains.proofs.Walks.{find-head, find-none-filter, filter-behind}
+use Rattle.chains.specs.KeyWrites.{KeyWrites, IsOrdered, AreRising}
+use Rattle.chains.proofs.Walks.{find-head, find-none-filter, find-above, filter-behind}
 use Rattle.chains.proofs.Scans.{head_is}
 use Rattle.vacuum.specs.Archives.{keys_within}
-
--- a chain found among later ones is later
-find-above : (p : KeyWrites → Bool) (k : Key) (m : List KeyWrites) (c : KeyWrites) → AllAbove k m → find p m ≡ Some c → key_lt k c.key ≡ true
-find-above p k [] c up e = absurd (cc)
-find-above p k (d ∷ ds) c up e =
-    let Goal : Bool → Type 0 = λ b. cond b (Some d) (find p ds) ≡ Some c → key_lt k c.key ≡ true in
-    let all : (b : Bool) → Goal b = λ b. elim b as Goal [
-      | true ↦ λ h. let same : d ≡ c = cc in subst (λ (x : KeyWrites). key_lt k x.key ≡ true) same up.0
-      | false ↦ λ h. find-above p k ds c up.1 h
-    ] in
-    all (p d) e
 
 pub keys-next : (bound : Bound) (m : List KeyWrites) (c : KeyWrites) → IsOrdered m → find (λ (c : KeyWrites). is_in bound c.key) m ≡ Some c
     → keys_within bound m ≡ c ∷ keys_within (After c.key) m

@@ -1,6 +1,6 @@
 use Rattle.std.proofs.Common.{◌≡◌, length, map, arith, ap, ◌∙◌}
 use Rattle.deltas.specs.Extents.{extent_bytes}
-use Rattle.group.specs.Sealing.{chain_of}
+use Rattle.deltas.specs.Chains.{chain_of}
 use Rattle.group.proofs.Sealed.{length-sealed}
 use Rattle.group.proofs.sealing.seal_all.Goals as goal
 

@@ -1,7 +1,7 @@
 use Rattle.std.proofs.Common.{◌≡◌, ◌++◌, length, map}
 use Rattle.std.specs.Vec.Iter.{into_iter_items}
 use Rattle.deltas.specs.Extents.{extent_bytes}
-use Rattle.group.specs.Sealing.{chain_of}
+use Rattle.deltas.specs.Chains.{chain_of}
 use Rattle.group.proofs.sealing.seal_images.Given as goal
 
 abbrev pub invariant-loop-numbers : goal.invariant-loop-numbers

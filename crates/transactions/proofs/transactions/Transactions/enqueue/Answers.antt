@@ -3,7 +3,7 @@ use Rattle.deltas.specs.Extents.{extent_bytes}
 use Rattle.chains.specs.KeyWrites.{KeyWrites, latest, with_commit}
 use Rattle.group.specs.CommitOrder.{last_time}
 use Rattle.group.specs.Queued.{QueuedValue, stored_as}
-use Rattle.group.specs.Sealing.{chain_of, first_number}
+use Rattle.deltas.specs.Chains.{chain_of, first_number}
 use Rattle.group.specs.declared.queued.StoredExtent.{StoredExtent}
 use Rattle.group.specs.declared.commit_order.CommitHead.{CommitHead}
 use Rattle.group.proofs.Sealed.{length-sealed}
