@@ -3,7 +3,7 @@ pub mod KeptWrites
 pub mod HeapForgets
 pub mod Held
 pub mod Waiting
-mod FloorStarts
+pub mod FloorStarts
 mod Forgetting
 pub mod Names
 pub mod Memory

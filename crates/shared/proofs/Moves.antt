@@ -53,6 +53,7 @@ use Rattle.refinement.specs.Homes.{GoesOn}
 use Rattle.refinement.specs.Laws.{submission_of, event_of, begins_in, ends_in, job_ends_in}
 use Rattle.refinement.specs.Stands.{Stands, raising_of}
 use Rattle.refinement.specs.Leaving.{Leaves, LeftBySubmit, LeftByRedeem, count_in}
+use Rattle.refinement.proofs.FloorStarts.{in-use}
 use Rattle.refinement.proofs.Leaving.{pump-leaves}
 use Rattle.refinement.proofs.JobLeaving.{start-leaves, reclaim-leaves, floor-leaves, grow-leaves, pumped-leaves}
 use Rattle.refinement.proofs.Told.{left-is, ticket-time, redeeming}
@@ -432,8 +433,8 @@ archive-begins tells start brand table old new shares at pass upto r h starts =
     )
 
 -- what the beginning of a reclaim answers
-reclaim-says : (old new : StoreValue) (m : Machine Value) (r : Result (Unit {0}) StartFault) → old.transactions.failed ≡ m.failed → StartsReclaim old r new → ReclaimSays m r
-reclaim-says old new m r same starts = by-tests old.transactions.failed refl (is_some old.job) (old.archived == old.transactions.reclaimed) (below (oldest old.transactions) old.archived) starts
+reclaim-says : (old new : StoreValue) (m : Machine Value) (r : Result (Unit {0}) StartFault) → StandsInMemory old.transactions m → StartsReclaim old r new → ReclaimSays m r
+reclaim-says old new m r stands starts = by-tests old.transactions.failed refl (is_some old.job) (old.archived == old.transactions.reclaimed) (below (oldest old.transactions) old.archived) refl starts
   where
     said : (x : Result (Unit {0}) StartFault) → r ≡ x → ReclaimSays m x → ReclaimSays m r
     said x is says = subst (λ (y : Result (Unit {0}) StartFault). ReclaimSays m y) (sym is) says
@@ -456,16 +457,16 @@ reclaim-says old new m r same starts = by-tests old.transactions.failed refl (is
     by-room works true is = said (Err fault.StatusFull) is.0 works
     by-room works false is = by-anchors works r is
 
-    by-use : m.failed ≡ false → (o : Option ℕ) → MatchOption (refusal_for_use old o) (BeginsReclaim old r new) (λ why. (r ≡ Err why) × (new ≡ old)) → ReclaimSays m r
-    by-use works (Some snapshot) is = said (Err (fault.InUse snapshot)) is.0 works
-    by-use works None is = by-room works (spare old.transactions == 0) is
+    by-use : m.failed ≡ false → (o : Option ℕ) → below (oldest old.transactions) old.archived ≡ o → MatchOption (refusal_for_use old o) (BeginsReclaim old r new) (λ why. (r ≡ Err why) × (new ≡ old)) → ReclaimSays m r
+    by-use works (Some snapshot) used is = said (Err (fault.InUse snapshot)) is.0 (works, (old.archived, in-use old.transactions.opened m.snapshots old.archived snapshot stands.snapshots used))
+    by-use works None used is = by-room works (spare old.transactions == 0) is
 
-    by-tests : (a : Bool) → old.transactions.failed ≡ a → (b c : Bool) (o : Option ℕ)
+    by-tests : (a : Bool) → old.transactions.failed ≡ a → (b c : Bool) (o : Option ℕ) → below (oldest old.transactions) old.archived ≡ o
         → MatchOption (cond a (Some fault.Failed) (cond b (Some fault.JobBusy) (cond c (Some fault.NothingToDo) (refusal_for_use old o)))) (BeginsReclaim old r new) (λ why. (r ≡ Err why) × (new ≡ old)) → ReclaimSays m r
-    by-tests true failed b c o is = said (Err fault.Failed) is.0 (sym same ∙ failed)
-    by-tests false works true c o is = said (Err fault.JobBusy) is.0 (sym same ∙ works)
-    by-tests false works false true o is = said (Err fault.NothingToDo) is.0 (sym same ∙ works)
-    by-tests false works false false o is = by-use (sym same ∙ works) o is
+    by-tests true failed b c o used is = said (Err fault.Failed) is.0 (sym stands.failed ∙ failed)
+    by-tests false works true c o used is = said (Err fault.JobBusy) is.0 (sym stands.failed ∙ works)
+    by-tests false works false true o used is = said (Err fault.NothingToDo) is.0 (sym stands.failed ∙ works)
+    by-tests false works false false o used is = by-use (sym stands.failed ∙ works) o used is
 
 -- a reclaim begins, or is refused
 pub reclaim-begins : (tells : Bool) (start : Machine Value) (brand : ℕ) (table : TableId) (old new : StoreValue) (shares : ℕ) (at : TableId) (pass : SightValue) (r : Result (Unit {0}) StartFault) → IsShared tells start brand table old shares at pass → StartsReclaim old r new
@@ -473,7 +474,7 @@ pub reclaim-begins : (tells : Bool) (start : Machine Value) (brand : ℕ) (table
 reclaim-begins tells start brand table old new shares at pass r h starts =
     let left = reclaim-leaves old new r starts in (
       quiet tells start brand table old new shares at pass h h.state (reclaim-start-stands tells old new r h.state h.stands starts) (reclaim-start-goes tells old new r h.state h.stands starts) h.reached refl left.mark left.heads,
-      (h.state, h.reached, reclaim-says old new h.state r h.stands.memory.failed starts),
+      (h.state, h.reached, reclaim-says old new h.state r h.stands.memory starts),
     )
 
 -- a floor begins, or is refused

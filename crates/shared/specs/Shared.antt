@@ -215,13 +215,13 @@ ArchiveSays m upto (Err start_fault.NotGrowable) = ⊥
 abbrev pub ArchiveHappens : Machine Value → ℕ → Result (Unit {0}) StartFault → Type 0
 ArchiveHappens start upto result = (m : Machine Value) × Reached start m × ArchiveSays m upto result
 
--- a reclaim begins where the store works; or it has failed, another job runs, nothing was archived since the last one, a transaction reads what would go, the log has no slot for it, or its anchors find no extents or no memory
+-- a reclaim begins where the store works; or it has failed, another job runs, nothing was archived since the last one, a transaction reads what would go, the first of whose snapshots is told, the log has no slot for it, or its anchors find no extents or no memory
 abbrev pub ReclaimSays : Machine Value → Result (Unit {0}) StartFault → Type 0
 ReclaimSays m (Ok done) = m.failed ≡ false
 ReclaimSays m (Err start_fault.Failed) = m.failed ≡ true
 ReclaimSays m (Err start_fault.JobBusy) = m.failed ≡ false
 ReclaimSays m (Err start_fault.NothingToDo) = m.failed ≡ false
-ReclaimSays m (Err (start_fault.InUse snapshot)) = m.failed ≡ false
+ReclaimSays m (Err (start_fault.InUse snapshot)) = (m.failed ≡ false) × ((upto : ℕ) × (floor_starts.in_use_refusal (floor_starts.in_use_below m.snapshots upto) ≡ Some (floor_starts.InUse snapshot)))
 ReclaimSays m (Err start_fault.StatusFull) = m.failed ≡ false
 ReclaimSays m (Err start_fault.HeapFull) = m.failed ≡ false
 ReclaimSays m (Err start_fault.NoMemory) = m.failed ≡ false
