@@ -5,7 +5,7 @@ use crate::machine::{KEY, Machine, NEWEST, PROFILES, SCRIPT};
 use crate::steps::Step;
 use crate::steps::Step::{New, Says};
 use session::{Answers, Lines};
-use shell::{Action, act};
+use shell::{Action, act, write_stress_answer};
 use std::alloc::{AllocError, Global};
 use std::cell::Cell;
 use std::io;
@@ -318,6 +318,32 @@ fn is_said(alloc: Global, said: &Said) -> Result<(), Fail> {
 fn a_command_whose_answer_is_refused_is_status_1(rt: HostRuntime) -> Result<(), Fail> {
     for said in SAID {
         is_said(rt.alloc(), said)?;
+    }
+    Ok(())
+}
+
+/// What `stress` says of 100 commits, the last of them at 120.
+const STRESS: &str = "commits 100 last 120\n";
+
+/// Whether a screen of so much room shows of that what it has room for, and what is left is refused.
+fn is_stress_answered(alloc: Global, room: usize) -> bool {
+    let shown = Cell::new(0);
+    let mut screen = Screen {
+        shown: &shown,
+        text: Vec::new(alloc),
+        room,
+    };
+    let is_written = write_stress_answer(&mut screen, 100, 120).is_ok();
+    let front = STRESS.get(..room).unwrap_or(STRESS);
+    is_written == (STRESS.len() <= room) && screen.text.as_slice() == front.as_bytes()
+}
+
+#[test]
+fn what_stress_answers_is_shown_or_refused(rt: HostRuntime) -> Result<(), Fail> {
+    for room in 0..30 {
+        if !is_stress_answered(rt.alloc(), room) {
+            return Err(Fail::new("a screen of stress"));
+        }
     }
     Ok(())
 }
