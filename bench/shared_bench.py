@@ -22,6 +22,7 @@ from store_bench import HERE, LEAST_IN_GATES, LEAST_OF_RAW, load, measured, medi
 VERBS = {
     **{f"c{count}": (f"commits of one record by {count} writers, /s", 2_000 * min(count, 16)) for count in (1, 2, 4, 8, 16, 32)},
     **{f"r{count}": (f"views by {count} readers beside a writer, /s", 300_000) for count in (1, 2, 3, 4)},
+    **{f"l{count}": (f"latest views by {count} readers beside a writer, /s", 300_000) for count in (1, 2, 3, 4)},
     **{f"q{count}": (f"values by {count} readers of a view each, beside a writer, /s", 5_000_000) for count in (1, 2, 3, 4)},
     "h": ("the lock held for a sync, µs", 200),
 }
@@ -76,7 +77,7 @@ def beside(verb, answers):
             if form + "_value" in answers[0]
         ]
         return f"{raw}; µs a group: {parts}; raw {median(answers, 'raw_us'):,.0f}{''.join(told)}"
-    if verb[0] in "rq":
+    if verb[0] in "rlq":
         return f"the writer's commits {shown(median(answers, 'commits_s'))} /s"
     kinds = ("begin", "submit", "redeem", "view", "write", "job", "start")
     held = (f"{kind} {median(answers, kind + '_us'):.1f} (most {median(answers, kind + '_most_us'):,.0f})" for kind in kinds)

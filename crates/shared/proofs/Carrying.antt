@@ -21,7 +21,7 @@ use Rattle.shared.specs.contracts.shared_view.SharedView as SharedView
 use Rattle.shared.specs.contracts.shared_view.SharedView.TheInside as shared_view
 use Rattle.shared.proofs.moment.Moment.TheSendSync as moment
 use Rattle.shared.proofs.observer.Observer.TheSendSync as observer
-use Rattle.shared.proofs.Sending.{frozen_send}
+use Rattle.shared.proofs.Versions.{frozen_send}
 
 view_inside : IsSend view.the_row
 view_inside = declared_send view.the_type (search sendable, (search sendable, (search (sendable, floors.the_send), (search sendable, (search (sendable, runs.the_send), (search (sendable, frozen_send), tt))))))

@@ -1,7 +1,7 @@
 -- Fronts of histories, and what was seen of them.
-use Rattle.std.proofs.Common.{ℕ, ◌≤◌, arith, [], ◌++◌, refl, sym, ap, ◌∙◌, subst, append_assoc}
+use Rattle.std.proofs.Common.{◌≡◌, ℕ, ◌≤◌, arith, [], ◌∷◌, ◌++◌, refl, sym, ap, ◌∙◌, subst, append_assoc}
 use Rattle.std.proofs.lemmas.List.{append-nil}
-use Rattle.history.specs.Histories.{History, last, IsHistory}
+use Rattle.history.specs.Histories.{Commit, History, last, last_after, IsHistory, HasRisingTimes}
 use Rattle.history.proofs.Histories.{last_after-append, rising-from_following, may_follow-front, may_follow-behind}
 use Rattle.history.proofs.Runs.{last-later}
 use Rattle.image.specs.Values.{Value, IsValue}
@@ -37,3 +37,26 @@ last-front front whole legal is =
 -- what was seen later has no earlier last time
 pub last-seen : (old new : Seen) → IsHistory IsValue (order_of new) → IsLater old new → last old.published ≤ last new.published
 last-seen old new legal later = last-front old.published new.published (may_follow-front IsValue [] new.published new.queue legal) later.published
+
+-- ---- two fronts of one history
+
+rising-upto : (t : ℕ) (front rest : History Value) → HasRisingTimes t (front ++ rest) → HasRisingTimes t front
+rising-upto t [] rest rising = tt
+rising-upto t (c ∷ cs) rest rising = (rising.0, rising.1, rising-upto c.time cs rest rising.2)
+
+front-within : (t : ℕ) (a x b y : History Value) → a ++ x ≡ b ++ y → HasRisingTimes t (a ++ x) → last_after t a ≤ last_after t b → IsFrontOf a b
+front-within t [] x b y same rising by = (b, refl)
+front-within t (c ∷ cs) x [] y same rising by =
+    let later : c.time ≤ last_after c.time cs = last-later c.time cs (rising-upto c.time cs x rising.2) in
+    absurd (omega (arith, later, by, rising.0))
+front-within t (c ∷ cs) x (d ∷ ds) y same rising by =
+    let first : c ≡ d = cc same in
+    let behind : cs ++ x ≡ ds ++ y = cc same in
+    let found = front-within c.time cs x ds y behind rising.2 (subst (λ (e : Commit Value). last_after c.time cs ≤ last_after e.time ds) (sym first) by) in
+    (found.0, cc (first, found.1))
+
+-- of what was seen at two times the one that has no later last time has no other commits
+pub front-seen : (early late new : Seen) → IsHistory IsValue (order_of new) → IsLater early new → IsLater late new → last early.published ≤ last late.published → IsFrontOf early.published late.published
+front-seen early late new legal e l by =
+    let rising : HasRisingTimes 0 new.published = rising-from_following IsValue [] new.published (may_follow-front IsValue [] new.published new.queue legal) in
+    front-within 0 early.published e.published.0 late.published l.published.0 (sym e.published.1 ∙ l.published.1) (subst (λ (h : History Value). HasRisingTimes 0 h) e.published.1 rising) by

@@ -1,3 +1,4 @@
+pub mod Versions
 pub mod Sending
 pub mod Carrying
 pub mod Floors

@@ -1,6 +1,7 @@
 -- Views and transactions answer by the history of their moment.
 use Rattle.std.proofs.Common.{◌≡◌, ℕ, Bool, List, Option, Result, Ok, Err, unwrap_or, sym, ap, subst, ◌∙◌}
-use Rattle.std.specs.Prelude.{OnOk, OnErr, if◌then◌else◌}
+use Rattle.std.specs.Prelude.{IfOk, OnOk, OnErr, if◌then◌else◌}
+use Rattle.std.specs.declared.alloc.AllocError.{AllocError}
 use Rattle.history.specs.declared.key.Key.{Key}
 use Rattle.history.specs.declared.key.KeyWrite.{KeyWrite}
 use Rattle.history.specs.Key.{write_in}
@@ -14,10 +15,11 @@ use Rattle.timequery.specs.View.{ViewValue}
 use Rattle.store.specs.Values.{StoreValue}
 use Rattle.refinement.specs.Homes.{ViewReads}
 use Rattle.shared.specs.Archives.{ArchiveSeen, IsArchiveLater, archive_seen}
-use Rattle.shared.specs.Moments.{TxnMoment, WorksOn, value_for}
-use Rattle.shared.specs.Seen.{Seen, SightValue}
+use Rattle.shared.specs.Moments.{TxnMoment, ViewMoment, HoldsSeen, WorksOn, value_for}
+use Rattle.shared.specs.Seen.{Seen, SightValue, IsLater}
 use Rattle.shared.specs.Shared.{IsShared, Shows, Reads, SeenReached}
 use Rattle.shared.proofs.Archives.{reads-later, reads-of}
+use Rattle.shared.proofs.Fronts.{front-then}
 
 -- ---- views
 
@@ -98,3 +100,8 @@ sees-after (Err why) start brand t t' seen m ws is_key value is w ok by_key = tt
 -- a fact of what it sees
 pub of-seen : (start : Machine Value) (brand : ℕ) (t : TxnValue) (seen : Seen) (m : TxnMoment) (key : Key) (P : Option Value → Type 0) → record { txn = t; seen = seen } ≡ m → WorksOn start brand t seen → P (seen_by t key) → P (value_for m key)
 of-seen start brand t seen m key P is w holds = subst P (sees-one start brand t seen m is w key) holds
+
+-- a view that has what was seen at last has what was seen before
+pub holds-then : (old now new : Seen) (r : Result ViewMoment AllocError) → IsLater old now → IfOk r (HoldsSeen now new) → IfOk r (HoldsSeen old new)
+holds-then old now new (Ok v) later holds = (front-then old.published now.published v.seen.published later.published holds.0, holds.1)
+holds-then old now new (Err why) later holds = holds

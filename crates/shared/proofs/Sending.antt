@@ -18,16 +18,6 @@ use Rattle.wire.proofs.slot.Anchors.TheSendSync as anchors
 use Rattle.extents.proofs.chain_times.ChainTimes.TheSendSync as chain_times
 use Rattle.extents.proofs.extent.Extent.TheSendSync as extent
 use Rattle.extents.proofs.extents.Extents.TheSendSync as extents
-use Rattle.chains.proofs.key_node.KeyNode.TheLaws.TheKnot as key_nodes
-use Rattle.chains.proofs.branch.Branch.TheLaws.TheKnot as branches
-use Rattle.chains.proofs.shared_value.SharedValue.TheSendSync as shared_value
-use Rattle.chains.specs.contracts.branch.Branch as Branch
-use Rattle.chains.specs.contracts.chain.Chain as Chain
-use Rattle.chains.specs.contracts.frozen.Frozen as Frozen
-use Rattle.chains.specs.contracts.key_node.KeyNode as KeyNode
-use Rattle.chains.specs.contracts.keys.Keys as Keys
-use Rattle.chains.specs.contracts.older.Older as Older
-use Rattle.chains.specs.contracts.piece.Piece as Piece
 use Rattle.snapshot.proofs.open_table.OpenTable.TheSendSync as open_table
 use Rattle.floors.proofs.floors.Floors.TheSendSync as floors
 use Rattle.status.proofs.growth.Growth.TheSendSync as growth
@@ -55,46 +45,16 @@ use Rattle.store.specs.contracts.job.JobWork as JobWork
 use Rattle.store.specs.contracts.store.Store as Store
 use Rattle.store.specs.contracts.store.Store.TheInside as store
 use Rattle.shared.specs.declared.naming.Opening as openings
+use Rattle.shared.specs.contracts.latest.KeptView as KeptView
+use Rattle.shared.specs.contracts.latest.Latest as Latest
 use Rattle.shared.specs.contracts.locked.Locked as Locked
 use Rattle.shared.specs.contracts.locked.Locked.TheInside as locked
 use Rattle.shared.specs.contracts.shared.SharedStore as SharedStore
+use Rattle.shared.proofs.observer.Observer.TheSendSync as observer
 use Rattle.shared.proofs.signals.Signals.TheSendSync as signals
+use Rattle.shared.proofs.Carrying.{shared_view-send}
+use Rattle.shared.proofs.Versions.{frozen_send}
 use Rattle.shared.proofs.posts.Posts.TheSendSync as posts
-
--- ---- the versions
-
-piece_send : IsSend Piece.the_row
-piece_send = search (sendable, crosses, shared_value.the_send, shared_value.the_sync) depth 40
-
-piece_sync : IsSync Piece.the_row
-piece_sync = search (sendable, crosses, shared_value.the_send, shared_value.the_sync) depth 40
-
-branch_send : IsSend Branch.the_row
-branch_send = search (sendable, crosses, branches.crosses, piece_send, piece_sync) depth 40
-
-branch_sync : IsSync Branch.the_row
-branch_sync = search (sendable, crosses, branches.crosses, piece_send, piece_sync) depth 40
-
-older_send : IsSend Older.the_row
-older_send = search (sendable, crosses, branch_send, branch_sync) depth 40
-
-older_sync : IsSync Older.the_row
-older_sync = search (sendable, crosses, branch_send, branch_sync) depth 40
-
-chain_send : IsSend Chain.the_row
-chain_send = search (sendable, crosses, older_send, older_sync, piece_send, piece_sync) depth 40
-
-chain_sync : IsSync Chain.the_row
-chain_sync = search (sendable, crosses, older_send, older_sync, piece_send, piece_sync) depth 40
-
-key_node_send : IsSend KeyNode.the_row
-key_node_send = search (sendable, crosses, key_nodes.crosses, chain_send, chain_sync) depth 40
-
-keys_send : IsSend Keys.the_row
-keys_send = search (sendable, crosses, key_node_send) depth 40
-
-pub frozen_send : IsSend Frozen.the_row
-frozen_send = search (sendable, crosses, keys_send) depth 12
 
 -- ---- the transactions
 
@@ -224,6 +184,15 @@ module _ (D : RattleType) (disk : devices.Ghosts D.Denot) (crossing : IsSend D) 
     locked_send : IsSend (Locked.the_row D L disk opening ledger)
     locked_send = view_send (locked.the_row D L disk opening ledger) _ _ _ _ locked_inside
 
+-- ---- the view that is kept
+
+module _ (L : RattleType) (opening : openings.Ghosts L.Denot) (ledger : ledgers.Ghosts L.Denot) where
+  kept_view_send : IsSend (KeptView.the_row L opening ledger)
+  kept_view_send = declared_send (KeptView.the_type L opening ledger) (search (sendable, shared_view-send), (search (sendable, observer.the_send), tt))
+
+  latest_send : IsSend (Latest.the_row L opening ledger)
+  latest_send = declared_send (Latest.the_type L opening ledger) (search (sendable, option.the_send, kept_view_send), (search sendable, tt))
+
 -- ---- the store under its lock
 
 pub shared-sync : (D L : RattleType) (disk : devices.Ghosts D.Denot) (opening : openings.Ghosts L.Denot) (ledger : ledgers.Ghosts L.Denot) → IsSend D → IsSync (SharedStore.the_row D L disk opening ledger)
@@ -236,14 +205,17 @@ shared-sync D L disk opening ledger crossing =
         (
           search (sendable, mutex.the_sync, posts.the_send),
           (
-            search (sendable, event_count.the_sync),
+            search (sendable, mutex.the_sync, latest_send),
             (
-              search (sendable, condvar.the_sync),
+              search (sendable, event_count.the_sync),
               (
                 search (sendable, condvar.the_sync),
                 (
                   search (sendable, condvar.the_sync),
-                  (search (sendable, crosses, wide.the_sync, words.the_sync) depth 20, tt),
+                  (
+                    search (sendable, condvar.the_sync),
+                    (search (sendable, crosses, wide.the_sync, words.the_sync) depth 20, tt),
+                  ),
                 ),
               ),
             ),

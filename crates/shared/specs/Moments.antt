@@ -12,12 +12,16 @@ use Rattle.group.specs.declared.answers.BeginFault.{BeginFault}
 use Rattle.timequery.specs.View.{ViewValue}
 use Rattle.timequery.specs.declared.fault.QueryFault.{QueryFault}
 use Rattle.shared.specs.Reached.{Reached}
-use Rattle.shared.specs.Seen.{Seen, seen_of}
+use Rattle.shared.specs.Seen.{Seen, seen_of, IsFrontOf, IsLater}
 
 -- a view, and the commits and the floors that its caller had seen when it was taken
 pub record ViewMoment : Type 0 where
   pub shown : ViewValue
   pub seen : Seen
+
+-- the view shows all commits that a caller had seen published, and its moment is one that the caller has seen now
+abbrev pub HoldsSeen : Seen → Seen → ViewMoment → Type 0
+HoldsSeen old new v = IsFrontOf old.published v.seen.published × IsLater v.seen new
 
 -- a transaction, and the commits and the floors that its caller had seen when it began
 pub record TxnMoment : Type 0 where

@@ -61,13 +61,24 @@ impl<D: Disk, L: Opening> SharedStore<D, L> {
         let mut locked = self.locked.lock(rt);
         let did = locked.job_pump(rt, &self.cell);
         let after = locked.signals();
+        let old = if is_done(&did) {
+            self.renew_latest(rt, &mut locked)
+        } else {
+            None
+        };
         drop(locked);
+        drop(old);
         if is_job_move(&did) {
             self.tell_settled(rt, after);
             self.tell_moved();
         }
         did
     }
+}
+
+// Whether the floors, or what memory holds, may be others now.
+fn is_done(did: &Result<JobDid, PumpFault>) -> bool {
+    matches!(did, Ok(JobDid::JobDone))
 }
 
 // Whether a step of a group may now have another answer, or some ticket.

@@ -7,6 +7,7 @@ mod committed;
 mod comparing;
 mod copied;
 mod jobs;
+mod latest;
 mod locked;
 mod moment;
 mod naming;

@@ -17,6 +17,7 @@ ghost use Rattle.shared.specs.Seen.{IsLater, seen_of};
 ghost use Rattle.shared.specs.Shared.{BeginHappens, SubmitHappens, SeenReached, PumpHappens, JobHappens, FloorHappens, ArchiveHappens, ReclaimHappens, GrowthHappens, RedeemSays, done_in};
 
 use crate::cell::{PublishedCell, WriterPass};
+use crate::latest::KeptView;
 use crate::moment::Moment;
 use crate::naming::Opening;
 use crate::noting::{count_done, note_archive, note_job, note_published, note_queued};
@@ -91,6 +92,17 @@ impl<D: Disk, L: Opening> Locked<D, L> {
         note_archive(rt, cell, &mut self.writer, &self.store);
         let moment = Moment::told_by(cell, &mut self.writer);
         taken_at(self.store.view(), moment)
+    }
+
+    /// A view of all that is published, to be kept beside the lock, unless memory is refused.
+    pub(crate) fn kept_view<R: Wait>(&mut self, rt: &R, cell: &PublishedCell) -> Option<KeptView<L>>
+        requires { cell.now.table.shared.table_id ≡ L.table }
+    {
+        let mut seen = Observer::told_by(cell, &mut self.writer);
+        match self.view(rt, cell, &mut seen) {
+            Ok(view) => Some(KeptView::of(view, seen)),
+            Err(AllocError) => None,
+        }
     }
 
     pub(crate) fn begin<R: Wait>(

@@ -51,6 +51,15 @@ impl<L: Opening> Moment<L> {
         Moment::of(pass)
     }
 
+    /// Another pass that stays at the same moment.
+    pub(crate) fn another(&mut self, cell: &PublishedCell) -> Moment<L>
+        requires { cell.now.table.shared.table_id ≡ L.table }
+        ensures given { result ≡ self.old }
+        ensures kept { self.new ≡ self.old }
+    {
+        Moment::told_by(cell, &mut self.pass)
+    }
+
     /// Compares what was known with what the writer's pass knows now, which is no less.
     pub(crate) fn compare<R: Wait>(&mut self, rt: &R, cell: &PublishedCell, writer: &mut WriterPass)
         requires cell { (cell.now.table.shared.table_id ≡ L.table) × (writer.old.table_id ≡ L.table) }

@@ -11,6 +11,7 @@ ghost use Rattle.shared.specs.Seen.{IsLater};
 ghost use Rattle.shared.specs.Shared.{BeginHappens, SubmitHappens, SeenReached, PumpHappens, RedeemSays, done_in};
 
 use crate::cell::PublishedCell;
+use crate::latest::Latest;
 use crate::locked::Locked;
 use crate::naming::Opening;
 use crate::observer::Observer;
@@ -26,11 +27,13 @@ use std::sync::{Condvar, Mutex, Wait};
 use store::{BeginFault, Did, PumpFault, Redeemed, Store, SubmitFault, Submitted, Ticket, Txn};
 
 /// A store under a lock, and beside it the cell of its published time. One holding of the lock makes
-/// at most one call of the store. Beside the lock, too, are the posts of those who call `commit`.
+/// at most one call of the store. Beside the lock, too, are the posts of those who call `commit`, and the
+/// view that is kept for those who read.
 pub struct SharedStore<D: Disk, L: Opening> {
     pub(crate) alloc: Global,
     pub(crate) locked: Mutex<Locked<D, L>>,
     pub(crate) posts: Mutex<Posts<L>>,
+    pub(crate) latest: Mutex<Latest<L>>,
     // The committer sleeps on the first, callers of `commit` on the second until they are answered, on the
     // third one whose ticket still waits, and the vacuum on the last.
     pub(crate) queued: EventCount,
@@ -49,6 +52,7 @@ impl<D: Disk, L: Opening> SharedStore<D, L> {
             alloc,
             locked: Mutex::new(locked),
             posts: Mutex::new(Posts::new(alloc)),
+            latest: Mutex::new(Latest::new()),
             queued: EventCount::new(),
             answered: Condvar::new(),
             settled: Condvar::new(),
@@ -176,7 +180,13 @@ impl<D: Disk, L: Opening> SharedStore<D, L> {
         let mut locked = self.locked.lock(rt);
         let did = locked.pump(rt, &self.cell);
         *after = locked.signals();
+        let old = if is_publication(&did) {
+            self.renew_latest(rt, &mut locked)
+        } else {
+            None
+        };
         drop(locked);
+        drop(old);
         if is_move(&did) {
             self.tell_settled(rt, *after);
             self.tell_moved();
@@ -241,6 +251,7 @@ impl<D: Disk, L: Opening> SharedStore<D, L> {
             alloc: _,
             locked,
             posts: _,
+            latest: _,
             queued: _,
             answered: _,
             settled: _,
@@ -249,6 +260,11 @@ impl<D: Disk, L: Opening> SharedStore<D, L> {
         } = self;
         locked.into_inner().into_store(all)
     }
+}
+
+// Whether commits were published.
+fn is_publication(did: &Result<Did, PumpFault>) -> bool {
+    matches!(did, Ok(Did::Published(_)))
 }
 
 // Whether some ticket may now have another answer.

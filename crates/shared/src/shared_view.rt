@@ -2,6 +2,7 @@
 ghost use Rattle.std.specs.Prelude.{◌≡◌, true, IfOk};
 ghost use Rattle.crossbeam_utils.specs.Seq.{cell_view};
 ghost use Rattle.history.specs.Answers as answers;
+ghost use Rattle.history.specs.Histories.{last};
 ghost use Rattle.refinement.specs.Views.{SaysRecent};
 ghost use Rattle.shared.specs.Moments.{OfSeen, answer_copied};
 ghost use Rattle.shared.specs.Recent.{RecallsScan, RecallsBetween, RecallsWalk, RecallsScanBetween};
@@ -112,6 +113,29 @@ impl<L: Opening> SharedView<L> {
     {
         let _ = &self.moment;
         self.view.recent_scan_between(alloc, relation, a, b)
+    }
+
+    /// When the last commit that it shows was made, in microseconds since 1970; 0 where there is none.
+    pub fn last(&self) -> u64
+        ensures { result ≡ last self.now.seen.published }
+    {
+        let _ = &self.moment;
+        self.view.last()
+    }
+
+    /// The same view of the same moment for another holder.
+    ///
+    /// # Errors
+    ///
+    /// Where the count of holders is at its end.
+    pub(crate) fn another(&mut self, cell: &PublishedCell) -> Result<SharedView<L>, AllocError>
+        requires { cell.now.table.shared.table_id ≡ L.table }
+        ensures given { IfOk result (λ v. v ≡ self.old) }
+        ensures kept { self.new ≡ self.old }
+    {
+        let view = self.view.share()?;
+        let moment = self.moment.another(cell);
+        Ok(SharedView { view, moment })
     }
 
     /// The archive that the writer knows has the view's runs still.

@@ -4,6 +4,7 @@ ghost use Rattle.crossbeam_utils.specs.Seq.{cell_view};
 ghost use Rattle.history.specs.Machine.{Machine};
 ghost use Rattle.image.specs.Values.{Value};
 ghost use Rattle.refinement.specs.Stands.{Stands};
+ghost use Rattle.shared.specs.Naming.{IsFresh};
 ghost use Rattle.shared.specs.Counts.{told_count, unredeemed};
 ghost use Rattle.shared.specs.Reached.{Reached};
 ghost use Rattle.shared.specs.Reading.{ReadSays};
@@ -298,14 +299,9 @@ pub fn run_workers<D: Disk + Send, L: Opening + Send + Sync, R: Threads + Wait +
     opened: Opened<D>,
     plan: Plan,
 ) -> (Store<D>, Option<u64>)
-    requires name { opened.blank.name ≡ L.name }
-    requires parts { (opened.blank.parts ≡ L.parts) × (L.parts ≡ plan.writers + 1) }
-    requires table { opened.cell.table.shared.table_id ≡ L.table }
-    requires stands { Stands D.tells opened.store L.start }
-    requires mark { opened.store.transactions.mark ≡ L.mark }
-    requires fresh { told_count opened.store.transactions.heads ≡ length L.start.published }
-    requires queue { L.start.queue ≡ [] }
-    requires writer { ((cell_view opened.writer).seen ≡ seen_of L.start) × ((cell_view opened.writer).writes ≡ true) }
+    requires name { (opened.blank.name ≡ L.name) × (opened.blank.parts ≡ L.parts) × (opened.cell.table.shared.table_id ≡ L.table) }
+    requires parts { L.parts ≡ plan.writers + 1 }
+    requires fresh { IsFresh D.tells L.start L.mark opened.store (cell_view opened.writer) }
     ensures counted { (m : Machine Value) × Stands D.tells result.0 m × Reached L.start m × IfSome result.1 (λ done. length m.published ≡ length L.start.published + done + unredeemed result.0) }
 {
     let (store, mut all, mut me) = opened.named::<L>();

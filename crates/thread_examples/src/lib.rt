@@ -10,6 +10,8 @@ mod floored;
 #[cfg(test)]
 mod grown;
 #[cfg(test)]
+mod latest_views;
+#[cfg(test)]
 mod moved_view;
 #[cfg(test)]
 mod noted;

@@ -1,9 +1,7 @@
 //! A view goes on answering in another thread, whatever the store does meanwhile.
 ghost use Rattle.std.specs.Prelude.{◌≡◌, ◌<◌, [], length, true};
 ghost use Rattle.crossbeam_utils.specs.Seq.{cell_view};
-ghost use Rattle.refinement.specs.Stands.{Stands};
-ghost use Rattle.shared.specs.Counts.{told_count};
-ghost use Rattle.shared.specs.Seen.{seen_of};
+ghost use Rattle.shared.specs.Naming.{IsFresh};
 
 use crate::written::{is_field, key_of, publish_four, pump_to, queued};
 use disk::{Disk, MemDisk};
@@ -98,14 +96,8 @@ fn keeps_its_moment<
     L: Opening + Send + Sync,
     R: Threads + Wait + Abort + Sync,
 >(rt: &R, alloc: Global, opened: Opened<D>)
-    requires name { opened.blank.name ≡ L.name }
-    requires parts { opened.blank.parts ≡ L.parts }
-    requires table { opened.cell.table.shared.table_id ≡ L.table }
-    requires stands { Stands D.tells opened.store L.start }
-    requires mark { opened.store.transactions.mark ≡ L.mark }
-    requires fresh { told_count opened.store.transactions.heads ≡ length L.start.published }
-    requires queue { L.start.queue ≡ [] }
-    requires writer { ((cell_view opened.writer).seen ≡ seen_of L.start) × ((cell_view opened.writer).writes ≡ true) }
+    requires name { (opened.blank.name ≡ L.name) × (opened.blank.parts ≡ L.parts) × (opened.cell.table.shared.table_id ≡ L.table) }
+    requires fresh { IsFresh D.tells L.start L.mark opened.store (cell_view opened.writer) }
 {
     let (store, mut share, mut me) = opened.named::<L>();
     publish_four(rt, alloc, &store, &mut me);

@@ -1,5 +1,5 @@
 //! Views.
-ghost use Rattle.std.specs.Prelude.{◌≡◌, ◌≤◌, [], MatchResult};
+ghost use Rattle.std.specs.Prelude.{◌≡◌, ◌≤◌, [], IfOk, MatchResult};
 ghost use Rattle.std.specs.Option.{option_copied};
 ghost use Rattle.floors.specs.Floors.{floor_at};
 ghost use Rattle.history.specs.Time.{value_at};
@@ -14,7 +14,7 @@ use archive::RunEntry;
 use chains::{Frozen, SharedValue};
 use floors::Floors;
 use history::{Key, Version};
-use std::alloc::Global;
+use std::alloc::{AllocError, Global};
 use std::marker::Model;
 
 /// What is published at one moment, which later commits do not change. It is to be given back to
@@ -63,6 +63,31 @@ impl View {
         ensures { result ≡ self.now.mark }
     {
         self.mark
+    }
+
+    /// The time of its last commit in microseconds since 1970, 0 where there is none.
+    pub fn last(&self) -> u64
+        ensures { result ≡ self.now.last }
+    {
+        self.last
+    }
+
+    /// The same view for another holder. It copies no version, however many there are.
+    ///
+    /// # Errors
+    ///
+    /// Where the count of holders is at its end.
+    pub fn share(&self) -> Result<Self, AllocError>
+        ensures { IfOk result (λ v. v ≡ self.now) }
+    {
+        Ok(View {
+            mark: self.mark,
+            last: self.last,
+            floors: self.floors.share()?,
+            reclaimed: self.reclaimed,
+            runs: self.runs.share()?,
+            state: self.state.share()?,
+        })
     }
 
     /// The runs of the archive that it reads, oldest first.

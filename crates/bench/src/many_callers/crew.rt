@@ -1,9 +1,7 @@
 //! Threads that write and read a shared store beside its committer.
 ghost use Rattle.std.specs.Prelude.{◌≡◌, ◌+◌, ◌<◌, [], true, length, IfOk};
 ghost use Rattle.crossbeam_utils.specs.Seq.{cell_view};
-ghost use Rattle.refinement.specs.Stands.{Stands};
-ghost use Rattle.shared.specs.Counts.{told_count};
-ghost use Rattle.shared.specs.Seen.{seen_of};
+ghost use Rattle.shared.specs.Naming.{IsFresh};
 
 use crate::fault::Fault;
 use crate::many_callers::groups::{Spent, Watch};
@@ -25,6 +23,8 @@ use store::{Did, Store};
 pub(crate) enum Reading {
     /// Each takes a view for each key that it asks for.
     Views,
+    /// Each takes one of those that readers share.
+    LatestViews,
     /// Each asks for all its keys by one view.
     Asks,
 }
@@ -168,9 +168,14 @@ fn view_one<D: Disk, L: Opening, R: Wait>(
     rt: &R,
     store: &SharedStore<D, L>,
     me: &mut Observer<L>,
+    reading: Reading,
     record: u64,
 ) -> bool {
-    let view = match store.view(rt, me) {
+    let taken = match reading {
+        Reading::LatestViews => store.latest_view(rt, me),
+        Reading::Views | Reading::Asks => store.view(rt, me),
+    };
+    let view = match taken {
         Ok(view) => view,
         Err(AllocError) => return false,
     };
@@ -217,9 +222,9 @@ fn read<D: Disk, L: Opening, R: Wait>(
             let right = ask(rt, store, &mut me, load.reads);
             (right == load.reads).then_some(right)
         }
-        Reading::Views => {
+        Reading::Views | Reading::LatestViews => {
             for number in 0..load.reads {
-                if !view_one(rt, store, &mut me, number % KEYS) {
+                if !view_one(rt, store, &mut me, load.reading, number % KEYS) {
                     return None;
                 }
             }
@@ -350,14 +355,9 @@ pub(crate) fn run<D: Disk + Send, L: Opening + Send + Sync, R: Threads + Wait + 
     opened: Opened<D>,
     load: Load,
 ) -> (Store<D>, Result<Work, Fault>)
-    requires name { opened.blank.name ≡ L.name }
-    requires parts { (opened.blank.parts ≡ L.parts) × (L.parts ≡ load.writers + 1) }
-    requires table { opened.cell.table.shared.table_id ≡ L.table }
-    requires stands { Stands D.tells opened.store L.start }
-    requires mark { opened.store.transactions.mark ≡ L.mark }
-    requires fresh { told_count opened.store.transactions.heads ≡ length L.start.published }
-    requires queue { L.start.queue ≡ [] }
-    requires writer { ((cell_view opened.writer).seen ≡ seen_of L.start) × ((cell_view opened.writer).writes ≡ true) }
+    requires name { (opened.blank.name ≡ L.name) × (opened.blank.parts ≡ L.parts) × (opened.cell.table.shared.table_id ≡ L.table) }
+    requires parts { L.parts ≡ load.writers + 1 }
+    requires fresh { IsFresh D.tells L.start L.mark opened.store (cell_view opened.writer) }
 {
     let (store, mut all, mut me) = opened.named::<L>();
     let loaded = if load.readers > 0 {

@@ -3,8 +3,8 @@ ghost use Rattle.std.specs.Prelude.{◌≡◌, ◌<◌, [], true, false, length}
 ghost use Rattle.crossbeam_utils.specs.Seq.{cell_view};
 ghost use Rattle.history.specs.Machine.{opened};
 ghost use Rattle.refinement.specs.Stands.{Stands};
+ghost use Rattle.shared.specs.Naming.{IsFresh};
 ghost use Rattle.shared.specs.Counts.{told_count};
-ghost use Rattle.shared.specs.Seen.{seen_of};
 
 use crate::fault::Fault;
 use crate::many_callers::sharing::{MOST_SLOTS, fresh};
@@ -240,14 +240,9 @@ fn run<D: Disk, L: Opening, R: Wait + Clock>(
     opened: Opened<D>,
     count: u64,
 ) -> (Store<D>, Result<Held, Fault>)
-    requires name { opened.blank.name ≡ L.name }
-    requires parts { (opened.blank.parts ≡ L.parts) × (L.parts ≡ 1) }
-    requires table { opened.cell.table.shared.table_id ≡ L.table }
-    requires stands { Stands D.tells opened.store L.start }
-    requires mark { opened.store.transactions.mark ≡ L.mark }
-    requires fresh { told_count opened.store.transactions.heads ≡ length L.start.published }
-    requires queue { L.start.queue ≡ [] }
-    requires writer { ((cell_view opened.writer).seen ≡ seen_of L.start) × ((cell_view opened.writer).writes ≡ true) }
+    requires name { (opened.blank.name ≡ L.name) × (opened.blank.parts ≡ L.parts) × (opened.cell.table.shared.table_id ≡ L.table) }
+    requires parts { L.parts ≡ 1 }
+    requires fresh { IsFresh D.tells L.start L.mark opened.store (cell_view opened.writer) }
 {
     let (store, mut share, mut me) = opened.named::<L>();
     let held = all_rounds(rt, alloc, &store, &mut share, &mut me, count);

@@ -3,8 +3,8 @@ ghost use Rattle.std.specs.Prelude.{◌≡◌, ◌+◌, ◌<◌, [], true, false
 ghost use Rattle.crossbeam_utils.specs.Seq.{cell_view};
 ghost use Rattle.history.specs.Machine.{opened};
 ghost use Rattle.refinement.specs.Stands.{Stands};
+ghost use Rattle.shared.specs.Naming.{IsFresh};
 ghost use Rattle.shared.specs.Counts.{told_count};
-ghost use Rattle.shared.specs.Seen.{seen_of};
 
 use crate::fault::Fault;
 use crate::many_callers::crew::{Writer, readers_for, writers_for};
@@ -243,14 +243,9 @@ fn run<D: Disk + Send, L: Opening + Send + Sync, R: Threads + Wait + Clock + Syn
     opened: Opened<D>,
     plan: Plan,
 ) -> (Store<D>, Result<(Noted, Noted), Fault>)
-    requires name { opened.blank.name ≡ L.name }
-    requires parts { (opened.blank.parts ≡ L.parts) × (L.parts ≡ 9) }
-    requires table { opened.cell.table.shared.table_id ≡ L.table }
-    requires stands { Stands D.tells opened.store L.start }
-    requires mark { opened.store.transactions.mark ≡ L.mark }
-    requires fresh { told_count opened.store.transactions.heads ≡ length L.start.published }
-    requires queue { L.start.queue ≡ [] }
-    requires writer { ((cell_view opened.writer).seen ≡ seen_of L.start) × ((cell_view opened.writer).writes ≡ true) }
+    requires name { (opened.blank.name ≡ L.name) × (opened.blank.parts ≡ L.parts) × (opened.cell.table.shared.table_id ≡ L.table) }
+    requires parts { L.parts ≡ 9 }
+    requires fresh { IsFresh D.tells L.start L.mark opened.store (cell_view opened.writer) }
 {
     let (store, mut all, mut me) = opened.named::<L>();
     let writers = writers_for(alloc, &store, &mut all, &mut me, WRITERS, plan.rounds);

@@ -331,7 +331,8 @@ fn ask_view<D: Disk, L: Opening, R: Wait>(
     )
 }
 
-/// Takes a view and asks it. None where a refusal is not a named one.
+/// Takes a view, through the lock or one that readers share, and asks it. None where a refusal is not a
+/// named one.
 pub(crate) fn read_once<D: Disk, L: Opening, R: Wait>(
     rt: &R,
     store: &SharedStore<D, L>,
@@ -340,7 +341,12 @@ pub(crate) fn read_once<D: Disk, L: Opening, R: Wait>(
     notes: &mut Vec<Note>,
 ) -> Option<()> {
     let seen = store.last_published(rt, me);
-    let mut view = store.view(rt, me).ok()?;
+    let taken = if below(random, 2) == 0 {
+        store.view(rt, me)
+    } else {
+        store.latest_view(rt, me)
+    };
+    let mut view = taken.ok()?;
     let asked = ask_view(rt, store, &mut view, random, seen, notes);
     store.end(rt, view);
     asked

@@ -1,0 +1,46 @@
+-- The versions in memory may go to another thread.
+use denote.Param.Send.{IsSend, IsSync, sendable}
+use Rattle.std.proofs.Crossing.{crosses}
+use Rattle.chains.proofs.key_node.KeyNode.TheLaws.TheKnot as key_nodes
+use Rattle.chains.proofs.branch.Branch.TheLaws.TheKnot as branches
+use Rattle.chains.proofs.shared_value.SharedValue.TheSendSync as shared_value
+use Rattle.chains.specs.contracts.branch.Branch as Branch
+use Rattle.chains.specs.contracts.chain.Chain as Chain
+use Rattle.chains.specs.contracts.frozen.Frozen as Frozen
+use Rattle.chains.specs.contracts.key_node.KeyNode as KeyNode
+use Rattle.chains.specs.contracts.keys.Keys as Keys
+use Rattle.chains.specs.contracts.older.Older as Older
+use Rattle.chains.specs.contracts.piece.Piece as Piece
+
+piece_send : IsSend Piece.the_row
+piece_send = search (sendable, crosses, shared_value.the_send, shared_value.the_sync) depth 40
+
+piece_sync : IsSync Piece.the_row
+piece_sync = search (sendable, crosses, shared_value.the_send, shared_value.the_sync) depth 40
+
+branch_send : IsSend Branch.the_row
+branch_send = search (sendable, crosses, branches.crosses, piece_send, piece_sync) depth 40
+
+branch_sync : IsSync Branch.the_row
+branch_sync = search (sendable, crosses, branches.crosses, piece_send, piece_sync) depth 40
+
+older_send : IsSend Older.the_row
+older_send = search (sendable, crosses, branch_send, branch_sync) depth 40
+
+older_sync : IsSync Older.the_row
+older_sync = search (sendable, crosses, branch_send, branch_sync) depth 40
+
+chain_send : IsSend Chain.the_row
+chain_send = search (sendable, crosses, older_send, older_sync, piece_send, piece_sync) depth 40
+
+chain_sync : IsSync Chain.the_row
+chain_sync = search (sendable, crosses, older_send, older_sync, piece_send, piece_sync) depth 40
+
+key_node_send : IsSend KeyNode.the_row
+key_node_send = search (sendable, crosses, key_nodes.crosses, chain_send, chain_sync) depth 40
+
+keys_send : IsSend Keys.the_row
+keys_send = search (sendable, crosses, key_node_send) depth 40
+
+pub frozen_send : IsSend Frozen.the_row
+frozen_send = search (sendable, crosses, keys_send) depth 12

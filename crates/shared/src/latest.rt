@@ -1,0 +1,167 @@
+//! The view that readers share beside the lock.
+ghost use Rattle.std.specs.Prelude.{◌≡◌, ◌≤◌, IfOk, IfSome};
+ghost use Rattle.history.specs.Histories.{last};
+ghost use Rattle.shared.specs.Moments.{HoldsSeen};
+ghost use Rattle.shared.specs.Seen.{IsLater};
+
+use crate::cell::PublishedCell;
+use crate::locked::Locked;
+use crate::naming::Opening;
+use crate::observer::Observer;
+use crate::shared::SharedStore;
+use crate::shared_view::SharedView;
+use disk::Disk;
+use std::alloc::AllocError;
+use std::mem;
+use std::sync::Wait;
+
+/// A view that is kept, and a pass that has seen as much.
+pub(crate) struct KeptView<L: Opening> {
+    view: SharedView<L>,
+    seen: Observer<L>,
+    ghost same: { seen ≡ view.seen },
+}
+
+impl<L: Opening> KeptView<L> {
+    pub(crate) fn of(view: SharedView<L>, seen: Observer<L>) -> KeptView<L>
+        requires { seen ≡ view.seen }
+    {
+        KeptView { view, seen }
+    }
+
+    // When its last commit was made, in microseconds since 1970.
+    fn last(&self) -> u64
+        ensures { result ≡ last self.now.view.seen.published }
+    {
+        let _ = &self.seen;
+        self.view.last()
+    }
+
+    // One more view of its moment, for a caller that has seen no later commit published.
+    fn another<R: Wait>(
+        &mut self,
+        rt: &R,
+        cell: &PublishedCell,
+        me: &mut Observer<L>,
+    ) -> Result<SharedView<L>, AllocError>
+        requires cell { cell.now.table.shared.table_id ≡ L.table }
+        requires earlier { last me.old.published ≤ last self.old.view.seen.published }
+        ensures holds { IfOk result (HoldsSeen me.old me.new) }
+        ensures later { IsLater me.old me.new }
+    {
+        let view = self.view.another(cell)?;
+        let seen = self.seen.another(cell);
+        me.learn(rt, cell, seen);
+        me.legal();
+        Ok(view)
+    }
+}
+
+/// A view is spent, as each is.
+impl<L: Opening> Drop for KeptView<L> {
+    fn drop(self) {
+        let KeptView { view, seen: _ } = self;
+        view.spend().spend();
+    }
+}
+
+/// The view that is kept, if one is, and whether a reader asked since then.
+#[derive(Drop)]
+pub(crate) struct Latest<L: Opening> {
+    kept: Option<KeptView<L>>,
+    is_asked: bool,
+}
+
+impl<L: Opening> Latest<L> {
+    pub(crate) fn new() -> Latest<L> {
+        Latest {
+            kept: None,
+            is_asked: false,
+        }
+    }
+
+    // One more view of the moment of the one that is kept, where it has all commits that the caller has
+    // seen published, and those that the cell tells of.
+    fn another<R: Wait>(
+        &mut self,
+        rt: &R,
+        cell: &PublishedCell,
+        me: &mut Observer<L>,
+    ) -> Result<Option<SharedView<L>>, AllocError>
+        requires { cell.now.table.shared.table_id ≡ L.table }
+        ensures holds { IfOk result (λ found. IfSome found (HoldsSeen me.old me.new)) }
+        ensures later { IsLater me.old me.new }
+    {
+        self.is_asked = true;
+        let time = me.load(rt, cell);
+        match &mut self.kept {
+            Some(kept) if time <= kept.last() => Ok(Some(kept.another(rt, cell, me)?)),
+            _ => Ok(None),
+        }
+    }
+
+    // Keeps a view, unless a later one is kept. The one that goes is given back, so that it is let go
+    // without a lock.
+    fn keep(&mut self, view: KeptView<L>) -> Option<KeptView<L>> {
+        match &self.kept {
+            Some(kept) if view.last() < kept.last() => Some(view),
+            _ => mem::replace(&mut self.kept, Some(view)),
+        }
+    }
+}
+
+impl<D: Disk, L: Opening> SharedStore<D, L> {
+    /// A view of what is published, or was a moment ago, with every commit that the caller has seen
+    /// published. Those who ask again and again share it: the store's lock is taken only where none is
+    /// kept yet that is late enough, so that they do not wait for the device, nor hold up those who write.
+    /// One that nobody asked for between two groups is not kept, so that the next may change in its place
+    /// what no view shows.
+    pub fn latest_view<R: Wait>(
+        &self,
+        rt: &R,
+        me: &mut Observer<L>,
+    ) -> Result<SharedView<L>, AllocError>
+        ensures holds { IfOk result (HoldsSeen me.old me.new) }
+        ensures later { IsLater me.old me.new }
+    {
+        let found = self.latest.lock(rt).another(rt, &self.cell, me)?;
+        match found {
+            Some(view) => Ok(view),
+            None => self.view_to_keep(rt, me),
+        }
+    }
+
+    // A view of all that is published, which is kept too, unless memory is refused.
+    fn view_to_keep<R: Wait>(
+        &self,
+        rt: &R,
+        me: &mut Observer<L>,
+    ) -> Result<SharedView<L>, AllocError>
+        ensures holds { IfOk result (HoldsSeen me.old me.new) }
+        ensures later { IsLater me.old me.new }
+    {
+        let mut view = self.view(rt, me)?;
+        let seen = me.another(&self.cell);
+        if let Ok(again) = view.another(&self.cell) {
+            let _old = self.latest.lock(rt).keep(KeptView::of(again, seen));
+        }
+        Ok(view)
+    }
+
+    // Keeps a view of now in place of the one that was kept, where a reader asked for it, and else none.
+    // What was kept is given back, so that it is let go without a lock.
+    pub(crate) fn renew_latest<R: Wait>(
+        &self,
+        rt: &R,
+        locked: &mut Locked<D, L>,
+    ) -> Option<KeptView<L>> {
+        let mut latest = self.latest.lock(rt);
+        let next = if latest.is_asked {
+            locked.kept_view(rt, &self.cell)
+        } else {
+            None
+        };
+        latest.is_asked = false;
+        mem::replace(&mut latest.kept, next)
+    }
+}
