@@ -56,6 +56,7 @@ const _: () = prove!(size_of::<Older>() == 16);
 const _: () = prove!(size_of::<Branch>() == 24);
 
 /// What older writes are made of, in a loan: the writes of one piece, or branches one behind another.
+#[derive(Drop)]
 pub(crate) enum Parts<'a> {
     Writes(&'a [StampedWrite]),
     Branches(&'a [Branch]),
@@ -220,16 +221,6 @@ impl Older {
             _ => unreachable!(),
         }
     }
-
-    /// When the first write was made.
-    fn first_time(&self) -> Option<u64>
-        ensures { MatchOption result (self.now.pieces ≡ []) (λ first. BeginAt first self.now.pieces) }
-    {
-        match self.parts() {
-            Parts::Writes(writes) => Some(writes.first()?.time()),
-            Parts::Branches(branches) => Some(branches.first()?.first),
-        }
-    }
 }
 
 impl Branch {
@@ -237,7 +228,10 @@ impl Branch {
     pub(crate) fn of(older: Older) -> Option<Self>
         ensures { MatchOption result (older.pieces ≡ []) (λ b. b.pieces ≡ older.pieces) }
     {
-        let first = older.first_time()?;
+        let first = match older.parts() {
+            Parts::Writes(writes) => writes.first()?.time(),
+            Parts::Branches(branches) => branches.first()?.first,
+        };
         Some(Branch { first, older })
     }
 

@@ -53,11 +53,7 @@ impl Older {
     fn beside(&self, alloc: Global, piece: Piece) -> Result<Self, AllocError>
         ensures { IfOk result (λ o. o.pieces ≡ piece) }
     {
-        let branches = match self.parts() {
-            Parts::Writes(_) => return piece.into_older(alloc),
-            Parts::Branches(branches) => branches,
-        };
-        let [branch, ..] = branches else {
+        let Parts::Branches([branch, ..]) = self.parts() else {
             return piece.into_older(alloc);
         };
         let below = branch.writes().beside(alloc, piece)?;
@@ -118,12 +114,20 @@ impl Older {
         }
     }
 
-    /// Those of some writes of one piece that say something of times from the mark on.
-    fn kept_of(&self, alloc: Global, writes: &[StampedWrite], mark: u64) -> Result<Self, AllocError>
-        requires is { self.now.pieces ≡ writes.now }
-        requires rising { IsRisingAfter 0 writes.now }
-        ensures { IfOk result (λ o. o.pieces ≡ kept_after mark writes.now) }
+    /// Those of the writes that say something of times from the mark on.
+    pub(crate) fn kept(&self, alloc: Global, mark: u64) -> Result<Self, AllocError>
+        ensures { IfOk result (λ o. o.pieces ≡ kept_after mark self.now.pieces) }
     {
+        let writes = match self.parts() {
+            Parts::Writes(writes) => writes,
+            Parts::Branches(branches) => match from_begun(branches, mark) {
+                [] => return Ok(Older::new()),
+                [branch, behind @ ..] => {
+                    let first = branch.writes().kept(alloc, mark)?;
+                    return with_first(alloc, first, behind);
+                }
+            },
+        };
         let ended = ended_by(writes, mark);
         if ended == 0 {
             return self.share();
@@ -132,20 +136,5 @@ impl Older {
             None => Ok(Older::new()),
             Some(left) => left.into_older(alloc),
         }
-    }
-
-    /// Those of the writes that say something of times from the mark on.
-    pub(crate) fn kept(&self, alloc: Global, mark: u64) -> Result<Self, AllocError>
-        ensures { IfOk result (λ o. o.pieces ≡ kept_after mark self.now.pieces) }
-    {
-        let branches = match self.parts() {
-            Parts::Writes(writes) => return self.kept_of(alloc, writes, mark),
-            Parts::Branches(branches) => branches,
-        };
-        let [branch, behind @ ..] = from_begun(branches, mark) else {
-            return Ok(Older::new());
-        };
-        let first = branch.writes().kept(alloc, mark)?;
-        with_first(alloc, first, behind)
     }
 }

@@ -153,11 +153,7 @@ impl Piece {
         ensures { IfOk result (λ o. o.pieces ≡ self) }
     {
         match self.slots {
-            Slots::One(write) => {
-                let mut alone = Vec::with_capacity(alloc, 1)?;
-                alone.push(write)?;
-                Ok(Older::few(Arc::new(alloc, alone)?))
-            }
+            Slots::One(write) => Ok(Older::few(Arc::new(alloc, vec![in alloc; write]?)?)),
             Slots::Many { shared, .. } if shared.len() == MOST => older_of(alloc, shared),
             Slots::Many { shared, .. } => Ok(Older::few(shared)),
             Slots::Full { shared, .. } => Ok(Older::full(shared)),
