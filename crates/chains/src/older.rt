@@ -2,7 +2,7 @@
 ghost use Rattle.std.specs.Prelude.{◌≡◌, ◌<◌, ◌≤◌, [], IfOk, IsTrue, MatchOption, length};
 ghost use Rattle.history.specs.Time.{IsRisingAfter};
 ghost use Rattle.history.specs.Versions.{first_time};
-ghost use Rattle.chains.specs.Branches.{BeginAt, IsMadeOf};
+ghost use Rattle.chains.specs.Branches.{IsMadeOf};
 ghost use Rattle.chains.specs.Shapes.{all_of};
 
 use crate::branching::{NEARLY_ALL, WIDTH, padded};

@@ -8,7 +8,6 @@ use crate::branching::{WIDTH, add_branch, from_begun, room_for};
 use crate::older::{Branch, Older, Parts};
 use crate::piece::{MOST, Piece};
 use crate::share::{Share, add_shared};
-use crate::stamped::StampedWrite;
 use crate::write::ended_by;
 use std::alloc::{AllocError, Global};
 

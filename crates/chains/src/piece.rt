@@ -1,19 +1,16 @@
 //! Some writes of one key that lie together.
-ghost use Rattle.std.specs.Prelude.{◌≡◌, ◌<◌, ◌^◌, ◌∷◌, ◌++◌, [], IfOk, IfSome, IsTrue, OnErr, OnOk, find, length, option_map};
-ghost use Rattle.std.specs.Option.{option_copied};
-ghost use Rattle.history.specs.Time.{value_at, IsRisingAfter};
-ghost use Rattle.history.specs.Versions.{first_time, rows, ends_after};
+ghost use Rattle.std.specs.Prelude.{◌≡◌, ◌<◌, ◌^◌, ◌∷◌, ◌++◌, [], IfOk, IfSome, IsTrue, OnErr, OnOk, length};
+ghost use Rattle.history.specs.Time.{IsRisingAfter};
+ghost use Rattle.history.specs.Versions.{first_time};
 ghost use Rattle.chains.specs.Pieces.{held};
-ghost use Rattle.chains.specs.Rows.{versions_upto, version_of_loan};
-ghost use Rattle.chains.specs.Writes.{last_time, kept_after, is_after};
+ghost use Rattle.chains.specs.Writes.{last_time, kept_after};
 
-use crate::ending::ending_in;
 use crate::older::Older;
 use crate::share::{Share, add_shared};
 use crate::shared_value::SharedValue;
 use crate::stamped::StampedWrite;
-use crate::write::{ended_by, first_time_or, next_in, value_count, value_in};
-use history::{ENDLESS, TimedWrite, Version};
+use crate::write::{ended_by, first_time_or, value_count};
+use history::{ENDLESS, TimedWrite};
 use std::alloc::{AllocError, Global};
 use std::marker::Model;
 use std::slice;
@@ -266,27 +263,6 @@ impl Piece {
             Slots::Many { shared, .. } => shared.as_slice(),
             Slots::Full { shared, .. } => shared.as_slice(),
         }
-    }
-
-    /// The value at a time.
-    pub(crate) fn at(&self, time: u64) -> Option<&SharedValue>
-        ensures { option_copied result ≡ value_at self.now time }
-    {
-        value_in(self.as_slice(), time)
-    }
-
-    /// The first write made after a time.
-    pub(crate) fn next_after(&self, time: u64) -> Option<&StampedWrite>
-        ensures { option_copied result ≡ find (is_after time) self.now }
-    {
-        next_in(self.as_slice(), time)
-    }
-
-    /// The first version that ends after a time; the last one ends at `end`.
-    pub(crate) fn ending_after(&self, end: u64, time: u64) -> Option<Version<&SharedValue>>
-        ensures { option_map version_of_loan result ≡ find (ends_after time) (versions_upto end self.now) }
-    {
-        ending_in(self.as_slice(), end, time)
     }
 
     /// Whether each of its writes says something of times from the mark on.

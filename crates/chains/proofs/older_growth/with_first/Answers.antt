@@ -1,6 +1,6 @@
 use Rattle.std.proofs.Common.{◌≡◌, ◌∙◌, ◌++◌, List, IfOk, ap, sym, subst}
 use Rattle.history.specs.Time.{IsRisingAfter}
-use Rattle.chains.specs.Shapes.{Shape, all_of}
+use Rattle.chains.specs.Shapes.{all_of}
 use Rattle.chains.specs.Writes.{Write}
 use Rattle.chains.proofs.Shapes.{all_of-append}
 use Rattle.chains.proofs.older_growth.with_first.Goals as goal

@@ -1,6 +1,5 @@
 use Rattle.std.proofs.Common.{◌≡◌, ◌++◌, List, IfOk, sym, subst, rules}
 use Rattle.history.specs.Time.{IsRisingAfter}
-use Rattle.chains.specs.Shapes.{all_of}
 use Rattle.chains.specs.Writes.{Write}
 use Rattle.chains.proofs.Branches.{last_lower, last_rising, longer_writes, later_writes}
 use Rattle.chains.proofs.older.Older.+with_room_taken.Goals as goal
