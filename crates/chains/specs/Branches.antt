@@ -19,20 +19,12 @@ older_in (Wide count shared) = record { pieces = all_of (take count shared.value
 
 -- they rise by their times, and no more branches are told of than can lie together
 abbrev pub IsOlder : Inside → Type 0
-IsOlder Nothing = Unit {0}
-IsOlder (Few shared) = IsRisingAfter 0 shared.value.items
-IsOlder (Full shared) = IsRisingAfter 0 shared.value
-IsOlder (Fork shared) = IsRisingAfter 0 (all_of shared.value.items)
 IsOlder (Wide count shared) = IsRisingAfter 0 (all_of (take count shared.value)) × (count ≤ 32)
+IsOlder inside = IsRisingAfter 0 (older_in inside).pieces
 
 -- some writes by rising times, of which the first was made at that time
 abbrev pub BeginAt : ℕ → List Write → Type 0
 BeginAt first writes = IsRisingAfter 0 writes × (0 < length writes) × (first ≡ first_time writes)
-
--- older writes are those of one piece
-pub record IsLeaf (older : Shape Write) (writes : List Write) : Type 0 where
-  pub is : older ≡ record { pieces = writes; height = 0 }
-  pub rising : IsRisingAfter 0 writes
 
 -- older writes are those of these branches
 pub record IsFork (fork : Shape Write) (branches : List (Shape Write)) : Type 0 where
@@ -42,7 +34,7 @@ pub record IsFork (fork : Shape Write) (branches : List (Shape Write)) : Type 0 
 
 -- what older writes are made of
 abbrev pub IsMadeOf : Shape Write → Parts → Type 0
-IsMadeOf older (Writes writes) = IsLeaf older writes.now
+IsMadeOf older (Writes writes) = (older ≡ record { pieces = writes.now; height = 0 }) × IsRisingAfter 0 writes.now
 IsMadeOf older (Branches branches) = IsFork older branches.now
 
 -- there are branches, of which the first begins by a time

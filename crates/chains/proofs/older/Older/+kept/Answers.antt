@@ -22,4 +22,4 @@ returns-in-len1-up t c =
     subst (λ (ws : List Write). IfOk c.with_first.result (λ o. o.pieces ≡ ws)) (ap (λ (ws : List Write). ws ++ all_of (behind c.from_begun.result.now)) first ∙ sym kept) c.with_first.ensures
 
 pub of_shared-requires : goal.of_shared-requires
-of_shared-requires t c = rw (take_rest c.in-Writes.writes.now c.ended_by-ended.result) (rising-drop c.ended_by-ended.result 0 c.in-Writes.writes.now c.in-Writes.ensures.rising)
+of_shared-requires t c = rw (take_rest c.in-Writes.writes.now c.ended_by-ended.result) (rising-drop c.ended_by-ended.result 0 c.in-Writes.writes.now c.in-Writes.ensures.1)

@@ -7,8 +7,8 @@ use Rattle.chains.proofs.older.Older.+piece_at.Goals as goal
 
 pub returns-in-Writes-clause-is : goal.returns-in-Writes-clause-is
 returns-in-Writes-clause-is t c =
-    let ended : last_time c.in-Writes.writes.now ≤ c.args.end = rw c.in-Writes.ensures.is at c.requires.ended in
-    rw c.in-Writes.ensures.is (front-whole c.args.time c.args.end c.in-Writes.writes.now c.in-Writes.ensures.rising ended c.requires.later)
+    let ended : last_time c.in-Writes.writes.now ≤ c.args.end = rw c.in-Writes.ensures.0 at c.requires.ended in
+    rw c.in-Writes.ensures.0 (front-whole c.args.time c.args.end c.in-Writes.writes.now c.in-Writes.ensures.1 ended c.requires.later)
 
 pub piece_at-requires : goal.piece_at-requires
 piece_at-requires t c =
