@@ -270,8 +270,8 @@ module _ {self : Shape Write} {bs : List (Shape Write)} (fork : IsFork self bs) 
     from-first : IsFrom t bs (b ∷ behind rest)
     from-first = subst (λ (l : List (Shape Write)). IsFrom t bs l) (rest_is rest some is) from
 
-    pub lower : b.height < self.height
-    lower = omega (arith, first_low rest some is, rest_low)
+    pub lower : {h : ℕ} → h < b.height → h < self.height
+    lower below = omega (arith, first_low rest some is, rest_low, below)
 
     pub fork_value : value_at self.pieces t ≡ value_at b.pieces t
     fork_value = ap (λ (ws : List Write). value_at ws t) (sym fork.writes) ∙ value_from from-first
@@ -303,15 +303,12 @@ module _ {self : Shape Write} {bs : List (Shape Write)} (fork : IsFork self bs) 
 
 module _ {self : Shape Write} {bs : List (Shape Write)} (fork : IsFork self bs) (p : List Write) where
   -- beside the last
-  pub later_writes : (later : Shape Write) → later.pieces ≡ p → all_of (bs ++ later ∷ []) ≡ self.pieces ++ p
-  later_writes later is =
-      all_of-append bs (later ∷ [])
-      ∙ ap (λ (ws : List Write). all_of bs ++ ws) (append-nil later.pieces ∙ is)
-      ∙ ap (λ (ws : List Write). ws ++ p) fork.writes
+  pub later_writes : (later : List Write) → later ≡ p → all_of bs ++ later ≡ self.pieces ++ p
+  later_writes later is = ap (λ (ws : List Write). all_of bs ++ ws) is ∙ ap (λ (ws : List Write). ws ++ p) fork.writes
 
   module _ {last : Shape Write} (some : 1 ≤ length bs) (is : last ≡ get_or bs (length bs - 1) last) where
-    pub last_lower : last.height < self.height
-    last_lower = omega (arith, fork.height, at_low bs (length bs - 1) last (omega (arith, some)) is)
+    pub last_lower : {h : ℕ} → h < last.height → h < self.height
+    last_lower below = omega (arith, fork.height, at_low bs (length bs - 1) last (omega (arith, some)) is, below)
 
     whole : self.pieces ++ p ≡ all_of (before bs) ++ (last.pieces ++ p)
     whole =
@@ -322,8 +319,5 @@ module _ {self : Shape Write} {bs : List (Shape Write)} (fork : IsFork self bs) 
     last_rising rising = rising-back 0 (all_of (before bs)) (last.pieces ++ p) (subst (IsRisingAfter 0) whole rising)
 
     -- in the last
-    pub longer_writes : (longer : Shape Write) → longer.pieces ≡ last.pieces ++ p → all_of (before bs ++ longer ∷ []) ≡ self.pieces ++ p
-    longer_writes longer same =
-        all_of-append (before bs) (longer ∷ [])
-        ∙ ap (λ (ws : List Write). all_of (before bs) ++ ws) (append-nil longer.pieces ∙ same)
-        ∙ sym whole
+    pub longer_writes : (longer : List Write) → longer ≡ last.pieces ++ p → all_of (before bs) ++ longer ≡ self.pieces ++ p
+    longer_writes longer same = ap (λ (ws : List Write). all_of (before bs) ++ ws) same ∙ sym whole

@@ -67,19 +67,13 @@ pub no-versions : (vs : List (Version Value)) → 0 ≡ length vs → vs ≡ []
 no-versions [] none = refl
 no-versions (v ∷ vs) none = absurd (omega arith)
 
--- told of the writes as a piece shows them, and as it shares them; and where there are none
-module _ (t end : ℕ) (ws shown : List Write) (n values : ℕ) (is_shown : shown ≡ ws) (first : slice_get (versions_upto end (drop n shown)) 0 ≡ find (ends_after t) (versions_upto end shown))
-    (counted : values ≡ length (versions_upto end (take (length shown - n) (drop n shown)))) where
-  left : values ≡ length (versions_upto end (drop n shown))
-  left = counted ∙ ap (λ (l : List Write). length (versions_upto end l)) (take_rest shown n)
+-- told of how many versions stand behind those; and where there are none
+module _ (t end : ℕ) (ws : List Write) (n values : ℕ) (first : slice_get (versions_upto end (drop n ws)) 0 ≡ find (ends_after t) (versions_upto end ws)) (counted : values ≡ length (versions_upto end (take (length ws - n) (drop n ws)))) where
+  left : values ≡ length (versions_upto end (drop n ws))
+  left = counted ∙ ap (λ (l : List Write). length (versions_upto end l)) (take_rest ws n)
 
-  pub found-in : (shared : List Write) → shared ≡ ws → 0 < values → IsPartFrom t (versions_upto end ws) (versions_upto end (drop n shared))
-  found-in shared is_shared some =
-      let long : 0 < length (versions_upto end (drop n shown)) = omega (arith, left) in
-      subst (λ (l : List Write). IsPartFrom t (versions_upto end ws) (versions_upto end (drop n l))) (sym is_shared)
-      (subst (λ (l : List Write). IsPartFrom t (versions_upto end l) (versions_upto end (drop n l))) is_shown (found-from t end shown n first long))
+  pub found-in : 0 < values → IsPartFrom t (versions_upto end ws) (versions_upto end (drop n ws))
+  found-in some = found-from t end ws n first (omega (arith, left))
 
   pub none-in : values ≡ 0 → find (ends_after t) (versions_upto end ws) ≡ None
-  none-in none =
-      let empty : versions_upto end (drop n shown) ≡ [] = no-versions (versions_upto end (drop n shown)) (sym none ∙ left) in
-      subst (λ (l : List Write). find (ends_after t) (versions_upto end l) ≡ None) is_shown (sym first ∙ ap (λ (vs : List (Version Value)). slice_get vs 0) empty)
+  none-in none = sym first ∙ ap (λ (vs : List (Version Value)). slice_get vs 0) (no-versions (versions_upto end (drop n ws)) (sym none ∙ left))

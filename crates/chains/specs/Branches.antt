@@ -1,46 +1,41 @@
--- One key's writes in branches: pieces of them, and below one another several branches that lie together.
-use Rattle.std.specs.Prelude.{ℕ, ◌≡◌, ◌+◌, ◌<◌, ◌≤◌, List, [], ◌∷◌, ◌++◌, length, take, Option, None, Some}
+-- One key's older writes: those of one piece, or those of several branches that lie together, one behind another.
+use Rattle.std.specs.Prelude.{ℕ, ◌≡◌, ◌+◌, ◌<◌, ◌≤◌, List, [], ◌∷◌, ◌++◌, length, take}
 use Rattle.history.specs.Time.{IsRisingAfter}
 use Rattle.history.specs.Versions.{first_time}
 use Rattle.chains.specs.Shapes.{Shape, all_of, highest}
 use Rattle.chains.specs.Writes.{Write}
-use Rattle.chains.specs.declared.branch.Parts.{Parts}
-use Rattle.chains.specs.declared.branch.Parts.TheVariants.{OnePiece, Branches}
-use Rattle.chains.specs.declared.branch.Inside.{Inside}
-use Rattle.chains.specs.declared.branch.Inside.TheVariants.{Leaf, Fork, Wide}
+use Rattle.chains.specs.declared.older.Parts.{Parts}
+use Rattle.chains.specs.declared.older.Parts.TheVariants.{Writes, Branches}
+use Rattle.chains.specs.declared.older.Inside.{Inside}
+use Rattle.chains.specs.declared.older.Inside.TheVariants.{Nothing, Few, Full, Fork, Wide}
 
--- the writes of a branch that may be there, none where it is not
-abbrev pub held_in : Option (Shape Write) → List Write
-held_in None = []
-held_in (Some b) = b.pieces
+-- the writes, oldest first, and how many forks and branches stand above one another among them
+abbrev pub older_in : Inside → Shape Write
+older_in Nothing = record { pieces = []; height = 0 }
+older_in (Few shared) = record { pieces = shared.value.items; height = 0 }
+older_in (Full shared) = record { pieces = shared.value; height = 0 }
+older_in (Fork shared) = record { pieces = all_of shared.value.items; height = highest shared.value.items + 1 }
+older_in (Wide count shared) = record { pieces = all_of (take count shared.value); height = highest shared.value + 1 }
 
--- the writes of a branch, oldest first, and how many forks stand above one another in it
-abbrev pub branch_in : Inside → Shape Write
-branch_in (Leaf piece) = record { pieces = piece; height = 0 }
-branch_in (Fork first shared) = record { pieces = all_of shared.value.items; height = highest shared.value.items + 1 }
-branch_in (Wide first count shared) = record { pieces = all_of (take count shared.value); height = highest shared.value + 1 }
+-- they rise by their times, and no more branches are told of than can lie together
+abbrev pub IsOlder : Inside → Type 0
+IsOlder (Wide count shared) = IsRisingAfter 0 (all_of (take count shared.value)) × (count ≤ 32)
+IsOlder inside = IsRisingAfter 0 (older_in inside).pieces
 
 -- some writes by rising times, of which the first was made at that time
 abbrev pub BeginAt : ℕ → List Write → Type 0
 BeginAt first writes = IsRisingAfter 0 writes × (0 < length writes) × (first ≡ first_time writes)
 
--- what lies below a fork are some writes by rising times, and it says when the first of them was made
-abbrev pub IsBranch : Inside → Type 0
-IsBranch (Leaf piece) = Unit {0}
-IsBranch (Fork first shared) = BeginAt first (all_of shared.value.items)
-IsBranch (Wide first count shared) = BeginAt first (all_of (take count shared.value)) × (count ≤ 32)
-
--- a branch is a fork of these
+-- older writes are those of these branches
 pub record IsFork (fork : Shape Write) (branches : List (Shape Write)) : Type 0 where
   pub writes : all_of branches ≡ fork.pieces
   pub height : highest branches < fork.height
-  pub some : 0 < length (all_of branches)
   pub rising : IsRisingAfter 0 (all_of branches)
 
--- what a branch is made of
+-- what older writes are made of
 abbrev pub IsMadeOf : Shape Write → Parts → Type 0
-IsMadeOf branch (OnePiece piece) = branch ≡ record { pieces = piece.now; height = 0 }
-IsMadeOf branch (Branches branches) = IsFork branch branches.now
+IsMadeOf older (Writes writes) = (older ≡ record { pieces = writes.now; height = 0 }) × IsRisingAfter 0 writes.now
+IsMadeOf older (Branches branches) = IsFork older branches.now
 
 -- there are branches, of which the first begins by a time
 abbrev pub BeginBy : ℕ → List (Shape Write) → Type 0

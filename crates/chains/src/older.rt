@@ -1,180 +1,256 @@
-//! The writes of a key but those of its last piece.
-ghost use Rattle.std.specs.Prelude.{◌≡◌, ◌<◌, ◌≤◌, ◌++◌, [], IfOk, IfSome, IsTrue, MatchOption, OnOk, find, option_map};
-ghost use Rattle.std.specs.Option.{option_copied};
-ghost use Rattle.history.specs.Time.{value_at, IsRisingAfter};
-ghost use Rattle.history.specs.Versions.{rows, ends_after};
-ghost use Rattle.chains.specs.Found.{IsFound};
-ghost use Rattle.chains.specs.Rows.{versions_upto, version_of_loan, IsFront};
-ghost use Rattle.chains.specs.Writes.{kept_after, is_after, last_time};
+//! One key's older writes: pieces in a search tree whose nodes are wide.
+ghost use Rattle.std.specs.Prelude.{◌≡◌, ◌<◌, ◌≤◌, [], IfOk, IsTrue, MatchOption, length};
+ghost use Rattle.history.specs.Time.{IsRisingAfter};
+ghost use Rattle.history.specs.Versions.{first_time};
+ghost use Rattle.chains.specs.Branches.{IsMadeOf};
+ghost use Rattle.chains.specs.Shapes.{all_of};
 
-use crate::branch::Branch;
-use crate::part::Part;
-use crate::piece::Piece;
-use crate::rows::Rows;
+use crate::branching::{NEARLY_ALL, WIDTH, padded};
+use crate::piece::{MOST, Piece};
 use crate::share::Share;
-use crate::shared_value::SharedValue;
 use crate::stamped::StampedWrite;
-use history::Version;
 use std::alloc::{AllocError, Global};
 use std::marker::Model;
+use std::mem::size_of;
+use std::sync::Arc;
 
-/// The older writes of a key, oldest first; most keys have none. It never changes, and shares its memory
-/// with what it was taken from.
+/// The writes of a key but those of its last piece, oldest first; most keys have none. They never change,
+/// and share their memory with what they were taken from.
+#[cycle(older)]
 #[derive(Drop)]
 pub(crate) struct Older {
-    root: Option<Branch>,
+    inside: Inside,
+}
+
+#[cycle(older)]
+#[derive(Drop)]
+enum Inside {
+    Nothing,
+    /// The writes of one piece.
+    Few(Arc<Vec<StampedWrite>>),
+    /// As many as one piece has at most, which lie beside the count of those who share them: one place of
+    /// memory less on the way to them.
+    Full(Arc<[StampedWrite; MOST]>),
+    /// Branches one behind another that lie together, so that a search among them reads few places that lie
+    /// apart.
+    Fork(Arc<Vec<Branch>>),
+    /// Nearly as many as can, or as many, beside the count of those who share them. Those behind so many are
+    /// the last of them again.
+    Wide {
+        count: u8,
+        shared: Arc<[Branch; WIDTH]>,
+    },
+}
+
+/// Some older writes, at least one, and when the first of them was made, so that a search among branches
+/// reads no writes but those that it is for.
+#[cycle(older)]
+#[derive(Drop)]
+pub(crate) struct Branch {
+    first: u64,
+    older: Older,
+}
+
+const _: () = prove!(size_of::<Older>() == 16);
+
+const _: () = prove!(size_of::<Branch>() == 24);
+
+/// What older writes are made of, in a loan: the writes of one piece, or branches one behind another.
+#[derive(Drop)]
+pub(crate) enum Parts<'a> {
+    Writes(&'a [StampedWrite]),
+    Branches(&'a [Branch]),
 }
 
 impl Model for Older {
-    ghost use Rattle.std.specs.Prelude.{List};
+    ghost use Rattle.chains.specs.Shapes.{Shape};
     ghost use Rattle.chains.specs.Writes.{Write};
 
-    ghost Value = { List Write };
+    ghost Value = { Shape Write };
 
-    ghost use Rattle.chains.specs.Branches.{held_in};
+    ghost use Rattle.chains.specs.Branches.{older_in, IsOlder};
 
-    ghost view = { λ o. held_in o.root };
+    ghost view = { λ o. older_in o.inside };
+
+    ghost invariant = { λ o. IsOlder o.inside };
+
+    ghost size = { λ o. o.height };
+
+    ghost use Rattle.chains.specs.BranchesFall.{depth_le-height};
+
+    ghost size_decreases = { λ a h. depth_le-height a.inside };
+}
+
+impl Model for Branch {
+    ghost use Rattle.std.specs.Prelude.{◌+◌};
+    ghost use Rattle.chains.specs.Shapes.{Shape};
+    ghost use Rattle.chains.specs.Writes.{Write};
+
+    ghost Value = { Shape Write };
+
+    ghost view = { λ b. record { pieces = b.older.pieces; height = b.older.height + 1 } };
+
+    ghost use Rattle.chains.specs.Branches.{BeginAt};
+
+    ghost invariant = { λ b. BeginAt b.first b.older.pieces };
+
+    ghost size = { λ b. b.height };
+
+    ghost use Rattle.std.proofs.Common.{arith};
+
+    ghost size_decreases = { λ a h. Prim.grind (arith) };
 }
 
 impl Share for Older {
     fn share(&self) -> Result<Self, AllocError> {
-        let root = match &self.root {
-            None => None,
-            Some(root) => Some(root.share()?),
+        let inside = match &self.inside {
+            Inside::Nothing => Inside::Nothing,
+            Inside::Few(shared) => Inside::Few(Arc::try_clone(shared)?),
+            Inside::Full(shared) => Inside::Full(Arc::try_clone(shared)?),
+            Inside::Fork(shared) => Inside::Fork(Arc::try_clone(shared)?),
+            Inside::Wide { count, shared } => Inside::Wide {
+                count: *count,
+                shared: Arc::try_clone(shared)?,
+            },
         };
-        Ok(Older { root })
+        Ok(Older { inside })
+    }
+}
+
+impl Share for Branch {
+    fn share(&self) -> Result<Self, AllocError> {
+        Ok(Branch {
+            first: self.first,
+            older: self.older.share()?,
+        })
     }
 }
 
 impl Older {
     /// Without any write.
     pub(crate) fn new() -> Self
-        ensures { result ≡ [] }
+        ensures { result.pieces ≡ [] }
     {
-        Older { root: None }
+        Older {
+            inside: Inside::Nothing,
+        }
     }
 
-    fn of(branch: Branch) -> Self
-        ensures { result ≡ branch.pieces }
+    /// The writes of one piece.
+    pub(crate) fn few(writes: Arc<Vec<StampedWrite>>) -> Self
+        requires { IsRisingAfter 0 writes.value.items }
+        ensures { result.pieces ≡ writes.value.items }
     {
-        Older { root: Some(branch) }
+        Older {
+            inside: Inside::Few(writes),
+        }
+    }
+
+    /// The writes of one piece, as many as it has at most.
+    pub(crate) fn full(writes: Arc<[StampedWrite; MOST]>) -> Self
+        requires { IsRisingAfter 0 writes.value }
+        ensures { result.pieces ≡ writes.value }
+    {
+        Older {
+            inside: Inside::Full(writes),
+        }
+    }
+
+    /// The writes of branches, one behind another.
+    pub(crate) fn fork(alloc: Global, branches: Vec<Branch>) -> Result<Self, AllocError>
+        requires { IsRisingAfter 0 (all_of branches.items) }
+        ensures { IfOk result (λ o. o.pieces ≡ all_of branches.items) }
+    {
+        let count = branches.len();
+        if NEARLY_ALL <= count && count <= WIDTH {
+            return Self::wide(alloc, branches);
+        }
+        let shared = Arc::new(alloc, branches)?;
+        Ok(Older {
+            inside: Inside::Fork(shared),
+        })
+    }
+
+    /// The same, in the memory of as many as lie together at most.
+    fn wide(alloc: Global, branches: Vec<Branch>) -> Result<Self, AllocError>
+        requires rising { IsRisingAfter 0 (all_of branches.items) }
+        requires some { 0 < length branches.items }
+        requires few { length branches.items ≤ 32 }
+        ensures { IfOk result (λ o. o.pieces ≡ all_of branches.items) }
+    {
+        let count = branches.len() as u8;
+        let Ok(full) = <[Branch; WIDTH]>::try_from(padded(branches)?) else {
+            unreachable!()
+        };
+        let shared = Arc::new(alloc, full)?;
+        Ok(Older {
+            inside: Inside::Wide { count, shared },
+        })
     }
 
     /// Whether there are none.
     pub(crate) fn is_empty(&self) -> bool
-        ensures { IsTrue result → self.now ≡ [] }
+        ensures { IsTrue result → self.now.pieces ≡ [] }
     {
-        self.root.is_none()
+        matches!(&self.inside, Inside::Nothing)
     }
 
-    /// The value at a time.
-    pub(crate) fn at(&self, time: u64) -> Option<&SharedValue>
-        ensures { option_copied result ≡ value_at self.now time }
+    /// What they are made of.
+    #[inline]
+    pub(crate) fn parts(&self) -> Parts<'_>
+        ensures { IsMadeOf self.now result }
     {
-        match &self.root {
-            None => None,
-            Some(branch) => branch.at(time),
+        match &self.inside {
+            Inside::Nothing => Parts::Writes(&[]),
+            Inside::Few(shared) => Parts::Writes(shared.as_slice()),
+            Inside::Full(shared) => Parts::Writes(shared.as_slice()),
+            Inside::Fork(shared) => Parts::Branches(shared.as_slice()),
+            Inside::Wide { count, shared } => Parts::Branches(&shared[..*count as usize]),
         }
     }
 
-    /// The first write made after a time.
-    pub(crate) fn next_after(&self, time: u64) -> Option<&StampedWrite>
-        ensures { option_copied result ≡ find (is_after time) self.now }
+    /// A piece that is one more holder of the same writes.
+    pub(crate) fn piece(&self) -> Result<Piece, AllocError>
+        requires one { self.now.height ≡ 0 }
+        requires some { 0 < length self.now.pieces }
+        ensures { IfOk result (λ p. p ≡ self.now.pieces) }
     {
-        match &self.root {
-            None => None,
-            Some(branch) => branch.next_after(time),
+        match &self.inside {
+            Inside::Few(shared) => Ok(Piece::many(Arc::try_clone(shared)?)),
+            Inside::Full(shared) => Ok(Piece::full(Arc::try_clone(shared)?)),
+            _ => unreachable!(),
         }
     }
+}
 
-    /// The first version that ends after a time; the last one ends at `end`.
-    pub(crate) fn ending_after(&self, end: u64, time: u64) -> Option<Version<&SharedValue>>
-        ensures { option_map version_of_loan result ≡ find (ends_after time) (versions_upto end self.now) }
+impl Branch {
+    /// The same writes, where there are some.
+    pub(crate) fn of(older: Older) -> Option<Self>
+        ensures { MatchOption result (older.pieces ≡ []) (λ b. b.pieces ≡ older.pieces) }
     {
-        match &self.root {
-            None => None,
-            Some(branch) => branch.ending_after(end, time),
-        }
-    }
-
-    /// Versions of one piece, from the first one on that ends after the time; the last of all ends at
-    /// `end`. It looks at those that begin before the time `near`.
-    pub(crate) fn part_after(
-        &self,
-        end: u64,
-        time: u64,
-        near: u64,
-    ) -> Result<Option<Part>, AllocError>
-        ensures { IfOk result (IsFound time (versions_upto end self.now)) }
-    {
-        match &self.root {
-            None => Ok(None),
-            Some(branch) => branch.part_after(end, time, near),
-        }
-    }
-
-    /// The writes of the last piece that begins by the time, or else of the first one, and when their last
-    /// version ends; the last of all ends at `end`.
-    pub(crate) fn piece_at(&self, end: u64, time: u64) -> Option<(&[StampedWrite], u64)>
-        requires ended { last_time self.now ≤ end }
-        requires later { time < end }
-        ensures rising { IfSome result (λ found. IsRisingAfter 0 found.0.now) }
-        ensures is { MatchOption result (self.now ≡ []) (λ found. IsFront time found.1 (versions_upto end self.now) (versions_upto found.1 found.0.now) × (found.1 ≤ end)) }
-    {
-        match &self.root {
-            None => None,
-            Some(branch) => Some(branch.piece_at(end, time)),
-        }
-    }
-
-    /// Puts behind the rows those of its versions, of which the last ends at `end`, from `a` to `b`.
-    pub(crate) fn add_rows(
-        &self,
-        found: &mut Rows,
-        end: u64,
-        a: u64,
-        b: u64,
-    ) -> Result<(), AllocError>
-        ensures { OnOk result (found.new.items ≡ found.old.items ++ rows (versions_upto end self.now) a b) }
-    {
-        match &self.root {
-            None => Ok(()),
-            Some(branch) => branch.add_rows(found, end, a, b),
-        }
-    }
-
-    /// Whether each of the writes says something of times from the mark on.
-    pub(crate) fn is_kept(&self, mark: u64) -> bool
-        ensures { IsTrue result → kept_after mark self.now ≡ self.now }
-    {
-        match &self.root {
-            None => true,
-            Some(branch) => branch.is_kept(mark),
-        }
-    }
-
-    /// Those of the writes that say something of times from the mark on.
-    pub(crate) fn kept(&self, alloc: Global, mark: u64) -> Result<Self, AllocError>
-        ensures { IfOk result (λ o. o ≡ kept_after mark self.now) }
-    {
-        let Some(root) = &self.root else {
-            return Ok(Older::new());
+        let first = match older.parts() {
+            Parts::Writes(writes) => writes.first()?.time(),
+            Parts::Branches(branches) => branches.first()?.first,
         };
-        match root.kept(alloc, mark)? {
-            None => Ok(Older::new()),
-            Some(branch) => Ok(Older::of(branch)),
-        }
+        Some(Branch { first, older })
     }
 
-    /// The same with a piece behind: the last two are made one where they are small.
-    pub(crate) fn with_piece(&self, alloc: Global, piece: Piece) -> Result<Self, AllocError>
-        requires { IsRisingAfter 0 (self.now ++ piece) }
-        ensures { IfOk result (λ o. o ≡ self.now ++ piece) }
+    /// When the first of its writes was made.
+    #[inline]
+    pub(crate) fn first_time(&self) -> u64
+        ensures is { result ≡ first_time self.now.pieces }
+        ensures some { 0 < length self.now.pieces }
+        ensures rising { IsRisingAfter 0 self.now.pieces }
     {
-        let longer = match &self.root {
-            None => Branch::leaf(piece.into_packed(alloc)?),
-            Some(branch) => branch.grown(alloc, piece)?,
-        };
-        Ok(Older::of(longer))
+        self.first
+    }
+
+    /// Its writes.
+    #[inline]
+    pub(crate) fn writes(&self) -> &Older
+        ensures is { result.now.pieces ≡ self.now.pieces }
+        ensures lower { result.now.height < self.now.height }
+    {
+        &self.older
     }
 }

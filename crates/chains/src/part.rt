@@ -1,5 +1,5 @@
 //! Versions of one key that lie together, for who goes over all of them.
-ghost use Rattle.std.specs.Prelude.{◌≡◌, ◌<◌, ◌≤◌, ℕ, IfOk, IsTrue, None, false, drop, find, length, option_map, slice_get};
+ghost use Rattle.std.specs.Prelude.{◌≡◌, ◌<◌, ◌≤◌, ℕ, IfOk, IfSome, IsTrue, None, false, drop, find, length, option_map, slice_get};
 ghost use Rattle.history.specs.Versions.{version_of, ends_after};
 ghost use Rattle.chains.specs.Found.{IsFound};
 ghost use Rattle.chains.specs.Rows.{versions_upto, version_of_loan};
@@ -130,7 +130,29 @@ fn version_count(writes: &[StampedWrite], near: u64) -> usize
     count
 }
 
+/// How many of these writes stand before the first version that ends after the time, none where no version
+/// does; the last one ends at `end`. It looks at those that begin before the time `near`.
+pub(crate) fn before_part(writes: &[StampedWrite], end: u64, time: u64, near: u64) -> Option<usize>
+    ensures within { IfSome result (λ passed. passed ≤ length writes.now) }
+    ensures is { IsFound time (versions_upto end writes.now) (option_map (λ passed. versions_upto end (drop passed writes.now)) result) }
+{
+    let passed = before_ending(writes, end, time);
+    let versions = version_count(&writes[passed..], near);
+    if versions == 0 {
+        return None;
+    }
+    Some(passed)
+}
+
 impl Part {
+    /// The versions of a piece, without those of so many of its writes; the last one ends at `end`.
+    pub(crate) fn new(piece: Piece, end: u64, passed: usize) -> Self
+        requires { passed ≤ length piece }
+        ensures { result ≡ versions_upto end (drop passed piece) }
+    {
+        Part { piece, end, passed }
+    }
+
     /// The versions of a piece from the first one on that ends after the time; the last one ends at
     /// `end`. It looks at those that begin before the time `near`.
     pub(crate) fn of(
@@ -141,17 +163,10 @@ impl Part {
     ) -> Result<Option<Part>, AllocError>
         ensures { IfOk result (IsFound time (versions_upto end piece.now)) }
     {
-        let writes = piece.as_slice();
-        let passed = before_ending(writes, end, time);
-        let versions = version_count(&writes[passed..], near);
-        if versions == 0 {
-            return Ok(None);
+        match before_part(piece.as_slice(), end, time, near) {
+            None => Ok(None),
+            Some(passed) => Ok(Some(Part::new(piece.share()?, end, passed))),
         }
-        Ok(Some(Part {
-            piece: piece.share()?,
-            end,
-            passed,
-        }))
     }
 
     /// The first of the versions.

@@ -1,26 +1,23 @@
 //! Some writes of one key that lie together.
-ghost use Rattle.std.specs.Prelude.{◌≡◌, ◌<◌, ◌^◌, ◌∷◌, ◌++◌, [], IfOk, IfSome, IsTrue, OnErr, OnOk, find, length, option_map};
-ghost use Rattle.std.specs.Option.{option_copied};
-ghost use Rattle.history.specs.Time.{value_at, IsRisingAfter};
-ghost use Rattle.history.specs.Versions.{first_time, rows, ends_after};
+ghost use Rattle.std.specs.Prelude.{◌≡◌, ◌<◌, ◌^◌, ◌∷◌, ◌++◌, [], IfOk, IfSome, IsTrue, OnErr, OnOk, length};
+ghost use Rattle.history.specs.Time.{IsRisingAfter};
+ghost use Rattle.history.specs.Versions.{first_time};
 ghost use Rattle.chains.specs.Pieces.{held};
-ghost use Rattle.chains.specs.Rows.{versions_upto, version_of_loan};
-ghost use Rattle.chains.specs.Writes.{last_time, kept_after, is_after};
+ghost use Rattle.chains.specs.Writes.{last_time, kept_after};
 
-use crate::ending::ending_in;
-use crate::rows::{Rows, add_rows_of, near_count};
+use crate::older::Older;
 use crate::share::{Share, add_shared};
 use crate::shared_value::SharedValue;
 use crate::stamped::StampedWrite;
-use crate::write::{ended_by, first_time_or, next_in, value_count, value_in};
-use history::{ENDLESS, TimedWrite, Version};
+use crate::write::{ended_by, first_time_or, value_count};
+use history::{ENDLESS, TimedWrite};
 use std::alloc::{AllocError, Global};
 use std::marker::Model;
 use std::slice;
 use std::sync::Arc;
 
 /// How many writes a piece has at most.
-const MOST: usize = 32;
+pub(crate) const MOST: usize = 32;
 
 /// Where the writes of a piece lie.
 #[derive(Drop)]
@@ -80,68 +77,84 @@ impl Share for Piece {
 }
 
 impl Piece {
+    /// A piece of writes that lie together.
+    pub(crate) fn many(shared: Arc<Vec<StampedWrite>>) -> Self
+        requires rising { IsRisingAfter 0 shared.value.items }
+        requires some { 0 < length shared.value.items }
+        ensures { result ≡ shared.value.items }
+    {
+        let first = first_time_or(shared.as_slice(), ENDLESS);
+        Piece {
+            slots: Slots::Many { first, shared },
+        }
+    }
+
+    /// A piece of as many as it has at most.
+    pub(crate) fn full(shared: Arc<[StampedWrite; MOST]>) -> Self
+        requires rising { IsRisingAfter 0 shared.value }
+        requires some { 0 < length shared.value }
+        ensures { result ≡ shared.value }
+    {
+        let first = first_time_or(shared.as_slice(), ENDLESS);
+        Piece {
+            slots: Slots::Full { first, shared },
+        }
+    }
+
     fn of(alloc: Global, writes: Vec<StampedWrite>) -> Result<Self, AllocError>
         requires rising { IsRisingAfter 0 writes.items }
         requires some { 0 < length writes.items }
         ensures { IfOk result (λ p. p ≡ writes.items) }
     {
         if writes.len() == MOST {
-            return Self::full(alloc, writes);
+            return Ok(Self::full(packed(alloc, writes)?));
         }
-        let first = first_time_or(writes.as_slice(), ENDLESS);
-        let shared = Arc::new(alloc, writes)?;
-        Ok(Piece {
-            slots: Slots::Many { first, shared },
-        })
+        Ok(Self::many(Arc::new(alloc, writes)?))
     }
 
-    /// The same, where they are as many as one piece has at most: a function of its own, so that no other
-    /// piece takes the way of so many bytes.
-    fn full(alloc: Global, writes: Vec<StampedWrite>) -> Result<Self, AllocError>
-        requires rising { IsRisingAfter 0 writes.items }
-        requires some { 0 < length writes.items }
-        requires full { length writes.items ≡ 32 }
-        ensures { IfOk result (λ p. p ≡ writes.items) }
+    /// A piece of the same writes, with their values shared, if there are some.
+    pub(crate) fn of_shared(
+        alloc: Global,
+        writes: &[StampedWrite],
+    ) -> Result<Option<Self>, AllocError>
+        requires { IsRisingAfter 0 writes.now }
+        ensures is { IfOk result (λ p. held p ≡ writes.now) }
+        ensures some { IfOk result (λ p. IfSome p (λ left. 0 < length left)) }
     {
-        let first = first_time_or(writes.as_slice(), ENDLESS);
-        let Ok(full) = <[StampedWrite; MOST]>::try_from(writes) else {
-            unreachable!()
-        };
-        let shared = Arc::new(alloc, full)?;
-        Ok(Piece {
-            slots: Slots::Full { first, shared },
-        })
-    }
-
-    /// The same piece, for a place among older ones: a full one in the form of full ones, where nothing else
-    /// holds it.
-    pub(crate) fn into_packed(self, alloc: Global) -> Result<Self, AllocError>
-        ensures { IfOk result (λ p. p ≡ self) }
-    {
-        let (first, shared) = match self.slots {
-            Slots::Many { first, shared } => (first, shared),
-            slots => return Ok(Piece { slots }),
-        };
-        match Arc::try_unwrap(shared) {
-            Ok(writes) => Self::of(alloc, writes),
-            Err(shared) => Ok(Piece {
-                slots: Slots::Many { first, shared },
-            }),
-        }
-    }
-
-    /// A piece of the same writes, with their values shared.
-    fn of_shared(alloc: Global, writes: &[StampedWrite]) -> Result<Self, AllocError>
-        requires rising { IsRisingAfter 0 writes.now }
-        requires some { 0 < length writes.now }
-        ensures { IfOk result (λ p. p ≡ writes.now) }
-    {
-        if let [write] = writes {
-            return Ok(Piece {
+        match writes {
+            [] => Ok(None),
+            [write] => Ok(Some(Piece {
                 slots: Slots::One(write.share()?),
-            });
+            })),
+            _ => Ok(Some(Self::of(alloc, shared(alloc, writes, 0)?)?)),
         }
-        Self::of(alloc, shared(alloc, writes, 0)?)
+    }
+
+    /// A piece of some writes and those of a later piece.
+    pub(crate) fn of_both(
+        alloc: Global,
+        earlier: &[StampedWrite],
+        later: &Piece,
+    ) -> Result<Self, AllocError>
+        requires { IsRisingAfter 0 (earlier.now ++ later.now) }
+        ensures { IfOk result (λ p. p ≡ earlier.now ++ later.now) }
+    {
+        let later = later.as_slice();
+        let mut both = shared(alloc, earlier, later.len())?;
+        add_shared(&mut both, later)?;
+        Self::of(alloc, both)
+    }
+
+    /// Its writes as older ones: a full piece's in the form of full ones, where nothing else holds them.
+    pub(crate) fn into_older(self, alloc: Global) -> Result<Older, AllocError>
+        ensures { IfOk result (λ o. o.pieces ≡ self) }
+    {
+        match self.slots {
+            Slots::One(write) => Ok(Older::few(Arc::new(alloc, vec![in alloc; write]?)?)),
+            Slots::Many { shared, .. } if shared.len() == MOST => older_of(alloc, shared),
+            Slots::Many { shared, .. } => Ok(Older::few(shared)),
+            Slots::Full { shared, .. } => Ok(Older::full(shared)),
+        }
     }
 
     /// A piece of one write, behind those of the piece before it.
@@ -205,22 +218,6 @@ impl Piece {
         self.as_slice().len() >= MOST
     }
 
-    /// Whether its writes and those of another are no more than one piece has at most.
-    pub(crate) fn has_room_for(&self, other: &Piece) -> bool {
-        self.as_slice().len().saturating_add(other.as_slice().len()) <= MOST
-    }
-
-    /// One piece of its writes and of later ones.
-    pub(crate) fn with_piece(&self, alloc: Global, later: &Piece) -> Result<Self, AllocError>
-        requires { IsRisingAfter 0 (self.now ++ later.now) }
-        ensures { IfOk result (λ p. p ≡ self.now ++ later.now) }
-    {
-        let later = later.as_slice();
-        let mut both = shared(alloc, self.as_slice(), later.len())?;
-        add_shared(&mut both, later)?;
-        Self::of(alloc, both)
-    }
-
     /// When the first of its writes was made.
     pub(crate) fn first_time(&self) -> u64
         ensures is { result ≡ first_time self.now }
@@ -268,44 +265,6 @@ impl Piece {
         }
     }
 
-    /// The value at a time.
-    pub(crate) fn at(&self, time: u64) -> Option<&SharedValue>
-        ensures { option_copied result ≡ value_at self.now time }
-    {
-        value_in(self.as_slice(), time)
-    }
-
-    /// The first write made after a time.
-    pub(crate) fn next_after(&self, time: u64) -> Option<&StampedWrite>
-        ensures { option_copied result ≡ find (is_after time) self.now }
-    {
-        next_in(self.as_slice(), time)
-    }
-
-    /// The first version that ends after a time; the last one ends at `end`.
-    pub(crate) fn ending_after(&self, end: u64, time: u64) -> Option<Version<&SharedValue>>
-        ensures { option_map version_of_loan result ≡ find (ends_after time) (versions_upto end self.now) }
-    {
-        ending_in(self.as_slice(), end, time)
-    }
-
-    /// Puts behind the rows those of its versions, of which the last ends at `end`, from `a` to `b`.
-    pub(crate) fn add_rows(
-        &self,
-        found: &mut Rows,
-        end: u64,
-        a: u64,
-        b: u64,
-    ) -> Result<(), AllocError>
-        ensures { OnOk result (found.new.items ≡ found.old.items ++ rows (versions_upto end self.now) a b) }
-    {
-        let writes = self.as_slice();
-        if a <= self.first_time() && self.last_time() < b {
-            found.reserve(near_count(writes))?;
-        }
-        add_rows_of(found, writes, end, a, b)
-    }
-
     /// Whether each of its writes says something of times from the mark on.
     pub(crate) fn is_kept(&self, mark: u64) -> bool
         ensures { IsTrue result → kept_after mark self.now ≡ self.now }
@@ -323,10 +282,31 @@ impl Piece {
         if ended == 0 {
             return Ok(Some(self.share()?));
         }
-        if ended == writes.len() {
-            return Ok(None);
-        }
-        Ok(Some(Self::of_shared(alloc, &writes[ended..])?))
+        Self::of_shared(alloc, &writes[ended..])
+    }
+}
+
+/// As many writes as one piece has at most, beside the count of those who share them: a function of its own,
+/// so that no other piece takes the way of so many bytes.
+fn packed(alloc: Global, writes: Vec<StampedWrite>) -> Result<Arc<[StampedWrite; MOST]>, AllocError>
+    requires { length writes.items ≡ 32 }
+    ensures { IfOk result (λ shared. shared.value ≡ writes.items) }
+{
+    let Ok(full) = <[StampedWrite; MOST]>::try_from(writes) else {
+        unreachable!()
+    };
+    Ok(Arc::new(alloc, full)?)
+}
+
+/// The writes of a full piece as older ones, in the form of full ones where nothing else holds them.
+fn older_of(alloc: Global, shared: Arc<Vec<StampedWrite>>) -> Result<Older, AllocError>
+    requires rising { IsRisingAfter 0 shared.value.items }
+    requires full { length shared.value.items ≡ 32 }
+    ensures { IfOk result (λ o. o.pieces ≡ shared.value.items) }
+{
+    match Arc::try_unwrap(shared) {
+        Ok(writes) => Ok(Older::full(packed(alloc, writes)?)),
+        Err(shared) => Ok(Older::few(shared)),
     }
 }
 

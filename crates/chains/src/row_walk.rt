@@ -1,5 +1,5 @@
 //! A walk over the rows of a key, in a loan.
-ghost use Rattle.std.specs.Prelude.{◌≡◌, ◌<◌, ◌++◌, ◌∷◌, [], ℕ, IfSome, MatchOption};
+ghost use Rattle.std.specs.Prelude.{◌≡◌, ◌++◌, ◌∷◌, [], ℕ, IfSome, MatchOption};
 ghost use Rattle.std.specs.Option.{option_copied};
 ghost use Rattle.history.specs.Time.{IsRisingAfter};
 ghost use Rattle.history.specs.Versions.{versions, rows};
@@ -7,7 +7,7 @@ ghost use Rattle.chains.specs.KeyWrites.{writes_in};
 ghost use Rattle.chains.specs.Rows.{versions_upto, version_of_loan, IsNextPiece};
 
 use crate::chain::Chain;
-use crate::rows::{near_count, row_of};
+use crate::rows::{are_between, near_count, row_of};
 use crate::shared_value::SharedValue;
 use crate::stamped::StampedWrite;
 use crate::write::first_time_or;
@@ -68,17 +68,6 @@ fn next_row(
         rest = after;
     }
     None
-}
-
-/// Whether there are some, and all of them were made from `from` on and before `upto`.
-fn are_between(writes: &[StampedWrite], from: u64, upto: u64) -> bool {
-    if let Some(first) = writes.first()
-        && let Some(last) = writes.last()
-    {
-        from <= first.time() && last.time() < upto
-    } else {
-        false
-    }
 }
 
 /// The same writes; none where none of them has a value. Where all of them are between the two times it

@@ -44,6 +44,17 @@ pub(crate) fn near_count(writes: &[StampedWrite]) -> usize
     count
 }
 
+/// Whether there are some, and all of them were made from `from` on and before `upto`.
+pub(crate) fn are_between(writes: &[StampedWrite], from: u64, upto: u64) -> bool {
+    if let Some(first) = writes.first()
+        && let Some(last) = writes.last()
+    {
+        from <= first.time() && last.time() < upto
+    } else {
+        false
+    }
+}
+
 /// The part from `a` to `b` of a version that ends at `to`, if there is one.
 pub(crate) fn row_of(write: &StampedWrite, to: u64, a: u64, b: u64) -> Option<Version<&SharedValue>>
     ensures { option_to_list (option_map specs.version_of_loan result) ≡ spans.rows (spans.version_of write.now.time to write.now.write) a b }
@@ -87,7 +98,7 @@ pub(crate) fn add_record(
 }
 
 /// Puts behind the rows those of the versions of these writes, of which the last ends at `end`.
-pub(crate) fn add_rows_of(
+fn add_rows_of(
     rows: &mut Rows,
     writes: &[StampedWrite],
     end: u64,
@@ -101,4 +112,20 @@ pub(crate) fn add_rows_of(
     };
     add_row(rows, first, first_time_or(rest, end), a, b)?;
     add_rows_of(rows, rest, end, a, b)
+}
+
+/// The same; where all of them were made in the interval, there is room made for all of their rows first.
+pub(crate) fn add_rows_in(
+    rows: &mut Rows,
+    writes: &[StampedWrite],
+    end: u64,
+    a: u64,
+    b: u64,
+) -> Result<(), AllocError>
+    ensures { OnOk result (rows.new.items ≡ rows.old.items ++ spans.rows (specs.versions_upto end writes.now) a b) }
+{
+    if are_between(writes, a, b) {
+        rows.reserve(near_count(writes))?;
+    }
+    add_rows_of(rows, writes, end, a, b)
 }

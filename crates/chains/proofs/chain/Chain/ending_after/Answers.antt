@@ -11,7 +11,7 @@ use Rattle.chains.proofs.chain.Chain.ending_after.Goals as goal
 
 pub returns-in-Some-clause-is : goal.returns-in-Some-clause-is
 returns-in-Some-clause-is c =
-    let older = c.self.inside.older in
+    let older = c.self.inside.older.pieces in
     let last = c.self.inside.last in
     let v = version_of_loan c.in-Some.version in
     let found : find (ends_after c.args.time) (versions_upto (first_time last) older) ≡ Some v = rw c.first_time-first.ensures.is at (sym c.in-Some.ensures) in
@@ -19,8 +19,8 @@ returns-in-Some-clause-is c =
 
 pub returns-in-None-clause-is : goal.returns-in-None-clause-is
 returns-in-None-clause-is c =
-    let older = c.self.inside.older in
+    let older = c.self.inside.older.pieces in
     let last = c.self.inside.last in
     let none : find (ends_after c.args.time) (versions_upto (first_time last) older) ≡ None = rw c.first_time-first.ensures.is at (sym c.in-None.ensures) in
-    subst (λ (k : KeyWrites). option_map version_of_loan c.ending_after-in-None.result ≡ find (ends_after c.args.time) (versions k.writes)) c.self.view_is
-    (c.ending_after-in-None.ensures ∙ ap (λ (vs : List (Version Value)). find (ends_after c.args.time) vs) (versions-endless last) ∙ sym (find_recent c.args.time older last none))
+    subst (λ (k : KeyWrites). option_map version_of_loan c.ending_in.result ≡ find (ends_after c.args.time) (versions k.writes)) c.self.view_is
+    (rw c.as_slice.ensures.is at c.ending_in.ensures ∙ ap (λ (vs : List (Version Value)). find (ends_after c.args.time) vs) (versions-endless last) ∙ sym (find_recent c.args.time older last none))

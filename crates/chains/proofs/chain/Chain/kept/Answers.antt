@@ -9,14 +9,14 @@ use Rattle.chains.proofs.chain.Chain.kept.Goals as goal
 
 pub of-kept-requires : goal.of-kept-requires
 of-kept-requires c =
-    let older = c.self.inside.older in
+    let older = c.self.inside.older.pieces in
     let last = c.self.inside.last in
     let later = rising-later c.args.mark last c.first_time.ensures.some (rw c.first_time.ensures.is at c.if-mark-first_time.true) (rising-back 0 older last c.self.invariant) in
     rw (c.in_ok-older.ensures, c.in_ok-share-2.ensures) (older-rising c.args.mark older last later c.self.invariant)
 
 pub returns-then-mark-first_time : goal.returns-then-mark-first_time
 returns-then-mark-first_time c =
-    let older = c.self.inside.older in
+    let older = c.self.inside.older.pieces in
     let last = c.self.inside.last in
     let later = rising-later c.args.mark last c.first_time.ensures.some (rw c.first_time.ensures.is at c.if-mark-first_time.true) (rising-back 0 older last c.self.invariant) in
     let left : c.of-kept.result ≡ record { key = c.self.inside.key; writes = kept_after c.args.mark older ++ last } = rw (c.of-kept.ensures, c.in_ok-older.ensures, c.in_ok-share-2.ensures) refl in
@@ -25,7 +25,7 @@ returns-then-mark-first_time c =
 
 pub returns-in-None : goal.returns-in-None
 returns-in-None c =
-    let older = c.self.inside.older in
+    let older = c.self.inside.older.pieces in
     let last = c.self.inside.last in
     let same : [] ≡ kept_after c.args.mark last = ap held (sym c.in-None.is) ∙ c.in_ok-kept.ensures.is in
     let by = kept-piece c.args.mark older last c.first_time.ensures.some (rw c.first_time.ensures.is at c.if-mark-first_time.false) c.self.invariant in
@@ -34,14 +34,14 @@ returns-in-None c =
 
 pub of-requires : goal.of-requires
 of-requires c =
-    let older = c.self.inside.older in
+    let older = c.self.inside.older.pieces in
     let last = c.self.inside.last in
     let same : c.in-Some.last ≡ kept_after c.args.mark last = ap held (sym c.in-Some.is) ∙ c.in_ok-kept.ensures.is in
     rw (c.new.ensures, same) (kept_after-rising 0 c.args.mark last (rising-back 0 older last c.self.invariant))
 
 pub returns-in-Some : goal.returns-in-Some
 returns-in-Some c =
-    let older = c.self.inside.older in
+    let older = c.self.inside.older.pieces in
     let last = c.self.inside.last in
     let same : c.in-Some.last ≡ kept_after c.args.mark last = ap held (sym c.in-Some.is) ∙ c.in_ok-kept.ensures.is in
     let some : 0 < length c.in-Some.last = rw c.in-Some.is at c.in_ok-kept.ensures.some in

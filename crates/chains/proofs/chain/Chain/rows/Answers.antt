@@ -9,11 +9,11 @@ use Rattle.chains.proofs.chain.Chain.rows.Goals as goal
 
 pub returns : goal.returns
 returns c =
-    let older = c.self.inside.older in
+    let older = c.self.inside.older.pieces in
     let last = c.self.inside.last in
     let first : c.add_rows.new.found.items ≡ rows (versions_upto (first_time last) older) c.args.a c.args.b =
     rw (c.new-found.ensures.items, c.first_time.ensures.is) at c.in_ok-add_rows.ensures in
-    let both : c.add_rows-2.new.found.items ≡ rows (versions_upto (first_time last) older) c.args.a c.args.b ++ rows (versions last) c.args.a c.args.b =
-    rw (first, versions-endless) at c.in_ok-add_rows-2.ensures in
-    subst (λ (k : KeyWrites). c.add_rows-2.new.found.items ≡ rows (versions k.writes) c.args.a c.args.b) c.self.view_is
+    let both : c.add_rows_in.new.rows.items ≡ rows (versions_upto (first_time last) older) c.args.a c.args.b ++ rows (versions last) c.args.a c.args.b =
+    rw (first, c.as_slice.ensures.is, versions-endless) at c.in_ok-add_rows_in.ensures in
+    subst (λ (k : KeyWrites). c.add_rows_in.new.rows.items ≡ rows (versions k.writes) c.args.a c.args.b) c.self.view_is
     (both ∙ sym (ap (λ (vs : List (Version Value)). rows vs c.args.a c.args.b) (versions-parts older last) ∙ rows-append c.args.a c.args.b (versions_upto (first_time last) older) (versions last)))
