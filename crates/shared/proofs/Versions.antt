@@ -2,9 +2,8 @@
 use denote.Param.Send.{IsSend, IsSync, sendable}
 use Rattle.std.proofs.Crossing.{crosses}
 use Rattle.chains.proofs.key_node.KeyNode.TheLaws.TheKnot as key_nodes
-use Rattle.chains.proofs.branch.Branch.TheLaws.TheKnot as branches
+use Rattle.chains.proofs.older.Branch.TheLaws.TheKnot as branches
 use Rattle.chains.proofs.shared_value.SharedValue.TheSendSync as shared_value
-use Rattle.chains.specs.contracts.branch.Branch as Branch
 use Rattle.chains.specs.contracts.chain.Chain as Chain
 use Rattle.chains.specs.contracts.frozen.Frozen as Frozen
 use Rattle.chains.specs.contracts.key_node.KeyNode as KeyNode
@@ -18,23 +17,17 @@ piece_send = search (sendable, crosses, shared_value.the_send, shared_value.the_
 piece_sync : IsSync Piece.the_row
 piece_sync = search (sendable, crosses, shared_value.the_send, shared_value.the_sync) depth 40
 
-branch_send : IsSend Branch.the_row
-branch_send = search (sendable, crosses, branches.crosses, piece_send, piece_sync) depth 40
-
-branch_sync : IsSync Branch.the_row
-branch_sync = search (sendable, crosses, branches.crosses, piece_send, piece_sync) depth 40
-
 older_send : IsSend Older.the_row
-older_send = search (sendable, crosses, branch_send, branch_sync) depth 40
+older_send = search (sendable, crosses, branches.crosses, shared_value.the_send, shared_value.the_sync) depth 40
 
 older_sync : IsSync Older.the_row
-older_sync = search (sendable, crosses, branch_send, branch_sync) depth 40
+older_sync = search (sendable, crosses, branches.crosses, shared_value.the_send, shared_value.the_sync) depth 40
 
 chain_send : IsSend Chain.the_row
-chain_send = search (sendable, crosses, older_send, older_sync, piece_send, piece_sync) depth 40
+chain_send = search (sendable, crosses, older_send, piece_send) depth 40
 
 chain_sync : IsSync Chain.the_row
-chain_sync = search (sendable, crosses, older_send, older_sync, piece_send, piece_sync) depth 40
+chain_sync = search (sendable, crosses, older_sync, piece_sync) depth 40
 
 key_node_send : IsSend KeyNode.the_row
 key_node_send = search (sendable, crosses, key_nodes.crosses, chain_send, chain_sync) depth 40
