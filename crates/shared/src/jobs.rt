@@ -61,13 +61,11 @@ impl<D: Disk, L: Opening> SharedStore<D, L> {
         let mut locked = self.locked.lock(rt);
         let did = locked.job_pump(rt, &self.cell);
         let after = locked.signals();
-        let old = if is_done(&did) {
-            self.renew_latest(rt, &mut locked)
+        if is_done(&did) {
+            self.show(rt, locked);
         } else {
-            None
-        };
-        drop(locked);
-        drop(old);
+            drop(locked);
+        }
         if is_job_move(&did) {
             self.tell_settled(rt, after);
             self.tell_moved();

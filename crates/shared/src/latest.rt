@@ -13,7 +13,8 @@ use crate::shared_view::SharedView;
 use disk::Disk;
 use std::alloc::AllocError;
 use std::mem;
-use std::sync::Wait;
+use std::sync::atomic::Ordering;
+use std::sync::{MutexGuard, Wait};
 
 /// A view that is kept, and a pass that has seen as much.
 pub(crate) struct KeptView<L: Opening> {
@@ -65,48 +66,30 @@ impl<L: Opening> Drop for KeptView<L> {
     }
 }
 
-/// The view that is kept, if one is, and whether a reader asked since then.
-#[derive(Drop)]
-pub(crate) struct Latest<L: Opening> {
-    kept: Option<KeptView<L>>,
-    is_asked: bool,
+// One more view of the moment of the one that is kept, where it has all commits that the caller has seen
+// published, and those that the cell tells of.
+fn another_of<L: Opening, R: Wait>(
+    rt: &R,
+    cell: &PublishedCell,
+    kept: &mut Option<KeptView<L>>,
+    me: &mut Observer<L>,
+) -> Result<Option<SharedView<L>>, AllocError>
+    requires { cell.now.table.shared.table_id ≡ L.table }
+    ensures holds { IfOk result (λ found. IfSome found (HoldsSeen me.old me.new)) }
+    ensures later { IsLater me.old me.new }
+{
+    let time = me.load(rt, cell);
+    match kept {
+        Some(kept) if time <= kept.last() => Ok(Some(kept.another(rt, cell, me)?)),
+        _ => Ok(None),
+    }
 }
 
-impl<L: Opening> Latest<L> {
-    pub(crate) fn new() -> Latest<L> {
-        Latest {
-            kept: None,
-            is_asked: false,
-        }
-    }
-
-    // One more view of the moment of the one that is kept, where it has all commits that the caller has
-    // seen published, and those that the cell tells of.
-    fn another<R: Wait>(
-        &mut self,
-        rt: &R,
-        cell: &PublishedCell,
-        me: &mut Observer<L>,
-    ) -> Result<Option<SharedView<L>>, AllocError>
-        requires { cell.now.table.shared.table_id ≡ L.table }
-        ensures holds { IfOk result (λ found. IfSome found (HoldsSeen me.old me.new)) }
-        ensures later { IsLater me.old me.new }
-    {
-        self.is_asked = true;
-        let time = me.load(rt, cell);
-        match &mut self.kept {
-            Some(kept) if time <= kept.last() => Ok(Some(kept.another(rt, cell, me)?)),
-            _ => Ok(None),
-        }
-    }
-
-    // Keeps a view, unless a later one is kept. The one that goes is given back, so that it is let go
-    // without a lock.
-    fn keep(&mut self, view: KeptView<L>) -> Option<KeptView<L>> {
-        match &self.kept {
-            Some(kept) if view.last() < kept.last() => Some(view),
-            _ => mem::replace(&mut self.kept, Some(view)),
-        }
+// Whether a view is to be kept in place of this one.
+fn is_newer<L: Opening>(view: &KeptView<L>, kept: &Option<KeptView<L>>) -> bool {
+    match kept {
+        Some(kept) => kept.last() <= view.last(),
+        None => true,
     }
 }
 
@@ -124,14 +107,19 @@ impl<D: Disk, L: Opening> SharedStore<D, L> {
         ensures holds { IfOk result (HoldsSeen me.old me.new) }
         ensures later { IsLater me.old me.new }
     {
-        let found = self.latest.lock(rt).another(rt, &self.cell, me)?;
+        // Readers of a flag that none of them changes do not wait for one another.
+        if !self.is_asked.load(Ordering::SeqCst) {
+            self.is_asked.store(true, Ordering::SeqCst);
+        }
+        let found = another_of(rt, &self.cell, &mut self.latest.lock(rt), me)?;
         match found {
             Some(view) => Ok(view),
             None => self.view_to_keep(rt, me),
         }
     }
 
-    // A view of all that is published, which is kept too, unless memory is refused.
+    // A view of all that is published, which is kept too, unless memory is refused. What was kept is let
+    // go without the lock.
     fn view_to_keep<R: Wait>(
         &self,
         rt: &R,
@@ -143,25 +131,31 @@ impl<D: Disk, L: Opening> SharedStore<D, L> {
         let mut view = self.view(rt, me)?;
         let seen = me.another(&self.cell);
         if let Ok(again) = view.another(&self.cell) {
-            let _old = self.latest.lock(rt).keep(KeptView::of(again, seen));
+            let next = KeptView::of(again, seen);
+            let mut latest = self.latest.lock(rt);
+            let old = if is_newer(&next, &latest) {
+                mem::replace(&mut *latest, Some(next))
+            } else {
+                Some(next)
+            };
+            drop(latest);
+            drop(old);
         }
         Ok(view)
     }
 
-    // Keeps a view of now in place of the one that was kept, where a reader asked for it, and else none.
-    // What was kept is given back, so that it is let go without a lock.
-    pub(crate) fn renew_latest<R: Wait>(
-        &self,
-        rt: &R,
-        locked: &mut Locked<D, L>,
-    ) -> Option<KeptView<L>> {
-        let mut latest = self.latest.lock(rt);
-        let next = if latest.is_asked {
+    // Gives the store's lock up, once commits were published or a job was done: a view of now is kept
+    // where a reader asked for one since the last was, and else none. What was kept is let go without a
+    // lock.
+    pub(crate) fn show<R: Wait>(&self, rt: &R, locked: MutexGuard<'_, Locked<D, L>>) {
+        let mut locked = locked;
+        let next = if self.is_asked.swap(false, Ordering::SeqCst) {
             locked.kept_view(rt, &self.cell)
         } else {
             None
         };
-        latest.is_asked = false;
-        mem::replace(&mut latest.kept, next)
+        drop(locked);
+        let old = mem::replace(&mut *self.latest.lock(rt), next);
+        drop(old);
     }
 }

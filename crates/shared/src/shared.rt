@@ -11,7 +11,7 @@ ghost use Rattle.shared.specs.Seen.{IsLater};
 ghost use Rattle.shared.specs.Shared.{BeginHappens, SubmitHappens, SeenReached, PumpHappens, RedeemSays, done_in};
 
 use crate::cell::PublishedCell;
-use crate::latest::Latest;
+use crate::latest::KeptView;
 use crate::locked::Locked;
 use crate::naming::Opening;
 use crate::observer::Observer;
@@ -22,18 +22,20 @@ use crate::signals::Signals;
 use crossbeam_utils::sync::EventCount;
 use disk::Disk;
 use std::alloc::{AllocError, Global};
+use std::sync::atomic::AtomicBool;
 use std::sync::ledger::Share;
 use std::sync::{Condvar, Mutex, Wait};
 use store::{BeginFault, Did, PumpFault, Redeemed, Store, SubmitFault, Submitted, Ticket, Txn};
 
 /// A store under a lock, and beside it the cell of its published time. One holding of the lock makes
 /// at most one call of the store. Beside the lock, too, are the posts of those who call `commit`, and the
-/// view that is kept for those who read.
+/// view that is kept for those who read, with whether one of them asked since it was.
 pub struct SharedStore<D: Disk, L: Opening> {
     pub(crate) alloc: Global,
     pub(crate) locked: Mutex<Locked<D, L>>,
     pub(crate) posts: Mutex<Posts<L>>,
-    pub(crate) latest: Mutex<Latest<L>>,
+    pub(crate) latest: Mutex<Option<KeptView<L>>>,
+    pub(crate) is_asked: AtomicBool,
     // The committer sleeps on the first, callers of `commit` on the second until they are answered, on the
     // third one whose ticket still waits, and the vacuum on the last.
     pub(crate) queued: EventCount,
@@ -52,7 +54,8 @@ impl<D: Disk, L: Opening> SharedStore<D, L> {
             alloc,
             locked: Mutex::new(locked),
             posts: Mutex::new(Posts::new(alloc)),
-            latest: Mutex::new(Latest::new()),
+            latest: Mutex::new(None),
+            is_asked: AtomicBool::new(false),
             queued: EventCount::new(),
             answered: Condvar::new(),
             settled: Condvar::new(),
@@ -180,13 +183,11 @@ impl<D: Disk, L: Opening> SharedStore<D, L> {
         let mut locked = self.locked.lock(rt);
         let did = locked.pump(rt, &self.cell);
         *after = locked.signals();
-        let old = if is_publication(&did) {
-            self.renew_latest(rt, &mut locked)
+        if is_publication(&did) {
+            self.show(rt, locked);
         } else {
-            None
-        };
-        drop(locked);
-        drop(old);
+            drop(locked);
+        }
         if is_move(&did) {
             self.tell_settled(rt, *after);
             self.tell_moved();
@@ -252,6 +253,7 @@ impl<D: Disk, L: Opening> SharedStore<D, L> {
             locked,
             posts: _,
             latest: _,
+            is_asked: _,
             queued: _,
             answered: _,
             settled: _,
