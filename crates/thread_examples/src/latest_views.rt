@@ -3,18 +3,17 @@ ghost use Rattle.std.specs.Prelude.{◌≡◌, ◌<◌, [], length, true};
 ghost use Rattle.crossbeam_utils.specs.Seq.{cell_view};
 ghost use Rattle.shared.specs.Naming.{IsFresh};
 
-use crate::written::{is_field, key_of, publish_four, pump_to, queued};
+use crate::written::{is_field, key_of, publish_four, pump_job, pump_to, queued};
 use disk::{Disk, MemDisk};
 use shared::{Observer, Opened, Opening, SharedStore, SharedView, fresh_store};
 use std::alloc::{AllocError, Global};
 use std::marker::Brand;
 use std::process::Abort;
 use std::sync::Wait;
-use std::sync::atomic::{AtomicBool, Ordering};
 use std::test::Fail;
 use std::thread;
 use std::thread::{Threads, join};
-use store::{Did, JobDid, QueryFault};
+use store::{Did, QueryFault};
 
 /// Whether the view ends with a commit of this time, at which record 7 has this one field.
 fn ends_with<L: Opening>(view: &SharedView<L>, time: u64, field: &str) -> bool {
@@ -81,11 +80,7 @@ fn show_a_floor<D: Disk, L: Opening, R: Wait + Abort>(
     me: &mut Observer<L>,
 ) {
     assert_eq!(rt; store.floor_of_start(rt, 1, 150), Ok(()));
-    for _ in 0..100 {
-        if store.job_pump(rt) == Ok(JobDid::JobDone) {
-            break;
-        }
-    }
+    pump_job(rt, store);
     let Ok(view) = store.latest_view(rt, me) else {
         panic!(rt; "no view");
     };
@@ -98,16 +93,14 @@ fn show_a_floor<D: Disk, L: Opening, R: Wait + Abort>(
     assert!(rt; refused && shown);
 }
 
-/// Takes views until the writer is done, and once more: each has what was published before it was asked for.
+/// Takes views again and again: each has what was published before it was asked for.
 fn watch<D: Disk, L: Opening, R: Wait + Abort>(
     rt: &R,
     store: &SharedStore<D, L>,
     me: Observer<L>,
-    done: &AtomicBool,
 ) -> Observer<L> {
     let mut me = me;
-    for _ in rt.forever() {
-        let last_time = done.load(Ordering::SeqCst);
+    for _ in 0..1_000 {
         let published = store.last_published(rt, &mut me);
         let Ok(view) = store.latest_view(rt, &mut me) else {
             panic!(rt; "no view");
@@ -115,9 +108,6 @@ fn watch<D: Disk, L: Opening, R: Wait + Abort>(
         let shown = view.last();
         store.end(rt, view);
         assert!(rt; published <= shown);
-        if last_time {
-            break;
-        }
         thread::yield_now();
     }
     me
@@ -129,13 +119,27 @@ fn write<D: Disk, L: Opening, R: Wait + Abort>(
     alloc: Global,
     store: &SharedStore<D, L>,
     me: Observer<L>,
-    done: &AtomicBool,
 ) -> Observer<L> {
     let mut me = me;
     for _ in 0..100 {
         publish(rt, alloc, store, &mut me, (0, "i"));
     }
-    done.store(true, Ordering::SeqCst);
+    me
+}
+
+/// A thread takes views, while another commits.
+fn watch_beside_commits<D: Disk + Send, L: Opening + Send + Sync, R: Threads + Wait + Abort + Sync>(
+    rt: &R,
+    alloc: Global,
+    store: &SharedStore<D, L>,
+    reader: Observer<L>,
+    me: Observer<L>,
+) -> Observer<L> {
+    let (_reader, me) = join(
+        rt,
+        move || watch(rt, store, reader),
+        move || write(rt, alloc, store, me),
+    );
     me
 }
 
@@ -153,13 +157,7 @@ fn shows_what_is_published<
     show_each_commit(rt, alloc, &store, &mut me);
     show_a_floor(rt, &store, &mut me);
     let reader = store.another(&mut me);
-    let done = AtomicBool::new(false);
-    let (shared, flag) = (&store, &done);
-    let (_reader, mut me) = join(
-        rt,
-        move || watch(rt, shared, reader, flag),
-        move || write(rt, alloc, shared, me, flag),
-    );
+    let mut me = watch_beside_commits(rt, alloc, &store, reader, me);
     assert!(rt; is_shown(rt, &store, &mut me, (280, "i")));
     let _disk = store.into_store(&mut share).close();
 }

@@ -3,7 +3,7 @@ ghost use Rattle.std.specs.Prelude.{◌≡◌, ◌<◌, [], length, true};
 ghost use Rattle.crossbeam_utils.specs.Seq.{cell_view};
 ghost use Rattle.shared.specs.Naming.{IsFresh};
 
-use crate::written::{is_field, key_of, publish_four, pump_to, queued};
+use crate::written::{is_field, key_of, publish_four, pump_job, pump_to, queued};
 use disk::{Disk, MemDisk};
 use shared::{Observer, Opened, Opening, SharedStore, SharedView, fresh_store};
 use std::alloc::{AllocError, Global};
@@ -14,7 +14,7 @@ use std::sync::atomic::{AtomicBool, Ordering};
 use std::test::Fail;
 use std::thread;
 use std::thread::{Threads, join};
-use store::{Did, JobDid, QueryFault};
+use store::{Did, QueryFault};
 
 /// A view that may be let go, as what goes to another thread has to be.
 struct Carried<L: Opening> {
@@ -78,16 +78,6 @@ fn change<D: Disk, L: Opening, R: Wait + Abort>(
     pump_job(rt, store);
     done.store(true, Ordering::SeqCst);
     me
-}
-
-/// Takes steps of the job until it is done.
-fn pump_job<D: Disk, L: Opening, R: Wait + Abort>(rt: &R, store: &SharedStore<D, L>) {
-    for _ in 0..100 {
-        if store.job_pump(rt) == Ok(JobDid::JobDone) {
-            return;
-        }
-    }
-    panic!(rt; "the job does not end");
 }
 
 /// The whole example, on a store that was just opened.

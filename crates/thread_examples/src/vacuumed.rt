@@ -6,8 +6,8 @@ ghost use Rattle.shared.specs.Naming.{IsFresh};
 use crate::counted_disk::CountedDisk;
 use crate::noted::{Notes, Step, note, step_of};
 use crate::written::{
-    are_rows, are_rows_of_seven, has, has_none, has_rows, is_field, is_seven_alone, key_of,
-    publish_four, refuses,
+    are_rows, are_rows_of_seven, begun, has, has_none, has_rows, is_field, is_seven_alone, key_of,
+    publish_four, pump_job, pump_to, queued, refuses,
 };
 use disk::{Disk, MemDisk};
 use shared::{Observer, Opened, Opening, SharedStore, SharedView, Vacuumed, fresh_store};
@@ -17,7 +17,7 @@ use std::process::Abort;
 use std::sync::atomic::AtomicU64;
 use std::sync::{Arc, Wait};
 use std::test::Fail;
-use store::{JobDid, QueryFault};
+use store::{Did, JobDid, QueryFault, StartFault};
 
 /// An archive, and then a reclaim with one extent of anchors.
 const BOTH: [(Step, u64); 14] = [
@@ -191,6 +191,24 @@ fn ask_earlier<L: Opening>(rt: &impl Abort, view: &SharedView<L>) {
     assert!(rt; recalls(view, 105, "a"));
 }
 
+/// A reclaim is refused as long as a transaction reads what would go, and tells from when on one does.
+fn wait_for_a_snapshot<D: Disk, L: Opening, R: Wait + Abort>(
+    rt: &R,
+    alloc: Global,
+    store: &SharedStore<D, L>,
+    me: &mut Observer<L>,
+) {
+    let reader = begun(rt, store, me);
+    queued(rt, alloc, store, me, (7, Some("d")), 140).give_up();
+    pump_to(rt, store, Ok(Did::Published(1)));
+    assert_eq!(rt; store.archive_start(rt, 140), Ok(()));
+    pump_job(rt, store);
+    assert_eq!(rt; store.reclaim_start(rt), Err(StartFault::InUse(130)));
+    store.abort(rt, reader);
+    assert_eq!(rt; store.reclaim_start(rt), Ok(()));
+    pump_job(rt, store);
+}
+
 /// The whole example, on a store that was just opened.
 fn answers_from_both<D: Disk + Drop, L: Opening, R: Wait + Abort>(
     rt: &R,
@@ -214,6 +232,8 @@ fn answers_from_both<D: Disk + Drop, L: Opening, R: Wait + Abort>(
     ask_store(rt, &store, &mut view);
     ask_earlier(rt, &earlier);
     ask_store(rt, &store, &mut earlier);
+    wait_for_a_snapshot(rt, alloc, &store, &mut me);
+    ask_earlier(rt, &earlier);
     store.end(rt, view);
     store.end(rt, earlier);
     let _disk = store.into_store(&mut share).close();

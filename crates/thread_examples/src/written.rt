@@ -6,7 +6,7 @@ use shared::{Observer, Opening, SharedStore, SharedTxn, SharedView};
 use std::alloc::Global;
 use std::process::Abort;
 use std::sync::Wait;
-use store::{Did, PumpFault, QueryFault, Submitted, Ticket};
+use store::{Did, JobDid, PumpFault, QueryFault, Submitted, Ticket};
 
 /// A key of the examples' relation.
 pub fn key_of(record: u64) -> Key {
@@ -63,6 +63,16 @@ pub fn pump_to<D: Disk, L: Opening, R: Wait + Abort>(
         }
     }
     panic!(rt; "no such answer came");
+}
+
+/// Takes steps of the job until it is done.
+pub fn pump_job<D: Disk, L: Opening, R: Wait + Abort>(rt: &R, store: &SharedStore<D, L>) {
+    for _ in 0..100 {
+        if store.job_pump(rt) == Ok(JobDid::JobDone) {
+            return;
+        }
+    }
+    panic!(rt; "the job does not end");
 }
 
 /// Commits of one key, each published before the next: a at 100, b at 110, none at 120, c at 130.
