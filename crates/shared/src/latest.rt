@@ -98,7 +98,9 @@ impl<D: Disk, L: Opening> SharedStore<D, L> {
     /// published. Those who ask again and again share it: the store's lock is taken only where none is
     /// kept yet that is late enough, so that they do not wait for the device, nor hold up those who write.
     /// One that nobody asked for between two groups is not kept, so that the next may change in its place
-    /// what no view shows.
+    /// what no view shows. Its floors are those of its moment: where a floor is raised while another takes
+    /// such a view, they may be those of before until the next group or job. Who needs those of now asks for
+    /// `view`.
     pub fn latest_view<R: Wait>(
         &self,
         rt: &R,

@@ -28,7 +28,8 @@ use std::sync::{Condvar, Mutex, Wait};
 use store::{BeginFault, Did, PumpFault, Redeemed, Store, SubmitFault, Submitted, Ticket, Txn};
 
 /// A store under a lock, and beside it the cell of its published time. One holding of the lock makes
-/// at most one call of the store. Beside the lock, too, are the posts of those who call `commit`, and the
+/// at most one call of the store, and behind one that publishes or ends a job, where a reader asked for it,
+/// the view that is kept, which is no call of the device. Beside the lock, too, are the posts of those who call `commit`, and the
 /// view that is kept for those who read, with whether one of them asked since it was.
 pub struct SharedStore<D: Disk, L: Opening> {
     pub(crate) alloc: Global,
