@@ -3,6 +3,7 @@ ghost use Rattle.std.specs.Prelude.{None, Some};
 ghost use Rattle.shared.specs.Shared.{JobHappens, FloorHappens, ArchiveHappens, ReclaimHappens, GrowthHappens};
 
 use crate::naming::Opening;
+use crate::noting::is_done;
 use crate::shared::SharedStore;
 use disk::Disk;
 use std::sync::Wait;
@@ -61,6 +62,7 @@ impl<D: Disk, L: Opening> SharedStore<D, L> {
         let mut locked = self.locked.lock(rt);
         let did = locked.job_pump(rt, &self.cell);
         let after = locked.signals();
+        // The floors, or what memory holds, may be others now.
         if is_done(&did) {
             self.show(rt, locked);
         } else {
@@ -72,11 +74,6 @@ impl<D: Disk, L: Opening> SharedStore<D, L> {
         }
         did
     }
-}
-
-// Whether the floors, or what memory holds, may be others now.
-fn is_done(did: &Result<JobDid, PumpFault>) -> bool {
-    matches!(did, Ok(JobDid::JobDone))
 }
 
 // Whether a step of a group may now have another answer, or some ticket.

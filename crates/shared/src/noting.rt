@@ -141,8 +141,8 @@ fn published_in(did: &Result<Did, PumpFault>) -> u32
     }
 }
 
-// Whether a job was done.
-fn is_done(did: &Result<JobDid, PumpFault>) -> bool
+/// Whether a job was done.
+pub(crate) fn is_done(did: &Result<JobDid, PumpFault>) -> bool
     ensures { result ≡ is_done did.now }
 {
     match did {
