@@ -51,9 +51,7 @@ pub(crate) struct Branch {
     older: Older,
 }
 
-const _: () = prove!(size_of::<Older>() == 16);
-
-const _: () = prove!(size_of::<Branch>() == 24);
+const _: () = prove!(size_of::<Older>() == 16 && size_of::<Branch>() == 24);
 
 /// What older writes are made of, in a loan: the writes of one piece, or branches one behind another.
 #[derive(Drop)]
