@@ -1,11 +1,10 @@
 -- What the writes of one commit change.
-use Rattle.std.proofs.Common.{◌≡◌, ℕ, ◌<◌, ◌≤◌, true, false, Bool, cond, List, [], ◌∷◌, ◌++◌, Option, Some, None, refl, ap, sym, ◌∙◌, subst, arith, append-nil, length, drop}
+use Rattle.std.proofs.Common.{◌≡◌, ℕ, ◌<◌, ◌≤◌, true, false, Bool, cond, List, [], ◌∷◌, ◌++◌, Option, Some, None, refl, ap, sym, ◌∙◌, subst, arith, append-nil}
 use Rattle.std.specs.Prelude.{find, map, option_map, option_to_list}
 use Rattle.std.specs.List.{AllByRecursion}
 use Rattle.std.specs.List.Sorted.{IsStrictlySortedBy}
 use Rattle.std.specs.declared.cmp.Ordering.TheVariants.{Less}
 use Rattle.std.proofs.lemmas.Bool.Decides.{nat_tests}
-use Rattle.std.proofs.lemmas.List.{drop_all}
 use Rattle.history.specs.declared.key.Key.{Key}
 use Rattle.history.specs.declared.key.KeyWrite.{KeyWrite}
 use Rattle.history.specs.Key.{key_cmp, key_lt, same_key, write_in}
@@ -116,7 +115,3 @@ latest-with_write time (d ∷ ds) key w h upto =
 pub latest-with_commit : (time : ℕ) (m : List KeyWrites) (ws : List (KeyWrite Value)) → latest m ≤ time → latest (with_commit m time ws) ≤ time
 latest-with_commit time m [] h = h
 latest-with_commit time m (w ∷ ws) h = latest-with_commit time (with_write m w.key (stamped time w)) ws (latest-with_write time m w.key (stamped time w) h (omega arith))
-
--- when no writes are left, the map is that of the whole commit
-pub commit_whole : (next m : List KeyWrites) (time : ℕ) (ws : List (KeyWrite Value)) (n : ℕ) → length ws ≤ n → with_commit next time (drop n ws) ≡ with_commit m time ws → next ≡ with_commit m time ws
-commit_whole next m time ws n past same = rw (drop_all n ws past) at same

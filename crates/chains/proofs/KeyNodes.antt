@@ -143,14 +143,6 @@ key_from {key} {all} {n} {ns} from o =
     none [] begun o = refl
     none (f ∷ fs) begun o = key-front key (all_of (f ∷ fs)) n.pieces (all_of ns) begun o
 
--- where none is left there is none
-pub none_from : {bound : Bound} {all : List (Shape KeyWrites)} → IsFromBound bound all [] → all ≡ []
-none_from {bound} {all} from = empty from.front from.parts from.begun
-  where
-    empty : (front : List (Shape KeyWrites)) → all ≡ front ++ [] → WithoutBehind bound front [] → all ≡ []
-    empty [] is begun = is
-    empty (f ∷ fs) is begun = absurd (omega (arith, begun))
-
 -- ---- of a fork
 
 module _ {self : Shape KeyWrites} {ns : List (Shape KeyWrites)} (fork : IsKeyFork self ns) {bound : Bound} {rest : List (Shape KeyWrites)} (from : IsFromBound bound ns rest) where

@@ -41,6 +41,3 @@ relation-below relation shown (d ∷ ds) c r h o =
 pub scanned-is : (relation time : ℕ) (m : List KeyWrites) → of_relation relation (shown_value time) m ≡ scanned relation time m
 scanned-is relation time [] = refl
 scanned-is relation time (c ∷ cs) = ap (λ (l : List (ℕ × Value)). shown relation time c ++ l) (scanned-is relation time cs)
-
-pub found-same : {X : Type 0} (new old a b : List X) → a ≡ b → new ≡ old ++ a → new ≡ old ++ b
-found-same {X} new old a b same is = is ∙ ap (λ (l : List X). old ++ l) same

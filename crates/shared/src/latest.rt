@@ -66,6 +66,38 @@ impl<L: Opening> Drop for KeptView<L> {
     }
 }
 
+/// The view that is kept, where there is one, and how often it was let go since what it shows had changed: who
+/// took a view before that keeps it no more.
+#[derive(Drop)]
+pub(crate) struct Latest<L: Opening> {
+    kept: Option<KeptView<L>>,
+    renewals: u64,
+}
+
+impl<L: Opening> Latest<L> {
+    pub(crate) fn new() -> Self {
+        Latest {
+            kept: None,
+            renewals: 0,
+        }
+    }
+
+    // Another view is kept from now on, or none. What was kept is handed out, to be let go without the lock.
+    fn renew(&mut self, next: Option<KeptView<L>>) -> Option<KeptView<L>> {
+        self.renewals = self.renewals.wrapping_add(1);
+        mem::replace(&mut self.kept, next)
+    }
+
+    // Keeps a view that was taken since so many renewals, unless there was another. What is not kept is handed
+    // out.
+    fn keep(&mut self, next: KeptView<L>, renewals: u64) -> Option<KeptView<L>> {
+        if self.renewals != renewals {
+            return Some(next);
+        }
+        mem::replace(&mut self.kept, Some(next))
+    }
+}
+
 // One more view of the moment of the one that is kept, where it has all commits that the caller has seen
 // published, and those that the cell tells of.
 fn another_of<L: Opening, R: Wait>(
@@ -85,22 +117,12 @@ fn another_of<L: Opening, R: Wait>(
     }
 }
 
-// Whether a view is to be kept in place of this one.
-fn is_newer<L: Opening>(view: &KeptView<L>, kept: &Option<KeptView<L>>) -> bool {
-    match kept {
-        Some(kept) => kept.last() <= view.last(),
-        None => true,
-    }
-}
-
 impl<D: Disk, L: Opening> SharedStore<D, L> {
     /// A view of what is published, or was a moment ago, with every commit that the caller has seen
     /// published. Those who ask again and again share it: the store's lock is taken only where none is
     /// kept yet that is late enough, so that they do not wait for the device, nor hold up those who write.
     /// One that nobody asked for between two groups is not kept, so that the next may change in its place
-    /// what no view shows. Its floors are those of its moment: where a floor is raised while another takes
-    /// such a view, they may be those of before until the next group or job. Who needs those of now asks for
-    /// `view`.
+    /// what no view shows. Its floors are those of its moment.
     pub fn latest_view<R: Wait>(
         &self,
         rt: &R,
@@ -113,18 +135,22 @@ impl<D: Disk, L: Opening> SharedStore<D, L> {
         if !self.is_asked.load(Ordering::SeqCst) {
             self.is_asked.store(true, Ordering::SeqCst);
         }
-        let found = another_of(rt, &self.cell, &mut self.latest.lock(rt), me)?;
+        let mut latest = self.latest.lock(rt);
+        let renewals = latest.renewals;
+        let found = another_of(rt, &self.cell, &mut latest.kept, me)?;
+        drop(latest);
         match found {
             Some(view) => Ok(view),
-            None => self.view_to_keep(rt, me),
+            None => self.view_to_keep(rt, renewals, me),
         }
     }
 
-    // A view of all that is published, which is kept too, unless memory is refused. What was kept is let
-    // go without the lock.
+    // A view of all that is published, which is kept too, unless memory is refused or something was published
+    // since so many renewals. What was kept is let go without the lock.
     fn view_to_keep<R: Wait>(
         &self,
         rt: &R,
+        renewals: u64,
         me: &mut Observer<L>,
     ) -> Result<SharedView<L>, AllocError>
         ensures holds { IfOk result (HoldsSeen me.old me.new) }
@@ -134,21 +160,15 @@ impl<D: Disk, L: Opening> SharedStore<D, L> {
         let seen = me.another(&self.cell);
         if let Ok(again) = view.another(&self.cell) {
             let next = KeptView::of(again, seen);
-            let mut latest = self.latest.lock(rt);
-            let old = if is_newer(&next, &latest) {
-                mem::replace(&mut *latest, Some(next))
-            } else {
-                Some(next)
-            };
-            drop(latest);
+            let old = self.latest.lock(rt).keep(next, renewals);
             drop(old);
         }
         Ok(view)
     }
 
     // Gives the store's lock up, once commits were published or a job was done: a view of now is kept
-    // where a reader asked for one since the last was, and else none. What was kept is let go without a
-    // lock.
+    // where a reader asked for one since the last was, and else none. No other call of the store comes before
+    // it is, so that what is kept never shows what was before. What was kept is let go without a lock.
     pub(crate) fn show<R: Wait>(&self, rt: &R, locked: MutexGuard<'_, Locked<D, L>>) {
         let mut locked = locked;
         let next = if self.is_asked.swap(false, Ordering::SeqCst) {
@@ -156,8 +176,10 @@ impl<D: Disk, L: Opening> SharedStore<D, L> {
         } else {
             None
         };
+        let mut latest = self.latest.lock(rt);
         drop(locked);
-        let old = mem::replace(&mut *self.latest.lock(rt), next);
+        let old = latest.renew(next);
+        drop(latest);
         drop(old);
     }
 }

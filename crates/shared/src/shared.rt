@@ -11,7 +11,7 @@ ghost use Rattle.shared.specs.Seen.{IsLater};
 ghost use Rattle.shared.specs.Shared.{BeginHappens, SubmitHappens, SeenReached, PumpHappens, RedeemSays, done_in};
 
 use crate::cell::PublishedCell;
-use crate::latest::KeptView;
+use crate::latest::Latest;
 use crate::locked::Locked;
 use crate::naming::Opening;
 use crate::observer::Observer;
@@ -35,7 +35,7 @@ pub struct SharedStore<D: Disk, L: Opening> {
     pub(crate) alloc: Global,
     pub(crate) locked: Mutex<Locked<D, L>>,
     pub(crate) posts: Mutex<Posts<L>>,
-    pub(crate) latest: Mutex<Option<KeptView<L>>>,
+    pub(crate) latest: Mutex<Latest<L>>,
     pub(crate) is_asked: AtomicBool,
     // The committer sleeps on the first, callers of `commit` on the second until they are answered, on the
     // third one whose ticket still waits, and the vacuum on the last.
@@ -55,7 +55,7 @@ impl<D: Disk, L: Opening> SharedStore<D, L> {
             alloc,
             locked: Mutex::new(locked),
             posts: Mutex::new(Posts::new(alloc)),
-            latest: Mutex::new(None),
+            latest: Mutex::new(Latest::new()),
             is_asked: AtomicBool::new(false),
             queued: EventCount::new(),
             answered: Condvar::new(),
