@@ -46,6 +46,7 @@ use Rattle.store.specs.contracts.store.Store as Store
 use Rattle.store.specs.contracts.store.Store.TheInside as store
 use Rattle.shared.specs.declared.naming.Opening as openings
 use Rattle.shared.specs.contracts.latest.KeptView as KeptView
+use Rattle.shared.specs.contracts.latest.Latest as Latest
 use Rattle.shared.specs.contracts.locked.Locked as Locked
 use Rattle.shared.specs.contracts.locked.Locked.TheInside as locked
 use Rattle.shared.specs.contracts.shared.SharedStore as SharedStore
@@ -189,6 +190,9 @@ module _ (L : RattleType) (opening : openings.Ghosts L.Denot) (ledger : ledgers.
   kept_view_send : IsSend (KeptView.the_row L opening ledger)
   kept_view_send = declared_send (KeptView.the_type L opening ledger) (search (sendable, shared_view-send), (search (sendable, observer.the_send), tt))
 
+  latest_send : IsSend (Latest.the_row L opening ledger)
+  latest_send = declared_send (Latest.the_type L opening ledger) (search (sendable, option.the_send, kept_view_send), (search (sendable, crosses), tt))
+
 -- ---- the store under its lock
 
 pub shared-sync : (D L : RattleType) (disk : devices.Ghosts D.Denot) (opening : openings.Ghosts L.Denot) (ledger : ledgers.Ghosts L.Denot) → IsSend D → IsSync (SharedStore.the_row D L disk opening ledger)
@@ -201,7 +205,7 @@ shared-sync D L disk opening ledger crossing =
         (
           search (sendable, mutex.the_sync, posts.the_send),
           (
-            search (sendable, mutex.the_sync, option.the_send, kept_view_send),
+            search (sendable, mutex.the_sync, latest_send),
             (
               search (sendable, crosses),
               (

@@ -1,5 +1,5 @@
 //! The view that readers share beside the lock.
-ghost use Rattle.std.specs.Prelude.{◌≡◌, ◌≤◌, IfOk, IfSome};
+ghost use Rattle.std.specs.Prelude.{◌≡◌, ◌≤◌, IfOk, IfSome, OnErr, OnOk};
 ghost use Rattle.history.specs.Histories.{last};
 ghost use Rattle.shared.specs.Moments.{HoldsSeen};
 ghost use Rattle.shared.specs.Seen.{IsLater};
@@ -143,6 +143,37 @@ impl<D: Disk, L: Opening> SharedStore<D, L> {
             Some(view) => Ok(view),
             None => self.view_to_keep(rt, renewals, me),
         }
+    }
+
+    /// Makes a view one of what is published, or was a moment ago, with every commit that the caller has seen
+    /// published. Where nothing was published since the view's moment it stays as it is: so a reader that asks
+    /// again and again, and keeps a view of its own, takes no lock and counts no holder, and waits for no other
+    /// reader. A floor that was raised since is no reason to renew it: who needs the floors of now asks for
+    /// `view`.
+    ///
+    /// # Errors
+    ///
+    /// Where there is no memory for another view. The one that was given stays.
+    pub fn renew<R: Wait>(
+        &self,
+        rt: &R,
+        view: &mut SharedView<L>,
+        me: &mut Observer<L>,
+    ) -> Result<(), AllocError>
+        ensures ok { OnOk result (HoldsSeen me.old me.new view.new) }
+        ensures err { OnErr result (view.new ≡ view.old) }
+        ensures later { IsLater me.old me.new }
+    {
+        if view.last() < me.load(rt, &self.cell) {
+            let next = self.latest_view(rt, me)?;
+            let old = mem::replace(view, next);
+            self.end(rt, old);
+            return Ok(());
+        }
+        let moment = view.tell(&self.cell);
+        me.hear(rt, &self.cell, moment.into_pass());
+        me.legal();
+        Ok(())
     }
 
     // A view of all that is published, which is kept too, unless memory is refused or something was published

@@ -60,6 +60,14 @@ impl<L: Opening> Moment<L> {
         Moment::told_by(cell, &mut self.pass)
     }
 
+    /// The pass alone.
+    pub(crate) fn into_pass(self) -> WriterPass
+        ensures cell { result.table_id ≡ L.table }
+        ensures known { known_by (cell_view result) ≡ self }
+    {
+        self.pass
+    }
+
     /// Compares what was known with what the writer's pass knows now, which is no less.
     pub(crate) fn compare<R: Wait>(&mut self, rt: &R, cell: &PublishedCell, writer: &mut WriterPass)
         requires cell { (cell.now.table.shared.table_id ≡ L.table) × (writer.old.table_id ≡ L.table) }

@@ -138,6 +138,15 @@ impl<L: Opening> SharedView<L> {
         Ok(SharedView { view, moment })
     }
 
+    /// What was known at its moment.
+    pub(crate) fn tell(&mut self, cell: &PublishedCell) -> Moment<L>
+        requires { cell.now.table.shared.table_id ≡ L.table }
+        ensures seen { result.seen ≡ self.old.seen }
+        ensures kept { self.new ≡ self.old }
+    {
+        self.moment.another(cell)
+    }
+
     /// The archive that the writer knows has the view's runs still.
     pub(crate) fn compare<R: Wait>(&mut self, rt: &R, cell: &PublishedCell, writer: &mut WriterPass)
         requires cell { (cell.now.table.shared.table_id ≡ L.table) × (writer.old.table_id ≡ L.table) }

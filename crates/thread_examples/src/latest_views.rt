@@ -93,6 +93,27 @@ fn show_a_floor<D: Disk, L: Opening, R: Wait + Abort>(
     assert!(rt; refused && shown);
 }
 
+/// A view that is renewed behind each commit, and again where nothing was published.
+fn renew_behind_commits<D: Disk, L: Opening, R: Wait + Abort>(
+    rt: &R,
+    alloc: Global,
+    store: &SharedStore<D, L>,
+    me: &mut Observer<L>,
+) {
+    let Ok(mut view) = store.latest_view(rt, me) else {
+        panic!(rt; "no view");
+    };
+    for write in [(190, "j"), (200, "k")] {
+        publish(rt, alloc, store, me, write);
+        assert!(rt; view.last() < write.0);
+        for _ in 0..2 {
+            assert_eq!(rt; store.renew(rt, &mut view, me), Ok(()));
+            assert!(rt; ends_with(&view, write.0, write.1));
+        }
+    }
+    store.end(rt, view);
+}
+
 /// Takes views again and again: each has what was published before it was asked for.
 fn watch<D: Disk, L: Opening, R: Wait + Abort>(
     rt: &R,
@@ -156,9 +177,10 @@ fn shows_what_is_published<
     publish_four(rt, alloc, &store, &mut me);
     show_each_commit(rt, alloc, &store, &mut me);
     show_a_floor(rt, &store, &mut me);
+    renew_behind_commits(rt, alloc, &store, &mut me);
     let reader = store.another(&mut me);
     let mut me = watch_beside_commits(rt, alloc, &store, reader, me);
-    assert!(rt; is_shown(rt, &store, &mut me, (280, "i")));
+    assert!(rt; is_shown(rt, &store, &mut me, (300, "i")));
     let _disk = store.into_store(&mut share).close();
 }
 

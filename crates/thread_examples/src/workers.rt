@@ -1,11 +1,12 @@
 //! Many writers and readers at once, and how many commits they made.
 use disk::MemDisk;
-use shared::{Plan, fresh_store, stress, stress_on};
+use shared::fresh_store;
 use std::alloc::{AllocError, Global};
 use std::process::Abort;
 use std::sync::Wait;
 use std::thread::Threads;
 use store::Store;
+use workload::{Plan, stress, stress_on};
 
 #[test]
 fn a_stress_counts_each_round_of_each_writer(rt: HostRuntime) {

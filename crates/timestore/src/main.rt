@@ -8,7 +8,6 @@ use clap::Error;
 use disk::MemDisk;
 use disk_file::{Access, FileDisk, FolderFault};
 use session::{Answers, LineInput, Lines};
-use shared::Plan;
 use shell::{Action, Need, OpenFault, WordsFault, act, folder_need, read_words, refuse_folder};
 use status::{LogFault, read_header};
 use std::alloc::{AllocError, Global};
@@ -18,6 +17,7 @@ use std::io;
 use std::io::{BufReader, BufWriter, Write};
 use std::process::ExitCode;
 use std::rt::Files;
+use workload::Plan;
 
 /// The bytes of the script that are read ahead, and those of answers that are gathered.
 const BUFFER: usize = 65_536;

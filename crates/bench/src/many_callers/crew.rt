@@ -25,6 +25,8 @@ pub(crate) enum Reading {
     Views,
     /// Each takes one of those that readers share.
     LatestViews,
+    /// Each has one view, which it renews before each key.
+    RenewedViews,
     /// Each asks for all its keys by one view.
     Asks,
 }
@@ -173,7 +175,7 @@ fn view_one<D: Disk, L: Opening, R: Wait>(
 ) -> bool {
     let taken = match reading {
         Reading::LatestViews => store.latest_view(rt, me),
-        Reading::Views | Reading::Asks => store.view(rt, me),
+        Reading::Views | Reading::RenewedViews | Reading::Asks => store.view(rt, me),
     };
     let view = match taken {
         Ok(view) => view,
@@ -187,19 +189,24 @@ fn view_one<D: Disk, L: Opening, R: Wait>(
     right
 }
 
-// Asks one view for keys that were written before. How many were answered right.
+// Asks one view for keys that were written before, which is renewed before each where it is to be. How many
+// were answered right.
 fn ask<D: Disk, L: Opening, R: Wait>(
     rt: &R,
     store: &SharedStore<D, L>,
     me: &mut Observer<L>,
-    count: u64,
+    load: Load,
 ) -> u64 {
-    let view = match store.view(rt, me) {
+    let mut view = match store.view(rt, me) {
         Ok(view) => view,
         Err(AllocError) => return 0,
     };
+    let is_renewed = matches!(load.reading, Reading::RenewedViews);
     let mut right = 0u64;
-    for number in 0..count {
+    for number in 0..load.reads {
+        if is_renewed && store.renew(rt, &mut view, me).is_err() {
+            break;
+        }
         let record = number.wrapping_mul(7) % KEYS;
         if let Ok(Some(value)) = view.recent(records::key(record), 1) {
             right = right.wrapping_add(u64::from(records::is_version(value, record, 0)));
@@ -218,8 +225,8 @@ fn read<D: Disk, L: Opening, R: Wait>(
 ) -> Option<u64> {
     let mut me = me;
     match load.reading {
-        Reading::Asks => {
-            let right = ask(rt, store, &mut me, load.reads);
+        Reading::Asks | Reading::RenewedViews => {
+            let right = ask(rt, store, &mut me, load);
             (right == load.reads).then_some(right)
         }
         Reading::Views | Reading::LatestViews => {

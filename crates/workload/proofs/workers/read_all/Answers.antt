@@ -1,0 +1,8 @@
+use denote.Param.Send.{sendable}
+use Rattle.std.proofs.Crossing.{crosses}
+use Rattle.workload.proofs.workers.Plan.TheSendSync as plan
+use Rattle.shared.proofs.Sending.{shared-sync}
+use Rattle.workload.proofs.workers.read_all.Goals as goal
+
+pub map_vec-requires-sync-F : goal.map_vec-requires-sync-F
+map_vec-requires-sync-F g c κs within = search (shared-sync, plan.the_sync, sendable, crosses) depth 20

@@ -1,0 +1,98 @@
+//! Many threads at once over a new store in memory.
+ghost use Rattle.std.specs.Prelude.{◌≡◌, ◌*◌, ◌+◌, [], length, IfOk, IfSome};
+ghost use Rattle.history.specs.Machine.{Machine};
+ghost use Rattle.image.specs.Values.{Value};
+ghost use Rattle.refinement.specs.Stands.{Stands};
+ghost use Rattle.shared.specs.Counts.{told_count, unredeemed};
+ghost use Rattle.shared.specs.Reached.{Reached};
+
+use crate::workers::{Plan, field_of, key_of, run_workers};
+use chains::SharedValue;
+use disk::{Disk, MemDisk};
+use shared::{Opened, fresh_store};
+use std::alloc::{AllocError, Global};
+use std::marker::Brand;
+use std::sync::Wait;
+use std::thread::Threads;
+use store::{QueryFault, Store};
+
+/// The slots of the log of a stress's store.
+const SLOTS: u32 = 32_768;
+
+/// The mark of a stress's store.
+const MARK: u64 = 1;
+
+/// Writers commit their own keys, and readers read them, in threads of their own over a new store in
+/// memory, beside a committer and a vacuum. Gives how many commits there were, and the time of the
+/// last. None where a caller was refused, memory ran out, or a writer's key has not the value of its
+/// last round.
+pub fn stress<R: Threads + Wait + Sync>(rt: &R, alloc: Global, plan: Plan) -> Option<(u64, u64)>
+    ensures { IfSome result (λ done. done.0 ≡ plan.writers * plan.rounds) }
+{
+    let store = match fresh_store(alloc, MemDisk::new(alloc), SLOTS, MARK) {
+        Ok(store) => store,
+        Err(_disk) => return None,
+    };
+    let (mut store, done) = match stress_on(rt, alloc, store, plan) {
+        Ok(ended) => ended,
+        Err((AllocError, store)) => (store, None),
+    };
+    let holds = holds_last_rounds(&mut store, plan);
+    let last = store.last();
+    let _disk = store.close();
+    let owed = u64::from(plan.writers) * u64::from(plan.rounds);
+    match done {
+        Some(done) if holds && done == owed => Some((done, last)),
+        _ => None,
+    }
+}
+
+/// The plan's threads over a store that was just opened. Gives the store back, and how many commits
+/// the writers count together, as `run_workers` does.
+pub fn stress_on<D: Disk + Send, R: Threads + Wait + Sync>(
+    rt: &R,
+    alloc: Global,
+    store: Store<D>,
+    plan: Plan,
+) -> Result<(Store<D>, Option<u64>), (AllocError, Store<D>)>
+    ghost start: { Machine Value }
+    requires stands { Stands D.tells store start }
+    requires fresh { told_count store.transactions.heads ≡ length start.published }
+    requires queue { start.queue ≡ [] }
+    ensures counted { IfOk result (λ ended. (m : Machine Value) × Stands D.tells ended.0 m × Reached start m × IfSome ended.1 (λ done. length m.published ≡ length start.published + done + unredeemed ended.0)) }
+{
+    match Opened::new(rt, alloc, u64::from(plan.writers) + 1, store) {
+        Ok(opened) => Ok(run_workers::<D, Brand, R>(rt, alloc, opened, plan)),
+        Err(refused) => Err(refused),
+    }
+}
+
+// Whether each writer's key has the value of its last round at the last time.
+fn holds_last_rounds<D: Disk>(store: &mut Store<D>, plan: Plan) -> bool {
+    let last = store.last();
+    let view = match store.view() {
+        Ok(view) => view,
+        Err(AllocError) => return false,
+    };
+    let mut holds = true;
+    for number in 0..u64::from(plan.writers) {
+        let answer = store.at(&view, key_of(number + 1), last);
+        holds = holds && is_of_round(&answer, u32::from(plan.rounds));
+    }
+    store.end(view);
+    holds
+}
+
+// Whether the value is that of a writer's round.
+fn is_of_round(answer: &Result<Option<SharedValue>, QueryFault>, round: u32) -> bool {
+    match answer {
+        Ok(Some(found)) => {
+            let value = found.value();
+            match value.field(0) {
+                Some(field) => value.len() == 1 && field == field_of(round).as_slice(),
+                None => false,
+            }
+        }
+        _ => false,
+    }
+}
