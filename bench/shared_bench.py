@@ -23,6 +23,7 @@ VERBS = {
     **{f"c{count}": (f"commits of one record by {count} writers, /s", 2_000 * min(count, 16)) for count in (1, 2, 4, 8, 16, 32)},
     **{f"r{count}": (f"views by {count} readers beside a writer, /s", 300_000) for count in (1, 2, 3, 4)},
     **{f"l{count}": (f"latest views by {count} readers beside a writer, /s", 300_000) for count in (1, 2, 3, 4)},
+    **{f"n{count}": (f"values by {count} readers of a view each, which is renewed before each, beside a writer, /s", 5_000_000) for count in (1, 2, 3, 4)},
     **{f"q{count}": (f"values by {count} readers of a view each, beside a writer, /s", 5_000_000) for count in (1, 2, 3, 4)},
     "h": ("the lock held for a sync, µs", 200),
 }

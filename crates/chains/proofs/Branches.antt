@@ -1,7 +1,7 @@
 -- One key's writes in branches: those of a fork, from the branch on in which a time lies.
-use Rattle.std.proofs.Common.{◌≡◌, ℕ, zero, suc, ◌-◌, ◌<◌, ◌≤◌, List, [], ◌∷◌, ◌++◌, length, get_or, take, drop, Option, None, Some, refl, ap, sym, subst, ◌∙◌, arith, append_assoc, append-nil, length-append}
+use Rattle.std.proofs.Common.{◌≡◌, ℕ, zero, suc, ◌+◌, ◌-◌, ◌<◌, ◌≤◌, List, [], ◌∷◌, ◌++◌, length, get_or, take, drop, Option, None, Some, refl, ap, sym, subst, ◌∙◌, arith, append_assoc, append-nil, length-append}
 use Rattle.std.specs.Prelude.{find}
-use Rattle.std.proofs.lemmas.List.{take-append-drop}
+use Rattle.std.proofs.lemmas.List.{take-append-drop, drop_more}
 use Rattle.history.specs.declared.time.Version.{Version}
 use Rattle.history.specs.Time.{IsRisingAfter, value_after, value_at}
 use Rattle.history.specs.Versions.{first_time, rows, ends_after}
@@ -60,6 +60,13 @@ is-from-begun time (suc n) m bs is before after up =
 
 pub is-from : (time n m : ℕ) (bs : List (Shape Write)) → m ≡ n - 1 → (0 < n → BeginBy time (drop (n - 1) bs)) → BeginAfter time (drop n bs) → IsRisingAfter 0 (all_of bs) → IsFrom time bs (drop m bs)
 is-from time n m bs is before after up = is-from-begun time n m bs is (λ h. subst (λ (k : ℕ). BeginBy time (drop k bs)) (sym is) (before h)) after up
+
+-- the branch of a number, and those behind it
+from-number : (time n : ℕ) (bs : List (Shape Write)) (b : Shape Write) → 0 < n → n ≤ length bs → b ≡ get_or bs (n - 1) b → (0 < n → BeginBy time (drop (n - 1) bs)) → BeginAfter time (drop n bs) → IsRisingAfter 0 (all_of bs) → IsFrom time bs (b ∷ drop n bs)
+from-number time n bs b some within is begun after up =
+    let next : n - 1 + 1 ≡ n = omega (arith, some) in
+    let here : drop (n - 1) bs ≡ b ∷ drop n bs = drop_more bs (n - 1) b (omega (arith, some, within)) ∙ ap (λ (x : Shape Write). x ∷ drop (n - 1 + 1) bs) (sym is) ∙ ap (λ (k : ℕ). b ∷ drop k bs) next in
+    subst (λ (rest : List (Shape Write)). IsFrom time bs rest) here (is-from time n (n - 1) bs refl begun after up)
 
 -- ---- what lies before them says nothing of the time
 
@@ -273,9 +280,6 @@ module _ {self : Shape Write} {bs : List (Shape Write)} (fork : IsFork self bs) 
     pub lower : {h : ℕ} → h < b.height → h < self.height
     lower below = omega (arith, first_low rest some is, rest_low, below)
 
-    pub fork_value : value_at self.pieces t ≡ value_at b.pieces t
-    fork_value = ap (λ (ws : List Write). value_at ws t) (sym fork.writes) ∙ value_from from-first
-
     pub fork_kept : kept_after t self.pieces ≡ kept_after t b.pieces ++ all_of (behind rest)
     fork_kept = ap (λ (ws : List Write). kept_after t ws) (sym fork.writes) ∙ kept_from from-first fork.rising
 
@@ -300,6 +304,19 @@ module _ {self : Shape Write} {bs : List (Shape Write)} (fork : IsFork self bs) 
     kept_rising = subst (IsRisingAfter 0) fork_kept (kept_after-rising 0 t self.pieces (subst (IsRisingAfter 0) fork.writes fork.rising))
 
 -- ---- a fork's branches, and a piece behind them
+
+module _ {self : Shape Write} {bs : List (Shape Write)} (fork : IsFork self bs) (t n : ℕ) (after : BeginAfter t (drop n bs)) where
+  pub none_begun : n ≡ 0 → value_at self.pieces t ≡ None
+  none_begun none =
+      ap (λ (ws : List Write). value_at ws t) (sym fork.writes)
+      ∙ value_after-later None (all_of bs) t (later-all t bs (subst (λ (k : ℕ). BeginAfter t (drop k bs)) none after) fork.rising)
+
+  module _ {b : Shape Write} (some : 0 < n) (within : n ≤ length bs) (is : b ≡ get_or bs (n - 1) b) where
+    pub begun_lower : {h : ℕ} → h < b.height → h < self.height
+    begun_lower below = omega (arith, fork.height, at_low bs (n - 1) b (omega (arith, some, within)) is, below)
+
+    pub begun_value : (0 < n → BeginBy t (drop (n - 1) bs)) → value_at self.pieces t ≡ value_at b.pieces t
+    begun_value begun = ap (λ (ws : List Write). value_at ws t) (sym fork.writes) ∙ value_from (from-number t n bs b some within is begun after fork.rising)
 
 module _ {self : Shape Write} {bs : List (Shape Write)} (fork : IsFork self bs) (p : List Write) where
   -- beside the last

@@ -1,8 +1,8 @@
 -- The chains of nodes: those of a fork, from the node on in which a bound lies.
-use Rattle.std.proofs.Common.{◌≡◌, ◌≢◌, cond, ℕ, zero, suc, ◌-◌, ◌<◌, ◌≤◌, true, false, Bool, List, [], ◌∷◌, ◌++◌, length, get_or, take, drop, Option, None, Some, refl, ap, sym, subst, ◌∙◌, arith}
+use Rattle.std.proofs.Common.{◌≡◌, ◌≢◌, cond, ℕ, zero, suc, ◌+◌, ◌-◌, ◌<◌, ◌≤◌, true, false, Bool, List, [], ◌∷◌, ◌++◌, length, get_or, take, drop, Option, None, Some, refl, ap, sym, subst, ◌∙◌, arith}
 use Rattle.std.specs.Prelude.{find}
 use Rattle.std.proofs.lemmas.Bool.Decides.{nat_tests}
-use Rattle.std.proofs.lemmas.List.{take-append-drop}
+use Rattle.std.proofs.lemmas.List.{take-append-drop, drop_more}
 use Rattle.history.specs.declared.key.Key.{Key}
 use Rattle.history.specs.Key.{key_lt, same_key}
 use Rattle.chains.specs.declared.bound.Bound.{Bound}
@@ -15,7 +15,7 @@ use Rattle.chains.specs.Shapes.{Shape, all_of, highest}
 use Rattle.chains.proofs.Bounds.{find-past, out-below}
 use Rattle.chains.proofs.Order.{above-back, forgotten-two, ordered-back, lt-other}
 use Rattle.chains.proofs.Relations.{other-part, relation-above, relation-append, relation-below}
-use Rattle.chains.proofs.Shapes.{all_of-append, highest-append, behind, rest_is, pieces_are, first_low}
+use Rattle.chains.proofs.Shapes.{all_of-append, highest-append, at_low, behind, rest_is, pieces_are, first_low}
 use Rattle.chains.proofs.Walks.{in-later}
 
 -- ---- the nodes from the last one on that begins without the bound
@@ -66,6 +66,13 @@ is-from-without bound (suc n) m ns is without first o =
 
 pub is-from : (bound : Bound) (n m : ℕ) (ns : List (Shape KeyWrites)) → m ≡ n - 1 → (0 < n → FirstWithout bound (drop (n - 1) ns)) → FirstWithin bound (drop n ns) → IsOrdered (all_of ns) → IsFromBound bound ns (drop m ns)
 is-from bound n m ns is without first o = is-from-without bound n m ns is (λ h. subst (λ (k : ℕ). FirstWithout bound (drop k ns)) (sym is) (without h)) first o
+
+-- the node of a number, and those behind it
+from-number : (bound : Bound) (k : ℕ) (ns : List (Shape KeyWrites)) (n : Shape KeyWrites) → 0 < k → k ≤ length ns → n ≡ get_or ns (k - 1) n → (0 < k → FirstWithout bound (drop (k - 1) ns)) → FirstWithin bound (drop k ns) → IsOrdered (all_of ns) → IsFromBound bound ns (n ∷ drop k ns)
+from-number bound k ns n some within is without first o =
+    let next : k - 1 + 1 ≡ k = omega (arith, some) in
+    let here : drop (k - 1) ns ≡ n ∷ drop k ns = drop_more ns (k - 1) n (omega (arith, some, within)) ∙ ap (λ (x : Shape KeyWrites). x ∷ drop (k - 1 + 1) ns) (sym is) ∙ ap (λ (i : ℕ). n ∷ drop i ns) next in
+    subst (λ (rest : List (Shape KeyWrites)). IsFromBound bound ns rest) here (is-from bound k (k - 1) ns refl without first o)
 
 -- ---- what lies before them is not asked for
 
@@ -158,11 +165,18 @@ module _ {self : Shape KeyWrites} {ns : List (Shape KeyWrites)} (fork : IsKeyFor
   pub lower : {n : Shape KeyWrites} → 1 ≤ length rest → n ≡ get_or rest 0 n → n.height < self.height
   lower some is = omega (arith, first_low rest some is, rest_low)
 
-pub fork_key : {self : Shape KeyWrites} {ns : List (Shape KeyWrites)} (fork : IsKeyFork self ns) {key : Key} {rest : List (Shape KeyWrites)} (from : IsFromBound (After key) ns rest) {n : Shape KeyWrites}
-    → 1 ≤ length rest → n ≡ get_or rest 0 n → find (is_of key) self.pieces ≡ find (is_of key) n.pieces
-fork_key {self} {ns} fork {key} {rest} from {n} some is =
-    let first : IsFromBound (After key) ns (n ∷ behind rest) = subst (λ (l : List (Shape KeyWrites)). IsFromBound (After key) ns l) (rest_is rest some is) from in
-    ap (λ (m : List KeyWrites). find (is_of key) m) (sym fork.chains) ∙ key_from first fork.ordered
+module _ {self : Shape KeyWrites} {ns : List (Shape KeyWrites)} (fork : IsKeyFork self ns) (key : Key) (k : ℕ) (first : FirstWithin (After key) (drop k ns)) where
+  pub none_without : k ≡ 0 → find (is_of key) self.pieces ≡ None
+  none_without none =
+      ap (λ (m : List KeyWrites). find (is_of key) m) (sym fork.chains)
+      ∙ none-later key (all_of ns) (within-nodes (After key) ns (subst (λ (i : ℕ). FirstWithin (After key) (drop i ns)) none first) fork.ordered)
+
+  module _ {n : Shape KeyWrites} (some : 0 < k) (within : k ≤ length ns) (is : n ≡ get_or ns (k - 1) n) where
+    pub node_lower : n.height < self.height
+    node_lower = omega (arith, fork.height, at_low ns (k - 1) n (omega (arith, some, within)) is)
+
+    pub node_key : (0 < k → FirstWithout (After key) (drop (k - 1) ns)) → find (is_of key) self.pieces ≡ find (is_of key) n.pieces
+    node_key without = ap (λ (m : List KeyWrites). find (is_of key) m) (sym fork.chains) ∙ key_from (from-number (After key) k ns n some within is without first fork.ordered) fork.ordered
 
 pub fork_relation : {X : Type 0} {self : Shape KeyWrites} {ns : List (Shape KeyWrites)} (fork : IsKeyFork self ns) {relation : ℕ} {rest : List (Shape KeyWrites)} (shown : KeyWrites → List X)
     → IsFromBound (From (record { relation = relation; «record» = 0 })) ns rest → of_relation relation shown (all_of rest) ≡ of_relation relation shown self.pieces

@@ -7,7 +7,6 @@ ghost use Rattle.chains.specs.Rows as specs;
 
 use crate::older::{Branch, Older};
 use crate::share::Share;
-use crate::write::STRIDE;
 use std::alloc::AllocError;
 
 /// How many branches lie together at most.
@@ -60,28 +59,14 @@ pub(crate) fn first_time_or(branches: &[Branch], end: u64) -> u64
     }
 }
 
-/// How many of the branches are left where the last ones are passed, as many at a time as a stride, while all of
-/// those begin after a time.
-fn passed_in_strides(branches: &[Branch], time: u64) -> usize
-    ensures within { result ≤ length branches.now }
-    ensures after { BeginAfter time (drop result branches.now) }
-{
-    let mut left = branches.len();
-    while left > STRIDE && time < branches[left - STRIDE].first_time() {
-        left -= STRIDE;
-    }
-    left
-}
-
 /// How many of the branches begin by a time. They are few and lie together, so they are passed one after
-/// another, the last ones first and by strides before: where they come from far, halving would wait for each
-/// step's.
-fn begun_by(branches: &[Branch], time: u64) -> usize
+/// another, the last ones first: where they come from far, halving would wait for each step's.
+pub(crate) fn begun_by(branches: &[Branch], time: u64) -> usize
     ensures within { result ≤ length branches.now }
     ensures before { 0 < result → BeginBy time (drop (result - 1) branches.now) }
     ensures after { BeginAfter time (drop result branches.now) }
 {
-    let mut begun = passed_in_strides(branches, time);
+    let mut begun = branches.len();
     while begun > 0 && time < branches[begun - 1].first_time() {
         begun -= 1;
     }

@@ -180,14 +180,14 @@ impl KeyNode {
 
 /// How many of the nodes begin without the bound. They are few and lie together, so they are passed one
 /// after another: which way a step of halving goes a processor cannot foresee.
-fn without_count(nodes: &[KeyNode], bound: Bound) -> usize
+pub(crate) fn without_count(nodes: &[KeyNode], bound: Bound) -> usize
     ensures within { result ≤ length nodes.now }
     ensures before { 0 < result → FirstWithout bound (drop (result - 1) nodes.now) }
     ensures after { FirstWithin bound (drop result nodes.now) }
 {
-    let mut without = 0;
-    while without < nodes.len() && !bound.admits(nodes[without].first_key()) {
-        without += 1;
+    let mut without = nodes.len();
+    while without > 0 && bound.admits(nodes[without - 1].first_key()) {
+        without -= 1;
     }
     without
 }

@@ -8,7 +8,7 @@ ghost use Rattle.chains.specs.Scans.{shown_value};
 
 use crate::bound::Bound;
 use crate::chain::Chain;
-use crate::key_node::{KeyNode, KeyParts, from_bound};
+use crate::key_node::{KeyNode, KeyParts, from_bound, without_count};
 use crate::scanning::{Found, add_rows_of_relation, add_values_of_relation};
 use crate::shared_value::SharedValue;
 use history::{Key, Version};
@@ -49,10 +49,13 @@ impl KeyNode {
     {
         match self.parts() {
             KeyParts::Chains(chains) => chain_of(chains, key),
-            KeyParts::Nodes(nodes) => match from_bound(nodes, Bound::After(key)) {
-                [] => None,
-                [node, ..] => node.get(key),
-            },
+            KeyParts::Nodes(nodes) => {
+                let without = without_count(nodes, Bound::After(key));
+                if without == 0 {
+                    return None;
+                }
+                nodes[without - 1].get(key)
+            }
         }
     }
 

@@ -7,7 +7,7 @@ ghost use Rattle.chains.specs.Found.{IsFound};
 ghost use Rattle.chains.specs.Rows.{versions_upto, version_of_loan, IsFront};
 ghost use Rattle.chains.specs.Writes.{is_after, last_time};
 
-use crate::branching::{first_time_or, from_begun};
+use crate::branching::{begun_by, first_time_or, from_begun};
 use crate::ending::ending_in;
 use crate::older::{Older, Parts};
 use crate::part::{Part, before_part};
@@ -25,10 +25,13 @@ impl Older {
     {
         match self.parts() {
             Parts::Writes(writes) => value_in(writes, time),
-            Parts::Branches(branches) => match from_begun(branches, time) {
-                [] => None,
-                [branch, ..] => branch.writes().at(time),
-            },
+            Parts::Branches(branches) => {
+                let begun = begun_by(branches, time);
+                if begun == 0 {
+                    return None;
+                }
+                branches[begun - 1].writes().at(time)
+            }
         }
     }
 

@@ -3,14 +3,11 @@ ghost use Rattle.std.specs.Prelude.{◌≡◌, ◌≤◌, ◌&&◌, IfOk, drop, 
 ghost use Rattle.std.specs.Option.{option_copied};
 ghost use Rattle.history.specs.Time.{value_at, IsRisingAfter};
 ghost use Rattle.chains.specs.Rows as specs;
-ghost use Rattle.chains.specs.Writes.{kept_after, is_after, AreLaterFrom, IsBegun};
+ghost use Rattle.chains.specs.Writes.{kept_after, is_after, IsBegun};
 
 use crate::shared_value::SharedValue;
 use crate::stamped::StampedWrite;
 use std::alloc::AllocError;
-
-/// How many writes or branches a search passes at once before it looks at each of them.
-pub(crate) const STRIDE: usize = 8;
 
 /// The same write, with its value shared.
 pub(crate) fn share_write(write: &Option<SharedValue>) -> Result<Option<SharedValue>, AllocError>
@@ -53,28 +50,14 @@ pub(crate) fn first_time_or(writes: &[StampedWrite], end: u64) -> u64
     }
 }
 
-/// How many of the writes are left where the last ones are passed, as many at a time as a stride, while all of
-/// those were made after a time.
-fn passed_in_strides(writes: &[StampedWrite], time: u64) -> usize
-    requires { IsRisingAfter 0 writes.now }
-    ensures within { result ≤ length writes.now }
-    ensures after { AreLaterFrom time writes.now result }
-{
-    let mut left = writes.len();
-    while left > STRIDE && time < writes[left - STRIDE].time() {
-        left -= STRIDE;
-    }
-    left
-}
-
 /// How many of the writes were made by a time. They are few and lie together, so they are passed one
-/// after another, and where they are more by strides before: where they come from far, halving would wait for
-/// each step's. The last ones are asked for most.
+/// after another: where they come from far, halving would wait for each step's. The last ones are asked
+/// for most.
 fn begun_by(writes: &[StampedWrite], time: u64) -> usize
     requires { IsRisingAfter 0 writes.now }
     ensures { IsBegun time writes.now result }
 {
-    let mut begun = passed_in_strides(writes, time);
+    let mut begun = writes.len();
     while begun > 0 && time < writes[begun - 1].time() {
         begun -= 1;
     }

@@ -1,11 +1,19 @@
-use Rattle.std.proofs.Common.{◌∙◌, sym, rules}
-use Rattle.chains.proofs.Branches.{lower, fork_value}
+use Rattle.std.proofs.Common.{ℕ, ◌<◌, ◌∙◌, sym, arith, rules}
+use Rattle.chains.proofs.Branches.{none_begun, begun_lower, begun_value}
 use Rattle.chains.proofs.older.Older.+at.Goals as goal
+
+pub returns-then-begun-eq0 : goal.returns-then-begun-eq0
+returns-then-begun-eq0 t c = sym (none_begun c.in-Branches.ensures _ _ c.begun_by-begun.ensures.after c.if-begun-eq0.true)
 
 pub at-requires : goal.at-requires
 at-requires t c =
-    let low = lower c.in-Branches.ensures c.from_begun.ensures c.in-len1-up.len_at_least c.branch-item.is c.writes.ensures.lower in
+    let begun = c.begun_by-begun.ensures in
+    let some : 0 < c.begun_by-begun.result = omega (arith, c.if-begun-eq0.false) in
+    let low = begun_lower c.in-Branches.ensures _ _ begun.after some begun.within c.index-branches-begun.is c.writes.ensures.lower in
     search rules
 
-pub returns-in-len1-up : goal.returns-in-len1-up
-returns-in-len1-up t c = rw c.writes.ensures.is at c.at.ensures ∙ sym (fork_value c.in-Branches.ensures c.from_begun.ensures c.in-len1-up.len_at_least c.branch-item.is)
+pub returns-else-begun-eq0 : goal.returns-else-begun-eq0
+returns-else-begun-eq0 t c =
+    let begun = c.begun_by-begun.ensures in
+    let some : 0 < c.begun_by-begun.result = omega (arith, c.if-begun-eq0.false) in
+    rw c.writes.ensures.is at c.at.ensures ∙ sym (begun_value c.in-Branches.ensures _ _ begun.after some begun.within c.index-branches-begun.is begun.before)
