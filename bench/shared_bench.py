@@ -78,7 +78,7 @@ def beside(verb, answers):
             if form + "_value" in answers[0]
         ]
         return f"{raw}; µs a group: {parts}; raw {median(answers, 'raw_us'):,.0f}{''.join(told)}"
-    if verb[0] in "rlq":
+    if verb[0] in "rlnq":
         return f"the writer's commits {shown(median(answers, 'commits_s'))} /s"
     kinds = ("begin", "submit", "redeem", "view", "write", "job", "start")
     held = (f"{kind} {median(answers, kind + '_us'):.1f} (most {median(answers, kind + '_most_us'):,.0f})" for kind in kinds)
