@@ -9,7 +9,7 @@ use Rattle.deltas.specs.Reading.{record_at, behind_record}
 use Rattle.deltas.specs.Chains.{HoldsRecords}
 use Rattle.deltas.proofs.RecordsRead.{record_again}
 use Rattle.deltas.proofs.Left.{length-spelling}
-use Rattle.deltas.proofs.Packed.{bytes_of_packed}
+use Rattle.deltas.proofs.Packed.{spelled_in}
 use Rattle.deltas.proofs.Holding.{are_packed}
 
 none_spelled : (r : Record) (records : List Record) → [] ≡ flat_map spelling (r ∷ records) → ⊥
@@ -32,4 +32,4 @@ one_list (r ∷ a) (s ∷ b) are_a are_b same =
 pub one_packing : (name other : ChainName) (kinds others : Kinds) (images : List (List ℕ)) (a b : List Record) → HoldsRecords name kinds images a → HoldsRecords other others images b → a ≡ b
 one_packing name other kinds others images a b holds_a holds_b =
     one_list a b holds_a.are_records.each holds_b.are_records.each
-    (sym (bytes_of_packed images a holds_a.are_records.each (are_packed name kinds images a holds_a)) ∙ bytes_of_packed images b holds_b.are_records.each (are_packed other others images b holds_b))
+    (spelled_in images a holds_a.are_records.each (are_packed name kinds images a holds_a) ∙ sym (spelled_in images b holds_b.are_records.each (are_packed other others images b holds_b)))

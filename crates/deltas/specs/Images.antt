@@ -1,5 +1,5 @@
 -- The bytes of an extent while its records are written.
-use Rattle.std.specs.Prelude.{◌≡◌, ℕ, ◌+◌, ◌-◌, ◌≤◌, List, length, take, drop, replicate}
+use Rattle.std.specs.Prelude.{◌≡◌, ℕ, ◌-◌, ◌≤◌, List, length, take, drop, replicate}
 
 -- from this place on nothing has changed
 abbrev pub IsSameFrom : ℕ → List ℕ → List ℕ → Type 0

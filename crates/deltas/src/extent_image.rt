@@ -82,10 +82,17 @@ impl Image {
         &bytes[16..16 + used]
     }
 
+    /// Whether it has just these bytes.
+    pub(crate) fn has_bytes(&self, bytes: &[u8]) -> bool
+        ensures { IsTrue result ↔ (self.now ≡ bytes.now) }
+    {
+        self.bytes() == bytes
+    }
+
     /// Whether the other has the same bytes.
     pub fn is_same(&self, other: &Image) -> bool
         ensures { IsTrue result ↔ (self.now ≡ other.now) }
     {
-        self.bytes() == other.bytes()
+        self.has_bytes(other.bytes())
     }
 }

@@ -1,4 +1,4 @@
-use Rattle.std.proofs.Common.{◌≡◌, ◌∙◌, ◌++◌, ap, length, arith}
+use Rattle.std.proofs.Common.{◌∙◌, ◌++◌, ap, length, arith}
 use Rattle.deltas.specs.Records.{spelling}
 use Rattle.deltas.specs.Loans.{record_of_loan}
 use Rattle.deltas.proofs.Bodies.{pushed, length-records}

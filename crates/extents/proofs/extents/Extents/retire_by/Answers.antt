@@ -1,4 +1,4 @@
-use Rattle.std.proofs.Common.{◌≡◌, ◌≤◌, ◌<◌, ℕ, ◌+◌, List, arith, ap, subst, ◌∙◌, sym, length}
+use Rattle.std.proofs.Common.{◌≤◌, ◌<◌, ℕ, ◌+◌, List, arith, ap, ◌∙◌, length}
 use Rattle.extents.specs.declared.usage.Usage.{Usage}
 use Rattle.extents.specs.Times.{time_of, retired_by}
 use Rattle.extents.proofs.Retiring.{Retires, one-retired, none-retired, later-kept, others-stay}
