@@ -130,6 +130,15 @@ def longest_chain(seconds):
     return max(((chain(it)[0] + sum(seconds[it].values()) - seconds[it]["proof"], chain(it)[1]) for it in below), default=(0, []))
 
 
+def number_edits(checks):
+    """Numbers the tries of a crate's edits, where their words say no number: rt tries them by name, each over what those before it left."""
+    tried = collections.Counter()
+    for _, check in sorted(checks.items(), key=lambda it: it[0]):
+        if check.phase == "edits" and check.edit is None:
+            check.edit = tried[check.crate]
+            tried[check.crate] += 1
+
+
 def edits_by_cost(checks):
     """The edits that were tried: the seconds of each, its crate and its name, dearest first."""
     seconds = collections.Counter()
@@ -188,6 +197,7 @@ def main(words):
         if ran.poll() is None:
             ran.terminate()
             ran.wait()
+    number_edits(checks)
     total = table(checks, time.time() - started)
     sys.stdout.flush()
     if listed is not None:
