@@ -1,5 +1,5 @@
 # `make try` shows the program before any proof, `make demo` builds it and shows it; `make test` is the gate.
-# `make more-edits` tries the edits that the gate leaves out, all or (`make more-edits CRATES="wire disk"`) those of some crates.
+# TABLE=FILE keeps what it cost. `make more-edits` tries the edits that the gate leaves out, all or (`make more-edits CRATES="wire disk"`) those of some crates.
 PROGRAM = crates/timestore/out/timestore
 BENCH = crates/bench/out/bench
 # The most processor minutes that the gate may take: what three hours on four cores hold, with a little to spare. It is to stay under 330 on a machine at rest; four checks side by side on four cores take a third more, and a slower machine more than that.
@@ -9,7 +9,7 @@ BUDGET = 680
 
 test:
 	@command -v rt >/dev/null || { echo "the Rattle kit's command rt is not on PATH" >&2; exit 1; }
-	bench/gate_cost.py --limit $(BUDGET) rt ci
+	bench/gate_cost.py --limit $(BUDGET) $(if $(TABLE),--table $(TABLE)) rt ci
 	if [ -x $(PROGRAM) ]; then $(MAKE) torture-short; fi
 
 more-edits:

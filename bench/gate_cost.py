@@ -2,13 +2,15 @@
 """Runs a command and prints what processor time each crate took in it: its proof, its tests, the first of its must-fail edits and the others;
 the dearest edits; and the most memory that one check of the crate held. It only reads /proc, twice a second. Its exit status is the command's.
 
-usage: bench/gate_cost.py [--limit MINUTES] [--edits FILE] [COMMAND ..]
+usage: bench/gate_cost.py [--limit MINUTES] [--edits FILE] [--table FILE] [COMMAND ..]
 
 With no command it runs rt ci. With --limit the status is 1 too where the sum is above so many processor minutes. --edits adds a line for each
-edit that was tried to the file: its seconds, its crate and its name.
+edit that was tried to the file: its seconds, its crate and its name. --table writes the table to the file, too, with the day and the state.
 """
 import collections
+import contextlib
 import dataclasses
+import io
 import os
 import pathlib
 import re
@@ -177,8 +179,18 @@ def table(checks, wall):
     return total
 
 
+def keep_table(file, text):
+    """Writes the table to the file, below the day and the state that it is of."""
+    state = subprocess.run(["git", "log", "-1", "--format=%h %s"], capture_output=True, text=True).stdout
+    try:
+        pathlib.Path(file).parent.mkdir(parents=True, exist_ok=True)
+        pathlib.Path(file).write_text(f"{time.strftime('%Y-%m-%d %H:%M')} {state}{text}", encoding="utf-8")
+    except OSError as fault:
+        print(f"gate cost: the table is not kept: {fault}", file=sys.stderr)
+
+
 def main(words):
-    limit = listed = None
+    limit = listed = kept = None
     if words[:1] in (["-h"], ["--help"]):
         print(__doc__, end="")
         return 0
@@ -186,6 +198,8 @@ def main(words):
         limit, words = float(words[1]), words[2:]
     if words[:1] == ["--edits"]:
         listed, words = words[1], words[2:]
+    if words[:1] == ["--table"]:
+        kept, words = words[1], words[2:]
     signal.signal(signal.SIGTERM, lambda *_: sys.exit(128 + signal.SIGTERM))
     started, checks = time.time(), {}
     ran = subprocess.Popen(words or ["rt", "ci"])
@@ -198,8 +212,11 @@ def main(words):
             ran.terminate()
             ran.wait()
     number_edits(checks)
-    total = table(checks, time.time() - started)
-    sys.stdout.flush()
+    with contextlib.redirect_stdout(io.StringIO()) as text:
+        total = table(checks, time.time() - started)
+    print(text.getvalue(), end="", flush=True)
+    if kept is not None:
+        keep_table(kept, text.getvalue())
     if listed is not None:
         with open(listed, "a", encoding="utf-8") as it:
             it.writelines(f"{cost:.1f} {crate} {name}\n" for cost, crate, name in edits_by_cost(checks))
