@@ -9,7 +9,7 @@ ghost use Rattle.store.specs.Values.{lent_by};
 use crate::giving_up::put_in_place;
 use crate::job::{Job, JobDid, JobStage, Stepped};
 use crate::job_pieces::store_next;
-use crate::job_slot::{begin_slot, stored, turn_slot};
+use crate::job_slot::{begin_slot, stored, turn_job_slot};
 use crate::store::Store;
 use crate::store_archive::Archived;
 use disk::Disk;
@@ -91,7 +91,7 @@ fn step_job<D: Disk>(
             begin_slot(alloc, transactions, log, disk, archived, work)
         }
         JobStage::Turning(turn) => {
-            turn_slot(alloc, transactions, log, disk, archived, work, turn)
+            turn_job_slot(alloc, transactions, log, disk, archived, work, turn)
         }
     }
 }

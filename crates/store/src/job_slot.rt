@@ -40,13 +40,13 @@ pub(crate) fn begin_slot<D: Disk>(
     };
     match log.begin_slot(slot_body(&work)) {
         Err(_) => unreachable!(),
-        Ok(turn) => turn_slot(alloc, transactions, log, disk, archived, work, turn),
+        Ok(turn) => turn_job_slot(alloc, transactions, log, disk, archived, work, turn),
     }
 }
 
 // The next device call of the job's slot. Once the last one is made what the job made stands; a
 // refused one spends the turn, and the store has failed.
-pub(crate) fn turn_slot<D: Disk>(
+pub(crate) fn turn_job_slot<D: Disk>(
     alloc: Global,
     transactions: &mut Transactions,
     log: &mut StatusLog,

@@ -38,7 +38,7 @@ impl<D: Disk> Store<D> {
                 }
                 self.begin_slot()
             }
-            NextStep::AdvanceSlot => self.advance_slot(),
+            NextStep::AdvanceSlot => self.advance_group_slot(),
         }
     }
 
@@ -125,7 +125,7 @@ impl<D: Disk> Store<D> {
             Err(_) => unreachable!(),
             Ok(turn) => {
                 self.transactions.slot_begun();
-                let (answer, next) = turn_slot(
+                let (answer, next) = turn_group_slot(
                     &mut self.transactions,
                     &mut self.log,
                     &mut self.disk,
@@ -138,7 +138,7 @@ impl<D: Disk> Store<D> {
     }
 
     // Goes on with the group's slot.
-    fn advance_slot(&mut self) -> Result<Did, PumpFault>
+    fn advance_group_slot(&mut self) -> Result<Did, PumpFault>
         requires due { due self.old.transactions ≡ NextStep.AdvanceSlot }
         requires works { self.old.transactions.failed ≡ false }
         ensures is { TakesStep D.tells NextStep.AdvanceSlot self.old result self.new }
@@ -147,7 +147,7 @@ impl<D: Disk> Store<D> {
         match mem::replace(&mut self.turn, None) {
             None => unreachable!(),
             Some(turn) => {
-                let (answer, next) = turn_slot(
+                let (answer, next) = turn_group_slot(
                     &mut self.transactions,
                     &mut self.log,
                     &mut self.disk,
@@ -162,7 +162,7 @@ impl<D: Disk> Store<D> {
 
 // The next device call of the group's slot. The last one publishes the group; a refused one spends
 // the turn, and the store has failed.
-fn turn_slot<D: Disk>(
+fn turn_group_slot<D: Disk>(
     transactions: &mut Transactions,
     log: &mut StatusLog,
     disk: &mut D,

@@ -71,7 +71,7 @@ impl View {
         ensures later { b ≤ result }
         ensures past_mark { mark_of self.now.runs < result }
     {
-        b.max(self.runs.mark() + 1)
+        b.max(self.runs.archive_mark() + 1)
     }
 
     /// The rows of a key from `a` up to `b` in microseconds since 1970, by rising time: the part of each
@@ -103,7 +103,7 @@ impl View {
         let archived = reader.rows(disk, self.runs.as_slice(), &key, a, b)?;
         let mut found = shared_rows(alloc, archived)?;
         let recent = self.state.rows(alloc, key, a, self.end_in_memory(b))?;
-        add_rows_after(&mut found, recent, self.runs.mark(), a, b)?;
+        add_rows_after(&mut found, recent, self.runs.archive_mark(), a, b)?;
         Ok(found)
     }
 
@@ -133,7 +133,7 @@ impl View {
         let recent = self
             .state
             .scan_rows(alloc, relation, a, self.end_in_memory(b))?;
-        let recent = scan_rows_after(alloc, recent, self.runs.mark(), a, b)?;
+        let recent = scan_rows_after(alloc, recent, self.runs.archive_mark(), a, b)?;
         Ok(merged(alloc, archived, recent)?)
     }
 

@@ -98,7 +98,7 @@ impl Runs {
 
     /// The archive mark in microseconds since 1970: versions that ended by it are in these runs. 0 where
     /// there is no run.
-    pub fn mark(&self) -> u64
+    pub fn archive_mark(&self) -> u64
         ensures is { result ≡ mark_of self.now }
         ensures in_range { result < 2 ^ 63 }
     {

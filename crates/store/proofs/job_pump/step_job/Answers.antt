@@ -14,4 +14,4 @@ returns-else-is_turning g c = λ turn same.
 
 pub returns-in-Turning : goal.returns-in-Turning
 returns-in-Turning g c = λ turn same.
-    at-turning _ c.args.job.work c.args.job.stage c.in-Turning.turn _ c.args.log.now turn c.args.archived.now.upto c.args.archived.now.runs_end c.args.archived.now.archive _ _ _ c.in-Turning.is (c.turn_slot.ensures turn)
+    at-turning _ c.args.job.work c.args.job.stage c.in-Turning.turn _ c.args.log.now turn c.args.archived.now.upto c.args.archived.now.runs_end c.args.archived.now.archive _ _ _ c.in-Turning.is (c.turn_job_slot.ensures turn)

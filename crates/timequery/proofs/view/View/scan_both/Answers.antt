@@ -50,7 +50,7 @@ returns-clause-in_order g c =
     let v = c.args.self.now in
     let ordered : IsOrdered v.state = subst (λ (w : ViewValue). IsOrdered w.state) c.self.view_is c.self.invariant.0 in
     let rows_are = c.in_ok-recent.ensures ∙ ap (λ (w : ViewValue). scanned_rows c.args.relation c.args.a c.end_in_memory.result w.state) c.self.view_is in
-    let recent_are = c.in_ok-recent-2.ensures ∙ ap (λ (n : ℕ). scanned_after n c.args.a c.args.b c.in_ok-recent.recent.items) (c.mark.ensures.is ∙ ap (λ (w : ViewValue). mark_of w.runs) c.self.view_is) in
+    let recent_are = c.in_ok-recent-2.ensures ∙ ap (λ (n : ℕ). scanned_after n c.args.a c.args.b c.in_ok-recent.recent.items) (c.archive_mark.ensures.is ∙ ap (λ (w : ViewValue). mark_of w.runs) c.self.view_is) in
     found-up v c.args.relation c.args.a c.args.b c.end_in_memory.result c.in_ok-archived.archived.items c.in_ok-recent.recent.items c.in_ok-recent-2.recent.items c.in_ok-merged.field-0.items ordered c.in_ok-archived.ensures.in_order rows_are recent_are c.in_ok-merged.ensures
 
 pub returns-clause-only : goal.returns-clause-only
@@ -59,7 +59,7 @@ returns-clause-only g c = λ lists told right held number.
     let runs_are = c.as_slice.ensures ∙ ap (λ (w : ViewValue). w.runs) c.self.view_is in
     let ordered : IsOrdered v.state = subst (λ (w : ViewValue). IsOrdered w.state) c.self.view_is c.self.invariant.0 in
     let rows_are = c.in_ok-recent.ensures ∙ ap (λ (w : ViewValue). scanned_rows c.args.relation c.args.a c.end_in_memory.result w.state) c.self.view_is in
-    let recent_are = c.in_ok-recent-2.ensures ∙ ap (λ (n : ℕ). scanned_after n c.args.a c.args.b c.in_ok-recent.recent.items) (c.mark.ensures.is ∙ ap (λ (w : ViewValue). mark_of w.runs) c.self.view_is) in
+    let recent_are = c.in_ok-recent-2.ensures ∙ ap (λ (n : ℕ). scanned_after n c.args.a c.args.b c.in_ok-recent.recent.items) (c.archive_mark.ensures.is ∙ ap (λ (w : ViewValue). mark_of w.runs) c.self.view_is) in
     let held_again = subst (λ (rs : List RunEntry). HoldRuns (archive_of (g.D.Disk.state c.args.disk.now)) rs lists) (sym runs_are) held in
     found-rows v c.args.relation c.args.a c.args.b c.end_in_memory.result c.in_ok-archived.archived.items c.in_ok-recent.recent.items c.in_ok-recent-2.recent.items c.in_ok-merged.field-0.items ordered c.in_ok-archived.ensures.in_order rows_are recent_are c.in_ok-merged.ensures
     c.end_in_memory.ensures.later c.end_in_memory.ensures.past_mark number
@@ -72,7 +72,7 @@ returns-clause-exact g c = λ told right.
     let runs_are = c.as_slice.ensures ∙ ap (λ (w : ViewValue). w.runs) c.self.view_is in
     let ordered : IsOrdered v.state = subst (λ (w : ViewValue). IsOrdered w.state) c.self.view_is c.self.invariant.0 in
     let rows_are = c.in_ok-recent.ensures ∙ ap (λ (w : ViewValue). scanned_rows c.args.relation c.args.a c.end_in_memory.result w.state) c.self.view_is in
-    let recent_are = c.in_ok-recent-2.ensures ∙ ap (λ (n : ℕ). scanned_after n c.args.a c.args.b c.in_ok-recent.recent.items) (c.mark.ensures.is ∙ ap (λ (w : ViewValue). mark_of w.runs) c.self.view_is) in
+    let recent_are = c.in_ok-recent-2.ensures ∙ ap (λ (n : ℕ). scanned_after n c.args.a c.args.b c.in_ok-recent.recent.items) (c.archive_mark.ensures.is ∙ ap (λ (w : ViewValue). mark_of w.runs) c.self.view_is) in
     let e = c.in_ok-archived.ensures.exact told right in
     let each = found-rows v c.args.relation c.args.a c.args.b c.end_in_memory.result c.in_ok-archived.archived.items c.in_ok-recent.recent.items c.in_ok-recent-2.recent.items c.in_ok-merged.field-0.items ordered c.in_ok-archived.ensures.in_order rows_are recent_are c.in_ok-merged.ensures
     c.end_in_memory.ensures.later c.end_in_memory.ensures.past_mark in
