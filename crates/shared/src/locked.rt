@@ -323,8 +323,8 @@ impl<D: Disk, L: Opening> Locked<D, L> {
         self.signals
     }
 
-    pub(crate) fn stop(&mut self) {
-        self.signals.note_stop();
+    pub(crate) fn end_loops(&mut self) {
+        self.signals.note_end();
     }
 
     // The floor in the making stays known once the job is done.

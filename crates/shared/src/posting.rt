@@ -9,15 +9,15 @@ use crate::committed::{CommitFault, Committed};
 use crate::copied::{apply, are_copies, copy_changes};
 use crate::naming::Opening;
 use crate::observer::Observer;
-use crate::posts::Doing;
+use crate::posts::{Doing, Posts};
 use crate::served::{Request, Served};
 use crate::shared::SharedStore;
 use crate::signals::Signals;
 use disk::Disk;
 use history::KeyWrite;
 use std::alloc::AllocError;
-use std::sync::Wait;
 use std::sync::ledger::Share;
+use std::sync::{MutexGuard, Wait};
 use store::{Did, PumpFault, Redeemed, Submitted, Ticket, TxnFault};
 use wire::Value;
 
@@ -50,8 +50,7 @@ impl<D: Disk, L: Opening> SharedStore<D, L> {
             me: me.another(&self.cell),
         };
         match self.ask(rt, request) {
-            Ok(number) => {
-                let served = self.wait_served(rt, number);
+            Ok(served) => {
                 let committed = self.receive(rt, served, changes, label, share, me);
                 self.note_told(rt);
                 committed
@@ -60,24 +59,28 @@ impl<D: Disk, L: Opening> SharedStore<D, L> {
         }
     }
 
-    // Posts a request, and gives the number of its post. Where no committer is at work it works for the
+    // Posts a request, and sleeps until its answer is there. Where no committer is at work it works for the
     // requests itself.
-    fn ask<R: Wait>(&self, rt: &R, request: Request<L>) -> Result<usize, AllocError> {
+    fn ask<R: Wait>(&self, rt: &R, request: Request<L>) -> Result<Served<L>, AllocError> {
         let mut posts = self.posts.lock(rt);
         let number = posts.ask(request)?;
-        let attended = posts.is_attended();
-        drop(posts);
-        if attended {
+        if posts.is_attended() {
             self.queued.notify_all();
-        } else {
-            self.serve(rt);
+            return Ok(self.wait_served(rt, posts, number));
         }
-        Ok(number)
+        drop(posts);
+        self.serve(rt);
+        Ok(self.wait_served(rt, self.posts.lock(rt), number))
     }
 
     // Sleeps until the answer is at the caller's post.
-    fn wait_served<R: Wait>(&self, rt: &R, number: usize) -> Served<L> {
-        let mut posts = self.posts.lock(rt);
+    fn wait_served<'a, R: Wait>(
+        &'a self,
+        rt: &R,
+        posts: MutexGuard<'a, Posts<L>>,
+        number: usize,
+    ) -> Served<L> {
+        let mut posts = posts;
         for _ in rt.forever() {
             if let Some(served) = posts.take_answer(number) {
                 return served;
@@ -196,17 +199,17 @@ impl<D: Disk, L: Opening> SharedStore<D, L> {
         });
     }
 
-    // Works for the requests that there are.
+    // Works for the requests that there are. What came of one is put at its post in the holding that takes the next.
     fn serve<R: Wait>(&self, rt: &R) {
-        let asked = self.posts.lock(rt).asked();
-        for _ in 0..asked {
-            let taken = self.posts.lock(rt).take_asked();
-            let Some((number, request)) = taken else {
+        let mut posts = self.posts.lock(rt);
+        for _ in 0..posts.asked() {
+            let Some((number, request)) = posts.take_asked() else {
                 return;
             };
+            drop(posts);
             let served = self.work_for(rt, request);
-            let answered = self.posts.lock(rt).put(number, served);
-            if answered {
+            posts = self.posts.lock(rt);
+            if posts.put(number, served) {
                 self.answered.notify_all();
             }
         }
@@ -292,7 +295,7 @@ impl<D: Disk, L: Opening> SharedStore<D, L> {
         true
     }
 
-    /// Pumps until it is told to stop and the queue is empty, or the store has failed. After each
+    /// Pumps until it is told to end and the queue is empty, or the store has failed. After each
     /// answer, with the lock given up, it calls `pause`. Where there is nothing to do it sleeps, and
     /// before it begins a group, as long as calls of `commit` are on their way to it, so that one gate
     /// has the commits of all who call.
@@ -310,7 +313,7 @@ impl<D: Disk, L: Opening> SharedStore<D, L> {
             self.gather(rt, waits, after.moves());
             let did = self.step(rt, &mut after);
             pause(rt, &did);
-            let over = is_over(after.is_stopping(), &did);
+            let over = is_over(after.is_ending(), &did);
             if over && self.leaves(rt) {
                 return;
             }
@@ -327,9 +330,9 @@ fn is_answer(asked: u64, writes: &[KeyWrite<Value>], label: u64, changes: &[Chan
     asked == label && are_copies(changes, writes)
 }
 
-fn is_over(stopping: bool, did: &Result<Did, PumpFault>) -> bool {
+fn is_over(ending: bool, did: &Result<Did, PumpFault>) -> bool {
     match did {
-        Ok(Did::Idle) => stopping,
+        Ok(Did::Idle) => ending,
         Err(PumpFault::Failed) => true,
         _ => false,
     }

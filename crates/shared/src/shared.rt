@@ -225,7 +225,7 @@ impl<D: Disk, L: Opening> SharedStore<D, L> {
     // The moves so far, and whether the loops are to end.
     pub(crate) fn signals<R: Wait>(&self, rt: &R) -> (u64, bool) {
         let signals = self.locked.lock(rt).signals();
-        (signals.moves(), signals.is_stopping())
+        (signals.moves(), signals.is_ending())
     }
 
     // Sleeps until something else than these moves happened.
@@ -236,8 +236,8 @@ impl<D: Disk, L: Opening> SharedStore<D, L> {
     }
 
     /// Tells both loops to end.
-    pub fn stop<R: Wait>(&self, rt: &R) {
-        self.locked.lock(rt).stop();
+    pub fn end_loops<R: Wait>(&self, rt: &R) {
+        self.locked.lock(rt).end_loops();
         self.queued.notify_all();
         self.moved.notify_all();
     }

@@ -5,7 +5,7 @@ use store::{Did, JobDid, PumpFault, SubmitFault, Submitted};
 #[derive(Clone, Copy, Debug)]
 pub(crate) struct Signals {
     // How often a commit was queued, a transaction ended, commits were published, a job was done, the
-    // store failed or was told to stop.
+    // store failed or its loops were told to end.
     moves: u64,
     // How often tickets may have got another answer: commits were published, or the store failed.
     settled: u64,
@@ -16,7 +16,7 @@ pub(crate) struct Signals {
     // Whether a group has begun that is not published.
     grouped: bool,
     failed: bool,
-    stopping: bool,
+    ending: bool,
 }
 
 impl Signals {
@@ -28,7 +28,7 @@ impl Signals {
             last: 0,
             grouped: false,
             failed: false,
-            stopping: false,
+            ending: false,
         }
     }
 
@@ -54,14 +54,14 @@ impl Signals {
         self.failed
     }
 
-    pub(crate) fn is_stopping(&self) -> bool {
-        self.stopping
+    pub(crate) fn is_ending(&self) -> bool {
+        self.ending
     }
 
     /// Whether a step of a group is to be made whoever is on the way: a group has begun, the store has
     /// failed, or the loops are to end.
     pub(crate) fn is_urgent(&self) -> bool {
-        self.grouped || self.failed || self.stopping
+        self.grouped || self.failed || self.ending
     }
 
     /// A transaction ended, or something else happened that a loop may wait for.
@@ -69,8 +69,8 @@ impl Signals {
         self.moves = self.moves.wrapping_add(1);
     }
 
-    pub(crate) fn note_stop(&mut self) {
-        self.stopping = true;
+    pub(crate) fn note_end(&mut self) {
+        self.ending = true;
         self.note_move();
     }
 

@@ -37,7 +37,7 @@ enum Vacuuming {
 
 impl<D: Disk, L: Opening> SharedStore<D, L> {
     /// Archives all that has ended, and reclaims what is archived, again and again, until it is told to
-    /// stop and its job is done, the store has failed, or a start is refused for good: for want of a
+    /// end and its job is done, the store has failed, or a start is refused for good: for want of a
     /// slot or of room. After each answer, with the lock given up, it calls `pause`. Where there is
     /// nothing to do, or a transaction reads what would be reclaimed, it sleeps.
     pub fn run_vacuum<R: Wait, F: FnMut(&R, &Vacuumed)>(
@@ -50,8 +50,8 @@ impl<D: Disk, L: Opening> SharedStore<D, L> {
     {
         let mut doing = Doing::Archives;
         for _ in rt.forever() {
-            let (moves, stopping) = self.signals(rt);
-            if stopping && !is_running(doing) {
+            let (moves, ending) = self.signals(rt);
+            if ending && !is_running(doing) {
                 return;
             }
             let answer = self.vacuum(rt, doing, me);

@@ -291,7 +291,7 @@ fn call_all<D: Disk + Send, L: Opening + Send + Sync, R: Threads + Wait + Sync>(
         move || write_all(rt, store, writers, flag),
         move || read_all(rt, store, readers, load, flag),
     );
-    store.stop(rt);
+    store.end_loops(rt);
     Called { commits, reads }
 }
 
