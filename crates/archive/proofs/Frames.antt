@@ -1,13 +1,11 @@
--- A run is what its own bytes say, and an example of a run.
-use Rattle.std.proofs.Common.{◌≡◌, ℕ, ◌+◌, ◌-◌, ◌≤◌, List, [], ◌∷◌, length, take, drop, refl, sym, ◌∙◌, ap, arith}
+-- A run is what its own bytes say.
+use Rattle.std.proofs.Common.{◌≡◌, ℕ, ◌+◌, ◌-◌, ◌≤◌, List, length, take, drop, sym, ◌∙◌, ap, arith}
 use Rattle.std.specs.List.{slice_range}
 use Rattle.std.proofs.lemmas.List.{drop-take, take-take}
-use Rattle.wire.specs.Numbers.{u16_bytes, u64_bytes}
 use Rattle.image.specs.Reading.{ArchiveRecord}
 use Rattle.archive.specs.declared.run.RunEntry.{RunEntry}
-use Rattle.archive.specs.Records.{head_bytes}
 use Rattle.archive.specs.Parts.{IsRight, EndBy}
-use Rattle.archive.specs.Runs.{HoldsRun, run_bytes, run_end, records_bytes, index_bytes}
+use Rattle.archive.specs.Runs.{HoldsRun, run_bytes, run_end}
 
 -- areas that agree up to a place hold the same parts up to it
 pub same_part : (old new : List ℕ) (limit from to : ℕ) → from ≤ to → to ≤ limit → take limit new ≡ take limit old → slice_range new from to ≡ slice_range old from to
@@ -47,17 +45,3 @@ kept_again limit old new kept right ends within same = record {
         same = was.same ∙ sym (same_part old new limit from (from + length bytes) (omega arith) end same);
       };
 }
-
-two_records : List ArchiveRecord
-two_records =
-    record { key = record { relation = 1; «record» = 7 }; version = record { from = 100; to = 110; value = (97 ∷ []) ∷ [] } }
-    ∷ record { key = record { relation = 1; «record» = 7 }; version = record { from = 110; to = 120; value = (98 ∷ []) ∷ [] } }
-    ∷ []
-
--- a run of two records of one key, byte for byte
-two_records_bytes : run_bytes two_records ≡
-    1 ∷ 0 ∷ 7 ∷ 0 ∷ 0 ∷ 0 ∷ 0 ∷ 0 ∷ 0 ∷ 0 ∷ 0x64 ∷ 0 ∷ 0 ∷ 0 ∷ 0 ∷ 0 ∷ 0 ∷ 0 ∷ 0x6e ∷ 0 ∷ 0 ∷ 0 ∷ 0 ∷ 0 ∷ 0 ∷ 0 ∷ 1 ∷ 1 ∷ 0x61
-    ∷ 1 ∷ 0 ∷ 7 ∷ 0 ∷ 0 ∷ 0 ∷ 0 ∷ 0 ∷ 0 ∷ 0 ∷ 0x6e ∷ 0 ∷ 0 ∷ 0 ∷ 0 ∷ 0 ∷ 0 ∷ 0 ∷ 0x78 ∷ 0 ∷ 0 ∷ 0 ∷ 0 ∷ 0 ∷ 0 ∷ 0 ∷ 1 ∷ 1 ∷ 0x62
-    ∷ 0 ∷ 0 ∷ 0 ∷ 0 ∷ 0 ∷ 0 ∷ 0 ∷ 0 ∷ 0x1d ∷ 0 ∷ 0 ∷ 0 ∷ 0 ∷ 0 ∷ 0 ∷ 0 ∷ []
-unfolding two_records records_bytes index_bytes head_bytes u16_bytes u64_bytes
-two_records_bytes = refl

@@ -8,6 +8,11 @@ use crate::{ArchiveFault, BlockCache, RunEntry};
 use disk::{Area, DeviceFault, Disk};
 use std::alloc::{AllocError, Global};
 
+/// The bytes of a block, but for the last one of a run.
+const BLOCK_LEN: usize = 4096;
+
+const BLOCK_BYTES: u64 = BLOCK_LEN as u64;
+
 /// Reads parts of runs by blocks of 4,096 bytes, counted from the run's start.
 #[derive(Drop)]
 pub(crate) struct BlockReader {
@@ -78,7 +83,7 @@ impl BlockReader {
             → IfOk result (λ there. IsTrue there → out.new ≡ slice_range (archive_of (D.state disk.old)) (start + skip) (start + skip + length out.old)) }
         ensures there { IsTrue D.tells → start + len ≤ length (archive_of (D.state disk.old)) → IfOk result (λ there. IsTrue there) }
     {
-        let mut bytes = [0; 4096];
+        let mut bytes = [0; BLOCK_LEN];
         let there = self.fetch_block(disk, start, skip, &mut bytes[..len], out)?;
         Ok(there)
     }
@@ -128,8 +133,8 @@ impl BlockReader {
             → IfOk result (λ n. take n out.new ≡ slice_range (archive_of (D.state disk.old)) (run.now.slot.start + at) (run.now.slot.start + at + n)) }
         ensures answers { IsTrue D.tells → run_end run.now ≤ length (archive_of (D.state disk.old)) → Answers result (λ n. ⊤) }
     {
-        let skip = at % 4096;
-        let len = (run.slot.len - (at - skip)).min(4096) as usize;
+        let skip = at % BLOCK_BYTES;
+        let len = (run.slot.len - (at - skip)).min(BLOCK_BYTES) as usize;
         let skip = skip as usize;
         let n = out.len().min(len - skip);
         let start = run.slot.start + at - skip as u64;

@@ -6,6 +6,7 @@ ghost use Rattle.archive.specs.Records.{record_bytes};
 
 use crate::encode::{encode_place, encode_record, record_len};
 use crate::{Chunks, RecordWalk};
+use wire::LAST_PLACE;
 
 /// How many records a run has, and how many bytes.
 #[derive(Clone, Copy, Debug, PartialEq, Eq)]
@@ -28,7 +29,7 @@ pub(crate) fn measure<W: RecordWalk>(walk: &mut W) -> Option<Sizes>
     let mut len = 0;
     while let Some((head, value)) = walk.peek() {
         len += record_len(value) as u64 + 8;
-        if len >= 1 << 63 {
+        if len > LAST_PLACE {
             return None;
         }
         records += 1;

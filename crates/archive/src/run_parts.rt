@@ -2,7 +2,7 @@
 ghost use Rattle.std.specs.Prelude.{◌≡◌, ◌↔◌, ◌+◌, ◌≤◌, IsTrue, MatchResult};
 ghost use Rattle.archive.specs.Searches.{IsPlace};
 
-use crate::head::{HEAD_BYTES, HEAD_LEN, LEAST_RECORD, MOST_RECORD};
+use crate::head::{HEAD_BYTES, HEAD_LEN};
 use crate::value::decode_value;
 use crate::{
     ArchiveFault, ArchiveReader, Placed, RunEntry, decode_head, is_in_range, is_place,
@@ -10,7 +10,7 @@ use crate::{
 };
 use byteorder::{ByteOrder, LittleEndian};
 use disk::Disk;
-use wire::Value;
+use wire::{LEAST_RECORD, MOST_RECORD, Value};
 
 /// The most bytes of a value as it is spelled, and how many of a short one are read by way of a small buffer.
 const MOST_SPELLED: usize = 4097;

@@ -6,6 +6,7 @@ use crate::run_chunks::{RunChunks, measure};
 use crate::{Packer, RecordWalk};
 use disk::{Area, DeviceFault, Disk};
 use std::marker::Model;
+use wire::LAST_PLACE;
 
 /// Writes the bytes of a run in pieces of 8,192, the last of which may be shorter, as it walks its
 /// records, each straight into the piece that it is of. No call holds more of them than one piece and
@@ -52,7 +53,7 @@ impl<W: RecordWalk> RunWriter<W> {
         let Some(sizes) = measure(&mut walk) else {
             return None;
         };
-        if start >= 1 << 63 || sizes.len >= (1 << 63) - start {
+        if start > LAST_PLACE || sizes.len > LAST_PLACE - start {
             return None;
         }
         walk.restart();

@@ -15,7 +15,7 @@ use Rattle.chains.specs.Shapes.{Shape, all_of, highest}
 use Rattle.chains.proofs.Bounds.{find-past, out-below}
 use Rattle.chains.proofs.Order.{above-back, forgotten-two, ordered-back, lt-other}
 use Rattle.chains.proofs.Relations.{other-part, relation-above, relation-append, relation-below}
-use Rattle.chains.proofs.Shapes.{all_of-append, highest-append, at_low, behind, rest_is, pieces_are, first_low}
+use Rattle.chains.proofs.Shapes.{all_of-append, highest-append, at_low, behind, pieces_are, first_low}
 use Rattle.chains.proofs.Walks.{in-later}
 
 -- ---- the nodes from the last one on that begins without the bound

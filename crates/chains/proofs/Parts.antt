@@ -12,10 +12,6 @@ use Rattle.chains.proofs.Kept.{is_le, not_le, rising-push}
 use Rattle.chains.proofs.Order.{unless_empty-some}
 use Rattle.chains.proofs.Rising.{kept_after-rising}
 
-pub rising-front : (s : ℕ) (xs ys : List Write) → IsRisingAfter s (xs ++ ys) → IsRisingAfter s xs
-rising-front s [] ys up = tt
-rising-front s (x ∷ xs) ys up = (up.0, up.1, rising-front x.time xs ys up.2)
-
 pub rising-back : (s : ℕ) (xs ys : List Write) → IsRisingAfter s (xs ++ ys) → IsRisingAfter s ys
 rising-back s [] ys up = up
 rising-back s (x ∷ xs) ys up = rising-back s xs ys (rising_earlier s x.time (xs ++ ys) (omega (arith, up.0)) up.2)

@@ -9,10 +9,12 @@ use Rattle.chains.specs.declared.key_node.KeyInside.TheVariants.{Leaf, Fork}
 use Rattle.chains.specs.declared.key_node.KeyNode.TheDeep.{deep-KeyInside}
 use denote.Param.Weighed.{most}
 
+-- the most of the nodes' heights, each with one more, is at most one more than the highest of them
 most-highest : (ns : List (Shape KeyWrites)) → most (λ n. n.height + 1) ns ≤ highest ns + 1
 most-highest [] = omega arith
 most-highest (n ∷ ns) = omega (arith, most-highest ns)
 
+-- what stands inside a node is no deeper than its height says
 pub depth_le-height : (i : KeyInside) → max (deep-KeyInside i) 0 ≤ (chains_in i).height
 depth_le-height (Leaf first shared) = omega arith
 depth_le-height (Fork first shared) = omega (arith, most-highest shared.value.items)

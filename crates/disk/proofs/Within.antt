@@ -1,9 +1,8 @@
 -- While a write is made, a stop leaves nothing that one after it may not leave.
-use Rattle.std.proofs.Common.{◌≡◌, ℕ, ◌<◌, List, length, sym, subst, ◌∙◌, Ok, arith}
+use Rattle.std.proofs.Common.{ℕ, List, length, sym, subst, ◌∙◌, arith}
 use Rattle.disk.specs.declared.area.Area.{Area}
 use Rattle.disk.specs.declared.area.Area.TheVariants.{Status, Heap, Archive}
-use Rattle.disk.specs.Areas.{AreaState, Areas, Image, AreSound, IsSound, MayLeave, LeavesImage, LeavesNoMore, overlaid, loosened, written, area_of, with_area, while_written}
-use Rattle.disk.specs.Calls.{Writes}
+use Rattle.disk.specs.Areas.{AreaState, Areas, Image, AreSound, IsSound, MayLeave, LeavesImage, loosened, written, area_of, with_area, while_written}
 use Rattle.disk.specs.Within.{WithinWrite}
 use Rattle.disk.proofs.Stops.{IsTorn-overlaid}
 

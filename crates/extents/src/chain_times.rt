@@ -6,11 +6,10 @@ ghost use Rattle.extents.specs.declared.usage.Usage.{Usage};
 ghost use Rattle.extents.specs.declared.usage.Usage.TheVariants.{Kept};
 ghost use Rattle.extents.specs.Times.{with_time, time_of, all_retired_by};
 
+use crate::extent::EXTENTS;
 use crate::extents::Extents;
 use std::alloc::{AllocError, Global};
 use std::marker::Model;
-
-const EXTENTS: usize = 65_536;
 
 /// The time of the commit whose chain has each extent, in microseconds since 1970; 0 where a chain
 /// of anchors has it, or none.

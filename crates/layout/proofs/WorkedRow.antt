@@ -1,13 +1,6 @@
 -- A group that may join the empty image: one commit of ["a"] under the key (1, 7) at 100, with the label 9.
-use Rattle.std.proofs.Common.{◌≡◌, ℕ, ◌<◌, [], ◌∷◌, length, Some, refl, arith, lit<}
+use Rattle.std.proofs.Common.{◌≡◌, ℕ, ◌<◌, [], ◌∷◌, Some, refl, arith, lit<}
 use Rattle.std.proofs.lemmas.List.Elements.{All-from_recursion}
-use Rattle.std.specs.Prelude.{List}
-use Rattle.disk.specs.Areas.{Areas}
-use Rattle.wire.specs.Spelling.{IsSpelled}
-use Rattle.image.proofs.Empty.{empty-stands_for}
-use Rattle.layout.specs.Keeping.{RestsAs}
-use Rattle.layout.specs.Laws.{Goes, stage_after_all, last_of, IsGroupWay}
-use Rattle.layout.proofs.Ways.{empty_laid, group_goes}
 use Rattle.std.specs.List.Sorted.{IsStrictlySortedBy}
 use Rattle.history.specs.declared.key.Key.{Key}
 use Rattle.history.specs.Key.{key_cmp, IsKey}
@@ -22,7 +15,7 @@ use Rattle.deltas.specs.Records.{spelling}
 use Rattle.layout.specs.Records.{record_bytes, u16_bytes}
 use Rattle.wire.specs.Spelling.{u64_bytes}
 use Rattle.layout.specs.Layouts.{Layout}
-use Rattle.layout.specs.Turn.{Group, Storing, MayJoin}
+use Rattle.layout.specs.Turn.{Group, MayJoin}
 use Rattle.status.specs.declared.header.Header.{Header}
 
 abbrev sixteen : Header
@@ -104,10 +97,3 @@ may_join = record {
   named = refl;
   free = (tt, tt);
 }
-
--- so on its way whatever a stop leaves stands for the empty history, or from the gate's write on for it or for the commit of 100
-pub row_goes : (body : List ℕ) (start : Areas) (states : List Areas) → length body ≡ 511 → IsSpelled sixteen.profile 0 body group.slot → RestsAs sixteen empty_layout start
-    → Goes empty_layout body (Storing [] (extent ∷ [])) start states
-    → IsGroupWay sixteen empty_layout [] next (λ relation. 0) group body (stage_after_all (Storing [] (extent ∷ [])) states) (last_of start states)
-row_goes body start states long spelled rests goes =
-    group_goes sixteen empty_layout (empty_reading 1 16 0) [] next (λ relation. 0) group (empty_laid sixteen) (empty-stands_for 1 16 0 (record { lowest = omega arith; highest = omega arith; some = omega arith; whole = λ first. refl; total = omega arith })) may_join body long spelled start states rests goes

@@ -6,9 +6,11 @@ use Rattle.disk.specs.declared.area.Area.TheVariants.{Status, Heap, Archive}
 use Rattle.relay.specs.declared.slice_disk.SliceDisk.{SliceDisk}
 use Rattle.relay.specs.State.{slices_state}
 
+-- an area of bytes, all of them synced, is sound
 settled_is_sound : (bytes : List ℕ) → AreBytes bytes → IsSound (settled_area bytes)
 settled_is_sound bytes are_bytes = record { firm = omega arith; settled = λ none. refl; are_bytes = are_bytes }
 
+-- so the three areas of a disk of slices are
 pub slices_are_sound : (d : SliceDisk) → AreSound (slices_state d).areas
 slices_are_sound d Status = settled_is_sound d.status.now d.status_bytes
 slices_are_sound d Heap = settled_is_sound d.heap.now d.heap_bytes

@@ -14,12 +14,6 @@ free-fresh [] = refl
 free-fresh (None ∷ places) = refl
 free-fresh (Some s ∷ places) = free-fresh places
 
--- what is taken is within the table, and not free
-pub taken-within : (places : List (Option ℕ)) (place : ℕ) → is_some (snapshot_of place places) ≡ true → place < length places
-taken-within [] place taken = cc
-taken-within (p ∷ places) zero taken = omega arith
-taken-within (p ∷ places) (suc place) taken = let rest = taken-within places place taken in omega arith
-
 pub taken-below : (places : List (Option ℕ)) (place : ℕ) → is_some (snapshot_of place places) ≡ true → place ≤ least_free places → place + 1 ≤ least_free places
 taken-below [] place taken low = cc
 taken-below (None ∷ places) zero taken low = cc

@@ -1,13 +1,13 @@
 -- The records of a relation in versions that are in the order of their keys.
-use Rattle.std.proofs.Common.{◌≡◌, ℕ, ◌<◌, ◌≤◌, ◌==◌, Bool, true, false, cond, List, [], ◌∷◌, ◌++◌, Option, None, Some, option_map, option_to_list, find, refl, arith, ap, sym, ◌∙◌}
+use Rattle.std.proofs.Common.{◌≡◌, ℕ, ◌<◌, ◌≤◌, ◌==◌, Bool, true, false, cond, List, [], ◌∷◌, ◌++◌, Option, None, Some, option_map, option_to_list, find, refl, arith, sym, ◌∙◌}
 use Rattle.std.proofs.lemmas.Bool.Decides.{nat_tests}
 use Rattle.history.specs.declared.key.Key.{Key}
-use Rattle.history.specs.Key.{key_of, key_lt, same_key}
+use Rattle.history.specs.Key.{key_of, key_lt}
 use Rattle.history.specs.Time.{value_at}
 use Rattle.history.specs.Queries.{IsScan}
 use Rattle.chains.specs.Writes.{Value}
 use Rattle.chains.specs.KeyWrites.{KeyWrites, is_of, writes_in, writes_of, AllAbove, IsOrdered}
-use Rattle.chains.specs.Scans.{shown, scanned}
+use Rattle.chains.specs.Scans.{scanned}
 use Rattle.snapshot.proofs.ScanLemmas.{looked_up, Above, Climb, climb-to, none-above, looked_up-contained, contained-looked_up}
 
 above-shown : (k number : ℕ) (value : Option Value) (more : List (ℕ × Value)) → k < number → Above k more → Above k (option_to_list (option_map (λ (v : Value). (number, v)) value) ++ more)

@@ -1,13 +1,12 @@
 -- What a put and a delete leave of a transaction.
-use Rattle.std.proofs.Common.{rules, ◌≡◌, ℕ, ◌+◌, ◌<◌, ◌≤◌, Bool, true, false, cond, List, [], ◌∷◌, length, Option, None, Some, IsSome, is_some, unwrap_or, Result, Ok, Err, OnOk, OnErr, refl, arith, ap, sym, ◌∙◌, subst}
-use Rattle.std.specs.List.{AllByRecursion}
+use Rattle.std.proofs.Common.{rules, ◌≡◌, ℕ, ◌<◌, ◌≤◌, Bool, true, false, cond, List, [], length, Option, None, Some, IsSome, is_some, unwrap_or, Result, Ok, Err, OnOk, OnErr, refl, arith, sym, subst}
 use Rattle.std.specs.Option.{option_copied}
 use denote.Ref.{Bor}
 use Rattle.std.specs.List.Sorted.{IsStrictlySortedBy}
 use Rattle.std.proofs.lemmas.Bool.Decides.{nat_tests}
 use Rattle.history.specs.declared.key.Key.{Key}
 use Rattle.history.specs.declared.key.KeyWrite.{KeyWrite}
-use Rattle.history.specs.Key.{key_lt, same_key, write_in}
+use Rattle.history.specs.Key.{same_key, write_in}
 use Rattle.history.specs.Histories.{IsWrite}
 use Rattle.image.specs.Values.{Value, IsValue}
 use Rattle.chains.specs.KeyWrites.{KeyWrites}

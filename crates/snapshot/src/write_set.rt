@@ -10,7 +10,8 @@ use std::alloc::AllocError;
 /// The most keys that a transaction writes.
 pub const MOST_KEYS: usize = 1024;
 
-// Where the write of a key stands, or else where it is to stand.
+/// Where the write of a key stands, counted from 0: `Err` with the place where it is to stand, if the
+/// key has none.
 pub fn place_of<V>(writes: &[KeyWrite<V>], key: Key) -> Result<usize, usize>
     requires { AreRising writes.now }
     ensures { IsPlace key writes.now result }
@@ -23,7 +24,7 @@ pub fn place_of<V>(writes: &[KeyWrite<V>], key: Key) -> Result<usize, usize>
     }
 }
 
-// The same; none where a write more is one too many.
+/// The same; none where the key has no write and the writes are of `MOST_KEYS` keys already.
 pub fn place_with_room<V>(writes: &[KeyWrite<V>], key: Key) -> Option<Result<usize, usize>>
     requires rising { AreRising writes.now }
     requires few { length writes.now ≤ 1024 }
@@ -37,7 +38,8 @@ pub fn place_with_room<V>(writes: &[KeyWrite<V>], key: Key) -> Option<Result<usi
     }
 }
 
-// Puts a write at its place. An error leaves the writes as they are.
+/// Puts a write at its place, in place of the one that its key has. `Err` where no memory was found: the
+/// writes are as they were.
 pub fn put_at(
     writes: &mut Vec<KeyWrite<SharedValue>>,
     place: Result<usize, usize>,
@@ -60,7 +62,7 @@ pub fn put_at(
     }
 }
 
-// Takes the write of a key away, if it has one.
+/// Takes the write of a key away, if it has one.
 pub fn remove_write(writes: &mut Vec<KeyWrite<SharedValue>>, key: Key)
     requires { AreRising writes.old.items }
     ensures { writes.new.items ≡ without writes.old.items key }

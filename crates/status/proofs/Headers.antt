@@ -1,25 +1,9 @@
--- What 512 bytes say is one header.
-use Rattle.std.proofs.Common.{◌≡◌, ◌≢◌, ◌↔◌, ℕ, ◌+◌, ◌-◌, ◌<◌, ◌≤◌, List, length, get_or, take, drop, Bool, refl, sym, ◌∙◌, ap, inl, inr, arith}
+-- What the parts of a front say.
+use Rattle.std.proofs.Common.{◌≡◌, ◌≢◌, ◌↔◌, ℕ, ◌+◌, ◌-◌, ◌<◌, ◌≤◌, List, length, get_or, take, drop, Bool, refl, sym, ◌∙◌, ap, arith}
 use Rattle.std.specs.Prelude.{slice_index, IsTrue}
-use Rattle.std.proofs.lemmas.Bool.{cases_order}
 use Rattle.std.proofs.lemmas.Bool.Decides.{nat_tests}
 use Rattle.std.proofs.lemmas.List.{length-take, length-drop, get_or-take, get_or-drop}
-use Rattle.status.specs.declared.header.Header.{Header}
-use Rattle.status.specs.Header.{piece_gate, zeros_from, Says}
-
-same_pieces : (a b : Header) (front : List ℕ) → Says a front → Says b front → a.pieces ≡ b.pieces
-same_pieces a b front says_a says_b = elim (cases_order a.pieces b.pieces) [
-  | inl same ↦ same
-  | inr (inl less) ↦ absurd (says_a.next_piece (omega (arith, says_b.few_pieces)) (says_b.open_pieces a.pieces less))
-  | inr (inr more) ↦ absurd (says_b.next_piece (omega (arith, says_a.few_pieces)) (says_a.open_pieces b.pieces more))
-]
-
-pub one_header : (a b : Header) (front : List ℕ) → Says a front → Says b front → a ≡ b
-one_header a b front says_a says_b =
-    let profile : a.profile ≡ b.profile = sym says_a.profile ∙ says_b.profile in
-    let slots : a.slots ≡ b.slots = sym says_a.slots ∙ says_b.slots in
-    let pieces : a.pieces ≡ b.pieces = same_pieces a b front says_a says_b in
-    λ i. record { profile = profile i; slots = slots i; pieces = pieces i }
+use Rattle.status.specs.Header.{piece_gate, zeros_from}
 
 -- a part of a front
 part_at : (from n : ℕ) (front : List ℕ) (k : ℕ) → k < n → slice_index (take n (drop from front)) k ≡ slice_index front (from + k)

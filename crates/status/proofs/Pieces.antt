@@ -30,12 +30,6 @@ module _ (header : Header) (slots : List Slot) (calm content : List ℕ) (may : 
   few : header.pieces < 255
   few = omega (arith, may.room, numbers.some)
 
-  old_front : List ℕ
-  old_front = take 512 calm
-
-  new_front : List ℕ
-  new_front = take 512 content
-
   old_long : length (take 512 calm) ≡ 512
   old_long = omega (arith, length-take 512 calm, beside.room)
 

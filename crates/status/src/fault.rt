@@ -5,6 +5,7 @@ ghost use Rattle.status.specs.declared.fault.LogFault.TheVariants.{Device, NoMem
 use disk::DeviceFault;
 use std::alloc::{AllocError, AllocFailed};
 
+/// Why no log is read from a status area.
 #[derive(Clone, Copy, Debug, PartialEq, Eq)]
 pub enum LogFault {
     /// No header stands at the front, or the area is too short for the header's slots.

@@ -4,7 +4,7 @@ ghost use Rattle.byteorder.specs.Endian.{little_number, little_bytes};
 ghost use Rattle.status.specs.Header.{zeros_from, HasNumbers, Says, IsFront, header_front, new_header};
 
 use crate::header::Header;
-use crate::sizes::{LEAST_SLOTS, MOST_TOTAL};
+use crate::sizes::{FRONT_BYTES, LEAST_SLOTS, MOST_TOTAL};
 use crate::turn::OPEN;
 use byteorder::{ByteOrder, LittleEndian};
 
@@ -30,7 +30,7 @@ fn open_pieces(gates: &[u8]) -> usize
 }
 
 // The numbers of a front, right or wrong.
-fn numbers_of(front: &[u8; 512]) -> Header
+fn numbers_of(front: &[u8; FRONT_BYTES]) -> Header
     ensures { Says result front.now }
 {
     Header {
@@ -56,7 +56,7 @@ fn is_header(header: &Header) -> bool
         && header.total() <= MOST_TOTAL
 }
 
-fn zeros_follow(profile: u32, front: &[u8; 512]) -> bool
+fn zeros_follow(profile: u32, front: &[u8; FRONT_BYTES]) -> bool
     ensures { IsTrue result ↔ ((k : ℕ) → zeros_from profile ≤ k → k < 512 → slice_index front.now k ≡ 0) }
 {
     if profile == 1 {
@@ -66,14 +66,14 @@ fn zeros_follow(profile: u32, front: &[u8; 512]) -> bool
     }
 }
 
-fn is_named(front: &[u8; 512]) -> bool
+fn is_named(front: &[u8; FRONT_BYTES]) -> bool
     ensures { IsTrue result ↔ (take 8 front.now ≡ codes "NOOVER01") }
 {
     &front[..8] == NAME.as_slice()
 }
 
 /// The header that the first 512 bytes of a status area are, if they are one.
-pub fn decode_header(front: &[u8; 512]) -> Option<Header>
+pub fn decode_header(front: &[u8; FRONT_BYTES]) -> Option<Header>
     ensures found { IfSome result (λ header. IsFront header front.now) }
     ensures none { IfNone result ((header : Header) → ¬ IsFront header front.now) }
 {
@@ -113,11 +113,11 @@ fn put_front(bytes: &mut [u8], front: &[u8])
 }
 
 /// The first 512 bytes of a new status area: no piece is open.
-pub fn encode_header(profile: u32, slots: u32) -> [u8; 512]
+pub fn encode_header(profile: u32, slots: u32) -> [u8; FRONT_BYTES]
     ensures is { HasNumbers (new_header profile slots) → IsFront (new_header profile slots) result }
     ensures zeros { (k : ℕ) → 16 ≤ k → slice_index result k ≡ 0 }
 {
-    let mut bytes = [0; 512];
+    let mut bytes = [0; FRONT_BYTES];
     put_front(&mut bytes, &first_bytes(profile, slots));
     bytes
 }

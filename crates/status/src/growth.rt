@@ -5,6 +5,7 @@ ghost use Rattle.disk.specs.declared.area.Area.TheVariants.{Status};
 ghost use Rattle.status.specs.SlotCalls.{answer_of};
 ghost use Rattle.status.specs.Growth.{WritesZeros, IsGrowthCall, grew_at, growth_after};
 
+use crate::sizes::SLOT_BYTES;
 use crate::turn::{OPEN, slot_place};
 use disk::{Area, DeviceFault, Disk};
 use std::marker::Model;
@@ -12,8 +13,11 @@ use std::marker::Model;
 /// The calls that write a piece's zeros.
 const PARTS: u32 = 16;
 
-/// The zeros that one of them writes: 16 slots.
-const PART_LEN: usize = 8192;
+/// The slots whose zeros one of them writes.
+const PART_SLOTS: usize = 16;
+
+/// The bytes of these zeros.
+const PART_LEN: usize = PART_SLOTS * SLOT_BYTES;
 
 const PART_BYTES: u64 = PART_LEN as u64;
 

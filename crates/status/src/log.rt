@@ -12,18 +12,17 @@ ghost use Rattle.status.specs.Walking.{EndsAt, IsWalk, Takes, IsTakeFault, IsWal
 use crate::fault::LogFault;
 use crate::header::Header;
 use crate::log_end::{LogEnd, floors_behind};
-use crate::sizes::{FRONT_LEN, MOST_TOTAL, SLOT_LEN};
+use crate::sizes::{FRONT_LEN, MOST_TOTAL, SLOT_BYTES, SLOT_LEN};
 use crate::turn::{OPEN, slot_place};
 use disk::{Area, DeviceFault, Disk};
 use std::alloc::Global;
-use wire::{Slot, decode_slot, one_spelling};
+use wire::{SLOT_BODY_LEN, Slot, decode_slot, one_spelling};
 
-// Slots are read so many at a time, into a buffer of as many bytes.
+// Slots are read so many at a time.
 const SLOTS_A_READ: u32 = 16;
 
-const BUFFER_LEN: usize = 8192;
-
-const SLOT_BYTES: usize = SLOT_LEN as usize;
+// The bytes of as many slots, which the buffer of a read holds.
+const BUFFER_LEN: usize = SLOTS_A_READ as usize * SLOT_BYTES;
 
 /// The slots of a log, and where it ends with them.
 #[derive(Drop)]
@@ -67,7 +66,7 @@ impl Walk {
             return Ok(false);
         }
         let number = self.slots.len() as u32;
-        let mut body = [0; 511];
+        let mut body = [0; SLOT_BODY_LEN];
         body.copy_from_slice(&bytes[1..]);
         let Ok(slot) = decode_slot(self.profile, number, &body) else {
             return Err(LogFault::Damaged(number));

@@ -9,7 +9,7 @@ ghost use Rattle.status.specs.Reading.{read_by, ReadsHeader, IsBuiltFront, IsHea
 use crate::fault::LogFault;
 use crate::front::decode_header;
 use crate::header::Header;
-use crate::sizes::{FRONT_LEN, SLOT_LEN};
+use crate::sizes::{FRONT_BYTES, FRONT_LEN, SLOT_LEN};
 use disk::{Area, DeviceFault, Disk};
 
 const COMMIT: u8 = 1;
@@ -30,7 +30,7 @@ pub fn is_built(profile: u32, kind: u8) -> bool
 }
 
 // The header at the front of an area of this length.
-fn header_of(front: &[u8; 512], len: u64) -> Option<Header>
+fn header_of(front: &[u8; FRONT_BYTES], len: u64) -> Option<Header>
     ensures found { IfSome result (IsBuiltFront front.now len) }
     ensures none { IfNone result ((header : Header) → ¬ IsBuiltFront front.now len header) }
 {
@@ -53,7 +53,7 @@ fn find_header<D: Disk>(disk: &mut D) -> Result<Option<Header>, DeviceFault>
     if len < FRONT_LEN {
         return Ok(None);
     }
-    let mut front = [0; 512];
+    let mut front = [0; FRONT_BYTES];
     disk.read(Area::Status, 0, &mut front)?;
     Ok(header_of(&front, len))
 }

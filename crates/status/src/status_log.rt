@@ -69,18 +69,21 @@ impl StatusLog {
         self.profile
     }
 
+    /// How many slots the store has, used or not.
     pub fn slots(&self) -> u32
         ensures { result ≡ self.now.slots }
     {
         self.slots
     }
 
+    /// How many of the slots are used, the first ones.
     pub fn used(&self) -> u32
         ensures { result ≡ self.now.used }
     {
         self.used
     }
 
+    /// Whether a slot is in the writing.
     pub fn is_writing(&self) -> bool
         ensures { result ≡ self.now.writing }
     {

@@ -9,10 +9,12 @@ ghost use Rattle.status.specs.Turn.{IsStepOf};
 use crate::sizes::{FRONT_LEN, SLOT_LEN};
 use disk::{Area, DeviceFault, Disk};
 use std::marker::Model;
+use wire::SLOT_BODY_LEN;
 
+/// The gate of a slot or of a piece that is open: its one byte.
 pub const OPEN: u8 = 0xC7;
 
-// What is done of a slot.
+/// What is done of a slot in the writing: which of its four device calls were made.
 #[derive(Clone, Copy, Debug, PartialEq, Eq)]
 pub enum Stage {
     Begun,
@@ -24,7 +26,7 @@ pub enum Stage {
 /// A slot in the writing. It is spent by its last call, or by one that the device refuses.
 pub struct SlotTurn {
     number: u32,
-    body: [u8; 511],
+    body: [u8; SLOT_BODY_LEN],
     stage: Stage,
 }
 
@@ -52,7 +54,7 @@ impl SlotTurn {
     ghost use Rattle.std.specs.Prelude.{◌<◌, ◌^◌, ◌-◌};
     ghost use Rattle.status.specs.SlotCalls.{Begun};
 
-    pub(crate) fn begin(number: u32, body: [u8; 511]) -> SlotTurn
+    pub(crate) fn begin(number: u32, body: [u8; SLOT_BODY_LEN]) -> SlotTurn
         requires { number < 2 ^ 32 - 1 }
         ensures { result ≡ record { number = number; body = body; stage = Begun } }
     {
@@ -85,13 +87,18 @@ impl SlotTurn {
     }
 }
 
+/// The byte of the status area at which the slot of this number begins, with its gate.
 pub fn slot_place(number: u32) -> u64
     ensures { result ≡ slot_start number }
 {
     FRONT_LEN + SLOT_LEN * number as u64
 }
 
-fn write_body<D: Disk>(disk: &mut D, number: u32, body: &[u8; 511]) -> Result<(), DeviceFault>
+fn write_body<D: Disk>(
+    disk: &mut D,
+    number: u32,
+    body: &[u8; SLOT_BODY_LEN],
+) -> Result<(), DeviceFault>
     ensures call { IsTrue D.tells → Writes Status (slot_start number + 1) body.now result (D.state disk.old).areas (D.state disk.new).areas }
     ensures counts { Counts result (D.state disk.old) (D.state disk.new) }
 {

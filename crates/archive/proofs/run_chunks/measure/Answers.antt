@@ -24,8 +24,8 @@ loop-head-smaller g c =
     let less = one_less r (g.W.RecordWalk.left c.loop-head.walk) (g.W.RecordWalk.left c.advance.new.self) c.in-Some.ensures c.advance.ensures.left in
     omega (arith, less.0)
 
-pub returns-then-len-clause-none : goal.returns-then-len-clause-none
-returns-then-len-clause-none g c =
+pub returns-then-len-gt-LAST_PLACE-clause-none : goal.returns-then-len-gt-LAST_PLACE-clause-none
+returns-then-len-gt-LAST_PLACE-clause-none g c =
     let r = record_of c.in-Some.head c.in-Some.value.now in
     let less = one_less r (g.W.RecordWalk.left c.loop-head.walk) _ c.in-Some.ensures refl in
     omega (arith, less.1, c.loop-head.invariant.len, c.record_len.ensures.is c.in-Some.head)

@@ -1,4 +1,4 @@
-use Rattle.std.proofs.Common.{◌≡◌, ◌<◌, ℕ, Bool, false, rules, of_calls, get_or, arith, sym, ap, ◌∙◌, subst}
+use Rattle.std.proofs.Common.{rules, of_calls, arith, sym, ap, ◌∙◌}
 use Rattle.std.proofs.lemmas.Fn.{always_returns_same}
 use Rattle.std.proofs.lemmas.List.{get_or_default}
 use Rattle.history.specs.declared.key.KeyWrite.{KeyWrite}

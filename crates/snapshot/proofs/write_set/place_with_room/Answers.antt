@@ -1,4 +1,4 @@
-use Rattle.std.proofs.Common.{◌≡◌, ◌<◌, ◌≤◌, None, length, arith}
+use Rattle.std.proofs.Common.{arith}
 use Rattle.snapshot.proofs.WriteSetLemmas.{found-is_not-none, write_in-for}
 use Rattle.snapshot.proofs.write_set.place_with_room.Goals as goal
 

@@ -1,6 +1,6 @@
-use Rattle.std.proofs.Common.{◌≡◌, cond, is_ok, Ok, Err, ap, ◌∙◌, subst}
+use Rattle.std.proofs.Common.{cond, is_ok, ap, ◌∙◌, subst}
 use Rattle.std.specs.List.{insert}
-use Rattle.snapshot.specs.WriteSets.{with_write, IsPlace}
+use Rattle.snapshot.specs.WriteSets.{IsPlace}
 use Rattle.snapshot.proofs.WriteSetLemmas.{with_write-set, with_write-insert}
 use Rattle.snapshot.proofs.write_set.put_at.Goals as goal
 use Rattle.snapshot.proofs.write_set.put_at.Goals.{in-Ok-insert, in-Err-insert}

@@ -1,5 +1,5 @@
-use Rattle.std.proofs.Common.{◌≡◌, ap, sym, ◌∙◌, subst}
-use Rattle.snapshot.specs.WriteSets.{without, IsPlaceOf, IsPlaceFor}
+use Rattle.std.proofs.Common.{sym, ◌∙◌, subst}
+use Rattle.snapshot.specs.WriteSets.{IsPlaceOf, IsPlaceFor}
 use Rattle.snapshot.proofs.WriteSetLemmas.{without-remove, without-none, write_in-for}
 use Rattle.snapshot.proofs.write_set.remove_write.Goals as goal
 

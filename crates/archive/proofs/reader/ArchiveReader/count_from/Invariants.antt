@@ -1,4 +1,4 @@
-use Rattle.std.proofs.Common.{◌≡◌, ◌+◌, ◌-◌, ◌<◌, ◌≤◌, List, None, IsTrue}
+use Rattle.std.proofs.Common.{◌≡◌, ◌-◌, ◌<◌, ◌≤◌, List, None, IsTrue}
 use Rattle.image.specs.Reading.{ArchiveRecord}
 use Rattle.archive.specs.Parts.{IsRight, Keeps}
 use Rattle.archive.specs.Runs.{run_end}

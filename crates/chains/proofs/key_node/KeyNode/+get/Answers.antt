@@ -1,4 +1,4 @@
-use Rattle.std.proofs.Common.{ℕ, ◌<◌, ◌∙◌, sym, arith, rules}
+use Rattle.std.proofs.Common.{◌<◌, ◌∙◌, sym, arith, rules}
 use Rattle.chains.proofs.KeyNodes.{none_without, node_lower, node_key}
 use Rattle.chains.proofs.key_node.KeyNode.+get.Goals as goal
 

@@ -1,4 +1,4 @@
-use Rattle.std.proofs.Common.{ℕ, ◌<◌, ◌∙◌, sym, arith, rules}
+use Rattle.std.proofs.Common.{◌<◌, ◌∙◌, sym, arith, rules}
 use Rattle.chains.proofs.Branches.{none_begun, begun_lower, begun_value}
 use Rattle.chains.proofs.older.Older.+at.Goals as goal
 

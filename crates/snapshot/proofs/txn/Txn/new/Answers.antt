@@ -1,4 +1,4 @@
-use Rattle.std.proofs.Common.{◌≡◌, ◌≤◌, [], length, arith, sym, subst}
+use Rattle.std.proofs.Common.{sym, subst}
 use Rattle.snapshot.specs.Txn.{AreTxnWrites}
 use Rattle.snapshot.proofs.TxnLemmas.{no_writes}
 use Rattle.snapshot.proofs.txn.Txn.new.Goals as goal

@@ -1,4 +1,4 @@
-use Rattle.std.proofs.Common.{◌≡◌, ◌<◌, List, map, None, Some, length, arith, unwrap_or, cond, ap, sym, ◌∙◌, subst}
+use Rattle.std.proofs.Common.{◌≡◌, ◌<◌, List, map, None, Some, length, arith, unwrap_or, cond, ap, ◌∙◌, subst}
 use Rattle.history.specs.declared.key.KeyWrite.{KeyWrite}
 use Rattle.history.specs.Key.{same_key, write_in}
 use Rattle.image.specs.Values.{Value}

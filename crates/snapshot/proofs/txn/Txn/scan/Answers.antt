@@ -1,5 +1,4 @@
-use Rattle.std.proofs.Common.{◌≡◌, ℕ, List, Result, Ok, Err, IfOk, unwrap_or, ap, sym, ◌∙◌, subst}
-use Rattle.history.specs.declared.key.Key.{Key}
+use Rattle.std.proofs.Common.{◌≡◌, ℕ, List, Result, Ok, Err, IfOk, unwrap_or, sym, ◌∙◌, subst}
 use Rattle.history.specs.Key.{write_in}
 use Rattle.history.specs.Queries.{IsScan}
 use Rattle.image.specs.Values.{Value}
