@@ -15,6 +15,9 @@ use timequery::View;
 /// So many values are held at a time.
 const MAX_PLACES: usize = 65_536;
 
+// What a place's number grows by where its stamp grows by one: the number has its place in the lower 16 bits.
+const STAMP_UNIT: u64 = MAX_PLACES as u64;
+
 /// What a place holds.
 pub enum Held {
     Nothing,
@@ -58,7 +61,7 @@ fn number_of(at: usize, stamp: u32) -> u64
     ensures stamp { result / 65536 ≡ stamp }
     ensures low { result < 2 ^ 63 }
 {
-    stamp as u64 * 65_536 + at as u64
+    stamp as u64 * STAMP_UNIT + at as u64
 }
 
 impl Places {
@@ -136,7 +139,7 @@ impl Places {
         ensures held { result ≡ named self.old number }
         ensures taken { IsTaken number self.old self.new }
     {
-        let at = (number % 65_536) as usize;
+        let at = (number % STAMP_UNIT) as usize;
         let place = &mut self.places[at];
         place.stamp = place.stamp.wrapping_add(1);
         place.next = self.free;
@@ -149,8 +152,8 @@ impl Places {
     fn held(&self, number: u64) -> Option<&Held>
         ensures { MatchOption result (named self.now number ≡ Nothing) (λ held. named self.now number ≡ held.now) }
     {
-        let place = self.places.get((number % 65_536) as usize)?;
-        if place.stamp as u64 == number / 65_536 {
+        let place = self.places.get((number % STAMP_UNIT) as usize)?;
+        if place.stamp as u64 == number / STAMP_UNIT {
             Some(&place.held)
         } else {
             None
@@ -237,7 +240,7 @@ impl Places {
         ensures { MatchOption result ((transaction_in (named self.old number) ≡ None) × (self.new ≡ self.old)) (λ outcome. IsWritten number (Puts key value.now) outcome self.old self.new) }
     {
         self.transaction(number)?;
-        let at = (number % 65_536) as usize;
+        let at = (number % STAMP_UNIT) as usize;
         match &mut self.places[at].held {
             Held::Transaction(txn) => Some(values::put(txn, alloc, key, value)),
             _ => None,
@@ -249,7 +252,7 @@ impl Places {
         ensures { MatchOption result ((transaction_in (named self.old number) ≡ None) × (self.new ≡ self.old)) (λ outcome. IsWritten number (Deletes key) outcome self.old self.new) }
     {
         self.transaction(number)?;
-        let at = (number % 65_536) as usize;
+        let at = (number % STAMP_UNIT) as usize;
         match &mut self.places[at].held {
             Held::Transaction(txn) => Some(txn.delete(key)),
             _ => None,
