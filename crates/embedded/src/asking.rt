@@ -15,6 +15,7 @@ use timequery::{QueryFault, View};
 /// The store under an engine.
 pub type Kept = Store<RelayDisk>;
 
+/// A view of all that is published.
 pub fn view(store: &Kept) -> Result<View, AllocError>
     ensures { IfOk result (IsViewOf store.now) }
 {
@@ -30,6 +31,7 @@ pub struct Lent<'a> {
 }
 
 impl<'a> Lent<'a> {
+    /// A reader of the archive's bytes, which the host lends for the call.
     pub fn new(alloc: Global, archive: &'a [u8]) -> Lent<'a>
         ensures { IsOver archive.now result }
     {
@@ -40,6 +42,7 @@ impl<'a> Lent<'a> {
         }
     }
 
+    /// The value of a key at a time, in microseconds since 1970, as the view has it; why not, where it is not told.
     pub fn at(
         &mut self,
         view: &View,
@@ -51,6 +54,7 @@ impl<'a> Lent<'a> {
         view.value_at(self.alloc, &mut self.reader, &mut self.disk, key, time)
     }
 
+    /// The records of a relation that have a value at a time, with their values.
     pub fn scan_at(
         &mut self,
         view: &View,
@@ -62,6 +66,7 @@ impl<'a> Lent<'a> {
         view.values_at(self.alloc, &mut self.reader, &mut self.disk, relation, time)
     }
 
+    /// The rows of a key from one time up to another.
     pub fn between(
         &mut self,
         view: &View,
@@ -74,6 +79,7 @@ impl<'a> Lent<'a> {
         view.rows_between(self.alloc, &mut self.reader, &mut self.disk, key, a, b)
     }
 
+    /// The rows of a relation's records from one time up to another.
     pub fn scan_between(
         &mut self,
         view: &View,

@@ -30,6 +30,7 @@ pub struct Published {
 }
 
 impl Published {
+    /// Ends the view that it holds.
     pub fn spend(self) {
         let Published {
             view,

@@ -65,6 +65,7 @@ fn number_of(at: usize, stamp: u32) -> u64
 }
 
 impl Places {
+    /// Nothing is held.
     pub fn new(alloc: Global) -> Places {
         Places {
             places: Vec::new(alloc),
@@ -160,6 +161,7 @@ impl Places {
         }
     }
 
+    /// The transaction of this number; none where the number names none.
     pub fn transaction(&self, number: u64) -> Option<&Txn>
         ensures { option_copied result ≡ transaction_in (named self.now number) }
     {
@@ -169,6 +171,7 @@ impl Places {
         }
     }
 
+    /// The view of this number; none where the number names none.
     pub fn view(&self, number: u64) -> Option<&View>
         ensures { option_copied result ≡ view_in (named self.now number) }
     {
@@ -178,6 +181,7 @@ impl Places {
         }
     }
 
+    /// The ticket of this number; none where the number names none.
     pub fn ticket(&self, number: u64) -> Option<&Ticket>
         ensures { option_copied result ≡ ticket_in (named self.now number) }
     {
