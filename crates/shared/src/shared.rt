@@ -236,7 +236,7 @@ impl<D: Disk, L: Opening> SharedStore<D, L> {
     }
 
     /// Tells both loops to end.
-    pub fn end_loops<R: Wait>(&self, rt: &R) {
+    pub fn stop<R: Wait>(&self, rt: &R) {
         self.locked.lock(rt).end_loops();
         self.queued.notify_all();
         self.moved.notify_all();

@@ -209,7 +209,7 @@ fn note_vacuumed<D: Disk, L: Opening, R: Wait + Abort>(
     answer: &Vacuumed,
 ) {
     if notes.count() == 0 {
-        store.end_loops(rt);
+        store.stop(rt);
     }
     note(rt, store, calls, me, notes, step_of(answer));
 }

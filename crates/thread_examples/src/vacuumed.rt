@@ -47,7 +47,7 @@ fn note_vacuumed<D: Disk, L: Opening, R: Wait + Abort>(
     answer: &Vacuumed,
 ) {
     if notes.count() == 7 {
-        store.end_loops(rt);
+        store.stop(rt);
     }
     note(rt, store, calls, me, notes, step_of(answer));
 }

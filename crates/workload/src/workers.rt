@@ -243,7 +243,7 @@ fn call_all<D: Disk + Send, L: Opening + Send + Sync, R: Threads + Wait + Sync>(
         move || write_all(rt, store, badges, plan.rounds),
         move || read_all(rt, store, readers, plan),
     );
-    store.end_loops(rt);
+    store.stop(rt);
     match worked {
         Ok(worked) if answered => Some(worked),
         _ => None,

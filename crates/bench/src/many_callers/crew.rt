@@ -291,7 +291,7 @@ fn call_all<D: Disk + Send, L: Opening + Send + Sync, R: Threads + Wait + Sync>(
         move || write_all(rt, store, writers, flag),
         move || read_all(rt, store, readers, load, flag),
     );
-    store.end_loops(rt);
+    store.stop(rt);
     Called { commits, reads }
 }
 

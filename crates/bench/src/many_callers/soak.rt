@@ -189,7 +189,7 @@ fn call_all<D: Disk + Send, L: Opening + Send + Sync, R: Threads + Wait + Clock 
         move || write_all(rt, store, writers, flag),
         move || read_all(rt, store, readers, flag),
     );
-    store.end_loops(rt);
+    store.stop(rt);
     noted
 }
 
