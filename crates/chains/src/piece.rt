@@ -9,7 +9,7 @@ use crate::older::Older;
 use crate::share::{Share, add_shared};
 use crate::shared_value::SharedValue;
 use crate::stamped::StampedWrite;
-use crate::write::{ended_by, first_time_or, value_count};
+use crate::write::{ended_by, first_time_or};
 use history::{ENDLESS, TimedWrite};
 use std::alloc::{AllocError, Global};
 use std::marker::Model;
@@ -157,22 +157,14 @@ impl Piece {
         }
     }
 
-    /// A piece of one write, behind those of the piece before it.
-    pub(crate) fn one(
-        alloc: Global,
-        write: TimedWrite<SharedValue>,
-        before: Option<&Piece>,
-    ) -> Result<Self, AllocError>
+    /// A piece of one write.
+    pub(crate) fn one(alloc: Global, write: TimedWrite<SharedValue>) -> Result<Self, AllocError>
         requires positive { 0 < write.time }
         requires in_range { write.time < 2 ^ 63 }
         ensures { IfOk result (λ p. p ≡ write ∷ []) }
     {
-        let last = match before {
-            None => None,
-            Some(piece) => piece.as_slice().last(),
-        };
         Ok(Piece {
-            slots: Slots::One(StampedWrite::of(alloc, write, last)?),
+            slots: Slots::One(StampedWrite::of(alloc, write)?),
         })
     }
 
@@ -242,12 +234,11 @@ impl Piece {
         }
     }
 
-    /// Whether it has a value, or several writes. It looks at the memory that one more holder is counted
-    /// in.
+    /// Whether it has some writes. It looks at the memory that one more holder is counted in.
     pub(crate) fn is_at_hand(&self) -> bool {
         match &self.slots {
-            Slots::One(write) => write.has_bytes(),
-            Slots::Many { shared, .. } => shared.len() > 1,
+            Slots::One(_) => true,
+            Slots::Many { shared, .. } => shared.len() > 0,
             Slots::Full { shared, .. } => shared[0].time() > 0,
         }
     }
@@ -318,8 +309,7 @@ fn shared(
 ) -> Result<Vec<StampedWrite>, AllocError>
     ensures { IfOk result (λ ws. ws.items ≡ writes.now) }
 {
-    let room = writes.len().max(value_count(writes));
-    let mut shared = Vec::with_capacity(alloc, room.saturating_add(more))?;
+    let mut shared = Vec::with_capacity(alloc, writes.len().saturating_add(more))?;
     add_shared(&mut shared, writes)?;
     Ok(shared)
 }
@@ -334,7 +324,7 @@ fn put_last(
     ensures ok { OnOk result (writes.new.items ≡ writes.old.items ++ write ∷ []) }
     ensures err { OnErr result (writes.new.items ≡ writes.old.items) }
 {
-    let write = StampedWrite::of(alloc, write, writes.last())?;
+    let write = StampedWrite::of(alloc, write)?;
     writes.push(write)?;
     Ok(())
 }

@@ -1,4 +1,4 @@
-//! A write of a shared value in two words.
+//! A write of a shared value, with its time in one word before it.
 ghost use Rattle.std.specs.Prelude.{◌≡◌, ◌<◌, ◌^◌, IfOk, is_none};
 ghost use Rattle.std.specs.Option.{option_copied};
 ghost use Rattle.chains.specs.Stamps.{write_of_loan};
@@ -8,14 +8,15 @@ use crate::shared_value::SharedValue;
 use history::TimedWrite;
 use std::alloc::{AllocError, Global};
 use std::marker::Model;
+use std::mem::size_of;
 use wire::Value;
 
-/// What one commit did to a key, in 16 bytes: a value, or gone from then on.
+/// What one commit did to a key, in 88 bytes: a value, or gone from then on.
 #[derive(Drop)]
 pub(crate) struct StampedWrite {
     // Twice the time, and one more where the key is gone.
     stamp: u64,
-    // Where the key is gone this is no value of it: a pointer has to lead somewhere.
+    // Where the key is gone this is no value of it: one field with no bytes stands in its place.
     value: SharedValue,
 }
 
@@ -28,21 +29,13 @@ impl Model for StampedWrite {
     ghost view = { λ w. stamped w.stamp w.value };
 }
 
-/// A value with no bytes, which stands in the place of one.
+const _: () = prove!(size_of::<StampedWrite>() == 88);
+
+/// A value with no bytes, which stands in the place of one. It takes no memory.
 fn stand_in(alloc: Global) -> Result<SharedValue, AllocError> {
     match Value::new(alloc, &[&[]]) {
-        Ok(value) => SharedValue::new(alloc, value),
+        Ok(value) => Ok(SharedValue::new(value)),
         Err(_) => Err(AllocError),
-    }
-}
-
-/// What a deletion holds behind the write before it: the value that it takes away. That one is forgotten no
-/// later than the deletion, so it is kept no longer for it, and takes no memory. What another deletion took
-/// away may be forgotten before, and is not held.
-fn held_behind(alloc: Global, before: Option<&StampedWrite>) -> Result<SharedValue, AllocError> {
-    match before {
-        Some(write) if write.may_be_held() => write.value.share(),
-        _ => stand_in(alloc),
     }
 }
 
@@ -56,12 +49,8 @@ impl Share for StampedWrite {
 }
 
 impl StampedWrite {
-    /// The same write, behind the one before it.
-    pub(crate) fn of(
-        alloc: Global,
-        write: TimedWrite<SharedValue>,
-        before: Option<&StampedWrite>,
-    ) -> Result<Self, AllocError>
+    /// The same write.
+    pub(crate) fn of(alloc: Global, write: TimedWrite<SharedValue>) -> Result<Self, AllocError>
         requires { write.time < 2 ^ 63 }
         ensures { IfOk result (λ w. w ≡ write) }
     {
@@ -73,7 +62,7 @@ impl StampedWrite {
             }),
             None => Ok(StampedWrite {
                 stamp: time * 2 + 1,
-                value: held_behind(alloc, before)?,
+                value: stand_in(alloc)?,
             }),
         }
     }
@@ -105,14 +94,6 @@ impl StampedWrite {
         Some(&self.value)
     }
 
-    /// Whether it is of a value with some bytes. It looks at the value.
-    pub(crate) fn has_bytes(&self) -> bool {
-        match self.value() {
-            None => false,
-            Some(shared) => shared.value().len() > 0,
-        }
-    }
-
     /// The same write, with its value in a loan.
     pub(crate) fn lent(&self) -> TimedWrite<&SharedValue>
         ensures { write_of_loan result ≡ self.now }
@@ -121,10 +102,5 @@ impl StampedWrite {
             time: self.time(),
             write: self.value(),
         }
-    }
-
-    /// Whether a deletion behind it may hold what it holds.
-    fn may_be_held(&self) -> bool {
-        !self.is_deletion() || self.value.value().fields().spelled().len() <= 1
     }
 }

@@ -26,20 +26,6 @@ fn is_gone_by(write: &StampedWrite, mark: u64) -> bool
     write.time() <= mark && write.is_deletion()
 }
 
-/// How many of these writes have a value. It looks at each value in turn, with nothing to be done
-/// between, so that a processor fetches many at once; who then shares them all has them near.
-pub(crate) fn value_count(writes: &[StampedWrite]) -> usize
-    ensures { result ≤ length writes.now }
-{
-    let mut count = 0;
-    for w in writes {
-        if w.has_bytes() {
-            count += 1;
-        }
-    }
-    count
-}
-
 /// When the first of these writes was made, or `end` where there is none.
 pub(crate) fn first_time_or(writes: &[StampedWrite], end: u64) -> u64
     ensures { result ≡ specs.first_time_or end writes.now }

@@ -176,6 +176,16 @@ impl Fields {
         })
     }
 
+    /// The same fields, which takes no memory: what lies in these is copied, and of what lies in memory of its own
+    /// this is one more holder.
+    pub(crate) fn share(&self) -> Result<Fields, AllocError>
+        ensures { IfOk result (λ fields. fields ≡ self.now) }
+    {
+        Ok(Fields {
+            spelled: self.spelled.share()?,
+        })
+    }
+
     /// Whether the other has the same fields in the same order.
     pub fn is_same(&self, other: &Fields) -> bool
         ensures { IsTrue result ↔ (self.now ≡ other.now) }

@@ -6,12 +6,12 @@ ghost use Rattle.wire.specs.Counted.{with_field};
 
 use std::alloc::{AllocError, Global};
 use std::marker::Model;
+use std::sync::Arc;
 
 /// How many bytes lie in the value itself: four fields of 16 bytes with their lengths, and a little more.
 const INLINE: usize = 77;
 
-// With a count of its holders, and the word that an allocator keeps with it, this is a piece of 96
-// bytes of memory. One byte more would take one of 112.
+// With a time of eight bytes before it this is 88: what a version takes where versions lie together.
 const _: () = prove!(size_of::<Spelled>() == 80);
 
 // Bytes in the value itself.
@@ -110,17 +110,6 @@ impl ShortBytes {
         self.append(field);
         self.count += 1;
     }
-
-    // The bytes in a piece of memory with room for so many more, and for as many again as here.
-    fn spill(&self, room: usize) -> Result<Vec<u8>, AllocError>
-        requires { room ≤ 256 }
-        ensures { IfOk result (λ bytes. bytes.items ≡ self.now.bytes) }
-    {
-        let capacity = (self.len as usize + room).max(2 * INLINE);
-        let mut bytes = Vec::with_capacity(self.alloc, capacity)?;
-        bytes.extend_from_slice(self.bytes())?;
-        Ok(bytes)
-    }
 }
 
 // Appends a field. Where there is no memory nothing changes.
@@ -139,7 +128,12 @@ fn push_field(bytes: &mut Vec<u8>, field: &[u8]) -> Result<(), AllocError>
 #[derive(Drop)]
 enum Place {
     Short(ShortBytes),
-    Long { count: u8, bytes: Vec<u8> },
+    /// Bytes that several may hold. Who puts a field behind them does so where no other holds them.
+    Long {
+        alloc: Global,
+        count: u8,
+        bytes: Arc<Vec<u8>>,
+    },
 }
 
 /// How many fields there are, and their bytes. Both kinds of place hold the count beside what they
@@ -177,9 +171,20 @@ impl Spelled {
         if room <= INLINE {
             return Ok(Spelled::new(alloc));
         }
-        let bytes = Vec::with_capacity(alloc, room)?;
+        Self::long(alloc, 0, Vec::with_capacity(alloc, room)?)
+    }
+
+    // So many fields in memory of their own.
+    fn long(alloc: Global, count: u8, bytes: Vec<u8>) -> Result<Spelled, AllocError>
+        ensures { IfOk result (λ spelled. spelled ≡ record { count = count; bytes = bytes.items }) }
+    {
+        let bytes = Arc::new(alloc, bytes)?;
         Ok(Spelled {
-            place: Place::Long { count: 0, bytes },
+            place: Place::Long {
+                alloc,
+                count,
+                bytes,
+            },
         })
     }
 
@@ -192,10 +197,7 @@ impl Spelled {
                 place: Place::Short(ShortBytes::of(alloc, count, bytes)),
             });
         }
-        let bytes = Vec::from_slice(alloc, bytes)?;
-        Ok(Spelled {
-            place: Place::Long { count, bytes },
-        })
+        Self::long(alloc, count, Vec::from_slice(alloc, bytes)?)
     }
 
     /// The same in memory of its own.
@@ -206,8 +208,50 @@ impl Spelled {
             Place::Short(short) => Ok(Spelled {
                 place: Place::Short(short.copy()),
             }),
-            Place::Long { count, bytes } => Spelled::of(alloc, *count, bytes.as_slice()),
+            Place::Long { count, bytes, .. } => Spelled::of(alloc, *count, bytes.as_slice()),
         }
+    }
+
+    /// The same, which takes no memory: few bytes are copied, and of many this is one more holder. An error where
+    /// the count of their holders is at its end.
+    pub(crate) fn share(&self) -> Result<Spelled, AllocError>
+        ensures { IfOk result (λ spelled. spelled ≡ self.now) }
+    {
+        let place = match &self.place {
+            Place::Short(short) => Place::Short(short.copy()),
+            Place::Long {
+                alloc,
+                count,
+                bytes,
+            } => Place::Long {
+                alloc: *alloc,
+                count: *count,
+                bytes: Arc::try_clone(bytes)?,
+            },
+        };
+        Ok(Spelled { place })
+    }
+
+    fn alloc(&self) -> Global {
+        match &self.place {
+            Place::Short(short) => short.alloc,
+            Place::Long { alloc, .. } => *alloc,
+        }
+    }
+
+    // The same and one field more, in memory of their own with room for as many bytes again as lie in a value.
+    fn longer(&self, field: &[u8]) -> Result<Spelled, AllocError>
+        requires few { self.now.count < 255 }
+        requires short { length field.now ≤ 255 }
+        ensures { IfOk result (λ spelled. spelled ≡ with_field self.now field.now) }
+    {
+        let alloc = self.alloc();
+        let before = self.bytes();
+        let room = before.len().saturating_add(1 + field.len());
+        let mut bytes = Vec::with_capacity(alloc, room.max(2 * INLINE))?;
+        bytes.extend_from_slice(before)?;
+        push_field(&mut bytes, field)?;
+        Self::long(alloc, self.count() + 1, bytes)
     }
 
     /// How many fields there are.
@@ -237,23 +281,20 @@ impl Spelled {
         ensures ok { OnOk result (self.new ≡ with_field self.old field.now) }
         ensures err { OnErr result (self.new ≡ self.old) }
     {
-        match &mut self.place {
-            Place::Short(short) => {
-                if short.has_room(field.len()) {
-                    short.push(field);
-                    return Ok(());
-                }
-                let count = short.count() + 1;
-                let mut bytes = short.spill(field.len() + 1)?;
-                push_field(&mut bytes, field)?;
-                self.place = Place::Long { count, bytes };
-                Ok(())
-            }
-            Place::Long { count, bytes } => {
-                push_field(bytes, field)?;
-                *count += 1;
-                Ok(())
-            }
+        if let Place::Short(short) = &mut self.place
+            && short.has_room(field.len())
+        {
+            short.push(field);
+            return Ok(());
         }
+        if let Place::Long { count, bytes, .. } = &mut self.place
+            && let Some(own) = Arc::get_mut(bytes)
+        {
+            push_field(own, field)?;
+            *count += 1;
+            return Ok(());
+        }
+        *self = self.longer(field)?;
+        Ok(())
     }
 }

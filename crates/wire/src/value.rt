@@ -120,6 +120,20 @@ impl Value {
         })
     }
 
+    /// The same value, which takes no memory: what lies in this one is copied, and of what lies in memory of its
+    /// own it is one more holder.
+    ///
+    /// # Errors
+    ///
+    /// Where the count of holders is at its end.
+    pub fn share(&self) -> Result<Value, AllocError>
+        ensures { IfOk result (λ value. value ≡ self.now) }
+    {
+        Ok(Value {
+            fields: self.fields.share()?,
+        })
+    }
+
     /// Whether the other is the same value.
     pub fn is_same(&self, other: &Value) -> bool
         ensures { IsTrue result ↔ (self.now ≡ other.now) }
