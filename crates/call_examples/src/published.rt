@@ -17,7 +17,7 @@ pub const SEVEN: Key = Key {
 
 /// A value of one field.
 pub fn value(alloc: Global, field: &[u8]) -> Result<SharedValue, Fail> {
-    Ok(SharedValue::new(alloc, Value::new(alloc, &[field])?)?)
+    Ok(SharedValue::new(Value::new(alloc, &[field])?))
 }
 
 /// A value of one field for a record of relation 1.

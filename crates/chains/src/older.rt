@@ -1,12 +1,13 @@
 //! One key's older writes: pieces in a search tree whose nodes are wide.
-ghost use Rattle.std.specs.Prelude.{◌≡◌, ◌<◌, ◌≤◌, [], IfOk, IsTrue, MatchOption, length};
+ghost use Rattle.std.specs.Prelude.{◌≡◌, ◌<◌, ◌≤◌, [], IfOk, IfSome, IsTrue, MatchOption, length};
 ghost use Rattle.history.specs.Time.{IsRisingAfter};
 ghost use Rattle.history.specs.Versions.{first_time};
 ghost use Rattle.chains.specs.Branches.{IsMadeOf};
 ghost use Rattle.chains.specs.Shapes.{all_of};
 
 use crate::branching::{NEARLY_ALL, WIDTH, padded};
-use crate::piece::{MOST, Piece};
+use crate::full_piece::FullPiece;
+use crate::piece::Piece;
 use crate::share::Share;
 use crate::stamped::StampedWrite;
 use std::alloc::{AllocError, Global};
@@ -30,7 +31,7 @@ enum Inside {
     Few(Arc<Vec<StampedWrite>>),
     /// As many as one piece has at most, which lie beside the count of those who share them: one place of
     /// memory less on the way to them.
-    Full(Arc<[StampedWrite; MOST]>),
+    Full(Arc<FullPiece>),
     /// Branches one behind another that lie together, so that a search among them reads few places that lie
     /// apart.
     Fork(Arc<Vec<Branch>>),
@@ -145,7 +146,7 @@ impl Older {
     }
 
     /// The writes of one piece, as many as it has at most.
-    pub(crate) fn full(writes: Arc<[StampedWrite; MOST]>) -> Self
+    pub(crate) fn full(writes: Arc<FullPiece>) -> Self
         requires { IsRisingAfter 0 writes.value }
         ensures { result.pieces ≡ writes.value }
     {
@@ -204,6 +205,17 @@ impl Older {
             Inside::Full(shared) => Parts::Writes(shared.as_slice()),
             Inside::Fork(shared) => Parts::Branches(shared.as_slice()),
             Inside::Wide { count, shared } => Parts::Branches(&shared[..*count as usize]),
+        }
+    }
+
+    /// The piece that they are, where it is a full one.
+    #[inline]
+    pub(crate) fn full_piece(&self) -> Option<&FullPiece>
+        ensures { IfSome result (λ full. (self.now.pieces ≡ full.now) × IsRisingAfter 0 full.now) }
+    {
+        match &self.inside {
+            Inside::Full(shared) => Some(shared),
+            _ => None,
         }
     }
 

@@ -6,7 +6,8 @@ ghost use Rattle.chains.specs.Writes.{kept_after};
 
 use crate::branching::{WIDTH, add_branch, from_begun, room_for};
 use crate::older::{Branch, Older, Parts};
-use crate::piece::{MOST, Piece};
+use crate::full_piece::MOST;
+use crate::piece::Piece;
 use crate::share::{Share, add_shared};
 use crate::write::ended_by;
 use std::alloc::{AllocError, Global};

@@ -9,6 +9,7 @@ ghost use Rattle.chains.specs.Writes.{is_after, last_time};
 
 use crate::branching::{begun_by, first_time_or, from_begun};
 use crate::ending::ending_in;
+use crate::full_piece::even_place;
 use crate::older::{Older, Parts};
 use crate::part::{Part, before_part};
 use crate::rows::{Rows, add_rows_in};
@@ -19,10 +20,14 @@ use history::Version;
 use std::alloc::AllocError;
 
 impl Older {
-    /// The value at a time.
-    pub(crate) fn at(&self, time: u64) -> Option<&SharedValue>
+    /// The value at a time. That the first of the writes was made at `first`, and those behind them from `end` on,
+    /// says where the search in a full piece begins, and no more.
+    pub(crate) fn at(&self, first: u64, end: u64, time: u64) -> Option<&SharedValue>
         ensures { option_copied result ≡ value_at self.now.pieces time }
     {
+        if let Some(full) = self.full_piece() {
+            return full.at(even_place(first, end, time), time);
+        }
         match self.parts() {
             Parts::Writes(writes) => value_in(writes, time),
             Parts::Branches(branches) => {
@@ -30,7 +35,9 @@ impl Older {
                 if begun == 0 {
                     return None;
                 }
-                branches[begun - 1].writes().at(time)
+                let branch = &branches[begun - 1];
+                let next = first_time_or(&branches[begun..], end);
+                branch.writes().at(branch.first_time(), next, time)
             }
         }
     }

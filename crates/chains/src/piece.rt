@@ -5,6 +5,7 @@ ghost use Rattle.history.specs.Versions.{first_time};
 ghost use Rattle.chains.specs.Pieces.{held};
 ghost use Rattle.chains.specs.Writes.{last_time, kept_after};
 
+use crate::full_piece::{FullPiece, MOST};
 use crate::older::Older;
 use crate::share::{Share, add_shared};
 use crate::shared_value::SharedValue;
@@ -15,9 +16,6 @@ use std::alloc::{AllocError, Global};
 use std::marker::Model;
 use std::slice;
 use std::sync::Arc;
-
-/// How many writes a piece has at most.
-pub(crate) const MOST: usize = 32;
 
 /// Where the writes of a piece lie.
 #[derive(Drop)]
@@ -32,10 +30,7 @@ pub(crate) enum Slots {
     },
     /// As many as one piece has at most, which lie beside the count of those who share them: one place of
     /// memory less on the way to them.
-    Full {
-        first: u64,
-        shared: Arc<[StampedWrite; MOST]>,
-    },
+    Full { first: u64, shared: Arc<FullPiece> },
 }
 
 /// Some writes of one key, at least one, oldest first. It never changes, and shares its memory with
@@ -90,7 +85,7 @@ impl Piece {
     }
 
     /// A piece of as many as it has at most.
-    pub(crate) fn full(shared: Arc<[StampedWrite; MOST]>) -> Self
+    pub(crate) fn full(shared: Arc<FullPiece>) -> Self
         requires rising { IsRisingAfter 0 shared.value }
         requires some { 0 < length shared.value }
         ensures { result ≡ shared.value }
@@ -239,7 +234,7 @@ impl Piece {
         match &self.slots {
             Slots::One(_) => true,
             Slots::Many { shared, .. } => shared.len() > 0,
-            Slots::Full { shared, .. } => shared[0].time() > 0,
+            Slots::Full { shared, .. } => shared.time(0) > 0,
         }
     }
 
@@ -279,14 +274,11 @@ impl Piece {
 
 /// As many writes as one piece has at most, beside the count of those who share them: a function of its own,
 /// so that no other piece takes the way of so many bytes.
-fn packed(alloc: Global, writes: Vec<StampedWrite>) -> Result<Arc<[StampedWrite; MOST]>, AllocError>
+fn packed(alloc: Global, writes: Vec<StampedWrite>) -> Result<Arc<FullPiece>, AllocError>
     requires { length writes.items ≡ 32 }
     ensures { IfOk result (λ shared. shared.value ≡ writes.items) }
 {
-    let Ok(full) = <[StampedWrite; MOST]>::try_from(writes) else {
-        unreachable!()
-    };
-    Ok(Arc::new(alloc, full)?)
+    Ok(Arc::new(alloc, FullPiece::of(alloc, writes)?)?)
 }
 
 /// The writes of a full piece as older ones, in the form of full ones where nothing else holds them.

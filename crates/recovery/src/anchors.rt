@@ -31,17 +31,13 @@ fn name_of(anchors: &Anchors) -> ChainName
 }
 
 // The write that an anchor up to the mark stands for.
-fn anchor_write(
-    alloc: Global,
-    mark: u64,
-    anchor: &Record,
-) -> Result<TimedWrite<SharedValue>, AllocError>
+fn anchor_write(mark: u64, anchor: &Record) -> Result<TimedWrite<SharedValue>, AllocError>
     requires { IsPermitted (OfAnchors mark) anchor.now.content }
     ensures { IfOk result (λ w. w ≡ record { time = from_of anchor.now.content; write = Some (value_of anchor.now.content) }) }
 {
     match &anchor.content {
         Content::Old { from, value } => {
-            let shared = SharedValue::new(alloc, value.copy(alloc)?)?;
+            let shared = SharedValue::new(value.share()?);
             Ok(TimedWrite {
                 time: *from,
                 write: Some(shared),
@@ -61,7 +57,7 @@ fn anchored(alloc: Global, mark: u64, anchors: &[Record]) -> Result<Frozen, Allo
     let mut chains = Frozen::new();
     let mut rest = anchors;
     while let Some((anchor, after)) = rest.split_first() {
-        let write = anchor_write(alloc, mark, anchor)?;
+        let write = anchor_write(mark, anchor)?;
         chains = chains.with_key(alloc, anchor.key, write)?;
         rest = after;
     }

@@ -26,12 +26,12 @@ fn value_before(chains: &Frozen, key: Key) -> Option<&Value>
     }
 }
 
-fn share(alloc: Global, write: Option<Value>) -> Result<Option<SharedValue>, AllocError>
-    ensures { IfOk result (λ shared. shared ≡ write) }
+fn shared(write: Option<Value>) -> Option<SharedValue>
+    ensures { result ≡ write }
 {
     match write {
-        None => Ok(None),
-        Some(value) => Ok(Some(SharedValue::new(alloc, value)?)),
+        None => None,
+        Some(value) => Some(SharedValue::new(value)),
     }
 }
 
@@ -50,7 +50,7 @@ fn resolve_one(
     };
     Ok(Some(KeyWrite {
         key,
-        write: share(alloc, write)?,
+        write: shared(write),
     }))
 }
 

@@ -75,10 +75,7 @@ fn shared_value(alloc: Global, fields: &[&[u8]]) -> Result<SharedValue, TxnFault
         Err(ValueFault::NoMemory) => Err(TxnFault::NoMemory),
         Ok(value) => {
             let _in_range = value.len();
-            match SharedValue::new(alloc, value) {
-                Ok(shared) => Ok(shared),
-                Err(AllocError) => Err(TxnFault::NoMemory),
-            }
+            Ok(SharedValue::new(value))
         }
     }
 }

@@ -31,7 +31,7 @@ fn write_of(
     let Ok(value) = Value::new(alloc, &[field]) else {
         return Err(AllocError);
     };
-    let write = Some(SharedValue::new(alloc, value)?);
+    let write = Some(SharedValue::new(value));
     Ok(KeyWrite { key, write })
 }
 

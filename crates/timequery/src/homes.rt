@@ -62,7 +62,7 @@ impl View {
         }
         match reader.find(disk, self.runs.as_slice(), &key, time)? {
             None => Ok(None),
-            Some(value) => Ok(Some(SharedValue::new(alloc, value)?)),
+            Some(value) => Ok(Some(SharedValue::new(value))),
         }
     }
 

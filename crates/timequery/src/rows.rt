@@ -12,14 +12,14 @@ use wire::Value;
 pub(crate) type ScanRow = (u64, Version<SharedValue>);
 
 // A row of the archive, whose value can be shared.
-fn shared_row(alloc: Global, row: Version<Value>) -> Result<Version<SharedValue>, AllocError>
-    ensures { IfOk result (λ r. r ≡ row) }
+fn shared_row(row: Version<Value>) -> Version<SharedValue>
+    ensures { result ≡ row }
 {
-    Ok(Version {
+    Version {
         from: row.from,
         to: row.to,
-        value: SharedValue::new(alloc, row.value)?,
-    })
+        value: SharedValue::new(row.value),
+    }
 }
 
 /// Rows of the archive, whose values can be shared.
@@ -31,7 +31,7 @@ pub(crate) fn shared_rows(
 {
     let mut shared = Vec::new(alloc);
     for row in rows {
-        shared.push(shared_row(alloc, row)?)?;
+        shared.push(shared_row(row))?;
     }
     Ok(shared)
 }

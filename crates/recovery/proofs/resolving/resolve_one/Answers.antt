@@ -17,6 +17,6 @@ returns-in_default c = λ is.
 pub returns : goal.returns
 returns c =
     let found = rw c.in-Some.is at c.in_ok-write.ensures.found in
-    rw c.in_ok-share.ensures
+    rw c.shared.ensures
     (applied_is (before_of c.args.chains.now) c.args.entry c.in-Some.write c.requires
     (found.0 ∙ ap (λ (b : Option Value). content_of (stored b c.in-Some.write)) c.value_before.ensures.is) (λ gone. c.value_before.ensures.some.0 (found.1 gone)))

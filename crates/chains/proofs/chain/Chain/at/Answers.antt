@@ -5,12 +5,12 @@ use Rattle.chains.specs.KeyWrites.{KeyWrites}
 use Rattle.chains.proofs.Parts.{value_older, value_recent}
 use Rattle.chains.proofs.chain.Chain.at.Goals as goal
 
-pub returns-then-first_time-time : goal.returns-then-first_time-time
-returns-then-first_time-time c =
+pub returns-then-first-time : goal.returns-then-first-time
+returns-then-first-time c =
     subst (λ (k : KeyWrites). option_copied c.value_in.result ≡ value_at k.writes c.args.time) c.self.view_is
-    (rw c.as_slice.ensures.is at c.value_in.ensures ∙ sym (value_recent c.args.time c.self.inside.older.pieces c.self.inside.last c.first_time.ensures.some (rw c.first_time.ensures.is at c.if-first_time-time.true)))
+    (rw c.as_slice.ensures.is at c.value_in.ensures ∙ sym (value_recent c.args.time c.self.inside.older.pieces c.self.inside.last c.first_time-first.ensures.some (rw c.first_time-first.ensures.is at c.if-first-time.true)))
 
 pub returns : goal.returns
 returns c =
     subst (λ (k : KeyWrites). option_copied c.at.result ≡ value_at k.writes c.args.time) c.self.view_is
-    (c.at.ensures ∙ sym (value_older c.args.time c.self.inside.older.pieces c.self.inside.last c.first_time.ensures.some (rw c.first_time.ensures.is at c.if-first_time-time.false) c.self.invariant))
+    (c.at.ensures ∙ sym (value_older c.args.time c.self.inside.older.pieces c.self.inside.last c.first_time-first.ensures.some (rw c.first_time-first.ensures.is at c.if-first-time.false) c.self.invariant))
