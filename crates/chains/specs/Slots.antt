@@ -8,13 +8,13 @@ use Rattle.chains.specs.declared.piece.Slots.TheVariants.{One, Many, Full}
 
 -- the writes, oldest first
 abbrev pub writes_at : Slots → List Write
-writes_at (One w) = w ∷ []
+writes_at (One shared) = shared.value ∷ []
 writes_at (Many first shared) = shared.value.items
 writes_at (Full first shared) = shared.value
 
 -- when the first of them was made is what is said of it
 abbrev pub SaysFirst : Slots → Type 0
-SaysFirst (One w) = Unit {0}
+SaysFirst (One shared) = Unit {0}
 SaysFirst (Many first shared) = first ≡ first_time shared.value.items
 SaysFirst (Full first shared) = first ≡ first_time shared.value
 

@@ -5,12 +5,12 @@ ghost use Rattle.std.specs.Option.{option_copied};
 ghost use Rattle.history.specs.Key.{key_cmp};
 ghost use Rattle.chains.specs.Committing as specs;
 ghost use Rattle.chains.specs.KeyWrites.{with_commit, latest, IsOrdered};
+ghost use Rattle.chains.specs.Stamps.{write_of_loan};
 ghost use Rattle.chains.specs.Writes.{last_time};
 
 use crate::chain::Chain;
 use crate::share::Share;
 use crate::shared_value::SharedValue;
-use crate::write::share_write;
 use history::{Key, KeyWrite, TimedWrite};
 use std::alloc::{AllocError, Global};
 
@@ -44,14 +44,14 @@ fn own_write(
     (Some(first), after)
 }
 
-/// The write of a commit at its time, with its value shared.
-fn stamped(time: u64, write: &KeyWrite<SharedValue>) -> Result<TimedWrite<SharedValue>, AllocError>
-    ensures { IfOk result (λ w. w ≡ record { time = time; write = write.now.write }) }
+/// The write of a commit at its time, with its value in a loan.
+fn timed(time: u64, write: &KeyWrite<SharedValue>) -> TimedWrite<&SharedValue>
+    ensures { write_of_loan result ≡ record { time = time; write = write.now.write } }
 {
-    Ok(TimedWrite {
+    TimedWrite {
         time,
-        write: share_write(&write.write)?,
-    })
+        write: write.write.as_ref(),
+    }
 }
 
 /// The chain with what the commit writes of its key, if it does.
@@ -67,7 +67,7 @@ fn with_own(
 {
     match own {
         None => chain.share(),
-        Some(write) => chain.with_write(alloc, stamped(time, write)?),
+        Some(write) => chain.with_write(alloc, timed(time, write)),
     }
 }
 
@@ -84,7 +84,7 @@ fn into_with_own(
 {
     match own {
         None => Ok(chain),
-        Some(write) => chain.into_with_write(alloc, stamped(time, write)?),
+        Some(write) => chain.into_with_write(alloc, timed(time, write)),
     }
 }
 
@@ -105,7 +105,7 @@ pub(crate) fn add_new(
         return Ok(());
     };
     add_new(alloc, found, time, before)?;
-    found.push(Chain::new(alloc, write.key, stamped(time, write)?)?)?;
+    found.push(Chain::new(alloc, write.key, timed(time, write))?)?;
     add_new(alloc, found, time, after)
 }
 

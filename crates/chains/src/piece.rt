@@ -3,6 +3,7 @@ ghost use Rattle.std.specs.Prelude.{◌≡◌, ◌<◌, ◌^◌, ◌∷◌, ◌+
 ghost use Rattle.history.specs.Time.{IsRisingAfter};
 ghost use Rattle.history.specs.Versions.{first_time};
 ghost use Rattle.chains.specs.Pieces.{held};
+ghost use Rattle.chains.specs.Stamps.{write_of_loan};
 ghost use Rattle.chains.specs.Writes.{last_time, kept_after};
 
 use crate::full_piece::{FullPiece, MOST};
@@ -20,8 +21,8 @@ use std::sync::Arc;
 /// Where the writes of a piece lie.
 #[derive(Drop)]
 pub(crate) enum Slots {
-    /// One write lies in the piece itself, and needs no memory of its own.
-    One(StampedWrite),
+    /// One write lies beside the count of those who share it.
+    One(Arc<StampedWrite>),
     /// More of them lie in memory that the pieces share that were taken from one another. When the first
     /// one was made stands beside them, so that a search among pieces reads no piece but the last.
     Many {
@@ -56,7 +57,7 @@ impl Model for Piece {
 impl Share for Piece {
     fn share(&self) -> Result<Self, AllocError> {
         let slots = match &self.slots {
-            Slots::One(write) => Slots::One(write.share()?),
+            Slots::One(write) => Slots::One(Arc::try_clone(write)?),
             Slots::Many { first, shared } => Slots::Many {
                 first: *first,
                 shared: Arc::try_clone(shared)?,
@@ -119,7 +120,7 @@ impl Piece {
         match writes {
             [] => Ok(None),
             [write] => Ok(Some(Piece {
-                slots: Slots::One(write.share()?),
+                slots: Slots::One(Arc::new(alloc, write.share()?)?),
             })),
             _ => Ok(Some(Self::of(alloc, shared(alloc, writes, 0)?)?)),
         }
@@ -145,7 +146,10 @@ impl Piece {
         ensures { IfOk result (λ o. o.pieces ≡ self) }
     {
         match self.slots {
-            Slots::One(write) => Ok(Older::few(Arc::new(alloc, vec![in alloc; write]?)?)),
+            Slots::One(write) => {
+                let writes = shared(alloc, slice::from_ref(&*write), 0)?;
+                Ok(Older::few(Arc::new(alloc, writes)?))
+            }
             Slots::Many { shared, .. } if shared.len() == MOST => older_of(alloc, shared),
             Slots::Many { shared, .. } => Ok(Older::few(shared)),
             Slots::Full { shared, .. } => Ok(Older::full(shared)),
@@ -153,13 +157,13 @@ impl Piece {
     }
 
     /// A piece of one write.
-    pub(crate) fn one(alloc: Global, write: TimedWrite<SharedValue>) -> Result<Self, AllocError>
+    pub(crate) fn one(alloc: Global, write: TimedWrite<&SharedValue>) -> Result<Self, AllocError>
         requires positive { 0 < write.time }
         requires in_range { write.time < 2 ^ 63 }
-        ensures { IfOk result (λ p. p ≡ write ∷ []) }
+        ensures { IfOk result (λ p. p ≡ write_of_loan write.entry ∷ []) }
     {
         Ok(Piece {
-            slots: Slots::One(StampedWrite::of(alloc, write)?),
+            slots: Slots::One(Arc::new(alloc, StampedWrite::of(alloc, write)?)?),
         })
     }
 
@@ -167,11 +171,11 @@ impl Piece {
     pub(crate) fn with_write(
         &self,
         alloc: Global,
-        write: TimedWrite<SharedValue>,
+        write: TimedWrite<&SharedValue>,
     ) -> Result<Self, AllocError>
         requires later { last_time self.now < write.time }
         requires in_range { write.time < 2 ^ 63 }
-        ensures { IfOk result (λ p. p ≡ self.now ++ write ∷ []) }
+        ensures { IfOk result (λ p. p ≡ self.now ++ write_of_loan write.entry ∷ []) }
     {
         let mut longer = shared(alloc, self.as_slice(), 1)?;
         put_last(alloc, &mut longer, write)?;
@@ -182,11 +186,11 @@ impl Piece {
     pub(crate) fn put_write(
         &mut self,
         alloc: Global,
-        write: TimedWrite<SharedValue>,
+        write: TimedWrite<&SharedValue>,
     ) -> Result<(), AllocError>
         requires later { last_time self.old < write.time }
         requires in_range { write.time < 2 ^ 63 }
-        ensures ok { OnOk result (self.new ≡ self.old ++ write ∷ []) }
+        ensures ok { OnOk result (self.new ≡ self.old ++ write_of_loan write.entry ∷ []) }
         ensures err { OnErr result (self.new ≡ self.old) }
     {
         if let Slots::Many { shared, .. } = &mut self.slots
@@ -232,7 +236,7 @@ impl Piece {
     /// Whether it has some writes. It looks at the memory that one more holder is counted in.
     pub(crate) fn is_at_hand(&self) -> bool {
         match &self.slots {
-            Slots::One(_) => true,
+            Slots::One(write) => write.time() > 0,
             Slots::Many { shared, .. } => shared.len() > 0,
             Slots::Full { shared, .. } => shared.time(0) > 0,
         }
@@ -245,7 +249,7 @@ impl Piece {
         ensures rising { IsRisingAfter 0 self.now }
     {
         match &self.slots {
-            Slots::One(write) => slice::from_ref(write),
+            Slots::One(write) => slice::from_ref(&**write),
             Slots::Many { shared, .. } => shared.as_slice(),
             Slots::Full { shared, .. } => shared.as_slice(),
         }
@@ -310,10 +314,10 @@ fn shared(
 fn put_last(
     alloc: Global,
     writes: &mut Vec<StampedWrite>,
-    write: TimedWrite<SharedValue>,
+    write: TimedWrite<&SharedValue>,
 ) -> Result<(), AllocError>
     requires { write.time < 2 ^ 63 }
-    ensures ok { OnOk result (writes.new.items ≡ writes.old.items ++ write ∷ []) }
+    ensures ok { OnOk result (writes.new.items ≡ writes.old.items ++ write_of_loan write.entry ∷ []) }
     ensures err { OnErr result (writes.new.items ≡ writes.old.items) }
 {
     let write = StampedWrite::of(alloc, write)?;

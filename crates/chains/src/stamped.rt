@@ -1,7 +1,7 @@
 //! A write of a shared value, with its time in one word before it.
 ghost use Rattle.std.specs.Prelude.{◌≡◌, ◌<◌, ◌^◌, IfOk, is_none};
 ghost use Rattle.std.specs.Option.{option_copied};
-ghost use Rattle.chains.specs.Stamps.{write_of_loan};
+ghost use Rattle.chains.specs.Stamps.{stamped, write_of_loan};
 
 use crate::share::Share;
 use crate::shared_value::SharedValue;
@@ -11,7 +11,7 @@ use std::marker::Model;
 use std::mem::size_of;
 use wire::Value;
 
-/// What one commit did to a key, in 88 bytes: a value, or gone from then on.
+/// What one commit did to a key, in 80 bytes: a value, or gone from then on.
 #[derive(Drop)]
 pub(crate) struct StampedWrite {
     // Twice the time, and one more where the key is gone.
@@ -29,7 +29,7 @@ impl Model for StampedWrite {
     ghost view = { λ w. stamped w.stamp w.value };
 }
 
-const _: () = prove!(size_of::<StampedWrite>() == 88);
+const _: () = prove!(size_of::<StampedWrite>() == 80);
 
 /// A value with no bytes, which stands in the place of one. It takes no memory.
 fn stand_in(alloc: Global) -> Result<SharedValue, AllocError> {
@@ -41,28 +41,39 @@ fn stand_in(alloc: Global) -> Result<SharedValue, AllocError> {
 
 impl Share for StampedWrite {
     fn share(&self) -> Result<Self, AllocError> {
-        Ok(StampedWrite {
-            stamp: self.stamp,
-            value: self.value.share()?,
-        })
+        StampedWrite::holding(self.stamp, &self.value)
     }
 }
 
 impl StampedWrite {
     /// The same write.
-    pub(crate) fn of(alloc: Global, write: TimedWrite<SharedValue>) -> Result<Self, AllocError>
+    pub(crate) fn of(alloc: Global, write: TimedWrite<&SharedValue>) -> Result<Self, AllocError>
         requires { write.time < 2 ^ 63 }
-        ensures { IfOk result (λ w. w ≡ write) }
+        ensures { IfOk result (λ w. w ≡ write_of_loan write.entry) }
     {
         let TimedWrite { time, write } = write;
         match write {
-            Some(value) => Ok(StampedWrite {
-                stamp: time * 2,
-                value,
-            }),
+            Some(value) => StampedWrite::holding(time * 2, value),
             None => Ok(StampedWrite {
                 stamp: time * 2 + 1,
                 value: stand_in(alloc)?,
+            }),
+        }
+    }
+
+    /// A write with this stamp, and one more holder of a value: a short one is copied from one place to the other.
+    #[inline]
+    fn holding(stamp: u64, value: &SharedValue) -> Result<Self, AllocError>
+        ensures { IfOk result (λ w. w ≡ stamped stamp value.now) }
+    {
+        match value.value().short_copy() {
+            Some(short) => Ok(StampedWrite {
+                stamp,
+                value: SharedValue::new(short),
+            }),
+            None => Ok(StampedWrite {
+                stamp,
+                value: value.share()?,
             }),
         }
     }

@@ -1,5 +1,5 @@
 //! A write of a shared value, and some writes of one key in the order of their times.
-ghost use Rattle.std.specs.Prelude.{◌≡◌, ◌≤◌, ◌&&◌, IfOk, drop, find, is_none, length, nat_le};
+ghost use Rattle.std.specs.Prelude.{◌≡◌, ◌≤◌, ◌&&◌, drop, find, is_none, length, nat_le};
 ghost use Rattle.std.specs.Option.{option_copied};
 ghost use Rattle.history.specs.Time.{value_at, IsRisingAfter};
 ghost use Rattle.chains.specs.Rows as specs;
@@ -7,17 +7,6 @@ ghost use Rattle.chains.specs.Writes.{kept_after, is_after, IsBegun};
 
 use crate::shared_value::SharedValue;
 use crate::stamped::StampedWrite;
-use std::alloc::AllocError;
-
-/// The same write, with its value shared.
-pub(crate) fn share_write(write: &Option<SharedValue>) -> Result<Option<SharedValue>, AllocError>
-    ensures { IfOk result (λ w. w ≡ write.now) }
-{
-    match write {
-        None => Ok(None),
-        Some(value) => Ok(Some(value.share()?)),
-    }
-}
 
 /// Whether the write takes the value away, at the mark or before.
 fn is_gone_by(write: &StampedWrite, mark: u64) -> bool

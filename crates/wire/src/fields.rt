@@ -176,6 +176,17 @@ impl Fields {
         })
     }
 
+    /// The same fields where they lie in these.
+    #[inline]
+    pub(crate) fn short_copy(&self) -> Option<Fields>
+        ensures { IfSome result (λ fields. fields ≡ self.now) }
+    {
+        match self.spelled.short_copy() {
+            None => None,
+            Some(spelled) => Some(Fields { spelled }),
+        }
+    }
+
     /// The same fields, which takes no memory: what lies in these is copied, and of what lies in memory of its own
     /// this is one more holder.
     pub(crate) fn share(&self) -> Result<Fields, AllocError>

@@ -1,6 +1,6 @@
 //! The bytes of fields: in the value itself where they are few.
 
-ghost use Rattle.std.specs.Prelude.{◌≡◌, ◌<◌, ◌≤◌, ◌+◌, [], ◌++◌, length, IsTrue, ◌↔◌, IfOk, OnOk, OnErr};
+ghost use Rattle.std.specs.Prelude.{◌≡◌, ◌<◌, ◌≤◌, ◌+◌, [], ◌++◌, length, IsTrue, ◌↔◌, IfOk, IfSome, OnOk, OnErr};
 ghost use Rattle.wire.specs.Fields.{field_bytes};
 ghost use Rattle.wire.specs.Counted.{with_field};
 
@@ -9,10 +9,11 @@ use std::marker::Model;
 use std::sync::Arc;
 
 /// How many bytes lie in the value itself: four fields of 16 bytes with their lengths, and a little more.
-const INLINE: usize = 77;
+const INLINE: usize = 69;
 
-// With a time of eight bytes before it this is 88: what a version takes where versions lie together.
-const _: () = prove!(size_of::<Spelled>() == 80);
+// With a time before it this takes 80 bytes, which is what a version takes where versions lie together. A version alone
+// takes a piece of 96 bytes of memory: a count of its holders stands before it, and the word that an allocator keeps.
+const _: () = prove!(size_of::<Spelled>() == 72);
 
 // Bytes in the value itself.
 #[derive(Drop)]
@@ -31,7 +32,7 @@ impl Model for ShortBytes {
 
     ghost view = { λ s. record { count = s.count; bytes = take s.len s.bytes } };
 
-    ghost invariant = { λ s. (s.len ≤ 77) × (length s.bytes ≡ 77) };
+    ghost invariant = { λ s. (s.len ≤ 69) × (length s.bytes ≡ 69) };
 }
 
 impl ShortBytes {
@@ -47,7 +48,7 @@ impl ShortBytes {
     }
 
     fn of(alloc: Global, count: u8, bytes: &[u8]) -> ShortBytes
-        requires { length bytes.now ≤ 77 }
+        requires { length bytes.now ≤ 69 }
         ensures { result ≡ record { count = count; bytes = bytes.now } }
     {
         let mut all = [0; INLINE];
@@ -79,20 +80,20 @@ impl ShortBytes {
 
     fn bytes(&self) -> &[u8]
         ensures is { result.now ≡ self.now.bytes }
-        ensures short { length result.now ≤ 77 }
+        ensures short { length result.now ≤ 69 }
     {
         &self.bytes[..self.len as usize]
     }
 
     // Whether a field of so many bytes fits.
     fn has_room(&self, len: usize) -> bool
-        ensures { IsTrue result ↔ (length self.now.bytes + 1 + len ≤ 77) }
+        ensures { IsTrue result ↔ (length self.now.bytes + 1 + len ≤ 69) }
     {
         len < INLINE - self.len as usize
     }
 
     fn append(&mut self, bytes: &[u8])
-        requires { length self.old.bytes + length bytes.now ≤ 77 }
+        requires { length self.old.bytes + length bytes.now ≤ 69 }
         ensures { self.new ≡ record { count = self.old.count; bytes = self.old.bytes ++ bytes.now } }
     {
         let len = self.len as usize;
@@ -103,7 +104,7 @@ impl ShortBytes {
 
     fn push(&mut self, field: &[u8])
         requires few { self.old.count < 255 }
-        requires fits { length self.old.bytes + 1 + length field.now ≤ 77 }
+        requires fits { length self.old.bytes + 1 + length field.now ≤ 69 }
         ensures { self.new ≡ with_field self.old field.now }
     {
         self.append(&[field.len() as u8]);
@@ -137,7 +138,7 @@ enum Place {
 }
 
 /// How many fields there are, and their bytes. Both kinds of place hold the count beside what they
-/// hold of the bytes, and so the whole takes 80 bytes: a `SmallVec` beside a count takes 16 more, for
+/// hold of the bytes, and so the whole takes 72 bytes: a `SmallVec` beside a count takes 16 more, for
 /// its length and for what tells its kind of place.
 #[derive(Drop)]
 pub(crate) struct Spelled {
@@ -230,6 +231,19 @@ impl Spelled {
             },
         };
         Ok(Spelled { place })
+    }
+
+    /// The same where its bytes lie in itself: a copy, which takes no memory and is never refused.
+    #[inline]
+    pub(crate) fn short_copy(&self) -> Option<Spelled>
+        ensures { IfSome result (λ spelled. spelled ≡ self.now) }
+    {
+        match &self.place {
+            Place::Short(short) => Some(Spelled {
+                place: Place::Short(short.copy()),
+            }),
+            Place::Long { .. } => None,
+        }
     }
 
     fn alloc(&self) -> Global {

@@ -1,6 +1,6 @@
 //! A value: what a store keeps under a key.
 
-ghost use Rattle.std.specs.Prelude.{[], ◌≡◌, ◌≢◌, ◌<◌, ◌≤◌, ◌↔◌, ◌∷◌, ◌++◌, ℕ, List, length, map, slice_get, option_copied, is_ok, if◌then◌else◌, IfOk, MatchOption, IsTrue, Ok, Err};
+ghost use Rattle.std.specs.Prelude.{[], ◌≡◌, ◌≢◌, ◌<◌, ◌≤◌, ◌↔◌, ◌∷◌, ◌++◌, ℕ, List, length, map, slice_get, option_copied, is_ok, if◌then◌else◌, IfOk, IfSome, MatchOption, IsTrue, Ok, Err};
 ghost use Rattle.wire.specs.Fields.{AreShort};
 ghost use Rattle.wire.specs.Values.{IsValue, HasSizes, value_bytes};
 
@@ -120,8 +120,20 @@ impl Value {
         })
     }
 
-    /// The same value, which takes no memory: what lies in this one is copied, and of what lies in memory of its
-    /// own it is one more holder.
+    /// The same value where its bytes lie in itself: a copy, which takes no memory and is never refused. None
+    /// where they lie in memory of its own.
+    #[inline]
+    pub fn short_copy(&self) -> Option<Value>
+        ensures { IfSome result (λ value. value ≡ self.now) }
+    {
+        match self.fields.short_copy() {
+            None => None,
+            Some(fields) => Some(Value { fields }),
+        }
+    }
+
+    /// The same value, which takes no memory: of one whose bytes lie in memory of its own this is one more holder,
+    /// and another one is copied.
     ///
     /// # Errors
     ///

@@ -1,6 +1,7 @@
 use Rattle.std.proofs.Common.{◌<◌, ◌++◌, sym, subst}
 use Rattle.chains.specs.KeyWrites.{KeyWrites}
 use Rattle.chains.specs.Writes.{last_time}
+use Rattle.chains.specs.Stamps.{write_of_loan}
 use Rattle.chains.proofs.Kept.{rising-push}
 use Rattle.chains.proofs.Parts.{last_time-back, recent-rising}
 use Rattle.chains.proofs.chain.Chain.into_with_write.Goals as goal
@@ -17,11 +18,11 @@ of-requires c =
     let older = c.self.inside.older.pieces in
     let last = c.self.inside.last in
     let later : last_time (older ++ last) < c.args.write.time = subst (λ (k : KeyWrites). last_time k.writes < c.args.write.time) (sym c.self.view_is) c.requires.later in
-    rw c.in_ok-put_write.ensures.ok (recent-rising older last c.args.write c.self.invariant later c.requires.in_range)
+    rw c.in_ok-put_write.ensures.ok (recent-rising older last (write_of_loan c.args.write) c.self.invariant later c.requires.in_range)
 
 pub of-requires-2 : goal.of-requires-2
 of-requires-2 c =
     let older = c.self.inside.older.pieces in
     let last = c.self.inside.last in
     let later : last_time (older ++ last) < c.args.write.time = subst (λ (k : KeyWrites). last_time k.writes < c.args.write.time) (sym c.self.view_is) c.requires.later in
-    rw (c.in_ok-older.ensures, c.in_ok-next.ensures) (rising-push 0 (older ++ last) c.args.write c.self.invariant later c.requires.in_range)
+    rw (c.in_ok-older.ensures, c.in_ok-next.ensures) (rising-push 0 (older ++ last) (write_of_loan c.args.write) c.self.invariant later c.requires.in_range)
