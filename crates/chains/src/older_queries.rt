@@ -42,6 +42,24 @@ impl Older {
         }
     }
 
+    /// Whether the value at a time is in a full piece. It looks at where it may stand there; `first` and `end` are as
+    /// in `at`.
+    pub(crate) fn is_near(&self, first: u64, end: u64, time: u64) -> bool {
+        if let Some(full) = self.full_piece() {
+            return full.is_near(even_place(first, end, time));
+        }
+        let Parts::Branches(branches) = self.parts() else {
+            return false;
+        };
+        let begun = begun_by(branches, time);
+        if begun == 0 {
+            return false;
+        }
+        let branch = &branches[begun - 1];
+        let next = first_time_or(&branches[begun..], end);
+        branch.writes().is_near(branch.first_time(), next, time)
+    }
+
     /// The first write made after a time.
     pub(crate) fn next_after(&self, time: u64) -> Option<&StampedWrite>
         ensures { option_copied result ≡ find (is_after time) self.now.pieces }

@@ -1,5 +1,5 @@
 //! What chains show of a relation.
-ghost use Rattle.std.specs.Prelude.{◌≡◌, ◌++◌, OnOk};
+ghost use Rattle.std.specs.Prelude.{◌≡◌, ◌≤◌, ◌++◌, OnOk, length};
 ghost use Rattle.chains.specs.Rows.{of_relation, shown_rows};
 ghost use Rattle.chains.specs.Scans.{shown_value};
 
@@ -11,6 +11,20 @@ use std::alloc::{AllocError, Global};
 
 /// Records of a relation with what each shows.
 pub(crate) type Found<X> = Vec<(u64, X)>;
+
+/// How many of the chains have their value at a time in a full piece. It looks at where that may stand in each, with
+/// nothing to be done between, so that a processor fetches many at once; who then asks for the values has them near.
+fn near_count(chains: &[Chain], time: u64) -> usize
+    ensures { result ≤ length chains.now }
+{
+    let mut count = 0;
+    for chain in chains {
+        if chain.is_near(time) {
+            count += 1;
+        }
+    }
+    count
+}
 
 /// Puts behind what was found the chain's record with its value at a time, if it has one then.
 fn add_value(found: &mut Found<SharedValue>, chain: &Chain, time: u64) -> Result<(), AllocError>
@@ -46,6 +60,7 @@ pub(crate) fn add_values_of_relation(
 ) -> Result<(), AllocError>
     ensures { OnOk result (found.new.items ≡ found.old.items ++ of_relation relation (shown_value time) chains.now) }
 {
+    found.reserve(near_count(chains, time))?;
     let mut rest = chains;
     while let [chain, behind @ ..] = rest {
         if chain.key().relation == relation {
