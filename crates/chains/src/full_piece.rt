@@ -98,14 +98,13 @@ impl FullPiece {
         self.writes[place].value()
     }
 
-    /// Whether the write at a place was made when it is said to be: it always was. It looks at both places, one of
-    /// which does not tell where the other is, so that a processor fetches them together; who comes to them
-    /// next has them near.
+    /// Whether the write at a place was made when it is said to be: it always was. It looks at both, neither of which
+    /// tells where the other is, so that a processor fetches them together; who comes to them next has them
+    /// near.
     #[inline]
-    pub(crate) fn is_near(&self, place: usize) -> bool
-        requires { place < 32 }
-    {
-        self.time(place) == self.writes[place].time()
+    pub(crate) fn is_near(&self, place: usize) -> bool {
+        let place = place.min(MOST - 1);
+        self.times[place] == self.writes[place].time()
     }
 
     /// The first place from this one on whose write was made after a time; behind the last where none was.

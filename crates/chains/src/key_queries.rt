@@ -81,6 +81,7 @@ impl KeyNode {
     /// with their values. It goes only where there may be some.
     pub(crate) fn add_values(
         &self,
+        alloc: Global,
         found: &mut Found<SharedValue>,
         relation: u16,
         time: u64,
@@ -89,7 +90,7 @@ impl KeyNode {
     {
         let nodes = match self.parts() {
             KeyParts::Chains(chains) => {
-                return add_values_of_relation(found, chains, relation, time);
+                return add_values_of_relation(alloc, found, chains, relation, time);
             }
             KeyParts::Nodes(nodes) => nodes,
         };
@@ -104,7 +105,7 @@ impl KeyNode {
             if relation < node.first_key().relation {
                 return Ok(());
             }
-            node.add_values(found, relation, time)?;
+            node.add_values(alloc, found, relation, time)?;
             rest = behind;
         }
         Ok(())

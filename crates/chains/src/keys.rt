@@ -93,6 +93,7 @@ impl Keys {
     /// with their values.
     pub(crate) fn add_values(
         &self,
+        alloc: Global,
         found: &mut Found<SharedValue>,
         relation: u16,
         time: u64,
@@ -101,7 +102,7 @@ impl Keys {
     {
         match &self.root {
             None => Ok(()),
-            Some(node) => node.add_values(found, relation, time),
+            Some(node) => node.add_values(alloc, found, relation, time),
         }
     }
 

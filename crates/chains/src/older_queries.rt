@@ -9,7 +9,7 @@ ghost use Rattle.chains.specs.Writes.{is_after, last_time};
 
 use crate::branching::{begun_by, first_time_or, from_begun};
 use crate::ending::ending_in;
-use crate::full_piece::even_place;
+use crate::full_piece::{FullPiece, even_place};
 use crate::older::{Older, Parts};
 use crate::part::{Part, before_part};
 use crate::rows::{Rows, add_rows_in};
@@ -42,22 +42,22 @@ impl Older {
         }
     }
 
-    /// Whether the value at a time is in a full piece. It looks at where it may stand there; `first` and `end` are as
-    /// in `at`.
-    pub(crate) fn is_near(&self, first: u64, end: u64, time: u64) -> bool {
+    /// The full piece that has the value at a time, if it is one, and the place in it where that may stand; `first`
+    /// and `end` are as in `at`. It does not look at the piece.
+    pub(crate) fn full_at(&self, first: u64, end: u64, time: u64) -> Option<(&FullPiece, usize)> {
         if let Some(full) = self.full_piece() {
-            return full.is_near(even_place(first, end, time));
+            return Some((full, even_place(first, end, time)));
         }
         let Parts::Branches(branches) = self.parts() else {
-            return false;
+            return None;
         };
         let begun = begun_by(branches, time);
         if begun == 0 {
-            return false;
+            return None;
         }
         let branch = &branches[begun - 1];
         let next = first_time_or(&branches[begun..], end);
-        branch.writes().is_near(branch.first_time(), next, time)
+        branch.writes().full_at(branch.first_time(), next, time)
     }
 
     /// The first write made after a time.

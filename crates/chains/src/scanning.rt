@@ -1,9 +1,10 @@
 //! What chains show of a relation.
-ghost use Rattle.std.specs.Prelude.{◌≡◌, ◌≤◌, ◌++◌, OnOk, length};
+ghost use Rattle.std.specs.Prelude.{◌≡◌, ◌++◌, OnOk};
 ghost use Rattle.chains.specs.Rows.{of_relation, shown_rows};
 ghost use Rattle.chains.specs.Scans.{shown_value};
 
 use crate::chain::Chain;
+use crate::full_piece::FullPiece;
 use crate::rows::add_record;
 use crate::shared_value::SharedValue;
 use history::Version;
@@ -12,15 +13,28 @@ use std::alloc::{AllocError, Global};
 /// Records of a relation with what each shows.
 pub(crate) type Found<X> = Vec<(u64, X)>;
 
-/// How many of the chains have their value at a time in a full piece. It looks at where that may stand in each, with
-/// nothing to be done between, so that a processor fetches many at once; who then asks for the values has them near.
-fn near_count(chains: &[Chain], time: u64) -> usize
-    ensures { result ≤ length chains.now }
-{
-    let mut count = 0;
+/// The full pieces that have the chains' values at a time, and where in each its value may stand.
+fn full_pieces(
+    alloc: Global,
+    chains: &[Chain],
+    time: u64,
+) -> Result<Vec<(&FullPiece, usize)>, AllocError> {
+    let mut pieces = Vec::with_capacity(alloc, chains.len())?;
     for chain in chains {
-        if chain.is_near(time) {
-            count += 1;
+        if let Some(found) = chain.full_at(time) {
+            pieces.push(found)?;
+        }
+    }
+    Ok(pieces)
+}
+
+/// How many of the values may stand where it is said. It looks at each in turn, with nothing to be done between, so that
+/// a processor fetches many at once; who then asks for them has them near.
+fn near_count(pieces: &[(&FullPiece, usize)]) -> usize {
+    let mut count = 0usize;
+    for (piece, place) in pieces {
+        if piece.is_near(*place) {
+            count = count.saturating_add(1);
         }
     }
     count
@@ -53,6 +67,7 @@ fn add_rows(
 /// Puts behind what was found those of the chains' records that are of a relation and have a value at a
 /// time, with their values.
 pub(crate) fn add_values_of_relation(
+    alloc: Global,
     found: &mut Found<SharedValue>,
     chains: &[Chain],
     relation: u16,
@@ -60,7 +75,8 @@ pub(crate) fn add_values_of_relation(
 ) -> Result<(), AllocError>
     ensures { OnOk result (found.new.items ≡ found.old.items ++ of_relation relation (shown_value time) chains.now) }
 {
-    found.reserve(near_count(chains, time))?;
+    let pieces = full_pieces(alloc, chains, time)?;
+    found.reserve(near_count(pieces.as_slice()))?;
     let mut rest = chains;
     while let [chain, behind @ ..] = rest {
         if chain.key().relation == relation {
