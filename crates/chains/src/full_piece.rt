@@ -99,12 +99,14 @@ impl FullPiece {
     }
 
     /// Whether the write at a place was made when it is said to be: it always was. It looks at both, neither of which
-    /// tells where the other is, so that a processor fetches them together; who comes to them next has them
-    /// near.
+    /// tells where the other is, and at where the write ends, so that a processor fetches them together; who
+    /// comes to them next has them near.
     #[inline]
     pub(crate) fn is_near(&self, place: usize) -> bool {
         let place = place.min(MOST - 1);
-        self.times[place] == self.writes[place].time()
+        let behind = (place + 1).min(MOST - 1);
+        (self.times[place] == self.writes[place].time())
+            & (self.times[behind] == self.writes[behind].time())
     }
 
     /// The first place from this one on whose write was made after a time; behind the last where none was.

@@ -5,8 +5,8 @@ ghost use Rattle.chains.specs.Shapes.{all_of};
 ghost use Rattle.chains.specs.Writes.{kept_after};
 
 use crate::branching::{WIDTH, add_branch, from_begun, room_for};
-use crate::older::{Branch, Older, Parts};
 use crate::full_piece::MOST;
+use crate::older::{Branch, Older, Parts};
 use crate::piece::Piece;
 use crate::share::{Share, add_shared};
 use crate::write::ended_by;

@@ -31,7 +31,10 @@ pub(crate) enum Slots {
     },
     /// As many as one piece has at most, which lie beside the count of those who share them: one place of
     /// memory less on the way to them.
-    Full { first: u64, shared: Arc<FullPiece> },
+    Full {
+        first: u64,
+        shared: Arc<FullPiece>,
+    },
 }
 
 /// Some writes of one key, at least one, oldest first. It never changes, and shares its memory with

@@ -78,8 +78,16 @@ fn add_row(rows: &mut Rows, write: &StampedWrite, to: u64, a: u64, b: u64) -> Re
         return Ok(());
     };
     let Version { from, to, value } = row;
-    let value = value.share()?;
-    rows.push(Version { from, to, value })?;
+    match value.value().short_copy() {
+        Some(short) => {
+            let value = SharedValue::new(short);
+            rows.push(Version { from, to, value })?;
+        }
+        None => {
+            let value = value.share()?;
+            rows.push(Version { from, to, value })?;
+        }
+    }
     Ok(())
 }
 

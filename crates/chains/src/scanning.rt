@@ -19,9 +19,10 @@ fn full_pieces(
     chains: &[Chain],
     time: u64,
 ) -> Result<Vec<(&FullPiece, usize)>, AllocError> {
-    let mut pieces = Vec::with_capacity(alloc, chains.len())?;
+    let mut pieces = Vec::new(alloc);
     for chain in chains {
         if let Some(found) = chain.full_at(time) {
+            pieces.reserve(chains.len())?;
             pieces.push(found)?;
         }
     }
@@ -47,7 +48,11 @@ fn add_value(found: &mut Found<SharedValue>, chain: &Chain, time: u64) -> Result
     let Some(value) = chain.at(time) else {
         return Ok(());
     };
-    found.push((chain.key().record, value.share()?))?;
+    let record = chain.key().record;
+    match value.value().short_copy() {
+        Some(short) => found.push((record, SharedValue::new(short)))?,
+        None => found.push((record, value.share()?))?,
+    }
     Ok(())
 }
 

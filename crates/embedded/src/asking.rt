@@ -51,7 +51,7 @@ impl<'a> Lent<'a> {
     ) -> Result<Option<SharedValue>, QueryFault>
         ensures { (v : StoreValue) → FindsAt true (over self.old v) view.now key time result (over self.new v) }
     {
-        view.value_at(self.alloc, &mut self.reader, &mut self.disk, key, time)
+        view.value_at(&mut self.reader, &mut self.disk, key, time)
     }
 
     /// The records of a relation that have a value at a time, with their values.

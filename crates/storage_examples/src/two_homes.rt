@@ -119,7 +119,7 @@ fn stands(
     let Ok(view) = reclaimed(alloc, mark) else {
         return false;
     };
-    let found = view.value_at(alloc, reader, disk, KEY, time);
+    let found = view.value_at(reader, disk, KEY, time);
     let listed = view.values_at(alloc, reader, disk, 1, time);
     view.spend();
     is_found(&found, want) && is_listed(&listed, want)
@@ -175,7 +175,7 @@ fn is_read(
     (time, want, reads): (u64, u8, bool),
 ) -> bool {
     let mut reader = ArchiveReader::without_cache(alloc);
-    let found = view.value_at(alloc, &mut reader, disk, KEY, time);
+    let found = view.value_at(&mut reader, disk, KEY, time);
     let heads = reader.heads();
     is_found(&found, Some(want)) && heads <= 3 && (heads > 0) == reads
 }

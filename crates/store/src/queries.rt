@@ -34,7 +34,7 @@ impl<D: Disk> Store<D> {
             return Err(QueryFault::Stranger);
         }
         let reader = &mut self.archived.archive.reader;
-        view.value_at(self.alloc, reader, &mut self.disk, key, time)
+        view.value_at(reader, &mut self.disk, key, time)
     }
 
     /// The records of a relation that have a value at a time in microseconds since 1970, in rising

@@ -38,7 +38,6 @@ impl View {
     /// run whose `upto` is at most the time is not.
     pub fn value_at<D: Disk>(
         &self,
-        alloc: Global,
         reader: &mut ArchiveReader,
         disk: &mut D,
         key: Key,
