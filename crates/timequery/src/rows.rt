@@ -141,7 +141,7 @@ pub(crate) fn merged(
     let mut recent = recent;
     for (number, row) in archived {
         add_lesser(&mut found, &mut recent, number)?;
-        found.push((number, shared_row(alloc, row)?))?;
+        found.push((number, shared_row(row)))?;
     }
     add_all(&mut found, recent)?;
     Ok(found)
