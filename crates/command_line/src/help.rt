@@ -11,8 +11,8 @@ pub const LIMITS: &str = "Limits:
   values     1 to 16 fields of 0 to 255 bytes, shown in hexadecimal, `-` if empty
   times      microseconds since 1970, 1 to 9223372036854775807 for a commit,
              or the text YYYY-MM-DDTHH:MM:SSZ
-  memory     holds each version that the heap holds, one of 64 bytes in 115 to
-             210: the least where each record has many
+  memory     holds each version that the heap holds, one of 64 bytes in 90 to
+             180: the least where each record has many
 
 When a commit or an archive is refused:
   status full   no slot is left. The store still answers every query, and takes
