@@ -59,14 +59,28 @@ pub(crate) fn first_time_or(branches: &[Branch], end: u64) -> u64
     }
 }
 
+/// The first of these branches, from a place on, that begins after a time; behind the last where none does.
+#[inline]
+fn later_from(branches: &[Branch], place: usize, time: u64) -> usize
+    ensures within { result ≤ length branches.now }
+    ensures after { BeginAfter time (drop result branches.now) }
+{
+    let mut begun = place.min(branches.len());
+    while begun < branches.len() && branches[begun].first_time() <= time {
+        begun += 1;
+    }
+    begun
+}
+
 /// How many of the branches begin by a time. They are few and lie together, so they are passed one after
-/// another, the last ones first: where they come from far, halving would wait for each step's.
-pub(crate) fn begun_by(branches: &[Branch], time: u64) -> usize
+/// another from a place on, which may be any: where they come from far, halving would wait for each step's.
+#[inline]
+pub(crate) fn begun_by(branches: &[Branch], place: usize, time: u64) -> usize
     ensures within { result ≤ length branches.now }
     ensures before { 0 < result → BeginBy time (drop (result - 1) branches.now) }
     ensures after { BeginAfter time (drop result branches.now) }
 {
-    let mut begun = branches.len();
+    let mut begun = later_from(branches, place, time);
     while begun > 0 && time < branches[begun - 1].first_time() {
         begun -= 1;
     }
@@ -78,6 +92,6 @@ pub(crate) fn from_begun(branches: &[Branch], time: u64) -> &[Branch]
     requires { IsRisingAfter 0 (all_of branches.now) }
     ensures { IsFrom time branches.now result.now }
 {
-    let begun = begun_by(branches, time);
+    let begun = begun_by(branches, branches.len(), time);
     &branches[begun.saturating_sub(1)..]
 }

@@ -208,6 +208,11 @@ impl Older {
         }
     }
 
+    /// Whether they lie in more than a few places, so that some may lie in full pieces.
+    pub(crate) fn are_many(&self) -> bool {
+        !matches!(&self.inside, Inside::Nothing | Inside::Few(_))
+    }
+
     /// The piece that they are, where it is a full one.
     #[inline]
     pub(crate) fn full_piece(&self) -> Option<&FullPiece>

@@ -9,55 +9,39 @@ ghost use Rattle.chains.specs.Writes.{is_after, last_time};
 
 use crate::branching::{begun_by, first_time_or, from_begun};
 use crate::ending::ending_in;
-use crate::full_piece::{FullPiece, even_place};
+use crate::full_piece::even_place;
 use crate::older::{Older, Parts};
 use crate::part::{Part, before_part};
 use crate::rows::{Rows, add_rows_in};
 use crate::shared_value::SharedValue;
+use crate::spot::Spot;
 use crate::stamped::StampedWrite;
 use crate::write::{next_in, value_in};
 use history::Version;
 use std::alloc::AllocError;
 
 impl Older {
-    /// The value at a time. That the first of the writes was made at `first`, and those behind them from `end` on,
-    /// says where the search in a full piece begins, and no more.
-    pub(crate) fn at(&self, first: u64, end: u64, time: u64) -> Option<&SharedValue>
-        ensures { option_copied result ≡ value_at self.now.pieces time }
+    /// Where the value at a time lies. That the first of the writes was made at `first`, and those behind them from
+    /// `end` on, says where the search in a full piece begins, and no more; so does `near` of a search among
+    /// branches, where the last such search ended, and where this one does from then on.
+    pub(crate) fn spot(&self, first: u64, end: u64, time: u64, near: &mut usize) -> Spot<'_>
+        ensures { result ≡ value_at self.now.pieces time }
     {
         if let Some(full) = self.full_piece() {
-            return full.at(even_place(first, end, time), time);
+            return Spot::full(time, full, even_place(first, end, time));
         }
-        match self.parts() {
-            Parts::Writes(writes) => value_in(writes, time),
-            Parts::Branches(branches) => {
-                let begun = begun_by(branches, time);
-                if begun == 0 {
-                    return None;
-                }
-                let branch = &branches[begun - 1];
-                let next = first_time_or(&branches[begun..], end);
-                branch.writes().at(branch.first_time(), next, time)
-            }
-        }
-    }
-
-    /// The full piece that has the value at a time, if it is one, and the place in it where that may stand; `first`
-    /// and `end` are as in `at`. It does not look at the piece.
-    pub(crate) fn full_at(&self, first: u64, end: u64, time: u64) -> Option<(&FullPiece, usize)> {
-        if let Some(full) = self.full_piece() {
-            return Some((full, even_place(first, end, time)));
-        }
-        let Parts::Branches(branches) = self.parts() else {
-            return None;
+        let branches = match self.parts() {
+            Parts::Writes(writes) => return Spot::of(time, value_in(writes, time)),
+            Parts::Branches(branches) => branches,
         };
-        let begun = begun_by(branches, time);
+        let begun = begun_by(branches, *near, time);
+        *near = begun;
         if begun == 0 {
-            return None;
+            return Spot::of(time, None);
         }
         let branch = &branches[begun - 1];
         let next = first_time_or(&branches[begun..], end);
-        branch.writes().full_at(branch.first_time(), next, time)
+        branch.writes().spot(branch.first_time(), next, time, near)
     }
 
     /// The first write made after a time.

@@ -313,6 +313,11 @@ fn shared(
     Ok(shared)
 }
 
+/// How many writes more there is room for where one has none: few, since most keys have few.
+fn more_room(count: usize) -> usize {
+    (count / 4).max(2)
+}
+
 /// Puts a write behind others.
 fn put_last(
     alloc: Global,
@@ -324,6 +329,9 @@ fn put_last(
     ensures err { OnErr result (writes.new.items ≡ writes.old.items) }
 {
     let write = StampedWrite::of(alloc, write)?;
+    if writes.len() == writes.capacity() {
+        writes.reserve_exact(more_room(writes.len()))?;
+    }
     writes.push(write)?;
     Ok(())
 }

@@ -1,5 +1,4 @@
-use Rattle.std.proofs.Common.{◌≡◌, ◌<◌, ◌≤◌, ◌-◌, length, arith}
-use Rattle.chains.specs.Writes.{Write}
+use Rattle.std.proofs.Common.{◌<◌, ◌-◌, length, arith}
 use Rattle.chains.proofs.Begun.{rising-order}
 use Rattle.chains.proofs.full_piece.FullPiece.begun_by.Goals as goal
 

@@ -1,19 +1,19 @@
 use Rattle.std.proofs.Common.{◌<◌, ◌∙◌, sym, arith, rules}
 use Rattle.chains.proofs.Branches.{none_begun, begun_lower, begun_value}
-use Rattle.chains.proofs.older.Older.+at.Goals as goal
+use Rattle.chains.proofs.older.Older.+spot.Goals as goal
 
 pub returns-then-begun-eq0 : goal.returns-then-begun-eq0
-returns-then-begun-eq0 t c = sym (none_begun c.in-Branches.ensures _ _ c.begun_by-begun.ensures.after c.if-begun-eq0.true)
+returns-then-begun-eq0 t c = c.of-then-begun-eq0.ensures ∙ sym (none_begun c.in-Branches.ensures _ _ c.begun_by-begun.ensures.after c.if-begun-eq0.true)
 
-pub at-requires-in-Branches : goal.at-requires-in-Branches
-at-requires-in-Branches t c =
+pub spot-requires : goal.spot-requires
+spot-requires t c =
     let begun = c.begun_by-begun.ensures in
     let some : 0 < c.begun_by-begun.result = omega (arith, c.if-begun-eq0.false) in
     let low = begun_lower c.in-Branches.ensures _ _ begun.after some begun.within c.index-branches-begun.is c.writes.ensures.lower in
     search rules
 
-pub returns-else-begun-eq0 : goal.returns-else-begun-eq0
-returns-else-begun-eq0 t c =
+pub returns : goal.returns
+returns t c =
     let begun = c.begun_by-begun.ensures in
     let some : 0 < c.begun_by-begun.result = omega (arith, c.if-begun-eq0.false) in
-    rw c.writes.ensures.is at c.at-in-Branches.ensures ∙ sym (begun_value c.in-Branches.ensures _ _ begun.after some begun.within c.index-branches-begun.is begun.before)
+    rw c.writes.ensures.is at c.spot.ensures ∙ sym (begun_value c.in-Branches.ensures _ _ begun.after some begun.within c.index-branches-begun.is begun.before)
