@@ -224,7 +224,7 @@ class WrongProfile(Refused, code=-27):
 
 
 class NotGrowable(Refused, code=-28):
-    """The store would have more than 65,536 slots, or an earlier timestore made it."""
+    """The store would have more than 65,536 slots, or the first timestore made it."""
 
 
 class System(Refused, code=-100):

@@ -117,7 +117,7 @@ refusals! {
     NeedsArchive = -26,
     /// This store has a floor for each relation, or one for all.
     WrongProfile = -27,
-    /// The store would have more than 65,536 slots, or an earlier timestore made it.
+    /// The store would have more than 65,536 slots, or the first timestore made it.
     NotGrowable = -28,
     /// Another process has the store open.
     Locked = -101,
