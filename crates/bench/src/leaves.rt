@@ -17,7 +17,7 @@ use std::time::Clock;
 pub(crate) use table::Scale;
 
 /// Measures all of them.
-pub(crate) fn measure<R: Print + Clock>(rt: &R, alloc: Global, scale: Scale) -> Result<(), Fault> {
+pub(crate) fn measure(rt: &HostRuntime, alloc: Global, scale: Scale) -> Result<(), Fault> {
     handing_out::measure(rt, alloc, scale)?;
     packing::measure(rt, alloc, scale)?;
     finding::measure(rt, alloc, scale)?;

@@ -24,8 +24,8 @@ use std::time::Clock;
 pub(crate) use verb::{Verb, known};
 
 /// Measures so often, or of so many versions, and prints a line of JSON.
-pub(crate) fn measure<R: Files<File = File> + AllocGlobal + Print + Clock>(
-    rt: &R,
+pub(crate) fn measure(
+    rt: &HostRuntime,
     alloc: Global,
     verb: Verb,
     request: &Request<'_>,

@@ -1,5 +1,5 @@
 //! What an application that keeps a store may rely on: laws, each as a function with nothing to do.
-//! They are proved from the public clauses of `run` alone, and speak of a list of calls as it went,
+//! They are proved from the public clauses of `run` and of `history` alone, and speak of a list of calls as it went,
 //! the `Trace` of `run`, whose start is any moment of a store.
 #![tactic(auto)]
 

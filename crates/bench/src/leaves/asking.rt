@@ -80,8 +80,8 @@ fn scan_often(alloc: Global, frozen: &Frozen, last: u64, rounds: u64) -> Result<
     Ok(found)
 }
 
-fn measure_values<R: Print + Clock>(
-    rt: &R,
+fn measure_values(
+    rt: &HostRuntime,
     scale: Scale,
     published: &Published,
     versions: u64,
@@ -104,8 +104,8 @@ fn measure_values<R: Print + Clock>(
     )
 }
 
-fn measure_views<R: Print + Clock>(
-    rt: &R,
+fn measure_views(
+    rt: &HostRuntime,
     scale: Scale,
     published: &Published,
     versions: u64,
@@ -127,8 +127,8 @@ fn measure_views<R: Print + Clock>(
     )
 }
 
-fn measure_rows<R: Print + Clock>(
-    rt: &R,
+fn measure_rows(
+    rt: &HostRuntime,
     alloc: Global,
     scale: Scale,
     published: &Published,
@@ -149,8 +149,8 @@ fn measure_rows<R: Print + Clock>(
     )
 }
 
-fn measure_scans<R: Print + Clock>(
-    rt: &R,
+fn measure_scans(
+    rt: &HostRuntime,
     alloc: Global,
     scale: Scale,
     published: &Published,
@@ -175,12 +175,7 @@ fn measure_scans<R: Print + Clock>(
 }
 
 /// The same versions, made in place as those of a store that is opened.
-fn measure_opening<R: Print + Clock>(
-    rt: &R,
-    alloc: Global,
-    scale: Scale,
-    versions: u64,
-) -> io::Result<()> {
+fn measure_opening(rt: &HostRuntime, alloc: Global, scale: Scale, versions: u64) -> io::Result<()> {
     let start = Instant::now(rt)?;
     let _opened = open_history(alloc, ASKED_KEYS, versions)?;
     let time = nanoseconds(rt, &start)?;
@@ -195,12 +190,7 @@ fn measure_opening<R: Print + Clock>(
 }
 
 /// A map of a thousand keys of this many versions: what its making takes, and what it answers.
-fn measure_map<R: Print + Clock>(
-    rt: &R,
-    alloc: Global,
-    scale: Scale,
-    versions: u64,
-) -> io::Result<()> {
+fn measure_map(rt: &HostRuntime, alloc: Global, scale: Scale, versions: u64) -> io::Result<()> {
     let start = Instant::now(rt)?;
     let published = with_history(alloc, ASKED_KEYS, versions)?;
     let time = nanoseconds(rt, &start)?;
@@ -219,7 +209,7 @@ fn measure_map<R: Print + Clock>(
     measure_scans(rt, alloc, scale, &published, versions)
 }
 
-pub(crate) fn measure<R: Print + Clock>(rt: &R, alloc: Global, scale: Scale) -> io::Result<()> {
+pub(crate) fn measure(rt: &HostRuntime, alloc: Global, scale: Scale) -> io::Result<()> {
     for versions in [1, 10, 100, 1_000] {
         if scale == Scale::Whole || versions <= TRIAL_VERSIONS {
             measure_opening(rt, alloc, scale, versions)?;

@@ -76,8 +76,8 @@ fn find_many(
     Ok(found)
 }
 
-fn measure_reader<R: Print + Clock>(
-    rt: &R,
+fn measure_reader(
+    rt: &HostRuntime,
     scale: Scale,
     mut reader: ArchiveReader,
     disk: &mut MemDisk,
@@ -96,8 +96,8 @@ fn measure_reader<R: Print + Clock>(
     print_share(rt, scale, names.1, records, reader.heads(), rounds)
 }
 
-fn measure_run<R: Print + Clock>(
-    rt: &R,
+fn measure_run(
+    rt: &HostRuntime,
     alloc: Global,
     scale: Scale,
     run: &[RunEntry; 1],
@@ -117,7 +117,7 @@ fn measure_run<R: Print + Clock>(
     measure_reader(rt, scale, reader, &mut disk, run, names)
 }
 
-pub(crate) fn measure<R: Print + Clock>(rt: &R, alloc: Global, scale: Scale) -> io::Result<()> {
+pub(crate) fn measure(rt: &HostRuntime, alloc: Global, scale: Scale) -> io::Result<()> {
     for run in [[thousand()], [hundred_thousand()]] {
         if scale.has(run[0].slot.records) {
             measure_run(rt, alloc, scale, &run)?;

@@ -34,8 +34,8 @@ fn take_and_give_back(extents: &mut Extents, rounds: u64) {
 }
 
 /// Of a heap with one free extent: that is taken and given back.
-fn measure_nearly_full<R: Print + Clock>(
-    rt: &R,
+fn measure_nearly_full(
+    rt: &HostRuntime,
     scale: Scale,
     extents: &mut Extents,
     free: u32,
@@ -51,7 +51,7 @@ fn measure_nearly_full<R: Print + Clock>(
 }
 
 /// All extents are taken, and then retired: the nanoseconds that each of the two takes.
-fn time_all<R: Clock>(rt: &R, extents: &mut Extents) -> io::Result<(u128, u128)> {
+fn time_all(rt: &HostRuntime, extents: &mut Extents) -> io::Result<(u128, u128)> {
     let start = Instant::now(rt)?;
     keep_many(extents, LAST_EXTENT as u64);
     let kept = nanoseconds(rt, &start)?;
@@ -60,7 +60,7 @@ fn time_all<R: Clock>(rt: &R, extents: &mut Extents) -> io::Result<(u128, u128)>
     Ok((kept, nanoseconds(rt, &start)?))
 }
 
-fn measure_all<R: Print + Clock>(rt: &R, scale: Scale, extents: &mut Extents) -> io::Result<()> {
+fn measure_all(rt: &HostRuntime, scale: Scale, extents: &mut Extents) -> io::Result<()> {
     let size = LAST_EXTENT as u64;
     let rounds = scale.rounds(50);
     let mut taking = 0u128;
@@ -82,7 +82,7 @@ fn measure_all<R: Print + Clock>(rt: &R, scale: Scale, extents: &mut Extents) ->
     print_rate(rt, scale, "extents: retired, all", size, retiring, count)
 }
 
-pub(crate) fn measure<R: Print + Clock>(rt: &R, alloc: Global, scale: Scale) -> io::Result<()> {
+pub(crate) fn measure(rt: &HostRuntime, alloc: Global, scale: Scale) -> io::Result<()> {
     let mut extents = Extents::new(alloc)?;
     measure_all(rt, scale, &mut extents)?;
     keep_many(&mut extents, LAST_EXTENT as u64);

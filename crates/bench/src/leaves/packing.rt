@@ -71,8 +71,8 @@ fn unpacked(alloc: Global, images: &[Image]) -> Result<usize, AllocError> {
     }
 }
 
-fn measure_packing<R: Print + Clock>(
-    rt: &R,
+fn measure_packing(
+    rt: &HostRuntime,
     alloc: Global,
     scale: Scale,
     records: &[Record],
@@ -94,8 +94,8 @@ fn measure_packing<R: Print + Clock>(
     )
 }
 
-fn measure_sealing<R: Print + Clock>(
-    rt: &R,
+fn measure_sealing(
+    rt: &HostRuntime,
     alloc: Global,
     scale: Scale,
     records: &[Record],
@@ -117,8 +117,8 @@ fn measure_sealing<R: Print + Clock>(
     )
 }
 
-fn measure_unpacking<R: Print + Clock>(
-    rt: &R,
+fn measure_unpacking(
+    rt: &HostRuntime,
     alloc: Global,
     scale: Scale,
     records: &[Record],
@@ -145,7 +145,7 @@ fn measure_unpacking<R: Print + Clock>(
     )
 }
 
-pub(crate) fn measure<R: Print + Clock>(rt: &R, alloc: Global, scale: Scale) -> io::Result<()> {
+pub(crate) fn measure(rt: &HostRuntime, alloc: Global, scale: Scale) -> io::Result<()> {
     let records = records(alloc)?;
     measure_packing(rt, alloc, scale, &records)?;
     measure_sealing(rt, alloc, scale, &records)?;

@@ -217,8 +217,8 @@ pub(crate) fn open_history(alloc: Global, keys: u64, versions: u64) -> Result<Op
 }
 
 /// The nanoseconds of some commits of these writes, one after another.
-fn time_commits<R: Clock>(
-    rt: &R,
+fn time_commits(
+    rt: &HostRuntime,
     alloc: Global,
     mut published: Published,
     writes: &[KeyWrite<SharedValue>],
@@ -232,8 +232,8 @@ fn time_commits<R: Clock>(
 
 /// Commits of 16 keys, to this many maps of this many keys. Each is timed while it is new, since its
 /// keys get more versions by each commit.
-fn measure_keys<R: Print + Clock>(
-    rt: &R,
+fn measure_keys(
+    rt: &HostRuntime,
     alloc: Global,
     scale: Scale,
     keys: u64,
@@ -257,12 +257,7 @@ fn measure_keys<R: Print + Clock>(
     )
 }
 
-fn measure_freezing<R: Print + Clock>(
-    rt: &R,
-    alloc: Global,
-    scale: Scale,
-    keys: u64,
-) -> io::Result<()> {
+fn measure_freezing(rt: &HostRuntime, alloc: Global, scale: Scale, keys: u64) -> io::Result<()> {
     let published = with_keys(alloc, keys)?;
     let rounds = scale.rounds(1_000_000);
     let start = Instant::now(rt)?;
@@ -271,9 +266,28 @@ fn measure_freezing<R: Print + Clock>(
     print_time(rt, scale, "chains: freeze, keys", keys, time, rounds)
 }
 
-/// Commits of one key, to this many maps in which it has this many versions.
-fn measure_versions<R: Print + Clock>(
-    rt: &R,
+/// The nanoseconds of commits of these writes, of one key, to this many maps in which it has this many versions.
+fn time_versions(
+    rt: &HostRuntime,
+    alloc: Global,
+    writes: &[KeyWrite<SharedValue>],
+    versions: u64,
+    maps: u64,
+) -> io::Result<u128>
+    requires { IsStrictlySortedBy key_cmp (map (λ w. w.key) writes.now) }
+{
+    let mut time = 0u128;
+    for _ in 0..maps {
+        let published = with_versions(alloc, writes, versions)?;
+        time = time.saturating_add(time_commits(rt, alloc, published, writes)?);
+    }
+    Ok(time)
+}
+
+/// Commits of one key, to this many maps in which it has this many versions. They are made twice, and timed the
+/// second time: what the maps before them gave back to the allocator it puts in order during the first.
+fn measure_versions(
+    rt: &HostRuntime,
     alloc: Global,
     scale: Scale,
     versions: u64,
@@ -281,11 +295,8 @@ fn measure_versions<R: Print + Clock>(
 ) -> io::Result<()> {
     let writes = writes(alloc, 7, 1, 1, &[b"a"])?;
     let maps = scale.rounds(maps);
-    let mut time = 0u128;
-    for _ in 0..maps {
-        let published = with_versions(alloc, &writes, versions)?;
-        time = time.saturating_add(time_commits(rt, alloc, published, &writes)?);
-    }
+    time_versions(rt, alloc, &writes, versions, maps)?;
+    let time = time_versions(rt, alloc, &writes, versions, maps)?;
     let commits = maps.saturating_mul(COMMITS);
     print_time(
         rt,
@@ -297,7 +308,7 @@ fn measure_versions<R: Print + Clock>(
     )
 }
 
-pub(crate) fn measure<R: Print + Clock>(rt: &R, alloc: Global, scale: Scale) -> io::Result<()> {
+pub(crate) fn measure(rt: &HostRuntime, alloc: Global, scale: Scale) -> io::Result<()> {
     for (keys, maps) in [(16, 1_000), (1_024, 100), (100_000, 10)] {
         if scale.has(keys) {
             measure_keys(rt, alloc, scale, keys, maps)?;

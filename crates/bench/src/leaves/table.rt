@@ -32,13 +32,13 @@ fn thousandths(dividend: u128, divisor: u128) -> u128 {
 }
 
 /// Nanoseconds since the start.
-pub(crate) fn nanoseconds<R: Clock>(rt: &R, start: &Instant) -> io::Result<u128> {
+pub(crate) fn nanoseconds(rt: &HostRuntime, start: &Instant) -> io::Result<u128> {
     Ok(start.elapsed(rt)?.as_nanos())
 }
 
 /// Prints a line: what was measured and at which size, a quotient, and its unit.
-fn print_quotient<R: Print>(
-    rt: &R,
+fn print_quotient(
+    rt: &HostRuntime,
     scale: Scale,
     name: &str,
     size: u64,
@@ -55,8 +55,8 @@ fn print_quotient<R: Print>(
 }
 
 /// Prints the microseconds of one round, where so many took so many nanoseconds.
-pub(crate) fn print_time<R: Print>(
-    rt: &R,
+pub(crate) fn print_time(
+    rt: &HostRuntime,
     scale: Scale,
     name: &str,
     size: u64,
@@ -68,8 +68,8 @@ pub(crate) fn print_time<R: Print>(
 }
 
 /// Prints the rounds in a second, where so many took so many nanoseconds.
-pub(crate) fn print_rate<R: Print>(
-    rt: &R,
+pub(crate) fn print_rate(
+    rt: &HostRuntime,
     scale: Scale,
     name: &str,
     size: u64,
@@ -81,8 +81,8 @@ pub(crate) fn print_rate<R: Print>(
 }
 
 /// Prints the megabytes in a second, where so many bytes took so many nanoseconds.
-pub(crate) fn print_flow<R: Print>(
-    rt: &R,
+pub(crate) fn print_flow(
+    rt: &HostRuntime,
     scale: Scale,
     name: &str,
     size: u64,
@@ -94,8 +94,8 @@ pub(crate) fn print_flow<R: Print>(
 }
 
 /// Prints how many there were for each round.
-pub(crate) fn print_share<R: Print>(
-    rt: &R,
+pub(crate) fn print_share(
+    rt: &HostRuntime,
     scale: Scale,
     name: &str,
     size: u64,

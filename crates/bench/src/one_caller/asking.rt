@@ -43,11 +43,7 @@ fn load(alloc: Global, store: &mut Store<FileDisk>) -> Result<(), Fault> {
 }
 
 /// Makes a folder with a store of all versions, and closes it. Gives its disk.
-fn make<R: Files<File = File> + AllocGlobal>(
-    rt: &R,
-    alloc: Global,
-    folder: &str,
-) -> Result<FileDisk, Fault> {
+fn make(rt: &HostRuntime, alloc: Global, folder: &str) -> Result<FileDisk, Fault> {
     stores::make(rt, alloc, folder, SLOTS)?;
     let mut store = stores::open(rt, alloc, folder)?;
     let loaded = load(alloc, &mut store);
@@ -157,8 +153,8 @@ pub(crate) fn ask(
 
 /// The nanoseconds of this many questions at random keys, and at random times, less than so many
 /// microseconds after the first version. Each takes a view of its own.
-pub(crate) fn time_questions<R: Clock>(
-    rt: &R,
+pub(crate) fn time_questions(
+    rt: &HostRuntime,
     store: &mut Store<FileDisk>,
     question: Question,
     times: u64,
@@ -184,8 +180,8 @@ fn sizes(question: Question) -> (u64, u64) {
 }
 
 /// The nanoseconds of opening a store and of this many questions.
-fn time_opened<R: Files<File = File> + AllocGlobal + Clock>(
-    rt: &R,
+fn time_opened(
+    rt: &HostRuntime,
     alloc: Global,
     folder: &str,
     question: Question,
@@ -200,8 +196,8 @@ fn time_opened<R: Files<File = File> + AllocGlobal + Clock>(
 }
 
 /// Measures this many questions, after the store was closed and opened.
-pub(crate) fn measure<R: Files<File = File> + AllocGlobal + Print + Clock>(
-    rt: &R,
+pub(crate) fn measure(
+    rt: &HostRuntime,
     alloc: Global,
     folder: &str,
     question: Question,
@@ -224,11 +220,7 @@ pub(crate) fn measure<R: Files<File = File> + AllocGlobal + Print + Clock>(
 }
 
 /// Measures the bytes on disk of a version: of the three files, and of the heap alone.
-pub(crate) fn measure_size<R: Files<File = File> + AllocGlobal + Print + Clock>(
-    rt: &R,
-    alloc: Global,
-    folder: &str,
-) -> Result<(), Fault> {
+pub(crate) fn measure_size(rt: &HostRuntime, alloc: Global, folder: &str) -> Result<(), Fault> {
     let folder = format!(in alloc; "{folder}/store")?;
     let mut disk = make(rt, alloc, folder.as_str())?;
     let heap = disk.len(Area::Heap)?;

@@ -34,8 +34,8 @@ fn copy(table: &[u8], place: usize, out: &mut [u8]) -> u8 {
 }
 
 /// The nanoseconds of this many copies of answers of so many values each, at random places.
-pub(crate) fn time_copies<R: Clock>(
-    rt: &R,
+pub(crate) fn time_copies(
+    rt: &HostRuntime,
     alloc: Global,
     values: u64,
     count: u64,

@@ -31,7 +31,7 @@ fn bytes_of(status: &str, name: &str) -> u64 {
 }
 
 /// What the process holds.
-pub(crate) fn read_held<R: Files<File = File> + AllocGlobal>(rt: &R) -> io::Result<Held> {
+pub(crate) fn read_held(rt: &HostRuntime) -> io::Result<Held> {
     let status = std::fs::read_to_string(rt, "/proc/self/status")?;
     Ok(Held {
         now: bytes_of(status.as_str(), "VmRSS:"),
@@ -40,13 +40,13 @@ pub(crate) fn read_held<R: Files<File = File> + AllocGlobal>(rt: &R) -> io::Resu
 }
 
 /// From now on `most` is of what comes.
-pub(crate) fn forget_most<R: Files<File = File> + AllocGlobal>(rt: &R) -> io::Result<()> {
+pub(crate) fn forget_most(rt: &HostRuntime) -> io::Result<()> {
     std::fs::write(rt, "/proc/self/clear_refs", "5")
 }
 
 /// Measures the memory that the opened store of a folder holds, for each of this many versions.
-pub(crate) fn measure<R: Files<File = File> + AllocGlobal + Print + Clock>(
-    rt: &R,
+pub(crate) fn measure(
+    rt: &HostRuntime,
     alloc: Global,
     folder: &str,
     versions: u64,

@@ -51,12 +51,7 @@ fn ask(store: &mut Store<FileDisk>, number: u64) -> Result<(), Fault> {
 }
 
 /// Reads a file to its end. Gives how many bytes it has.
-fn read_file<R: Files<File = File> + AllocGlobal>(
-    rt: &R,
-    folder: &str,
-    name: &str,
-    buffer: &mut [u8],
-) -> io::Result<u64> {
+fn read_file(rt: &HostRuntime, folder: &str, name: &str, buffer: &mut [u8]) -> io::Result<u64> {
     let path = format!(in rt.alloc(); "{folder}/{name}")?;
     let mut file = std::fs::open(rt, path.as_str())?;
     let mut bytes = 0u64;
@@ -71,8 +66,8 @@ fn read_file<R: Files<File = File> + AllocGlobal>(
 }
 
 /// The nanoseconds of reading the three files, and how many bytes they have.
-pub(crate) fn time_reads<R: Files<File = File> + AllocGlobal + Clock>(
-    rt: &R,
+pub(crate) fn time_reads(
+    rt: &HostRuntime,
     alloc: Global,
     folder: &str,
 ) -> Result<(u64, u64), Fault> {
@@ -86,12 +81,7 @@ pub(crate) fn time_reads<R: Files<File = File> + AllocGlobal + Clock>(
 }
 
 /// Makes a folder with a store of this many commits of one record each.
-fn make<R: Files<File = File> + AllocGlobal>(
-    rt: &R,
-    alloc: Global,
-    folder: &str,
-    count: u64,
-) -> Result<(), Fault> {
+fn make(rt: &HostRuntime, alloc: Global, folder: &str, count: u64) -> Result<(), Fault> {
     let slots = u32::try_from(count.saturating_add(SPARE_SLOTS)).unwrap_or(u32::MAX);
     stores::make(rt, alloc, folder, slots)?;
     let mut store = stores::open(rt, alloc, folder)?;
@@ -101,12 +91,7 @@ fn make<R: Files<File = File> + AllocGlobal>(
 }
 
 /// The nanoseconds of opening a store of this many commits, up to its first answer.
-fn time_opening<R: Files<File = File> + AllocGlobal + Clock>(
-    rt: &R,
-    alloc: Global,
-    folder: &str,
-    count: u64,
-) -> Result<u64, Fault> {
+fn time_opening(rt: &HostRuntime, alloc: Global, folder: &str, count: u64) -> Result<u64, Fault> {
     let start = Instant::now(rt)?;
     let mut store = stores::open(rt, alloc, folder)?;
     let asked = ask(&mut store, count.saturating_sub(1));
@@ -117,8 +102,8 @@ fn time_opening<R: Files<File = File> + AllocGlobal + Clock>(
 }
 
 /// Measures the opening of a store of this many commits, up to its first answer.
-pub(crate) fn measure<R: Files<File = File> + AllocGlobal + Print + Clock>(
-    rt: &R,
+pub(crate) fn measure(
+    rt: &HostRuntime,
     alloc: Global,
     folder: &str,
     count: u64,

@@ -30,8 +30,8 @@ fn span(store: &Store<FileDisk>) -> u64 {
 }
 
 /// The nanoseconds of a first question on a store that was just opened, and of the same again.
-fn time_first<R: Clock>(
-    rt: &R,
+fn time_first(
+    rt: &HostRuntime,
     store: &mut Store<FileDisk>,
     question: Question,
     random: &mut Xoshiro256PlusPlus,
@@ -49,8 +49,8 @@ fn time_first<R: Clock>(
 }
 
 /// The medians of first questions and of the same again, in nanoseconds.
-fn time_openings<R: Files<File = File> + AllocGlobal + Clock>(
-    rt: &R,
+fn time_openings(
+    rt: &HostRuntime,
     alloc: Global,
     folder: &str,
     question: Question,
@@ -70,8 +70,8 @@ fn time_openings<R: Files<File = File> + AllocGlobal + Clock>(
 }
 
 /// The nanoseconds of this many questions at random keys, all as of the last commit.
-fn time_last<R: Clock>(
-    rt: &R,
+fn time_last(
+    rt: &HostRuntime,
     store: &mut Store<FileDisk>,
     question: Question,
     count: u64,
@@ -87,8 +87,8 @@ fn time_last<R: Clock>(
 
 /// The nanoseconds of this many questions on one store, as of times before the last commit, and of as
 /// many as of the last.
-fn time_opened<R: Files<File = File> + AllocGlobal + Clock>(
-    rt: &R,
+fn time_opened(
+    rt: &HostRuntime,
     alloc: Global,
     folder: &str,
     question: Question,
@@ -103,8 +103,8 @@ fn time_opened<R: Files<File = File> + AllocGlobal + Clock>(
 }
 
 /// Measures this many questions on the store of a folder.
-pub(crate) fn measure<R: Files<File = File> + AllocGlobal + Print + Clock>(
-    rt: &R,
+pub(crate) fn measure(
+    rt: &HostRuntime,
     alloc: Global,
     folder: &str,
     question: Question,

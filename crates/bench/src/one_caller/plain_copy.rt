@@ -35,12 +35,7 @@ fn copy(from: &mut File, to: &mut File, bytes: u64) -> io::Result<()> {
 
 /// The nanoseconds of copying the first bytes of a file to another, which is made, in pieces of 8,192
 /// bytes, with one sync.
-pub(crate) fn time_copy<R: Files<File = File> + Clock>(
-    rt: &R,
-    from: &str,
-    to: &str,
-    bytes: u64,
-) -> Result<u64, Fault> {
+pub(crate) fn time_copy(rt: &HostRuntime, from: &str, to: &str, bytes: u64) -> Result<u64, Fault> {
     let mut source = std::fs::open(rt, from)?;
     let mut target = OpenOptions::new().write(true).create(true).open(rt, to)?;
     let start = Instant::now(rt)?;

@@ -69,8 +69,8 @@ fn fill(alloc: Global, store: &mut Store<FileDisk>, filling: Filling) -> Result<
 }
 
 /// Makes the folder `store` below this one, with a store of which this many versions have ended.
-pub(crate) fn measure<R: Files<File = File> + AllocGlobal + Print + Clock>(
-    rt: &R,
+pub(crate) fn measure(
+    rt: &HostRuntime,
     alloc: Global,
     folder: &str,
     breadth: Breadth,

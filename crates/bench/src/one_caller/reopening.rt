@@ -25,11 +25,7 @@ fn ask(store: &mut Store<FileDisk>) -> Result<(), Fault> {
 }
 
 /// The nanoseconds of opening the store, up to a first answer.
-fn time_opening<R: Files<File = File> + AllocGlobal + Clock>(
-    rt: &R,
-    alloc: Global,
-    folder: &str,
-) -> Result<u64, Fault> {
+fn time_opening(rt: &HostRuntime, alloc: Global, folder: &str) -> Result<u64, Fault> {
     let start = Instant::now(rt)?;
     let mut store = stores::open(rt, alloc, folder)?;
     let asked = ask(&mut store);
@@ -40,8 +36,8 @@ fn time_opening<R: Files<File = File> + AllocGlobal + Clock>(
 }
 
 /// Measures the opening of the store of a folder, up to a first answer: the median of so many.
-pub(crate) fn measure<R: Files<File = File> + AllocGlobal + Print + Clock>(
-    rt: &R,
+pub(crate) fn measure(
+    rt: &HostRuntime,
     alloc: Global,
     folder: &str,
     count: u64,

@@ -70,7 +70,7 @@ impl Spent {
 }
 
 /// Makes the next step of the job that runs. Gives whether there was one.
-fn step<R: Clock>(rt: &R, store: &mut Store<FileDisk>, spent: &mut Spent) -> Result<bool, Fault> {
+fn step(rt: &HostRuntime, store: &mut Store<FileDisk>, spent: &mut Spent) -> Result<bool, Fault> {
     let start = Instant::now(rt)?;
     let did = store.job_pump()?;
     spent.add(did, nanoseconds(rt, &start)?);
@@ -78,7 +78,7 @@ fn step<R: Clock>(rt: &R, store: &mut Store<FileDisk>, spent: &mut Spent) -> Res
 }
 
 /// Makes all steps of the job that runs.
-fn finish<R: Clock>(rt: &R, store: &mut Store<FileDisk>, spent: &mut Spent) -> Result<(), Fault> {
+fn finish(rt: &HostRuntime, store: &mut Store<FileDisk>, spent: &mut Spent) -> Result<(), Fault> {
     for _ in 0..u64::MAX {
         if !step(rt, store, spent)? {
             break;
@@ -88,8 +88,8 @@ fn finish<R: Clock>(rt: &R, store: &mut Store<FileDisk>, spent: &mut Spent) -> R
 }
 
 /// Archives what ended by a time.
-fn archive<R: Clock>(
-    rt: &R,
+fn archive(
+    rt: &HostRuntime,
     store: &mut Store<FileDisk>,
     upto: u64,
     spent: &mut Spent,
@@ -101,8 +101,8 @@ fn archive<R: Clock>(
 }
 
 /// Archives all that ended, in runs of as long a time each.
-fn archive_all<R: Clock>(
-    rt: &R,
+fn archive_all(
+    rt: &HostRuntime,
     store: &mut Store<FileDisk>,
     runs: u64,
     spent: &mut Spent,
@@ -117,7 +117,7 @@ fn archive_all<R: Clock>(
 }
 
 /// Reclaims what is archived.
-fn reclaim<R: Clock>(rt: &R, store: &mut Store<FileDisk>, spent: &mut Spent) -> Result<(), Fault> {
+fn reclaim(rt: &HostRuntime, store: &mut Store<FileDisk>, spent: &mut Spent) -> Result<(), Fault> {
     let start = Instant::now(rt)?;
     store.reclaim_start()?;
     spent.starting = nanoseconds(rt, &start)?;
@@ -133,8 +133,8 @@ struct Took {
     after: Held,
 }
 
-fn do_task<R: Clock>(
-    rt: &R,
+fn do_task(
+    rt: &HostRuntime,
     store: &mut Store<FileDisk>,
     task: Task,
     runs: u64,
@@ -147,8 +147,8 @@ fn do_task<R: Clock>(
 }
 
 /// Opens the store of a folder, and does a task.
-fn take<R: Files<File = File> + AllocGlobal + Clock>(
-    rt: &R,
+fn take(
+    rt: &HostRuntime,
     alloc: Global,
     folder: &str,
     task: Task,
@@ -190,8 +190,8 @@ fn file_of(task: Task) -> &'static str {
 
 /// Prints the milliseconds of the task and of its parts, the bytes that it wrote and those of the
 /// values, the milliseconds of the copy, and the memory before the task, at most and after it.
-fn print<R: Print>(
-    rt: &R,
+fn print(
+    rt: &HostRuntime,
     runs: u64,
     versions: u64,
     took: &Took,
@@ -219,8 +219,8 @@ fn print<R: Print>(
 }
 
 /// Measures a task on the store of this many versions that ended.
-pub(crate) fn measure<R: Files<File = File> + AllocGlobal + Print + Clock>(
-    rt: &R,
+pub(crate) fn measure(
+    rt: &HostRuntime,
     alloc: Global,
     folder: &str,
     task: Task,

@@ -71,8 +71,8 @@ fn commit_group(
 }
 
 /// The nanoseconds of one group.
-fn time_group<R: Clock>(
-    rt: &R,
+fn time_group(
+    rt: &HostRuntime,
     alloc: Global,
     store: &mut Store<FileDisk>,
     random: &mut Xoshiro256PlusPlus,
@@ -85,15 +85,15 @@ fn time_group<R: Clock>(
 }
 
 /// The nanoseconds of the raw writes and syncs of one group.
-fn time_raw<R: Clock>(rt: &R, raw: &mut RawFiles, shape: Shape) -> Result<u64, Fault> {
+fn time_raw(rt: &HostRuntime, raw: &mut RawFiles, shape: Shape) -> Result<u64, Fault> {
     let start = Instant::now(rt)?;
     raw.write_group(shape.extents)?;
     Ok(nanoseconds(rt, &start)?)
 }
 
 /// Times this many groups, and as many of raw writes and syncs, in turns.
-fn time_groups<R: Clock>(
-    rt: &R,
+fn time_groups(
+    rt: &HostRuntime,
     alloc: Global,
     store: &mut Store<FileDisk>,
     raw: &mut RawFiles,
@@ -119,7 +119,7 @@ fn time_groups<R: Clock>(
 
 /// Prints how many records are committed in a second, the median of a group's microseconds, the same
 /// of the raw writes and syncs, and how many times their median the group's is.
-fn print<R: Print>(rt: &R, shape: Shape, times: (Times, Times)) -> Result<(), Fault> {
+fn print(rt: &HostRuntime, shape: Shape, times: (Times, Times)) -> Result<(), Fault> {
     let (mut groups, mut raws) = times;
     let each = shape.transactions.saturating_mul(shape.records);
     let count = groups.count();
@@ -137,29 +137,21 @@ fn print<R: Print>(rt: &R, shape: Shape, times: (Times, Times)) -> Result<(), Fa
 }
 
 /// The files of raw writes, in a folder of their own below this one.
-fn open_raw<R: Files<File = File> + AllocGlobal>(
-    rt: &R,
-    alloc: Global,
-    folder: &str,
-) -> Result<RawFiles, Fault> {
+fn open_raw(rt: &HostRuntime, alloc: Global, folder: &str) -> Result<RawFiles, Fault> {
     let folder = format!(in alloc; "{folder}/raw")?;
     RawFiles::new(rt, alloc, folder.as_str(), MOST_SLOTS)
 }
 
 /// A new store, in a folder of its own below this one.
-fn open_store<R: Files<File = File> + AllocGlobal>(
-    rt: &R,
-    alloc: Global,
-    folder: &str,
-) -> Result<Store<FileDisk>, Fault> {
+fn open_store(rt: &HostRuntime, alloc: Global, folder: &str) -> Result<Store<FileDisk>, Fault> {
     let folder = format!(in alloc; "{folder}/store")?;
     stores::make(rt, alloc, folder.as_str(), MOST_SLOTS)?;
     stores::open(rt, alloc, folder.as_str())
 }
 
 /// Measures this many groups of commits.
-pub(crate) fn measure<R: Files<File = File> + AllocGlobal + Print + Clock>(
-    rt: &R,
+pub(crate) fn measure(
+    rt: &HostRuntime,
     alloc: Global,
     folder: &str,
     shape: Shape,
