@@ -1,3 +1,4 @@
+use Rattle.std.proofs.lemmas.Grind.{common_steps}
 use Rattle.std.proofs.Common.{ℕ, List, sym, ap, subst, ◌∙◌, arith}
 use Rattle.extents.specs.declared.usage.Usage.{Usage}
 use Rattle.extents.specs.declared.usage.Usage.TheVariants.{Out}
@@ -21,3 +22,6 @@ loop-preserved c =
           ∙ ap (λ (ns : List ℕ). with_usages start ns Out) (sym c.push_reserved.ensures.items);
       used = omega (arith, c.in-Ok.ensures.counted, inv.used);
     }
+
+pub loop-init : goal.loop-init
+loop-init c = grind (arith, common_steps)

@@ -1,4 +1,5 @@
-use Rattle.std.proofs.Common.{sym, ◌∙◌, subst, ℕ}
+use Rattle.std.proofs.lemmas.Grind.{common_steps}
+use Rattle.std.proofs.Common.{sym, ◌∙◌, subst, ℕ, arith}
 use Rattle.status.specs.Log.{OpensWith}
 use Rattle.status.specs.Rules.{KeepsRules}
 use Rattle.status.proofs.Steps.{opens_with_none}
@@ -15,3 +16,6 @@ returns-clause-log g c = λ told.
       rules = subst (λ (p : ℕ). KeepsRules p c.read_slots.new.walk.slots.items) (c.in_ok-read_slots.ensures.profile ∙ c.new-walk.ensures.profile) c.in_ok-read_slots.ensures.walk.are_slots.rules;
       ended = read.1;
     }
+
+pub returns-clause-ends : goal.returns-clause-ends
+returns-clause-ends g c = grind (arith, common_steps)

@@ -1,4 +1,5 @@
-use Rattle.std.proofs.Common.{refl}
+use Rattle.std.proofs.lemmas.Grind.{common_steps}
+use Rattle.std.proofs.Common.{refl, arith}
 use Rattle.extents.proofs.Claims.{next_claimed, all_claimed, none_claims, kept_are, free_are}
 use Rattle.extents.proofs.extents.Extents.of_live.Goals as goal
 
@@ -19,3 +20,9 @@ pub returns-clause-free : goal.returns-clause-free
 returns-clause-free c = λ number.
     let all = all_claimed c.loop-number.extents c.args.numbers.now c.loop-number.number-index c.loop-number-test.false c.loop-number.invariant in
     rw all.usages_are (free_are c.args.numbers.now number all.live.each)
+
+pub returns-clause-live : goal.returns-clause-live
+returns-clause-live c = grind (arith, common_steps)
+
+pub returns-clause-counted : goal.returns-clause-counted
+returns-clause-counted c = grind (arith, common_steps)

@@ -1,3 +1,4 @@
+use Rattle.std.proofs.lemmas.Grind.{common_steps}
 use Rattle.std.proofs.Common.{arith, ◌<◌, length-append, subst, sym}
 use Rattle.group.specs.CommitOrder.{last_time, last_assigned, CommitOrderValue}
 use Rattle.group.proofs.Heads.{IsRisingAfter-push}
@@ -10,3 +11,6 @@ invariant_of-self c =
       within = simp length-append (omega (arith, c.self.invariant.within));
       rising = IsRisingAfter-push 0 _ _ c.self.invariant.rising later c.requires.in_range;
     }
+
+pub returns : goal.returns
+returns c = grind (arith, common_steps)
