@@ -1,3 +1,4 @@
+use Rattle.std.proofs.lemmas.Grind.{common_steps}
 use Rattle.std.proofs.Common.{◌≡◌, ◌∙◌, ◌<◌, ◌≤◌, ◌-◌, length, get_or, sym, subst, arith}
 use Rattle.std.proofs.lemmas.List.{get_or_default}
 use Rattle.chains.specs.Writes.{Write}
@@ -18,3 +19,6 @@ returns-else-time c =
           omega (arith, early, rising-order 0 ws c.requires k (n - 1) d (omega arith) inside);
       after = c.loop-begun.invariant.after;
     }
+
+pub loop-begun-preserved : goal.loop-begun-preserved
+loop-begun-preserved c = grind (arith, common_steps)

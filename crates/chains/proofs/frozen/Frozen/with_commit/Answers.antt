@@ -1,3 +1,4 @@
+use Rattle.std.proofs.lemmas.Grind.{common_steps}
 use Rattle.std.proofs.Common.{◌<◌, ◌++◌, List, arith, subst, ap, ◌∙◌}
 use Rattle.chains.specs.KeyWrites.{KeyWrites, writes_of, latest, AreRising}
 use Rattle.chains.proofs.Commits.{older-latest, may-all-follow, writes_of-with_commit, latest-with_commit}
@@ -37,3 +38,6 @@ returns-clause-versions c = λ key.
     let rising : AreRising c.args.self.now = subst AreRising c.self.view_is c.self.invariant.1 in
     ap versions (returns-clause-by_key c key)
     ∙ versions-with 0 (writes_of c.args.self.now key) (written c.args.time c.args.writes.now key) (rising-writes_of c.args.self.now key rising)
+
+pub returns-clause-is : goal.returns-clause-is
+returns-clause-is c = grind (arith, common_steps)

@@ -1,3 +1,4 @@
+use Rattle.std.proofs.lemmas.Grind.{common_steps}
 use Rattle.std.proofs.Common.{◌≤◌, is_some, ap, sym, ◌∙◌, arith}
 use Rattle.snapshot.specs.OpenTable.{least_free}
 use Rattle.snapshot.proofs.Opened.{taken-below, free-is, free-within}
@@ -11,3 +12,6 @@ returns-clause-is c = free-is c.args.self.now c.loop-place.place (sym (ap is_som
 
 pub returns-clause-within : goal.returns-clause-within
 returns-clause-within c = let least = free-within c.args.self.now in let low : c.loop-place.place ≤ least_free c.args.self.now = c.loop-place.invariant in omega arith
+
+pub loop-place-init : goal.loop-place-init
+loop-place-init c = grind (arith, common_steps)

@@ -1,3 +1,4 @@
+use Rattle.std.proofs.lemmas.Grind.{common_steps}
 use Rattle.std.proofs.Common.{◌≡◌, ◌<◌, List, None, length, arith, unwrap_or, cond, ap, sym, ◌∙◌, subst}
 use Rattle.history.specs.declared.key.KeyWrite.{KeyWrite}
 use Rattle.history.specs.Key.{same_key, write_in}
@@ -34,3 +35,9 @@ returns-clause-by_key c =
           ∙ seen-with_write c.self.inside.writes.items (record { key = c.args.key; write = None }) q (at_snapshot c.self.inside.frozen c.self.inside.snapshot q)))
       | in-Err w ↦ rw w.result-is tt
     ]
+
+pub returns-then-is_none-clause-ok : goal.returns-then-is_none-clause-ok
+returns-then-is_none-clause-ok c = grind (arith, common_steps)
+
+pub returns-then-is_none-clause-missing : goal.returns-then-is_none-clause-missing
+returns-then-is_none-clause-missing c = grind (arith, common_steps)

@@ -1,4 +1,5 @@
-use Rattle.std.proofs.Common.{◌≤◌, ℕ, List, ap, sym, ◌∙◌, subst}
+use Rattle.std.proofs.lemmas.Grind.{common_steps}
+use Rattle.std.proofs.Common.{◌≤◌, ℕ, List, ap, sym, ◌∙◌, subst, arith}
 use Rattle.std.specs.Prelude.{Ok}
 use Rattle.history.specs.declared.time.Version.{Version}
 use Rattle.history.specs.Answers.{IsScanBetweenAnswer}
@@ -30,3 +31,6 @@ returns-clause-only g c = λ h reads.
     let rising : AreRising v.state = subst (λ (w : ViewValue). AreRising w.state) c.self.view_is c.self.invariant.1 in
     answers-third c.scan_both.result _ _ _ c.scan_both.ensures.in_order (c.scan_both.ensures.only reads.lists reads.told reads.right reads.held)
     (λ found up each. scan-of-both _ _ _ v h reads rising c.args.relation c.args.a c.args.b found.items inside.from_floor inside.not_empty inside.upto_last (in-order found.items up) each)
+
+pub returns-clause-exact : goal.returns-clause-exact
+returns-clause-exact g c = grind (arith, common_steps)

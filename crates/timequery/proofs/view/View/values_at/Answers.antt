@@ -1,3 +1,4 @@
+use Rattle.std.proofs.lemmas.Grind.{common_steps}
 use Rattle.std.proofs.Common.{◌≤◌, ◌<◌, ℕ, List, ap, sym, ◌∙◌, subst, arith}
 use Rattle.std.specs.Prelude.{Ok}
 use Rattle.history.specs.Answers.{IsScanAtAnswer}
@@ -37,3 +38,9 @@ returns-clause-exact g c = λ told right.
     let less : c.args.time < c.self.inside.reclaimed = omega (arith, c.if-self-time.false) in
     let below : c.args.time < v.reclaimed = subst (λ (w : ViewValue). c.args.time < w.reclaimed) c.self.view_is less in
     ValuesOfBoth below c.in_ok-rows.rows.items (c.in_ok-rows.ensures.exact told right) c.in_ok-values_of.ensures
+
+pub returns-in_err-rows-clause-refused : goal.returns-in_err-rows-clause-refused
+returns-in_err-rows-clause-refused g c = grind (arith, common_steps)
+
+pub returns-in_err-rows-clause-exact : goal.returns-in_err-rows-clause-exact
+returns-in_err-rows-clause-exact g c = grind (arith, common_steps)

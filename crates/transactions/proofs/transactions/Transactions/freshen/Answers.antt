@@ -1,3 +1,4 @@
+use Rattle.std.proofs.lemmas.Grind.{common_steps}
 use Rattle.std.proofs.Common.{◌≡◌, ◌≤◌, ◌-◌, ℕ, nat_lt, true, List, slice_get, slice_set, Some, refl, arith, ap, sym, subst, ◌∙◌}
 use Rattle.std.proofs.lemmas.Bool.Decides.{nat_tests}
 use Rattle.chains.specs.KeyWrites.{KeyWrites, latest, forgotten}
@@ -31,3 +32,9 @@ returns-clause-ok c =
     let place_is : place ≡ i.group - 1 = omega (arith, c.saturating_sub-place.ensures) in
     let at : c.put_versions.new.queue.items ≡ fresh_at i.reclaimed (i.group - 1) i.queue.items (slice_get i.queue.items (i.group - 1)) = queue_is ∙ ap (λ (n : ℕ). fresh_at i.reclaimed n i.queue.items (slice_get i.queue.items n)) place_is in
     rw at (ap (λ (w : TransactionsValue). freshened w) c.self.view_is)
+
+pub returns-then-reclaimed-mark-clause-ok : goal.returns-then-reclaimed-mark-clause-ok
+returns-then-reclaimed-mark-clause-ok c = grind (arith, common_steps)
+
+pub returns-in_default-forget-clause-err : goal.returns-in_default-forget-clause-err
+returns-in_default-forget-clause-err c = grind (arith, common_steps)

@@ -1,4 +1,5 @@
-use Rattle.std.proofs.Common.{◌≡◌, List, ◌++◌, drop, ap, sym, subst}
+use Rattle.std.proofs.lemmas.Grind.{common_steps}
+use Rattle.std.proofs.Common.{◌≡◌, List, ◌++◌, drop, ap, sym, subst, arith}
 use Rattle.std.specs.List.{flat_map}
 use Rattle.extents.specs.declared.usage.Usage.{Usage}
 use Rattle.extents.specs.Usages.{AreOut}
@@ -24,3 +25,9 @@ invariant_of-self c =
 
 pub publish_first-requires-clause-out : goal.publish_first-requires-clause-out
 publish_first-requires-clause-out c = out-front _ _ c.self.inside.reserved.items c.self.invariant.out
+
+pub returns-clause-count : goal.returns-clause-count
+returns-clause-count c = grind (arith, common_steps)
+
+pub returns-clause-new : goal.returns-clause-new
+returns-clause-new c = grind (arith, common_steps)

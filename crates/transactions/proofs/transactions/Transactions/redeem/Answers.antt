@@ -1,3 +1,4 @@
+use Rattle.std.proofs.lemmas.Grind.{common_steps}
 use Rattle.std.proofs.Common.{◌≤◌, ℕ, MatchOption, arith, sym, subst}
 use Rattle.chains.specs.KeyWrites.{latest}
 use Rattle.transactions.specs.Order.{AreBy}
@@ -20,3 +21,6 @@ invariant_of-self c =
       room = inv.room;
       slots_few = inv.slots_few;
     }
+
+pub returns-clause-is : goal.returns-clause-is
+returns-clause-is c = grind (arith, common_steps)
