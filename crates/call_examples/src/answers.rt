@@ -24,9 +24,10 @@ pub fn is_row(row: &Version<SharedValue>, want: &Row) -> bool {
 
 /// Whether these rows are told.
 pub fn are_rows(rows: &[Version<SharedValue>], want: &[Row]) -> bool {
-    for (row, part) in rows.iter().zip(want.iter()) {
-        if !is_row(row, part) {
-            return false;
+    for (place, row) in rows.iter().enumerate() {
+        match want.get(place) {
+            Some(part) if is_row(row, part) => {}
+            _ => return false,
         }
     }
     rows.len() == want.len()

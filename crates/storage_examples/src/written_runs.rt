@@ -8,6 +8,7 @@ use disk::{Area, Disk, MemDisk};
 use floors::Floors;
 use history::Key;
 use std::alloc::Global;
+use std::test::Fail;
 use wire::{Run, Value, ValueFault};
 
 /// A version of a key with these fields.
@@ -56,16 +57,21 @@ const WRITTEN: &[Written] = &[
     ),
 ];
 
-/// Whether a run of these records is written so.
-fn is_written(records: &[(Head, Value)], disk: &mut MemDisk, row: &Written) -> bool {
-    let Some(mut writer) = RunWriter::new(ListWalk::new(records), 0) else {
-        return false;
-    };
+/// Whether a run is written so.
+fn writes_all(writer: &mut RunWriter<ListWalk<'_>>, disk: &mut MemDisk, row: &Written) -> bool {
     let [(first, first_calls), (second, second_calls)] = row.3;
     writer.records() == 2
         && writer.left() == row.2
-        && writes(&mut writer, disk, first, first_calls)
-        && writes(&mut writer, disk, second, second_calls)
+        && writes(writer, disk, first, first_calls)
+        && writes(writer, disk, second, second_calls)
+}
+
+/// Whether a run of these records is written so.
+fn is_written(records: &[(Head, Value)], disk: &mut MemDisk, row: &Written) -> bool {
+    match RunWriter::new(ListWalk::new(records), 0) {
+        Some(mut writer) => writes_all(&mut writer, disk, row),
+        None => false,
+    }
 }
 
 /// Whether a row's run is written, and the archive is as long then.
@@ -125,15 +131,19 @@ const LESSER: Key = Key {
     record: 3,
 };
 
-/// Writes that run behind the other one on a disk; whether that is made.
-fn adds_later(alloc: Global, disk: &mut MemDisk) -> bool {
-    let Ok(record) = version(alloc, LESSER, (110, 130), &[b"x"]) else {
-        return false;
-    };
-    let records = [record];
-    match RunWriter::new(ListWalk::new(&records), 74) {
+/// Writes a run behind the one of two records; whether that is made.
+fn adds(records: &[(Head, Value)], disk: &mut MemDisk) -> bool {
+    match RunWriter::new(ListWalk::new(records), 74) {
         Some(mut writer) => writer.write_piece(disk).is_ok(),
         None => false,
+    }
+}
+
+/// The same of that later run.
+fn adds_later(alloc: Global, disk: &mut MemDisk) -> bool {
+    match version(alloc, LESSER, (110, 130), &[b"x"]) {
+        Ok(record) => adds(&[record], disk),
+        Err(_) => false,
     }
 }
 
@@ -146,14 +156,14 @@ fn scans(reader: &mut ArchiveReader, disk: &mut MemDisk, from: u64, count: usize
     }
 }
 
+/// Whether the later run is added, and both are merged.
+fn merges(alloc: Global, Archived { reader, disk }: &mut Archived) -> bool {
+    adds_later(alloc, disk) && scans(reader, disk, 100, 3) && scans(reader, disk, 120, 1)
+}
+
 #[test]
-fn scans_of_several_runs_are_merged(rt: HostRuntime) {
-    let Some(mut archived) = read_archive(rt.alloc(), &RUN_BYTES) else {
-        panic!(rt; "no memory");
-    };
-    let Archived { reader, disk } = &mut archived;
-    let right = adds_later(rt.alloc(), disk)
-        && scans(reader, disk, 100, 3)
-        && scans(reader, disk, 120, 1);
-    assert!(rt; right);
+fn scans_of_several_runs_are_merged(rt: HostRuntime) -> Result<(), Fail> {
+    let mut archived = read_archive(rt.alloc(), &RUN_BYTES)?;
+    assert!(rt; merges(rt.alloc(), &mut archived));
+    Ok(())
 }
