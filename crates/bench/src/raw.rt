@@ -2,6 +2,7 @@
 
 use crate::fault::Fault;
 use crate::stores;
+use crate::stores::MOST_SLOTS;
 use std::alloc::Global;
 use std::fs::{File, OpenOptions};
 use std::io;
@@ -28,46 +29,54 @@ pub(crate) struct RawFiles {
     slots: u64,
 }
 
-fn open<R: Files<File = File> + AllocGlobal>(
-    rt: &R,
-    folder: &str,
-    name: &str,
-) -> Result<File, Fault> {
+fn open<R: Files<File = File> + AllocGlobal>(rt: &R, folder: &str, name: &str) -> io::Result<File> {
     let path = format!(in rt.alloc(); "{folder}/{name}")?;
-    let file = OpenOptions::new()
+    OpenOptions::new()
         .read(true)
         .write(true)
-        .open(rt, path.as_str())?;
-    Ok(file)
+        .open(rt, path.as_str())
 }
 
 impl RawFiles {
-    /// Makes a folder with the files of a store of this many slots.
-    pub(crate) fn new<R: Files<File = File> + AllocGlobal>(
+    /// Makes the folder `raw` below this one, with the files of a store of as many slots as one may have.
+    pub(crate) fn below<R: Files<File = File> + AllocGlobal>(
         rt: &R,
         alloc: Global,
         folder: &str,
-        slots: u32,
     ) -> Result<RawFiles, Fault> {
-        stores::make(rt, alloc, folder, slots)?;
+        let folder = format!(in alloc; "{folder}/raw")?;
+        RawFiles::new(rt, alloc, folder.as_str())
+    }
+
+    fn new<R: Files<File = File> + AllocGlobal>(
+        rt: &R,
+        alloc: Global,
+        folder: &str,
+    ) -> Result<RawFiles, Fault> {
+        stores::make(rt, alloc, folder, MOST_SLOTS)?;
+        let status = open(rt, folder, "status")?;
+        let heap = open(rt, folder, "heap")?;
         Ok(RawFiles {
-            status: open(rt, folder, "status")?,
-            heap: open(rt, folder, "heap")?,
+            status,
+            heap,
             extents: 0,
             slots: 0,
         })
     }
 
-    /// Writes so many extents, the body of the next slot and its gate, with a sync after each of the
-    /// three.
-    pub(crate) fn write_group(&mut self, extents: u64) -> io::Result<()> {
+    /// Writes so many extents at the end of the heap.
+    fn write_extents(&mut self, count: u64) -> io::Result<()> {
         let extent = [(self.slots % 251) as u8; EXTENT_LEN as usize];
-        for _ in 0..extents {
+        for _ in 0..count {
             self.heap
                 .write_all_at(&extent, self.extents.wrapping_mul(EXTENT_LEN))?;
             self.extents = self.extents.wrapping_add(1);
         }
-        self.heap.sync_data()?;
+        Ok(())
+    }
+
+    /// Writes the body of the next slot and its gate, with a sync after each of the two.
+    fn write_slot(&mut self) -> io::Result<()> {
         self.slots = self.slots.wrapping_add(1);
         let slot = self.slots.wrapping_mul(SLOT_LEN);
         self.status
@@ -75,5 +84,13 @@ impl RawFiles {
         self.status.sync_data()?;
         self.status.write_all_at(&OPEN, slot)?;
         self.status.sync_data()
+    }
+
+    /// Writes so many extents, the body of the next slot and its gate, with a sync after each of the
+    /// three.
+    pub(crate) fn write_group(&mut self, extents: u64) -> io::Result<()> {
+        self.write_extents(extents)?;
+        self.heap.sync_data()?;
+        self.write_slot()
     }
 }

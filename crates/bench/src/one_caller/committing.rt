@@ -2,16 +2,17 @@
 
 use crate::fault::Fault;
 use crate::records;
-use disk::Disk;
+use crate::stores::shown;
+use disk_file::FileDisk;
 use snapshot::Txn;
 use std::alloc::Global;
-use store::{Did, Redeemed, Store, Submitted, Ticket};
+use store::{Did, PumpFault, Store, Submitted, Ticket, TxnFault};
 
 /// The label of each commit.
 const LABEL: u64 = 9;
 
 /// What a transaction writes: a version of so many records, from the first on.
-#[derive(Clone, Copy, Debug)]
+#[derive(Clone, Copy)]
 pub(crate) struct Batch {
     pub(crate) first: u64,
     pub(crate) count: u64,
@@ -20,41 +21,42 @@ pub(crate) struct Batch {
     pub(crate) now: u64,
 }
 
-fn put_all(alloc: Global, txn: &mut Txn, batch: &Batch) -> Result<(), Fault> {
+fn put_all(alloc: Global, txn: &mut Txn, batch: &Batch) -> Result<(), TxnFault> {
     for number in 0..batch.count {
         let record = batch.first.wrapping_add(number);
-        let [first, second, third, fourth] = records::fields(record, batch.version);
-        txn.put(
-            alloc,
-            records::key(record),
-            &[&first, &second, &third, &fourth],
-        )?;
+        let fields = records::fields(record, batch.version);
+        txn.put(alloc, records::key(record), &records::slices(&fields))?;
     }
     Ok(())
 }
 
+/// Submits a transaction that wrote.
+fn send(store: &mut Store<FileDisk>, txn: Txn, now: u64) -> Result<Ticket, Fault> {
+    match store.submit(txn, LABEL, now) {
+        Ok(Submitted::Queued(ticket)) => Ok(ticket),
+        Ok(Submitted::ReadOnly(_)) => Err(Fault::Wrong("nothing was written")),
+        Err(fault) => Err(Fault::Submit(fault)),
+    }
+}
+
 /// Begins a transaction, writes to it and submits it.
-pub(crate) fn submit<D: Disk>(
+pub(crate) fn submit(
     alloc: Global,
-    store: &mut Store<D>,
+    store: &mut Store<FileDisk>,
     batch: &Batch,
 ) -> Result<Ticket, Fault> {
     let mut txn = store.begin()?;
     match put_all(alloc, &mut txn, batch) {
-        Ok(()) => {}
+        Ok(()) => send(store, txn, batch.now),
         Err(fault) => {
             store.abort(txn);
-            return Err(fault);
+            Err(Fault::Txn(fault))
         }
-    }
-    match store.submit(txn, LABEL, batch.now)? {
-        Submitted::Queued(ticket) => Ok(ticket),
-        Submitted::ReadOnly(_) => Err(Fault::Wrong("nothing was written")),
     }
 }
 
 /// Publishes all that waits. Gives how many commits that were.
-pub(crate) fn publish<D: Disk>(store: &mut Store<D>) -> Result<u64, Fault> {
+pub(crate) fn publish(store: &mut Store<FileDisk>) -> Result<u64, PumpFault> {
     let mut published = 0u64;
     for _ in 0..u64::MAX {
         match store.pump()? {
@@ -67,22 +69,14 @@ pub(crate) fn publish<D: Disk>(store: &mut Store<D>) -> Result<u64, Fault> {
 }
 
 /// Shows the ticket of a commit that is published.
-pub(crate) fn redeem<D: Disk>(store: &mut Store<D>, ticket: Ticket) -> Result<(), Fault> {
-    match store.redeem(ticket) {
-        Redeemed::Done(_) => Ok(()),
-        Redeemed::Waiting(ticket) => {
-            ticket.give_up();
-            Err(Fault::Wrong("the commit waits"))
-        }
-        Redeemed::InDoubt => Err(Fault::Wrong("the commit is in doubt")),
-        Redeemed::Stranger => Err(Fault::Wrong("the ticket is a stranger's")),
-    }
+pub(crate) fn redeem(store: &mut Store<FileDisk>, ticket: Ticket) -> Result<(), Fault> {
+    shown(store.redeem(ticket))
 }
 
 /// One commit, from the beginning of its transaction until its ticket is shown.
-pub(crate) fn commit<D: Disk>(
+pub(crate) fn commit(
     alloc: Global,
-    store: &mut Store<D>,
+    store: &mut Store<FileDisk>,
     batch: &Batch,
 ) -> Result<(), Fault> {
     let ticket = submit(alloc, store, batch)?;
@@ -90,7 +84,7 @@ pub(crate) fn commit<D: Disk>(
         Ok(_) => redeem(store, ticket),
         Err(fault) => {
             ticket.give_up();
-            Err(fault)
+            Err(Fault::Pump(fault))
         }
     }
 }
