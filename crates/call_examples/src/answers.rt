@@ -24,10 +24,9 @@ pub fn is_row(row: &Version<SharedValue>, want: &Row) -> bool {
 
 /// Whether these rows are told.
 pub fn are_rows(rows: &[Version<SharedValue>], want: &[Row]) -> bool {
-    for (place, row) in rows.iter().enumerate() {
-        match want.get(place) {
-            Some(part) if is_row(row, part) => {}
-            _ => return false,
+    for (row, part) in rows.iter().zip(want.iter()) {
+        if !is_row(row, part) {
+            return false;
         }
     }
     rows.len() == want.len()

@@ -3,7 +3,7 @@ use crate::list_answers::{Want, is_answer};
 use crate::list_calls::{Ask, Rows, answers_to, call_of, calls_of, first_wrong, is_spent, opened};
 use disk::MemDisk;
 use group::{Did, PumpFault};
-use run::{Answer, Call, Held, RedeemOutcome, close, give_back, run_on, step};
+use run::{Call, Held, RedeemOutcome, close, give_back, run_on, step};
 use std::alloc::{AllocError, Global};
 use std::test::Fail;
 use store::{JobDid, StartFault, Store};
@@ -148,112 +148,52 @@ const FLOORS: Rows = &[
     (Ask::At(30, 100), Want::ValueAt),
 ];
 
-/// What a list shows, whether it begins with the commit, its calls, or those behind the commit, and how
-/// many places hold something at the end.
+/// What a list shows, its calls in two parts, and how many places hold something at the end.
 #[derive(Clone, Copy)]
-struct List(&'static str, bool, Rows, u32);
+struct List(&'static str, Rows, Rows, u32);
 
-fn add_commit(rows: &mut Vec<(Ask, Want)>) -> Result<(), AllocError> {
-    rows.extend_from_slice(COMMIT)
-}
+const LISTS: &[List] = &[
+    List(
+        "a commit is redeemed once and then seen",
+        REDEEMED_ONCE,
+        &[],
+        0,
+    ),
+    List(
+        "a place without the value is unknown",
+        WITHOUT_THE_VALUE,
+        &[],
+        0,
+    ),
+    List("what is left over stays in its place", LEFT_OVER, &[], 3),
+    List("a put is deleted and a ticket given up", GIVEN_UP, &[], 0),
+    List("a view is asked of intervals", COMMIT, INTERVALS, 0),
+    List("an archive goes on beside a commit", COMMIT, ARCHIVES, 2),
+    List("a floor bars later views and no reader", COMMIT, FLOORS, 5),
+];
 
-/// All rows of a list.
+/// All rows of a list, the second part behind the first.
 fn rows_of(alloc: Global, list: &List) -> Result<Vec<(Ask, Want)>, AllocError> {
     let mut rows = Vec::new(alloc);
-    if list.1 {
-        add_commit(&mut rows)?;
-    }
+    rows.extend_from_slice(list.1)?;
     rows.extend_from_slice(list.2)?;
     Ok(rows)
 }
 
 /// The place of the first answer that is another one, and how many places hold something at the end.
-fn outcome_of(alloc: Global, rows: &[(Ask, Want)]) -> Result<(Option<usize>, u32), Fail> {
-    let calls = calls_of(alloc, rows)?;
-    let (answers, left) = answers_to(alloc, &calls)?;
-    Ok((first_wrong(&answers, rows), left))
-}
-
-/// A list must be answered as it says.
-fn goes(alloc: Global, list: &List) -> Result<(), Fail> {
+fn outcome_of(alloc: Global, list: &List) -> Result<(Option<usize>, u32), Fail> {
     let rows = rows_of(alloc, list)?;
-    let outcome = outcome_of(alloc, &rows)?;
-    if outcome == (None, list.3) {
-        Ok(())
-    } else {
-        let what = list.0;
-        Err(Fail::new(format_args!("{what}: {outcome:?}")))
-    }
-}
-
-fn a_commit_is_redeemed(alloc: Global) -> Result<(), Fail> {
-    goes(
-        alloc,
-        &List(
-            "a commit is redeemed once and then seen",
-            false,
-            REDEEMED_ONCE,
-            0,
-        ),
-    )
-}
-
-fn the_value_is_missing(alloc: Global) -> Result<(), Fail> {
-    goes(
-        alloc,
-        &List(
-            "a place without the value is unknown",
-            false,
-            WITHOUT_THE_VALUE,
-            0,
-        ),
-    )
-}
-
-fn places_keep_what_is_left(alloc: Global) -> Result<(), Fail> {
-    goes(
-        alloc,
-        &List("what is left over stays in its place", false, LEFT_OVER, 3),
-    )
-}
-
-fn a_ticket_is_given_up(alloc: Global) -> Result<(), Fail> {
-    goes(
-        alloc,
-        &List("a put is deleted and a ticket given up", false, GIVEN_UP, 0),
-    )
-}
-
-fn intervals_are_told(alloc: Global) -> Result<(), Fail> {
-    goes(
-        alloc,
-        &List("a view is asked of intervals", true, INTERVALS, 0),
-    )
-}
-
-fn an_archive_goes_on(alloc: Global) -> Result<(), Fail> {
-    goes(
-        alloc,
-        &List("an archive goes on beside a commit", true, ARCHIVES, 2),
-    )
-}
-
-fn a_floor_bars(alloc: Global) -> Result<(), Fail> {
-    goes(
-        alloc,
-        &List("a floor bars later views and no reader", true, FLOORS, 5),
-    )
+    let calls = calls_of(alloc, &rows)?;
+    let (answers, left) = answers_to(alloc, &calls)?;
+    Ok((first_wrong(&answers, &rows), left))
 }
 
 #[test]
 fn lists_of_calls_are_answered(rt: HostRuntime) -> Result<(), Fail> {
-    a_commit_is_redeemed(rt.alloc())?;
-    the_value_is_missing(rt.alloc())?;
-    places_keep_what_is_left(rt.alloc())?;
-    a_ticket_is_given_up(rt.alloc())?;
-    intervals_are_told(rt.alloc())?;
-    an_archive_goes_on(rt.alloc())?;
-    a_floor_bars(rt.alloc())
+    for list in LISTS {
+        assert_eq!(rt; outcome_of(rt.alloc(), list)?, (None, list.3), "{}", list.0);
+    }
+    Ok(())
 }
 
 const BEGAN: Rows = &[
@@ -277,14 +217,6 @@ const WENT_ON: Rows = &[
     (Ask::At(13, 100), Want::ValueAt),
 ];
 
-fn began_right(answers: &[Answer]) -> bool {
-    first_wrong(answers, BEGAN).is_none()
-}
-
-fn went_on_right(answers: &[Answer]) -> bool {
-    first_wrong(answers, WENT_ON).is_none()
-}
-
 /// Whether two lists on an empty store are answered, the second of which goes on with the places of the
 /// first. What is left over is given back.
 fn go_on(alloc: Global, first: &[Call<'_>], second: &[Call<'_>]) -> Result<bool, Fail> {
@@ -294,7 +226,7 @@ fn go_on(alloc: Global, first: &[Call<'_>], second: &[Call<'_>]) -> Result<bool,
     let went_on = run_on(alloc, &mut store, &mut places, second);
     give_back(places);
     let _disk = close(store);
-    Ok(began_right(&began?) && went_on_right(&went_on?))
+    Ok(first_wrong(&began?, BEGAN).is_none() && first_wrong(&went_on?, WENT_ON).is_none())
 }
 
 #[test]
@@ -317,37 +249,38 @@ fn steps(
     is_spent(held) == holds && is_answer(&answer, &want)
 }
 
-/// The first calls of a step's example: a commit that waits, whose ticket is in place 2.
-fn queue(
-    alloc: Global,
-    store: &mut Store<MemDisk>,
-    places: &mut Vec<Held>,
-) -> Result<usize, AllocError> {
+#[test]
+fn a_step_is_one_call(rt: HostRuntime) -> Result<(), Fail> {
+    let alloc = rt.alloc();
     let calls = [
         call_of(Ask::Begin),
         call_of(Ask::Put(0)),
         call_of(Ask::Submit(0)),
     ];
-    let answers = run_on(alloc, store, places, &calls)?;
-    Ok(answers.len())
-}
-
-/// Whether the ticket is given up once, and a transaction begins.
-fn steps_go(alloc: Global, store: &mut Store<MemDisk>, places: &mut Vec<Held>) -> bool {
-    steps(alloc, store, places, (Ask::GiveUp(2), Want::GivenUp), false)
-        && steps(alloc, store, places, (Ask::GiveUp(2), Want::Unknown), false)
-        && steps(alloc, store, places, (Ask::Begin, Want::Begun), true)
-}
-
-#[test]
-fn a_step_is_one_call(rt: HostRuntime) -> Result<(), Fail> {
-    let alloc = rt.alloc();
     let mut store = opened(alloc)?;
     let mut places = Vec::new(alloc);
-    let began = queue(alloc, &mut store, &mut places);
-    let right = steps_go(alloc, &mut store, &mut places);
+    let began = run_on(alloc, &mut store, &mut places, &calls);
+    let right = steps(
+        alloc,
+        &mut store,
+        &mut places,
+        (Ask::GiveUp(2), Want::GivenUp),
+        false,
+    ) && steps(
+        alloc,
+        &mut store,
+        &mut places,
+        (Ask::GiveUp(2), Want::Unknown),
+        false,
+    ) && steps(
+        alloc,
+        &mut store,
+        &mut places,
+        (Ask::Begin, Want::Begun),
+        true,
+    );
     give_back(places);
     let _disk = close(store);
-    assert!(rt; right && began == Ok(3));
+    assert!(rt; right && began?.len() == 3);
     Ok(())
 }

@@ -2,7 +2,7 @@
 use clap::Error;
 use command_line::{Action, WordsFault, read_words};
 use history::Key;
-use std::alloc::{AllocError, Global};
+use std::alloc::Global;
 use std::test::Fail;
 
 const LAST: Key = Key {
@@ -15,36 +15,43 @@ const SEVEN: Key = Key {
     record: 7,
 };
 
-/// Words, with one blank between, and what they ask for.
-const ASKED: &[(&str, Action<'static>)] = &[
-    ("timestore", Action::Example),
+/// Words, and what they ask for.
+const ASKED: &[(&[&str], Action<'static>)] = &[
+    (&["timestore"], Action::Example),
     (
-        "timestore format d",
+        &["timestore", "format", "d"],
         Action::Format {
             dir: "d",
             slots: 1024,
         },
     ),
     (
-        "timestore format d --slots 16",
+        &["timestore", "format", "d", "--slots", "16"],
         Action::Format {
             dir: "d",
             slots: 16,
         },
     ),
     (
-        "timestore format --slots=4294967295 d",
+        &["timestore", "format", "--slots=4294967295", "d"],
         Action::Format {
             dir: "d",
             slots: u32::MAX,
         },
     ),
     (
-        "timestore run some/folder",
+        &["timestore", "run", "some/folder"],
         Action::Run { dir: "some/folder" },
     ),
     (
-        "timestore at d 65535 18446744073709551615 2001-09-09T01:46:40Z",
+        &[
+            "timestore",
+            "at",
+            "d",
+            "65535",
+            "18446744073709551615",
+            "2001-09-09T01:46:40Z",
+        ],
         Action::At {
             dir: "d",
             key: LAST,
@@ -52,7 +59,7 @@ const ASKED: &[(&str, Action<'static>)] = &[
         },
     ),
     (
-        "timestore between d 1 7 0 later",
+        &["timestore", "between", "d", "1", "7", "0", "later"],
         Action::Between {
             dir: "d",
             key: SEVEN,
@@ -61,43 +68,25 @@ const ASKED: &[(&str, Action<'static>)] = &[
         },
     ),
     (
-        "timestore vacuum d 120",
+        &["timestore", "vacuum", "d", "120"],
         Action::Vacuum {
             dir: "d",
             time: Some(120),
         },
     ),
     (
-        "timestore grow some/folder",
+        &["timestore", "grow", "some/folder"],
         Action::Grow { dir: "some/folder" },
     ),
     (
-        "timestore dump some/folder",
+        &["timestore", "dump", "some/folder"],
         Action::Dump { dir: "some/folder" },
     ),
 ];
 
-/// The words of a text.
-fn words_of(alloc: Global, text: &str) -> Result<Vec<&str>, AllocError> {
-    let mut words = Vec::new(alloc);
-    for word in text.split(' ') {
-        words.push(word)?;
-    }
-    Ok(words)
-}
-
-/// Whether words ask for this.
-fn ask_for(alloc: Global, words: &[&str], action: &Action<'_>) -> bool {
+fn is_asked(alloc: Global, words: &[&str], action: &Action<'_>) -> bool {
     match read_words(alloc, words) {
         Ok(asked) => asked == *action,
-        Err(_) => false,
-    }
-}
-
-/// Whether the words of a text do so.
-fn is_asked(alloc: Global, text: &str, action: &Action<'_>) -> bool {
-    match words_of(alloc, text) {
-        Ok(words) => ask_for(alloc, &words, action),
         Err(_) => false,
     }
 }
@@ -117,39 +106,49 @@ fn usage<'a>(alloc: Global, words: &'a [&'a str]) -> Result<Error, Fail> {
 }
 
 /// What is no command.
-const FAULTS: &[(&str, &str)] = &[
-    ("format without a folder", "timestore format"),
-    ("too many slots", "timestore format d --slots 4294967296"),
+const FAULTS: &[(&str, &[&str])] = &[
+    ("format without a folder", &["timestore", "format"]),
+    (
+        "too many slots",
+        &["timestore", "format", "d", "--slots", "4294967296"],
+    ),
     (
         "slots that are no number",
-        "timestore format d --slots many",
+        &["timestore", "format", "d", "--slots", "many"],
     ),
-    ("two folders", "timestore format d e"),
-    ("run without a folder", "timestore run"),
-    ("at without a time", "timestore at d 1 7"),
-    ("no such relation", "timestore at d 65536 7 1"),
-    ("no such record", "timestore at d 1 18446744073709551616 1"),
-    ("a record below zero", "timestore at d 1 -7 1"),
-    ("between with one time", "timestore between d 1 7 0"),
-    ("vacuum without a time", "timestore vacuum d"),
-    ("vacuum with two times", "timestore vacuum d 1 2"),
-    ("no such command", "timestore forget d"),
-    ("slots without a command", "timestore --slots 16"),
+    ("two folders", &["timestore", "format", "d", "e"]),
+    ("run without a folder", &["timestore", "run"]),
+    ("at without a time", &["timestore", "at", "d", "1", "7"]),
+    (
+        "no such relation",
+        &["timestore", "at", "d", "65536", "7", "1"],
+    ),
+    (
+        "no such record",
+        &["timestore", "at", "d", "1", "18446744073709551616", "1"],
+    ),
+    (
+        "a record below zero",
+        &["timestore", "at", "d", "1", "-7", "1"],
+    ),
+    (
+        "between with one time",
+        &["timestore", "between", "d", "1", "7", "0"],
+    ),
+    ("vacuum without a time", &["timestore", "vacuum", "d"]),
+    (
+        "vacuum with two times",
+        &["timestore", "vacuum", "d", "1", "2"],
+    ),
+    ("no such command", &["timestore", "forget", "d"]),
+    ("slots without a command", &["timestore", "--slots", "16"]),
 ];
 
 /// Whether words are refused with an exit status of 2, on standard error.
-fn are_refused(alloc: Global, words: &[&str]) -> bool {
+fn is_refused(alloc: Global, words: &[&str]) -> bool {
     match read_words(alloc, words) {
         Err(WordsFault::Usage(error)) => error.exit_code() == 2 && error.use_stderr(),
         _ => false,
-    }
-}
-
-/// Whether the words of a text are.
-fn is_refused(alloc: Global, text: &str) -> bool {
-    match words_of(alloc, text) {
-        Ok(words) => are_refused(alloc, &words),
-        Err(_) => false,
     }
 }
 
@@ -160,18 +159,21 @@ fn what_is_no_command_is_a_usage_fault(rt: HostRuntime) {
     }
 }
 
-/// The first of these parts, which have a bar between them, that a text does not name.
-fn first_missing<'a>(text: &str, named: &'a str) -> Option<&'a str> {
-    for part in named.split('|') {
-        if !text.contains(part) {
-            return Some(part);
+fn first_missing<'a>(text: &str, named: &'a [&'a str]) -> Option<&'a str> {
+    for part in named {
+        if !text.contains(*part) {
+            return Some(*part);
         }
     }
     None
 }
 
-/// The first of these parts that the text of help, which is no fault, does not name.
-fn missing<'a>(alloc: Global, words: &[&str], named: &'a str) -> Result<Option<&'a str>, Fail> {
+/// The first of these that the text of help, which is no fault, does not name.
+fn missing<'a>(
+    alloc: Global,
+    words: &[&str],
+    named: &'a [&'a str],
+) -> Result<Option<&'a str>, Fail> {
     let error = usage(alloc, words)?;
     if error.exit_code() != 0 || error.use_stderr() {
         return Err("no help".into());
@@ -180,9 +182,27 @@ fn missing<'a>(alloc: Global, words: &[&str], named: &'a str) -> Result<Option<&
     Ok(first_missing(text.as_str(), named))
 }
 
-/// What help names, in parts with a bar between: each command, and the limits of a store.
-const NAMED: &str =
-    "\n  format |\n  run |\n  at |\n  between |\n  vacuum |\n  grow |\n  dump |16 to 65536|1 to 16\n             commits|65536 extents of 8 KiB|1 to 1024 keys|0 to 18446744073709551615|1 to 16 fields of 0 to 255 bytes|1 to 9223372036854775807|YYYY-MM-DDTHH:MM:SSZ|status full|heap full|Exit status: 0 done, 1 refused, 2 words that are no command.";
+/// What help names: each command, and the limits of a store.
+const NAMED: &[&str] = &[
+    "\n  format ",
+    "\n  run ",
+    "\n  at ",
+    "\n  between ",
+    "\n  vacuum ",
+    "\n  grow ",
+    "\n  dump ",
+    "16 to 65536",
+    "1 to 16\n             commits",
+    "65536 extents of 8 KiB",
+    "1 to 1024 keys",
+    "0 to 18446744073709551615",
+    "1 to 16 fields of 0 to 255 bytes",
+    "1 to 9223372036854775807",
+    "YYYY-MM-DDTHH:MM:SSZ",
+    "status full",
+    "heap full",
+    "Exit status: 0 done, 1 refused, 2 words that are no command.",
+];
 
 /// The words that ask for help.
 const HELPS: &[&[&str]] = &[
@@ -199,26 +219,81 @@ fn help_names_the_commands_and_the_limits(rt: HostRuntime) -> Result<(), Fail> {
     Ok(())
 }
 
-/// What the help of each command says of it, in parts with a bar between: its arguments, and each line of a script.
-const HELP: &[(&str, &str)] = &[
-    ("format", "<DIR>|--slots <N>|[default: 1024]|16 to 65536"),
+/// What the help of each command says of it: its arguments, and each line of a script.
+const HELP: &[(&str, &[&str])] = &[
+    (
+        "format",
+        &["<DIR>", "--slots <N>", "[default: 1024]", "16 to 65536"],
+    ),
     (
         "run",
-        "<DIR>|begin NAME|put NAME REL REC F..|del NAME REL REC|get NAME REL REC|submit NAME LABEL TIME|abort NAME|pump|flush|redeem NAME|at REL REC TIME|between REL REC TIME TIME|scan REL TIME|times LABEL|archive TIME|reclaim|floor TIME|floorof REL TIME|job|finish|reopen|at most 64|refused: ",
+        &[
+            "<DIR>",
+            "begin NAME",
+            "put NAME REL REC F..",
+            "del NAME REL REC",
+            "get NAME REL REC",
+            "submit NAME LABEL TIME",
+            "abort NAME",
+            "pump",
+            "flush",
+            "redeem NAME",
+            "at REL REC TIME",
+            "between REL REC TIME TIME",
+            "scan REL TIME",
+            "times LABEL",
+            "archive TIME",
+            "reclaim",
+            "floor TIME",
+            "floorof REL TIME",
+            "job",
+            "finish",
+            "reopen",
+            "at most 64",
+            "refused: ",
+        ],
     ),
-    ("at", "<DIR>|<REL>|<REC>|<TIME>|microseconds since 1970"),
+    (
+        "at",
+        &[
+            "<DIR>",
+            "<REL>",
+            "<REC>",
+            "<TIME>",
+            "microseconds since 1970",
+        ],
+    ),
     (
         "between",
-        "<DIR>|<REL>|<REC>|<FROM>|<TO>|microseconds since 1970",
+        &[
+            "<DIR>",
+            "<REL>",
+            "<REC>",
+            "<FROM>",
+            "<TO>",
+            "microseconds since 1970",
+        ],
     ),
     (
         "vacuum",
-        "<DIR>|<TIME>|archived N|reclaimed N|first refusal",
+        &[
+            "<DIR>",
+            "<TIME>",
+            "archived N",
+            "reclaimed N",
+            "first refusal",
+        ],
     ),
-    ("grow", "<DIR>|slots N|not growable"),
+    ("grow", &["<DIR>", "slots N", "not growable"]),
     (
         "dump",
-        "<DIR>|header SLOTS pieces N|member LABEL TIME EXTENT EXTENTS RECORDS INSTANT|slot N floor TIME|slot N floor TIME relation REL",
+        &[
+            "<DIR>",
+            "header SLOTS pieces N",
+            "member LABEL TIME EXTENT EXTENTS RECORDS INSTANT",
+            "slot N floor TIME",
+            "slot N floor TIME relation REL",
+        ],
     ),
 ];
 

@@ -2,13 +2,11 @@
 use crate::held::Which;
 use crate::published::SEVEN;
 use crate::store_cases::{
-    ARCHIVED, AtRest, Case, ONE_FLOOR, Part, RECLAIMED, TWO_COMMITS, TWO_MORE, go, new_disk,
+    ARCHIVED, AtRest, Case, ONE_FLOOR, Part, RECLAIMED, SLOT, TWO_COMMITS, TWO_MORE, go, new_disk,
     opened, takes,
 };
 use crate::store_steps::Step;
 use disk::{Area, Fault, FaultDisk, MemDisk};
-use std::alloc::Global;
-use std::process::Abort;
 use std::test::Fail;
 use store::{Did, JobDid, PumpFault, QueryFault, StartFault};
 
@@ -20,7 +18,7 @@ const BEFORE_120: QueryFault = QueryFault::BeforeKept(120);
 /// The view from before has the floor of its moment.
 const BARS_BEFORE_120: &[Step] = &[
     Step::Floor(None, 120, Ok(())),
-    Step::Slot,
+    Step::Jobs(SLOT),
     Step::FloorIs(None, 120),
     Step::View(Which::Second),
     Step::At(Which::Second, SEVEN, 0, Err(BEFORE_120)),
@@ -62,11 +60,11 @@ const BARRED_BY_A_READER: &[Step] = &[
     Step::Floor(None, 120, Err(StartFault::InUse(110))),
     Step::Floor(None, 131, Err(StartFault::NotYet(130))),
     Step::Floor(None, 110, Ok(())),
-    Step::Slot,
+    Step::Jobs(SLOT),
     Step::FloorIs(None, 110),
     Step::Abort,
     Step::Floor(None, 120, Ok(())),
-    Step::Slot,
+    Step::Jobs(SLOT),
     Step::FloorIs(None, 120),
 ];
 
@@ -95,10 +93,10 @@ const TAKES_TURNS: &[Step] = &[
 const TAKES_A_SLOT: &[Step] = &[
     Step::Commits(1, 15),
     Step::Floor(None, 1, Ok(())),
-    Step::Slot,
+    Step::Jobs(SLOT),
     Step::FloorIs(None, 1),
     Step::Floor(None, 2, Ok(())),
-    Step::Slot,
+    Step::Jobs(SLOT),
     Step::FloorIs(None, 2),
     Step::Floor(None, 2, Err(StartFault::NothingToDo)),
     Step::Floor(None, 3, Err(StartFault::StatusFull)),
@@ -107,7 +105,7 @@ const TAKES_A_SLOT: &[Step] = &[
 
 const FLOOR_115: &[Step] = &[
     Step::Floor(None, 115, Ok(())),
-    Step::Slot,
+    Step::Jobs(SLOT),
     Step::FloorIs(None, 115),
 ];
 
@@ -127,103 +125,74 @@ const KEEPS_FROM_115: &[Step] = &[
 
 const FLOOR_120: &[Step] = &[
     Step::Floor(None, 120, Ok(())),
-    Step::Slot,
+    Step::Jobs(SLOT),
     Step::FloorIs(None, 120),
 ];
 
-const FLOOR_BARS: Case = Case(
-    "a floor bars what stood before it",
-    16,
-    ONE_FLOOR,
-    &[Part(
+const CASES: &[Case] = &[
+    Case(
+        "a floor bars what stood before it",
+        16,
+        ONE_FLOOR,
+        &[Part(
+            &[
+                TWO_COMMITS,
+                TWO_MORE,
+                &[Step::View(Which::First)],
+                ARCHIVED,
+                RECLAIMED,
+                BARS_BEFORE_120,
+            ],
+            &[AtRest::Bytes(Area::Status, 3584, &FLOOR_SLOT)],
+        )],
+    ),
+    Case(
+        "the floor stays until its slot is open",
+        16,
+        ONE_FLOOR,
+        &[Part(&[TWO_COMMITS, TWO_MORE, STAYS_UNTIL_OPEN], &[])],
+    ),
+    Case(
+        "a transaction below the floor bars it",
+        16,
+        ONE_FLOOR,
+        &[Part(
+            &[TWO_COMMITS, &[Step::Begin], TWO_MORE, BARRED_BY_A_READER],
+            &[],
+        )],
+    ),
+    Case(
+        "a floor and a group take turns",
+        16,
+        ONE_FLOOR,
+        &[Part(&[TWO_COMMITS, TAKES_TURNS], &[])],
+    ),
+    Case(
+        "a floor takes a slot",
+        16,
+        ONE_FLOOR,
+        &[Part(&[TAKES_A_SLOT], &[])],
+    ),
+    Case(
+        "an archive leaves out what ended by the floor: its one record is b, also when the store is opened again",
+        16,
+        ONE_FLOOR,
         &[
-            TWO_COMMITS,
-            TWO_MORE,
-            &[Step::View(Which::First)],
-            ARCHIVED,
-            RECLAIMED,
-            BARS_BEFORE_120,
+            Part(
+                &[TWO_COMMITS, TWO_MORE, FLOOR_115, ARCHIVED, KEEPS_FROM_115],
+                &[AtRest::Len(Area::Archive, 37)],
+            ),
+            Part(&[KEEPS_FROM_115, FLOOR_120], &[]),
         ],
-        &[AtRest::Bytes(Area::Status, 3584, &FLOOR_SLOT)],
-    )],
-);
-
-fn floor_bars(rt: &impl Abort, alloc: Global) -> Result<(), Fail> {
-    go(rt, alloc, &FLOOR_BARS)
-}
-
-const FLOOR_STAYS: Case = Case(
-    "the floor stays until its slot is open",
-    16,
-    ONE_FLOOR,
-    &[Part(&[TWO_COMMITS, TWO_MORE, STAYS_UNTIL_OPEN], &[])],
-);
-
-fn floor_stays(rt: &impl Abort, alloc: Global) -> Result<(), Fail> {
-    go(rt, alloc, &FLOOR_STAYS)
-}
-
-const FLOOR_IS_BARRED: Case = Case(
-    "a transaction below the floor bars it",
-    16,
-    ONE_FLOOR,
-    &[Part(
-        &[TWO_COMMITS, &[Step::Begin], TWO_MORE, BARRED_BY_A_READER],
-        &[],
-    )],
-);
-
-fn floor_is_barred(rt: &impl Abort, alloc: Global) -> Result<(), Fail> {
-    go(rt, alloc, &FLOOR_IS_BARRED)
-}
-
-const FLOOR_TAKES_TURNS: Case = Case(
-    "a floor and a group take turns",
-    16,
-    ONE_FLOOR,
-    &[Part(&[TWO_COMMITS, TAKES_TURNS], &[])],
-);
-
-fn floor_takes_turns(rt: &impl Abort, alloc: Global) -> Result<(), Fail> {
-    go(rt, alloc, &FLOOR_TAKES_TURNS)
-}
-
-const FLOOR_TAKES_SLOT: Case = Case(
-    "a floor takes a slot",
-    16,
-    ONE_FLOOR,
-    &[Part(&[TAKES_A_SLOT], &[])],
-);
-
-fn floor_takes_slot(rt: &impl Abort, alloc: Global) -> Result<(), Fail> {
-    go(rt, alloc, &FLOOR_TAKES_SLOT)
-}
-
-const FLOOR_LEAVES_OUT: Case = Case(
-    "an archive leaves out what ended by the floor: its one record is b, also when the store is opened again",
-    16,
-    ONE_FLOOR,
-    &[
-        Part(
-            &[TWO_COMMITS, TWO_MORE, FLOOR_115, ARCHIVED, KEEPS_FROM_115],
-            &[AtRest::Len(Area::Archive, 37)],
-        ),
-        Part(&[KEEPS_FROM_115, FLOOR_120], &[]),
-    ],
-);
-
-fn floor_leaves_out(rt: &impl Abort, alloc: Global) -> Result<(), Fail> {
-    go(rt, alloc, &FLOOR_LEAVES_OUT)
-}
+    ),
+];
 
 #[test]
 fn floors_are_raised_step_by_step(rt: HostRuntime) -> Result<(), Fail> {
-    floor_bars(&rt, rt.alloc())?;
-    floor_stays(&rt, rt.alloc())?;
-    floor_is_barred(&rt, rt.alloc())?;
-    floor_takes_turns(&rt, rt.alloc())?;
-    floor_takes_slot(&rt, rt.alloc())?;
-    floor_leaves_out(&rt, rt.alloc())
+    for case in CASES {
+        go(&rt, rt.alloc(), case)?;
+    }
+    Ok(())
 }
 
 const FAILS: &[Step] = &[

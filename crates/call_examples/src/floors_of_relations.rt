@@ -2,13 +2,11 @@
 use crate::held::Which;
 use crate::published::SEVEN;
 use crate::store_cases::{
-    ARCHIVED, AtRest, Case, ONE_FLOOR, OWN_FLOORS, Part, TWO_COMMITS, TWO_MORE, go,
+    ARCHIVED, AtRest, Case, ONE_FLOOR, OWN_FLOORS, Part, SLOT, TWO_COMMITS, TWO_MORE, go,
 };
 use crate::store_steps::Step;
 use disk::Area;
 use history::Key;
-use std::alloc::Global;
-use std::process::Abort;
 use std::test::Fail;
 use store::{Did, QueryFault, StartFault};
 
@@ -28,20 +26,20 @@ const BEFORE_120: QueryFault = QueryFault::BeforeKept(120);
 /// The floor 115 of relation 1.
 const FIRST_115: &[Step] = &[
     Step::Floor(Some(1), 115, Ok(())),
-    Step::Slot,
+    Step::Jobs(SLOT),
     Step::FloorIs(Some(1), 115),
 ];
 
 const FIRST_120: &[Step] = &[
     Step::Floor(Some(1), 120, Ok(())),
-    Step::Slot,
+    Step::Jobs(SLOT),
     Step::FloorIs(Some(1), 120),
 ];
 
 /// The floor 120 of relation 2.
 const SECOND_120: &[Step] = &[
     Step::Floor(Some(2), 120, Ok(())),
-    Step::Slot,
+    Step::Jobs(SLOT),
     Step::FloorIs(Some(2), 120),
 ];
 
@@ -66,10 +64,10 @@ const REFUSED_IN_ORDER: &[Step] = &[
     Step::Floor(Some(2), 120, Err(StartFault::JobBusy)),
     Step::Floor(None, 120, Err(StartFault::WrongProfile)),
     Step::FloorIs(Some(1), 0),
-    Step::Slot,
+    Step::Jobs(SLOT),
     Step::Floor(Some(1), 120, Err(StartFault::NothingToDo)),
     Step::Floor(Some(2), 119, Ok(())),
-    Step::Slot,
+    Step::Jobs(SLOT),
     Step::FloorIs(Some(2), 119),
     Step::FloorIs(Some(1), 120),
     Step::FloorIs(None, 0),
@@ -87,11 +85,11 @@ const BARRED_BY_A_READER: &[Step] = &[
     Step::PumpTo(Did::Idle),
     Step::Floor(Some(2), 131, Err(StartFault::InUse(130))),
     Step::Floor(Some(2), 130, Ok(())),
-    Step::Slot,
+    Step::Jobs(SLOT),
     Step::FloorIs(Some(2), 130),
     Step::Abort,
     Step::Floor(Some(2), 140, Ok(())),
-    Step::Slot,
+    Step::Jobs(SLOT),
     Step::FloorIs(Some(2), 140),
 ];
 
@@ -115,104 +113,75 @@ const HAS_A: &[Step] = &[
     Step::End(Which::First),
 ];
 
-const BARS_ALONE: Case = Case(
-    "a floor bars its relation alone",
-    16,
-    OWN_FLOORS,
-    &[Part(
-        &[
-            TWO_COMMITS,
-            TWO_MORE,
-            &[Step::View(Which::First)],
-            FIRST_115,
-            SECOND_120,
-            BARS_EACH_ALONE,
-        ],
-        &[AtRest::Bytes(Area::Status, 2560, &FLOOR_SLOT)],
-    )],
-);
-
-fn bars_alone(rt: &impl Abort, alloc: Global) -> Result<(), Fail> {
-    go(rt, alloc, &BARS_ALONE)
-}
-
-const IS_REFUSED_IN_ORDER: Case = Case(
-    "floors of relations are refused in order",
-    16,
-    OWN_FLOORS,
-    &[Part(&[TWO_COMMITS, TWO_MORE, REFUSED_IN_ORDER], &[])],
-);
-
-fn is_refused_in_order(rt: &impl Abort, alloc: Global) -> Result<(), Fail> {
-    go(rt, alloc, &IS_REFUSED_IN_ORDER)
-}
-
-const OF_ALL_IS_NONE: Case = Case(
-    "one floor of all relations is none of one",
-    16,
-    ONE_FLOOR,
-    &[Part(&[TWO_COMMITS, TWO_MORE, OF_ALL_IS_NONE_OF_ONE], &[])],
-);
-
-fn of_all_is_none(rt: &impl Abort, alloc: Global) -> Result<(), Fail> {
-    go(rt, alloc, &OF_ALL_IS_NONE)
-}
-
-const IS_BARRED_BY_READER: Case = Case(
-    "a transaction below the floor bars that of its relation",
-    16,
-    OWN_FLOORS,
-    &[Part(&[TWO_COMMITS, TWO_MORE, BARRED_BY_A_READER], &[])],
-);
-
-fn is_barred_by_reader(rt: &impl Abort, alloc: Global) -> Result<(), Fail> {
-    go(rt, alloc, &IS_BARRED_BY_READER)
-}
-
-const LEAVES_OUT: Case = Case(
-    "an archive leaves out what ended by its relation's floor: its one record is b, also when the store is opened again",
-    16,
-    OWN_FLOORS,
-    &[
-        Part(
+const CASES: &[Case] = &[
+    Case(
+        "a floor bars its relation alone",
+        16,
+        OWN_FLOORS,
+        &[Part(
             &[
                 TWO_COMMITS,
                 TWO_MORE,
-                SECOND_120,
+                &[Step::View(Which::First)],
                 FIRST_115,
-                ARCHIVED,
-                KEEPS_FROM_115,
+                SECOND_120,
+                BARS_EACH_ALONE,
             ],
-            &[AtRest::Len(Area::Archive, 37)],
-        ),
-        Part(&[&[Step::OwnFloors(2)], KEEPS_FROM_115, FIRST_120], &[]),
-    ],
-);
-
-fn leaves_out(rt: &impl Abort, alloc: Global) -> Result<(), Fail> {
-    go(rt, alloc, &LEAVES_OUT)
-}
-
-const HAS_WHAT_ANOTHER_IS_PAST: Case = Case(
-    "an archive has what a floor of another relation is past",
-    16,
-    OWN_FLOORS,
-    &[Part(
-        &[TWO_COMMITS, TWO_MORE, SECOND_120, ARCHIVED, HAS_A],
-        &[AtRest::Len(Area::Archive, 74)],
-    )],
-);
-
-fn has_what_another_is_past(rt: &impl Abort, alloc: Global) -> Result<(), Fail> {
-    go(rt, alloc, &HAS_WHAT_ANOTHER_IS_PAST)
-}
+            &[AtRest::Bytes(Area::Status, 2560, &FLOOR_SLOT)],
+        )],
+    ),
+    Case(
+        "floors of relations are refused in order",
+        16,
+        OWN_FLOORS,
+        &[Part(&[TWO_COMMITS, TWO_MORE, REFUSED_IN_ORDER], &[])],
+    ),
+    Case(
+        "one floor of all relations is none of one",
+        16,
+        ONE_FLOOR,
+        &[Part(&[TWO_COMMITS, TWO_MORE, OF_ALL_IS_NONE_OF_ONE], &[])],
+    ),
+    Case(
+        "a transaction below the floor bars that of its relation",
+        16,
+        OWN_FLOORS,
+        &[Part(&[TWO_COMMITS, TWO_MORE, BARRED_BY_A_READER], &[])],
+    ),
+    Case(
+        "an archive leaves out what ended by its relation's floor: its one record is b, also when the store is opened again",
+        16,
+        OWN_FLOORS,
+        &[
+            Part(
+                &[
+                    TWO_COMMITS,
+                    TWO_MORE,
+                    SECOND_120,
+                    FIRST_115,
+                    ARCHIVED,
+                    KEEPS_FROM_115,
+                ],
+                &[AtRest::Len(Area::Archive, 37)],
+            ),
+            Part(&[&[Step::OwnFloors(2)], KEEPS_FROM_115, FIRST_120], &[]),
+        ],
+    ),
+    Case(
+        "an archive has what a floor of another relation is past",
+        16,
+        OWN_FLOORS,
+        &[Part(
+            &[TWO_COMMITS, TWO_MORE, SECOND_120, ARCHIVED, HAS_A],
+            &[AtRest::Len(Area::Archive, 74)],
+        )],
+    ),
+];
 
 #[test]
 fn floors_of_relations_are_raised_step_by_step(rt: HostRuntime) -> Result<(), Fail> {
-    bars_alone(&rt, rt.alloc())?;
-    is_refused_in_order(&rt, rt.alloc())?;
-    of_all_is_none(&rt, rt.alloc())?;
-    is_barred_by_reader(&rt, rt.alloc())?;
-    leaves_out(&rt, rt.alloc())?;
-    has_what_another_is_past(&rt, rt.alloc())
+    for case in CASES {
+        go(&rt, rt.alloc(), case)?;
+    }
+    Ok(())
 }

@@ -2,8 +2,8 @@
 use crate::held::Which;
 use crate::published::SEVEN;
 use crate::store_cases::{
-    ARCHIVED, AtRest, Case, ONE_FLOOR, OWN_FLOORS, Part, TWO_COMMITS, are_at_rest, go, new_disk,
-    opened, takes,
+    ARCHIVED, AtRest, Case, ONE_FLOOR, OWN_FLOORS, Part, SLOT, TWO_COMMITS, are_at_rest, go,
+    new_disk, opened, takes,
 };
 use crate::store_steps::Step;
 use disk::{Area, Disk, Fault, FaultDisk, MemDisk};
@@ -57,12 +57,12 @@ const FILLS_AGAIN: &[Step] = &[
 const RECLAIMED: &[Step] = &[
     Step::Reclaim(Ok(())),
     Step::Jobs(&[JobDid::WroteExtent, JobDid::HeapSynced]),
-    Step::Slot,
+    Step::Jobs(SLOT),
 ];
 
 const NO_SLOT_LEFT: &[Step] = &[Step::Floor(None, 20, Err(StartFault::StatusFull))];
 
-const A_SLOT_AGAIN: &[Step] = &[Step::Floor(None, 20, Ok(())), Step::Slot];
+const A_SLOT_AGAIN: &[Step] = &[Step::Floor(None, 20, Ok(())), Step::Jobs(SLOT)];
 
 const BESIDE_A_GROUP: &[Step] = &[
     Step::Queue(Some("c"), 120),
@@ -87,77 +87,54 @@ const BESIDE_A_GROUP: &[Step] = &[
 
 const NOT_GROWABLE: &[Step] = &[Step::Grow(Err(StartFault::NotGrowable))];
 
-const GROWS_TWICE: Case = Case(
-    "a full store grows, and again when it has no slot left",
-    16,
-    ONE_FLOOR,
-    &[
-        Part(&[FILLS, GROWS, FILLS_AGAIN, ARCHIVED, RECLAIMED], GREW),
-        Part(&[NO_SLOT_LEFT, GROWS, A_SLOT_AGAIN], GREW_TWICE),
-    ],
-);
-
-fn grows_twice(rt: &impl Abort, alloc: Global) -> Result<(), Fail> {
-    go(rt, alloc, &GROWS_TWICE)
-}
-
-const HOLDS_UP_NEITHER: Case = Case(
-    "a growth and a group hold up neither",
-    16,
-    ONE_FLOOR,
-    &[
-        Part(&[TWO_COMMITS, BESIDE_A_GROUP], GREW),
-        Part(&[&[Step::Last(120)]], &[]),
-    ],
-);
-
-fn holds_up_neither(rt: &impl Abort, alloc: Global) -> Result<(), Fail> {
-    go(rt, alloc, &HOLDS_UP_NEITHER)
-}
-
-const MOST_DO_NOT_GROW: Case = Case(
-    "more than 65,280 slots do not grow",
-    65_281,
-    OWN_FLOORS,
-    &[Part(&[NOT_GROWABLE], &[])],
-);
-
-fn most_do_not_grow(rt: &impl Abort, alloc: Global) -> Result<(), Fail> {
-    go(rt, alloc, &MOST_DO_NOT_GROW)
-}
-
-const GROWS_ONCE: Case = Case(
-    "65,280 slots grow once",
-    65_280,
-    OWN_FLOORS,
-    &[Part(&[GROWS, NOT_GROWABLE], &[])],
-);
-
-fn grows_once(rt: &impl Abort, alloc: Global) -> Result<(), Fail> {
-    go(rt, alloc, &GROWS_ONCE)
-}
-
-const FIRST_PROFILE_DOES_NOT: Case = Case(
-    "profile 1 does not grow",
-    16,
-    ONE_FLOOR,
-    &[
-        Part(&[TWO_COMMITS], &[AtRest::Put(8, 1)]),
-        Part(&[&[Step::Last(110)], NOT_GROWABLE], &[]),
-    ],
-);
-
-fn first_profile_does_not(rt: &impl Abort, alloc: Global) -> Result<(), Fail> {
-    go(rt, alloc, &FIRST_PROFILE_DOES_NOT)
-}
+const CASES: &[Case] = &[
+    Case(
+        "a full store grows, and again when it has no slot left",
+        16,
+        ONE_FLOOR,
+        &[
+            Part(&[FILLS, GROWS, FILLS_AGAIN, ARCHIVED, RECLAIMED], GREW),
+            Part(&[NO_SLOT_LEFT, GROWS, A_SLOT_AGAIN], GREW_TWICE),
+        ],
+    ),
+    Case(
+        "a growth and a group hold up neither",
+        16,
+        ONE_FLOOR,
+        &[
+            Part(&[TWO_COMMITS, BESIDE_A_GROUP], GREW),
+            Part(&[&[Step::Last(120)]], &[]),
+        ],
+    ),
+    Case(
+        "more than 65,280 slots do not grow",
+        65_281,
+        OWN_FLOORS,
+        &[Part(&[NOT_GROWABLE], &[])],
+    ),
+    Case(
+        "65,280 slots grow once",
+        65_280,
+        OWN_FLOORS,
+        &[Part(&[GROWS, NOT_GROWABLE], &[])],
+    ),
+    Case(
+        "profile 1 does not grow",
+        16,
+        ONE_FLOOR,
+        &[
+            Part(&[TWO_COMMITS], &[AtRest::Put(8, 1)]),
+            Part(&[&[Step::Last(110)], NOT_GROWABLE], &[]),
+        ],
+    ),
+];
 
 #[test]
 fn stores_grow_step_by_step(rt: HostRuntime) -> Result<(), Fail> {
-    grows_twice(&rt, rt.alloc())?;
-    holds_up_neither(&rt, rt.alloc())?;
-    most_do_not_grow(&rt, rt.alloc())?;
-    grows_once(&rt, rt.alloc())?;
-    first_profile_does_not(&rt, rt.alloc())
+    for case in CASES {
+        go(&rt, rt.alloc(), case)?;
+    }
+    Ok(())
 }
 
 /// Whether a store grows for so many device calls, is refused the next one, and has failed then.

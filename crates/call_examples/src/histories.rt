@@ -127,48 +127,11 @@ enum Told {
     Conflict(u64, &'static [Key], Option<Key>),
 }
 
-/// The histories of the rows.
-#[derive(Clone, Copy)]
-enum History {
-    Four,
-    Five,
-    Two,
-    NineBetween,
-    Skew,
-}
-
-fn four() -> Commits {
-    FOUR
-}
-
-fn five() -> Commits {
-    FIVE
-}
-
-fn others(history: History) -> Commits {
-    match history {
-        History::Two => TWO,
-        History::Skew => SKEW,
-        _ => NINE_BETWEEN,
-    }
-}
-
-fn commits_of(history: History) -> Commits {
-    match history {
-        History::Four => four(),
-        History::Five => five(),
-        _ => others(history),
-    }
-}
-
-/// What a row shows, its history, and what that tells.
-type Row = (&'static str, History, Told);
-
-/// The versions and the rows of keys.
-const TOLD_ROWS: &[Row] = &[
+/// What each row shows, its history, and what that tells.
+const TOLD: &[(&str, Commits, Told)] = &[
     (
         "versions",
-        History::Four,
+        FOUR,
         Told::Versions(
             SEVEN,
             &[(100, 110, b'a'), (110, 120, b'b'), (130, ENDLESS, b'c')],
@@ -176,7 +139,7 @@ const TOLD_ROWS: &[Row] = &[
     ),
     (
         "all rows",
-        History::Four,
+        FOUR,
         Told::Rows(
             SEVEN,
             100,
@@ -186,80 +149,60 @@ const TOLD_ROWS: &[Row] = &[
     ),
     (
         "parts of rows",
-        History::Four,
+        FOUR,
         Told::Rows(SEVEN, 105, 115, &[(105, 110, b'a'), (110, 115, b'b')]),
     ),
-    ("no row", History::Four, Told::Rows(SEVEN, 120, 130, &[])),
+    ("no row", FOUR, Told::Rows(SEVEN, 120, 130, &[])),
+    ("3 at 115", FIVE, Told::Value(THREE, 115, Some(b'x'))),
+    ("7 at 115", FIVE, Told::Value(SEVEN, 115, Some(b'b'))),
+    ("3 at 125", FIVE, Told::Value(THREE, 125, Some(b'x'))),
+    ("7 at 125", FIVE, Told::Value(SEVEN, 125, None)),
     (
         "rows of 3",
-        History::Five,
+        FIVE,
         Told::Rows(THREE, 112, 131, &[(115, 131, b'x')]),
     ),
     (
         "rows of 7",
-        History::Five,
+        FIVE,
         Told::Rows(SEVEN, 112, 131, &[(112, 120, b'b'), (130, 131, b'c')]),
     ),
-];
-
-/// Values, and what is written later.
-const TOLD: &[Row] = &[
-    (
-        "3 at 115",
-        History::Five,
-        Told::Value(THREE, 115, Some(b'x')),
-    ),
-    (
-        "7 at 115",
-        History::Five,
-        Told::Value(SEVEN, 115, Some(b'b')),
-    ),
-    (
-        "3 at 125",
-        History::Five,
-        Told::Value(THREE, 125, Some(b'x')),
-    ),
-    ("7 at 125", History::Five, Told::Value(SEVEN, 125, None)),
     (
         "from its commit on",
-        History::Two,
+        TWO,
         Told::Value(SEVEN, 130, Some(b'c')),
     ),
     (
         "from the next one on",
-        History::Two,
+        TWO,
         Told::Value(SEVEN, 140, Some(b'd')),
     ),
     (
         "7 is written later",
-        History::NineBetween,
+        NINE_BETWEEN,
         Told::Written(SEVEN, 140, true),
     ),
     (
         "9 is not written later",
-        History::NineBetween,
+        NINE_BETWEEN,
         Told::Written(NINE, 140, false),
     ),
     (
         "the least key",
-        History::NineBetween,
+        NINE_BETWEEN,
         Told::Conflict(130, &[THREE, SEVEN, NINE], Some(SEVEN)),
     ),
     (
         "no key",
-        History::NineBetween,
+        NINE_BETWEEN,
         Told::Conflict(150, &[THREE, SEVEN, NINE], None),
     ),
     (
         "write skew is no conflict",
-        History::Skew,
+        SKEW,
         Told::Conflict(101, &[X], None),
     ),
-    (
-        "another write is",
-        History::Skew,
-        Told::Conflict(101, &[Y], Some(Y)),
-    ),
+    ("another write is", SKEW, Told::Conflict(101, &[Y], Some(Y))),
 ];
 
 /// The history of these commits.
@@ -276,10 +219,9 @@ fn history_of(alloc: Global, commits: Commits) -> Result<Vec<CommitRef<'static, 
 }
 
 fn are(rows: &[Version<u8>], parts: Parts) -> bool {
-    for (place, row) in rows.iter().enumerate() {
-        match parts.get(place) {
-            Some(part) if (row.from, row.to, row.value) == *part => {}
-            _ => return false,
+    for (row, (from, to, byte)) in rows.iter().zip(parts.iter()) {
+        if row.from != *from || row.to != *to || row.value != *byte {
+            return false;
         }
     }
     rows.len() == parts.len()
@@ -313,39 +255,13 @@ fn is_told(alloc: Global, history: &[CommitRef<u8>], told: &Told) -> Result<bool
     }
 }
 
-/// Whether a row's history tells what it must.
-fn tells(alloc: Global, (_, history, told): &Row) -> Result<bool, AllocError> {
-    let history = history_of(alloc, commits_of(*history))?;
-    is_told(alloc, &history, told)
-}
-
-/// The failure of a row, or of memory.
-fn goes(alloc: Global, row: &Row) -> Result<(), Fail> {
-    if tells(alloc, row)? {
-        Ok(())
-    } else {
-        Err(Fail::new(row.0))
-    }
-}
-
-fn rows_are_told(alloc: Global) -> Result<(), Fail> {
-    for row in TOLD_ROWS {
-        goes(alloc, row)?;
-    }
-    Ok(())
-}
-
-fn values_are_told(alloc: Global) -> Result<(), Fail> {
-    for row in TOLD {
-        goes(alloc, row)?;
-    }
-    Ok(())
-}
-
 #[test]
 fn histories_tell_versions_rows_and_conflicts(rt: HostRuntime) -> Result<(), Fail> {
-    rows_are_told(rt.alloc())?;
-    values_are_told(rt.alloc())
+    for (what, commits, told) in TOLD {
+        let history = history_of(rt.alloc(), commits)?;
+        assert!(rt; is_told(rt.alloc(), &history, told) == Ok(true), "{what}");
+    }
+    Ok(())
 }
 
 const ORDER: &[(Key, Key, bool)] = &[

@@ -141,15 +141,15 @@ fn first_unseen(alloc: Global, frozen: &Frozen, looks: &[Look]) -> Option<usize>
     None
 }
 
-/// What versions show, the marks up to which they are forgotten one after another, and looks at what is
-/// left.
+/// What versions show, whether they are the long chain or the two records, the marks up to which they
+/// are forgotten one after another, and looks at what is left.
 #[derive(Clone, Copy)]
-struct Seen(&'static str, &'static [u64], &'static [Look]);
+struct Seen(&'static str, bool, &'static [u64], &'static [Look]);
 
-/// What the two records show.
-const TWO_RECORDS: &[Seen] = &[
+const SEEN: &[Seen] = &[
     Seen(
         "a value stands up to the next write",
+        false,
         &[],
         &[
             Look::At(99, None),
@@ -166,6 +166,7 @@ const TWO_RECORDS: &[Seen] = &[
     ),
     Seen(
         "what later times need not is forgotten",
+        false,
         &[110],
         &[
             Look::At(105, None),
@@ -175,15 +176,13 @@ const TWO_RECORDS: &[Seen] = &[
     ),
     Seen(
         "a record that is gone is forgotten",
+        false,
         &[110, 120],
         &[Look::Last(0)],
     ),
-];
-
-/// What the long chain shows at times.
-const LONG_CHAIN: &[Seen] = &[
     Seen(
         "a long chain has each value at its time",
+        true,
         &[],
         &[
             Look::ShowsFrom(1),
@@ -197,6 +196,7 @@ const LONG_CHAIN: &[Seen] = &[
     ),
     Seen(
         "a long chain has a next write",
+        true,
         &[],
         &[
             Look::Next(0, Some(10)),
@@ -210,6 +210,7 @@ const LONG_CHAIN: &[Seen] = &[
     ),
     Seen(
         "a long chain has a first version that ends after a time",
+        true,
         &[],
         &[
             Look::Ending(0, Some((10, 20))),
@@ -222,32 +223,33 @@ const LONG_CHAIN: &[Seen] = &[
             Look::Ending(1000, None),
         ],
     ),
-];
-
-/// What it shows once it is forgotten up to marks.
-const FORGOTTEN: &[Seen] = &[
     Seen(
         "a mark between writes",
+        true,
         &[525],
         &[Look::At(519, None), Look::ShowsFrom(52)],
     ),
     Seen(
         "a mark before a write",
+        true,
         &[509],
         &[Look::At(499, None), Look::ShowsFrom(51)],
     ),
     Seen(
         "a second mark",
+        true,
         &[525, 985],
         &[Look::At(979, None), Look::ShowsFrom(98)],
     ),
     Seen(
         "up to the last moment",
+        true,
         &[525, 985, 999],
         &[Look::Last(1000)],
     ),
     Seen(
         "up to the last write, which is none",
+        true,
         &[525, 985, 1000],
         &[Look::Last(0)],
     ),
@@ -262,45 +264,18 @@ fn forgotten(alloc: Global, frozen: Frozen, marks: &[u64]) -> Result<Frozen, All
     Ok(frozen)
 }
 
-/// The looks of a row at what is left of all versions must be answered as it says.
-fn goes(alloc: Global, all: Frozen, row: &Seen) -> Result<(), Fail> {
-    let left = forgotten(alloc, all, row.1)?;
-    match first_unseen(alloc, &left, row.2) {
-        Some(place) => {
-            let what = row.0;
-            Err(Fail::new(format_args!("{what}: look {place}")))
-        }
-        None => Ok(()),
-    }
-}
-
-fn two_records_are_seen(alloc: Global) -> Result<(), Fail> {
-    for row in TWO_RECORDS {
-        goes(alloc, two_records(alloc)?, row)?;
-    }
-    Ok(())
-}
-
-fn a_long_chain_is_seen(alloc: Global, rows: &[Seen]) -> Result<(), Fail> {
-    for row in rows {
-        goes(alloc, long_chain(alloc)?, row)?;
-    }
-    Ok(())
-}
-
-fn is_seen_at_times(alloc: Global) -> Result<(), Fail> {
-    a_long_chain_is_seen(alloc, LONG_CHAIN)
-}
-
-fn is_seen_forgotten(alloc: Global) -> Result<(), Fail> {
-    a_long_chain_is_seen(alloc, FORGOTTEN)
-}
-
 #[test]
 fn versions_are_seen_and_forgotten(rt: HostRuntime) -> Result<(), Fail> {
-    two_records_are_seen(rt.alloc())?;
-    is_seen_at_times(rt.alloc())?;
-    is_seen_forgotten(rt.alloc())
+    for row in SEEN {
+        let all = if row.1 {
+            long_chain(rt.alloc())?
+        } else {
+            two_records(rt.alloc())?
+        };
+        let left = forgotten(rt.alloc(), all, row.2)?;
+        assert_eq!(rt; first_unseen(rt.alloc(), &left, row.3), None, "{}", row.0);
+    }
+    Ok(())
 }
 
 /// Whether versions show all that they showed, once what is left of them is forgotten further.

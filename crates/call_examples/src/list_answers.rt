@@ -47,22 +47,19 @@ pub enum Want {
     Job(JobDid),
 }
 
-/// Whether these are the records.
-pub fn are_records(found: &[(u64, SharedValue)], want: &[u64]) -> bool {
-    for (place, one) in found.iter().enumerate() {
-        match want.get(place) {
-            Some(record) if one.0 == *record => {}
-            _ => return false,
+fn are_records(found: &[(u64, SharedValue)], want: &[u64]) -> bool {
+    for (one, record) in found.iter().zip(want.iter()) {
+        if one.0 != *record {
+            return false;
         }
     }
     found.len() == want.len()
 }
 
 fn are_rows(rows: &[Version<SharedValue>], want: &[(u64, u64)]) -> bool {
-    for (place, row) in rows.iter().enumerate() {
-        match want.get(place) {
-            Some((from, to)) if row.from == *from && row.to == *to => {}
-            _ => return false,
+    for (row, (from, to)) in rows.iter().zip(want.iter()) {
+        if row.from != *from || row.to != *to {
+            return false;
         }
     }
     rows.len() == want.len()

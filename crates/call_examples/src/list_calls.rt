@@ -122,13 +122,12 @@ pub fn calls_of(alloc: Global, rows: &[(Ask, Want)]) -> Result<Vec<Call<'static>
     Ok(calls)
 }
 
-/// The place of the first answer that is another one, or is missing; the place behind all where there
-/// are too many.
+/// The place of the first answer that is another one; the place behind all where there are too few or
+/// too many.
 pub fn first_wrong(answers: &[Answer], rows: &[(Ask, Want)]) -> Option<usize> {
-    for (place, row) in rows.iter().enumerate() {
-        match answers.get(place) {
-            Some(answer) if is_answer(answer, &row.1) => {}
-            _ => return Some(place),
+    for (place, (answer, row)) in answers.iter().zip(rows.iter()).enumerate() {
+        if !is_answer(answer, &row.1) {
+            return Some(place);
         }
     }
     if answers.len() == rows.len() {

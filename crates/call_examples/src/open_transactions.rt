@@ -1,5 +1,4 @@
 //! Transactions that are open: what they read, what they write, and their numbers.
-use crate::list_answers::are_records;
 use crate::published::{SEVEN, is_text, published};
 use chains::Frozen;
 use history::Key;
@@ -40,10 +39,15 @@ fn puts_each(alloc: Global, txn: &mut Txn, first: u64, last: u64) -> bool {
 }
 
 fn scans(alloc: Global, txn: &Txn, relation: u16, records: &[u64]) -> bool {
-    match txn.scan(alloc, relation) {
-        Ok(found) => are_records(&found, records),
-        Err(_) => false,
+    let Ok(found) = txn.scan(alloc, relation) else {
+        return false;
+    };
+    for (one, record) in found.iter().zip(records.iter()) {
+        if one.0 != *record {
+            return false;
+        }
     }
+    found.len() == records.len()
 }
 
 fn is_answered(alloc: Global, txn: &mut Txn, step: &Step) -> bool {
@@ -76,77 +80,60 @@ struct Case(
     &'static [Step],
 );
 
-const OWN_WRITES: Case = Case(
-    "own writes stand over the snapshot",
-    &[(130, 7, Some("c")), (140, 7, Some("d"))],
-    130,
-    &[
-        Step::Get(7, Some("c")),
-        Step::Put(7, &[b"e"], Ok(())),
-        Step::Get(7, Some("e")),
-        Step::Delete(7, Ok(())),
-        Step::Get(7, None),
-        Step::Delete(7, Err(TxnFault::Missing)),
-        Step::Writes(1),
-    ],
-);
-
-fn own_writes(alloc: Global) -> Result<(), Fail> {
-    goes(alloc, &OWN_WRITES)
-}
-
-const NO_WRITE_IS_LEFT: Case = Case(
-    "a put that is deleted leaves no write",
-    &[],
-    0,
-    &[
-        Step::Delete(7, Err(TxnFault::Missing)),
-        Step::Put(7, &[FIELD], Ok(())),
-        Step::Delete(7, Ok(())),
-        Step::Writes(0),
-    ],
-);
-
-fn no_write_is_left(alloc: Global) -> Result<(), Fail> {
-    goes(alloc, &NO_WRITE_IS_LEFT)
-}
-
-const LIMITS: Case = Case(
-    "values and write sets have their limits",
-    &[],
-    0,
-    &[
-        Step::Put(7, &[], BAD),
-        Step::Put(7, &[FIELD; 17], BAD),
-        Step::Put(7, &[TOO_LONG], BAD),
-        Step::Put(7, &[LONGEST; 16], Ok(())),
-        Step::PutEach(8, 1031),
-        Step::Put(1031, &[FIELD], TOO_MANY),
-        Step::Put(1031, &[], TOO_MANY),
-        Step::Put(7, &[FIELD], Ok(())),
-        Step::Writes(1024),
-    ],
-);
-
-fn limits(alloc: Global) -> Result<(), Fail> {
-    goes(alloc, &LIMITS)
-}
-
-const OWN_SCAN: Case = Case(
-    "a scan shows own writes",
-    &[(100, 3, Some("x")), (110, 7, Some("a"))],
-    110,
-    &[
-        Step::Put(5, &[b"y"], Ok(())),
-        Step::Delete(7, Ok(())),
-        Step::Scan(1, &[3, 5]),
-        Step::Scan(2, &[]),
-    ],
-);
-
-fn own_scan(alloc: Global) -> Result<(), Fail> {
-    goes(alloc, &OWN_SCAN)
-}
+const CASES: &[Case] = &[
+    Case(
+        "own writes stand over the snapshot",
+        &[(130, 7, Some("c")), (140, 7, Some("d"))],
+        130,
+        &[
+            Step::Get(7, Some("c")),
+            Step::Put(7, &[b"e"], Ok(())),
+            Step::Get(7, Some("e")),
+            Step::Delete(7, Ok(())),
+            Step::Get(7, None),
+            Step::Delete(7, Err(TxnFault::Missing)),
+            Step::Writes(1),
+        ],
+    ),
+    Case(
+        "a put that is deleted leaves no write",
+        &[],
+        0,
+        &[
+            Step::Delete(7, Err(TxnFault::Missing)),
+            Step::Put(7, &[FIELD], Ok(())),
+            Step::Delete(7, Ok(())),
+            Step::Writes(0),
+        ],
+    ),
+    Case(
+        "values and write sets have their limits",
+        &[],
+        0,
+        &[
+            Step::Put(7, &[], BAD),
+            Step::Put(7, &[FIELD; 17], BAD),
+            Step::Put(7, &[TOO_LONG], BAD),
+            Step::Put(7, &[LONGEST; 16], Ok(())),
+            Step::PutEach(8, 1031),
+            Step::Put(1031, &[FIELD], TOO_MANY),
+            Step::Put(1031, &[], TOO_MANY),
+            Step::Put(7, &[FIELD], Ok(())),
+            Step::Writes(1024),
+        ],
+    ),
+    Case(
+        "a scan shows own writes",
+        &[(100, 3, Some("x")), (110, 7, Some("a"))],
+        110,
+        &[
+            Step::Put(5, &[b"y"], Ok(())),
+            Step::Delete(7, Ok(())),
+            Step::Scan(1, &[3, 5]),
+            Step::Scan(2, &[]),
+        ],
+    ),
+];
 
 /// The place of the first step that is not answered as it should be.
 fn first_wrong(alloc: Global, txn: &mut Txn, steps: &[Step]) -> Option<usize> {
@@ -166,25 +153,15 @@ fn is_over(txn: Txn, snapshot: u64) -> bool {
     (parts.mark, parts.number, parts.snapshot) == (1, 2, snapshot) && parts.writes.len() == count
 }
 
-/// What is done in a transaction must be answered as its case says, and the transaction be over then.
-fn goes(alloc: Global, case: &Case) -> Result<(), Fail> {
-    let state = published(alloc, case.1)?;
-    let mut txn = Txn::new(alloc, 1, 2, case.2, state);
-    let wrong = first_wrong(alloc, &mut txn, case.3);
-    if is_over(txn, case.2) && wrong.is_none() {
-        Ok(())
-    } else {
-        let what = case.0;
-        Err(Fail::new(format_args!("{what}: step {wrong:?}")))
-    }
-}
-
 #[test]
 fn transactions_read_and_write_step_by_step(rt: HostRuntime) -> Result<(), Fail> {
-    own_writes(rt.alloc())?;
-    no_write_is_left(rt.alloc())?;
-    limits(rt.alloc())?;
-    own_scan(rt.alloc())
+    for case in CASES {
+        let state = published(rt.alloc(), case.1)?;
+        let mut txn = Txn::new(rt.alloc(), 1, 2, case.2, state);
+        let wrong = first_wrong(rt.alloc(), &mut txn, case.3);
+        assert_eq!(rt; (wrong, is_over(txn, case.2)), (None, true), "{}", case.0);
+    }
+    Ok(())
 }
 
 #[test]
@@ -196,28 +173,24 @@ fn a_transaction_says_whose_it_is(rt: HostRuntime) {
     assert!(rt; says && is_empty);
 }
 
-/// Whether two transactions are open, with numbers of their own.
-fn are_open(open: &OpenTable, first: u64, second: u64) -> bool {
-    first != second && open.snapshot_of(first) == Some(100) && open.snapshot_of(second) == Some(130)
-}
-
-/// Whether the number of a transaction that is over is given again.
-fn is_given_again(open: &mut OpenTable, first: u64) -> bool {
-    open.close(first);
-    let is_over = open.snapshot_of(first).is_none();
-    match open.open(140) {
-        Ok(third) => is_over && third == first && open.snapshot_of(first) == Some(140),
-        Err(_) => false,
-    }
-}
-
 /// Whether two transactions that are open have numbers of their own, and the first's is given again once
 /// it is over.
 fn gives_again(open: &mut OpenTable) -> bool {
     let (Ok(first), Ok(second)) = (open.open(100), open.open(130)) else {
         return false;
     };
-    are_open(open, first, second) && is_given_again(open, first) && open.snapshot_of(7).is_none()
+    let are_open = open.snapshot_of(first) == Some(100) && open.snapshot_of(second) == Some(130);
+    open.close(first);
+    let is_over = open.snapshot_of(first).is_none();
+    let Ok(third) = open.open(140) else {
+        return false;
+    };
+    first != second
+        && are_open
+        && is_over
+        && third == first
+        && open.snapshot_of(first) == Some(140)
+        && open.snapshot_of(7).is_none()
 }
 
 #[test]

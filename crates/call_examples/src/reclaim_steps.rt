@@ -2,7 +2,7 @@
 use crate::held::Which;
 use crate::published::SEVEN;
 use crate::store_cases::{
-    ARCHIVED, AtRest, Case, ONE_FLOOR, Part, RECLAIMED, TWO_COMMITS, TWO_MORE, go, new_disk,
+    ARCHIVED, AtRest, Case, ONE_FLOOR, Part, RECLAIMED, SLOT, TWO_COMMITS, TWO_MORE, go, new_disk,
     opened, takes,
 };
 use crate::store_steps::Step;
@@ -38,7 +38,7 @@ const FREES: &[Step] = &[
     Step::Reclaim(Ok(())),
     Step::Reclaim(Err(StartFault::JobBusy)),
     Step::Jobs(&[JobDid::HeapSynced]),
-    Step::Slot,
+    Step::Jobs(SLOT),
     Step::Reclaim(Err(StartFault::NothingToDo)),
     Step::Queue(Some("d"), 140),
     Step::PumpTo(Did::Idle),
@@ -48,10 +48,10 @@ const FREES: &[Step] = &[
 const LEAVES_AN_ANCHOR: &[Step] = &[
     Step::Archive(105, Ok(())),
     Step::Jobs(&[JobDid::RunSynced]),
-    Step::Slot,
+    Step::Jobs(SLOT),
     Step::Reclaim(Ok(())),
     Step::Jobs(&[JobDid::WroteExtent, JobDid::HeapSynced]),
-    Step::Slot,
+    Step::Jobs(SLOT),
     Step::Queue(Some("d"), 120),
     Step::PumpTo(Did::Idle),
 ];
@@ -100,7 +100,7 @@ const SHOWS_EACH_ONCE: &[Step] = &[
     Step::PumpTo(Did::Idle),
     Step::Archive(140, Ok(())),
     Step::Jobs(&[JobDid::WroteRun, JobDid::RunSynced]),
-    Step::Slot,
+    Step::Jobs(SLOT),
     Step::View(Which::First),
     Step::Between(
         Which::First,
@@ -116,94 +116,71 @@ const SHOWS_EACH_ONCE: &[Step] = &[
     Step::End(Which::First),
 ];
 
-const RECLAIM_FREES: Case = Case(
-    "a reclaim frees what ended",
-    16,
-    ONE_FLOOR,
-    &[Part(
-        &[TWO_COMMITS, TWO_MORE, ARCHIVED, FREES],
-        &[
-            AtRest::Bytes(Area::Status, 3072, &NO_ANCHORS),
-            AtRest::Bytes(Area::Heap, 0, &NEXT_FRONT),
-        ],
-    )],
-);
-
-fn reclaim_frees(rt: &impl Abort, alloc: Global) -> Result<(), Fail> {
-    go(rt, alloc, &RECLAIM_FREES)
-}
-
-const RECLAIM_LEAVES_ANCHOR: Case = Case(
-    "what stands at the mark is an anchor",
-    16,
-    ONE_FLOOR,
-    &[Part(
-        &[TWO_COMMITS, LEAVES_AN_ANCHOR],
-        &[
-            AtRest::Bytes(Area::Status, 2048, &ONE_ANCHOR),
-            AtRest::Bytes(Area::Heap, 16_384, &ANCHOR_FRONT),
-            AtRest::Bytes(Area::Heap, 0, &NEXT_FRONT),
-        ],
-    )],
-);
-
-fn reclaim_leaves_anchor(rt: &impl Abort, alloc: Global) -> Result<(), Fail> {
-    go(rt, alloc, &RECLAIM_LEAVES_ANCHOR)
-}
-
-const RECLAIM_IS_BARRED: Case = Case(
-    "a transaction below the mark bars a reclaim",
-    16,
-    ONE_FLOOR,
-    &[Part(&[TWO_COMMITS, BEGUN_BELOW, ARCHIVED, BARRED], &[])],
-);
-
-fn reclaim_is_barred(rt: &impl Abort, alloc: Global) -> Result<(), Fail> {
-    go(rt, alloc, &RECLAIM_IS_BARRED)
-}
-
-const BOTH_HOMES_ANSWER: Case = Case(
-    "views answer from the archive below the reclaim mark",
-    16,
-    ONE_FLOOR,
-    &[Part(
-        &[
-            TWO_COMMITS,
-            TWO_MORE,
-            &[Step::View(Which::First)],
-            ARCHIVED,
-            RECLAIMED,
-            BOTH_ANSWER,
-        ],
-        &[],
-    )],
-);
-
-fn both_homes_answer(rt: &impl Abort, alloc: Global) -> Result<(), Fail> {
-    go(rt, alloc, &BOTH_HOMES_ANSWER)
-}
-
-const EACH_IS_SHOWN_ONCE: Case = Case(
-    "a version in both homes is shown once",
-    16,
-    ONE_FLOOR,
-    &[Part(
-        &[TWO_COMMITS, TWO_MORE, ARCHIVED, RECLAIMED, SHOWS_EACH_ONCE],
-        &[],
-    )],
-);
-
-fn each_is_shown_once(rt: &impl Abort, alloc: Global) -> Result<(), Fail> {
-    go(rt, alloc, &EACH_IS_SHOWN_ONCE)
-}
+const CASES: &[Case] = &[
+    Case(
+        "a reclaim frees what ended",
+        16,
+        ONE_FLOOR,
+        &[Part(
+            &[TWO_COMMITS, TWO_MORE, ARCHIVED, FREES],
+            &[
+                AtRest::Bytes(Area::Status, 3072, &NO_ANCHORS),
+                AtRest::Bytes(Area::Heap, 0, &NEXT_FRONT),
+            ],
+        )],
+    ),
+    Case(
+        "what stands at the mark is an anchor",
+        16,
+        ONE_FLOOR,
+        &[Part(
+            &[TWO_COMMITS, LEAVES_AN_ANCHOR],
+            &[
+                AtRest::Bytes(Area::Status, 2048, &ONE_ANCHOR),
+                AtRest::Bytes(Area::Heap, 16_384, &ANCHOR_FRONT),
+                AtRest::Bytes(Area::Heap, 0, &NEXT_FRONT),
+            ],
+        )],
+    ),
+    Case(
+        "a transaction below the mark bars a reclaim",
+        16,
+        ONE_FLOOR,
+        &[Part(&[TWO_COMMITS, BEGUN_BELOW, ARCHIVED, BARRED], &[])],
+    ),
+    Case(
+        "views answer from the archive below the reclaim mark",
+        16,
+        ONE_FLOOR,
+        &[Part(
+            &[
+                TWO_COMMITS,
+                TWO_MORE,
+                &[Step::View(Which::First)],
+                ARCHIVED,
+                RECLAIMED,
+                BOTH_ANSWER,
+            ],
+            &[],
+        )],
+    ),
+    Case(
+        "a version in both homes is shown once",
+        16,
+        ONE_FLOOR,
+        &[Part(
+            &[TWO_COMMITS, TWO_MORE, ARCHIVED, RECLAIMED, SHOWS_EACH_ONCE],
+            &[],
+        )],
+    ),
+];
 
 #[test]
 fn reclaims_go_step_by_step(rt: HostRuntime) -> Result<(), Fail> {
-    reclaim_frees(&rt, rt.alloc())?;
-    reclaim_leaves_anchor(&rt, rt.alloc())?;
-    reclaim_is_barred(&rt, rt.alloc())?;
-    both_homes_answer(&rt, rt.alloc())?;
-    each_is_shown_once(&rt, rt.alloc())
+    for case in CASES {
+        go(&rt, rt.alloc(), case)?;
+    }
+    Ok(())
 }
 
 /// A store of four commits.

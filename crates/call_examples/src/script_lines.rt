@@ -19,10 +19,9 @@ const PUTS: &[(&str, &str, &[&[u8]])] = &[
 ];
 
 fn are_fields(found: &[Vec<u8>], fields: &[&[u8]]) -> bool {
-    for (place, one) in found.iter().enumerate() {
-        match fields.get(place) {
-            Some(field) if one.as_slice() == *field => {}
-            _ => return false,
+    for (one, field) in found.iter().zip(fields.iter()) {
+        if one.as_slice() != *field {
+            return false;
         }
     }
     found.len() == fields.len()

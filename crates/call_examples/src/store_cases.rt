@@ -1,13 +1,13 @@
 //! Cases of a store: steps from its format on, between which it is closed and opened again.
 use crate::held::Held;
-use crate::store_steps::{List, Step, is_answered};
+use crate::store_steps::{Step, is_answered};
 use disk::{Area, Disk, MemDisk};
 use recovery::format;
 use status::encode_header;
 use std::alloc::Global;
 use std::process::Abort;
 use std::test::Fail;
-use store::Store;
+use store::{Did, JobDid, Store};
 
 /// What the disk of a closed store must have, or what is put on it.
 #[derive(Clone, Copy)]
@@ -33,14 +33,43 @@ pub const ONE_FLOOR: u32 = 2;
 
 pub const OWN_FLOORS: u32 = 3;
 
-/// The steps that cases share, as lists of their own.
-pub const TWO_COMMITS: &[Step] = &[Step::Each(List::TwoCommits)];
+pub const SLOT: &[JobDid] = &[
+    JobDid::BodyWritten,
+    JobDid::BodySynced,
+    JobDid::GateWritten,
+    JobDid::JobDone,
+    JobDid::Idle,
+];
 
-pub const TWO_MORE: &[Step] = &[Step::Each(List::TwoMore)];
+/// The record is a from 100 on and b from 110 on.
+pub const TWO_COMMITS: &[Step] = &[
+    Step::Queue(Some("a"), 100),
+    Step::PumpTo(Did::Idle),
+    Step::Queue(Some("b"), 110),
+    Step::PumpTo(Did::Idle),
+];
 
-pub const ARCHIVED: &[Step] = &[Step::Each(List::Archived)];
+/// It is gone at 120, and c from 130 on.
+pub const TWO_MORE: &[Step] = &[
+    Step::Queue(None, 120),
+    Step::PumpTo(Did::Idle),
+    Step::Queue(Some("c"), 130),
+    Step::PumpTo(Did::Idle),
+];
 
-pub const RECLAIMED: &[Step] = &[Step::Each(List::Reclaimed)];
+/// The archive up to 120 is made, in a run of one piece.
+pub const ARCHIVED: &[Step] = &[
+    Step::Archive(120, Ok(())),
+    Step::Jobs(&[JobDid::WroteRun, JobDid::RunSynced]),
+    Step::Jobs(SLOT),
+];
+
+/// The heap and memory give up what it has, and no anchor is left.
+pub const RECLAIMED: &[Step] = &[
+    Step::Reclaim(Ok(())),
+    Step::Jobs(&[JobDid::HeapSynced]),
+    Step::Jobs(SLOT),
+];
 
 pub fn opened(rt: &impl Abort, alloc: Global, disk: MemDisk) -> Store<MemDisk> {
     match Store::open(alloc, disk, 1) {
@@ -106,20 +135,14 @@ pub fn new_disk(alloc: Global, slots: u32, profile: u32) -> Result<MemDisk, Fail
     Ok(disk)
 }
 
-/// Takes the steps of a part of a case on a disk, and gives it back.
-fn go_on(rt: &impl Abort, alloc: Global, what: &str, part: &Part, disk: MemDisk) -> MemDisk {
-    let mut store = opened(rt, alloc, disk);
-    takes(rt, alloc, &mut store, what, part.0);
-    let mut disk = store.close();
-    are_at_rest(rt, &mut disk, what, part.1);
-    disk
-}
-
 /// Takes the steps of a case.
 pub fn go(rt: &impl Abort, alloc: Global, case: &Case) -> Result<(), Fail> {
     let mut disk = new_disk(alloc, case.1, case.2)?;
     for part in case.3 {
-        disk = go_on(rt, alloc, case.0, part, disk);
+        let mut store = opened(rt, alloc, disk);
+        takes(rt, alloc, &mut store, case.0, part.0);
+        disk = store.close();
+        are_at_rest(rt, &mut disk, case.0, part.1);
     }
     Ok(())
 }

@@ -7,62 +7,6 @@ use history::Key;
 use std::alloc::Global;
 use store::{Did, JobDid, PumpFault, StartFault, Store, SubmitFault, Submitted, Txn};
 
-/// Steps that many cases share.
-#[derive(Clone, Copy)]
-pub enum List {
-    /// The record is a from 100 on and b from 110 on.
-    TwoCommits,
-    /// It is gone at 120, and c from 130 on.
-    TwoMore,
-    /// The archive up to 120 is made, in a run of one piece.
-    Archived,
-    /// The heap and memory give up what it has, and no anchor is left.
-    Reclaimed,
-}
-
-const TWO_COMMITS: &[Step] = &[
-    Step::Queue(Some("a"), 100),
-    Step::PumpTo(Did::Idle),
-    Step::Queue(Some("b"), 110),
-    Step::PumpTo(Did::Idle),
-];
-
-const TWO_MORE: &[Step] = &[
-    Step::Queue(None, 120),
-    Step::PumpTo(Did::Idle),
-    Step::Queue(Some("c"), 130),
-    Step::PumpTo(Did::Idle),
-];
-
-const ARCHIVED: &[Step] = &[
-    Step::Archive(120, Ok(())),
-    Step::Jobs(&[JobDid::WroteRun, JobDid::RunSynced]),
-    Step::Slot,
-];
-
-const RECLAIMED: &[Step] = &[
-    Step::Reclaim(Ok(())),
-    Step::Jobs(&[JobDid::HeapSynced]),
-    Step::Slot,
-];
-
-fn steps_of(list: List) -> &'static [Step] {
-    match list {
-        List::TwoCommits => TWO_COMMITS,
-        List::TwoMore => TWO_MORE,
-        List::Archived => ARCHIVED,
-        List::Reclaimed => RECLAIMED,
-    }
-}
-
-const SLOT: &[JobDid] = &[
-    JobDid::BodyWritten,
-    JobDid::BodySynced,
-    JobDid::GateWritten,
-    JobDid::JobDone,
-    JobDid::Idle,
-];
-
 /// What is done with a store, or asked of it, and what must come of it.
 #[derive(Clone, Copy)]
 pub enum Step {
@@ -84,10 +28,6 @@ pub enum Step {
     JobFault(PumpFault),
     /// Steps of a job in turn.
     Jobs(&'static [JobDid]),
-    /// The last steps of a job, which write its slot.
-    Slot,
-    /// Steps that many cases share, in turn.
-    Each(List),
     /// An archive up to a time begins.
     Archive(u64, Result<(), StartFault>),
     Reclaim(Result<(), StartFault>),
@@ -208,10 +148,6 @@ fn takes<D: Disk>(store: &mut Store<D>, steps: &[JobDid]) -> bool {
     true
 }
 
-fn takes_slot<D: Disk>(store: &mut Store<D>) -> bool {
-    takes(store, SLOT)
-}
-
 fn start_floor<D: Disk>(
     store: &mut Store<D>,
     scope: Option<u16>,
@@ -249,7 +185,6 @@ fn is_worked<D: Disk>(alloc: Global, store: &mut Store<D>, step: &Step) -> bool 
     match *step {
         Step::JobFault(fault) => store.job_pump() == Err(fault),
         Step::Jobs(steps) => takes(store, steps),
-        Step::Slot => takes_slot(store),
         Step::Archive(upto, began) => store.archive_start(upto) == began,
         Step::Reclaim(began) => store.reclaim_start() == began,
         Step::Grow(began) => store.grow_start() == began,
@@ -260,16 +195,6 @@ fn is_worked<D: Disk>(alloc: Global, store: &mut Store<D>, step: &Step) -> bool 
     }
 }
 
-/// Whether each step of a list is answered as it says.
-fn are_worked<D: Disk>(alloc: Global, store: &mut Store<D>, list: List) -> bool {
-    for step in steps_of(list) {
-        if !is_worked(alloc, store, step) {
-            return false;
-        }
-    }
-    true
-}
-
 /// Whether the store answers as the step says.
 pub fn is_answered<D: Disk>(
     alloc: Global,
@@ -278,7 +203,6 @@ pub fn is_answered<D: Disk>(
     step: &Step,
 ) -> bool {
     match *step {
-        Step::Each(list) => are_worked(alloc, store, list),
         Step::Begin => begin(store, held),
         Step::Abort => abort(store, held.take_reader()),
         Step::View(which) => view(store, held, which),

@@ -1,10 +1,8 @@
 //! What views answer before, at and after their times.
 use crate::answers::{Row, Rows, Value, are_answer, are_lent, goes_over, is_answer, is_row};
-use crate::list_answers::are_records;
 use crate::published::{SEVEN, published};
-use chains::SharedValue;
 use floors::Floors;
-use history::{Key, Version};
+use history::Key;
 use std::alloc::{AllocError, Global};
 use std::test::Fail;
 use timequery::{QueryFault, View};
@@ -41,29 +39,20 @@ fn lends(view: &View, a: u64, b: u64, want: Rows) -> bool {
     }
 }
 
-fn is_refusal(fault: QueryFault, want: Option<QueryFault>) -> bool {
-    match want {
-        Some(wanted) => fault == wanted,
-        None => false,
-    }
-}
-
-/// Whether these are the rows, all of record 7.
-fn are_rows_of_seven(rows: &[(u64, Version<SharedValue>)], parts: &[Row]) -> bool {
-    for (place, row) in rows.iter().enumerate() {
-        match parts.get(place) {
-            Some(part) if row.0 == 7 && is_row(&row.1, part) => {}
-            _ => return false,
-        }
-    }
-    rows.len() == parts.len()
-}
-
 /// Whether the rows of a relation are these, all of record 7.
 fn scans_rows(alloc: Global, view: &View, (relation, a, b): (u16, u64, u64), want: Rows) -> bool {
-    match view.scan_between(alloc, relation, a, b) {
-        Ok(rows) => matches!(want, Ok(parts) if are_rows_of_seven(&rows, parts)),
-        Err(fault) => is_refusal(fault, want.err()),
+    let answer = view.scan_between(alloc, relation, a, b);
+    match (&answer, want) {
+        (Ok(rows), Ok(parts)) => {
+            for (row, part) in rows.iter().zip(parts.iter()) {
+                if row.0 != 7 || !is_row(&row.1, part) {
+                    return false;
+                }
+            }
+            rows.len() == parts.len()
+        }
+        (Err(fault), Err(wanted)) => *fault == wanted,
+        _ => false,
     }
 }
 
@@ -74,9 +63,18 @@ fn scans(
     time: u64,
     want: Result<&[u64], QueryFault>,
 ) -> bool {
-    match view.scan_at(alloc, relation, time) {
-        Ok(found) => matches!(want, Ok(records) if are_records(&found, records)),
-        Err(fault) => is_refusal(fault, want.err()),
+    let answer = view.scan_at(alloc, relation, time);
+    match (&answer, want) {
+        (Ok(found), Ok(records)) => {
+            for (one, record) in found.iter().zip(records.iter()) {
+                if one.0 != *record {
+                    return false;
+                }
+            }
+            found.len() == records.len()
+        }
+        (Err(fault), Err(wanted)) => *fault == wanted,
+        _ => false,
     }
 }
 
@@ -120,119 +118,87 @@ struct Viewed(
     &'static [Ask],
 );
 
-const STANDS_TO_THE_LAST: Viewed = Viewed(
-    "a value stands from its commit up to the last one",
-    &[(100, 7, Some("a"))],
-    0,
-    &[],
-    &[
-        Ask::At(1, 99, Ok(None)),
-        Ask::At(1, 100, Ok(Some("a"))),
-        Ask::At(1, 101, Err(QueryFault::NotYet(100))),
-    ],
-);
-
-fn stands_to_the_last(alloc: Global) -> Result<(), Fail> {
-    goes(alloc, &STANDS_TO_THE_LAST)
-}
-
-const NOTHING_BEFORE_THE_FLOOR: Viewed = Viewed(
-    "nothing is answered before the floor",
-    &[(110, 7, Some("b")), (120, 7, None), (130, 7, Some("c"))],
-    120,
-    &[],
-    &[
-        Ask::At(1, 119, Err(QueryFault::BeforeKept(120))),
-        Ask::At(1, 120, Ok(None)),
-        Ask::At(1, 130, Ok(Some("c"))),
-    ],
-);
-
-fn nothing_before_the_floor(alloc: Global) -> Result<(), Fail> {
-    goes(alloc, &NOTHING_BEFORE_THE_FLOOR)
-}
-
-const ROWS_ARE_CUT: Viewed = Viewed(
-    "rows of a key are cut to the interval",
-    FOUR,
-    0,
-    &[],
-    &[Ask::Between(105, 121, Ok(&[(105, 110, "a"), (110, 120, "b")]))],
-);
-
-fn rows_are_cut(alloc: Global) -> Result<(), Fail> {
-    goes(alloc, &ROWS_ARE_CUT)
-}
-
-const A_DELETION_ENDS_A_ROW: Viewed = Viewed(
-    "a deletion ends a row",
-    FOUR,
-    0,
-    &[],
-    &[
-        Ask::ScanBetween(1, 100, 131, Ok(ALL_ROWS)),
-        Ask::ScanBetween(2, 100, 131, Ok(&[])),
-    ],
-);
-
-fn a_deletion_ends_a_row(alloc: Global) -> Result<(), Fail> {
-    goes(alloc, &A_DELETION_ENDS_A_ROW)
-}
-
-const A_SCAN_SHOWS: Viewed = Viewed(
-    "a scan shows what stood then",
-    FOUR,
-    0,
-    &[],
-    &[Ask::ScanAt(1, 105, Ok(&[7])), Ask::ScanAt(1, 125, Ok(&[]))],
-);
-
-fn a_scan_shows(alloc: Global) -> Result<(), Fail> {
-    goes(alloc, &A_SCAN_SHOWS)
-}
-
-const REFUSED_IN_ORDER: Viewed = Viewed(
-    "intervals are refused in order",
-    FOUR,
-    120,
-    &[],
-    &[
-        Ask::Between(119, 131, Err(QueryFault::BeforeKept(120))),
-        Ask::Between(130, 119, Err(QueryFault::BeforeKept(120))),
-        Ask::Between(140, 140, Err(QueryFault::NotYet(130))),
-        Ask::Between(125, 125, Err(QueryFault::EmptyInterval)),
-        Ask::ScanBetween(1, 120, 132, Err(QueryFault::NotYet(130))),
-        Ask::ScanAt(1, 131, Err(QueryFault::NotYet(130))),
-        Ask::Count(120, 131, 1),
-    ],
-);
-
-fn refused_in_order(alloc: Global) -> Result<(), Fail> {
-    goes(alloc, &REFUSED_IN_ORDER)
-}
-
-const OWN_FLOORS: Viewed = Viewed(
-    "each relation is answered from its own floor",
-    FOUR,
-    0,
-    &[(2, 125), (1, 115)],
-    &[
-        Ask::At(1, 114, Err(QueryFault::BeforeKept(115))),
-        Ask::At(1, 115, Ok(Some("b"))),
-        Ask::At(2, 124, Err(QueryFault::BeforeKept(125))),
-        Ask::At(2, 125, Ok(None)),
-        Ask::At(3, 0, Ok(None)),
-        Ask::Between(114, 131, Err(QueryFault::BeforeKept(115))),
-        Ask::Count(115, 131, 2),
-        Ask::ScanBetween(2, 115, 131, Err(QueryFault::BeforeKept(125))),
-        Ask::ScanAt(1, 115, Ok(&[7])),
-        Ask::ScanAt(2, 115, Err(QueryFault::BeforeKept(125))),
-    ],
-);
-
-fn own_floors(alloc: Global) -> Result<(), Fail> {
-    goes(alloc, &OWN_FLOORS)
-}
+const VIEWS: &[Viewed] = &[
+    Viewed(
+        "a value stands from its commit up to the last one",
+        &[(100, 7, Some("a"))],
+        0,
+        &[],
+        &[
+            Ask::At(1, 99, Ok(None)),
+            Ask::At(1, 100, Ok(Some("a"))),
+            Ask::At(1, 101, Err(QueryFault::NotYet(100))),
+        ],
+    ),
+    Viewed(
+        "nothing is answered before the floor",
+        &[(110, 7, Some("b")), (120, 7, None), (130, 7, Some("c"))],
+        120,
+        &[],
+        &[
+            Ask::At(1, 119, Err(QueryFault::BeforeKept(120))),
+            Ask::At(1, 120, Ok(None)),
+            Ask::At(1, 130, Ok(Some("c"))),
+        ],
+    ),
+    Viewed(
+        "rows of a key are cut to the interval",
+        FOUR,
+        0,
+        &[],
+        &[Ask::Between(105, 121, Ok(&[(105, 110, "a"), (110, 120, "b")]))],
+    ),
+    Viewed(
+        "a deletion ends a row",
+        FOUR,
+        0,
+        &[],
+        &[
+            Ask::ScanBetween(1, 100, 131, Ok(ALL_ROWS)),
+            Ask::ScanBetween(2, 100, 131, Ok(&[])),
+        ],
+    ),
+    Viewed(
+        "a scan shows what stood then",
+        FOUR,
+        0,
+        &[],
+        &[Ask::ScanAt(1, 105, Ok(&[7])), Ask::ScanAt(1, 125, Ok(&[]))],
+    ),
+    Viewed(
+        "intervals are refused in order",
+        FOUR,
+        120,
+        &[],
+        &[
+            Ask::Between(119, 131, Err(QueryFault::BeforeKept(120))),
+            Ask::Between(130, 119, Err(QueryFault::BeforeKept(120))),
+            Ask::Between(140, 140, Err(QueryFault::NotYet(130))),
+            Ask::Between(125, 125, Err(QueryFault::EmptyInterval)),
+            Ask::ScanBetween(1, 120, 132, Err(QueryFault::NotYet(130))),
+            Ask::ScanAt(1, 131, Err(QueryFault::NotYet(130))),
+            Ask::Count(120, 131, 1),
+        ],
+    ),
+    Viewed(
+        "each relation is answered from its own floor",
+        FOUR,
+        0,
+        &[(2, 125), (1, 115)],
+        &[
+            Ask::At(1, 114, Err(QueryFault::BeforeKept(115))),
+            Ask::At(1, 115, Ok(Some("b"))),
+            Ask::At(2, 124, Err(QueryFault::BeforeKept(125))),
+            Ask::At(2, 125, Ok(None)),
+            Ask::At(3, 0, Ok(None)),
+            Ask::Between(114, 131, Err(QueryFault::BeforeKept(115))),
+            Ask::Count(115, 131, 2),
+            Ask::ScanBetween(2, 115, 131, Err(QueryFault::BeforeKept(125))),
+            Ask::ScanAt(1, 115, Ok(&[7])),
+            Ask::ScanAt(2, 115, Err(QueryFault::BeforeKept(125))),
+        ],
+    ),
+];
 
 const ALL_ROWS: &[Row] = &[(100, 110, "a"), (110, 120, "b"), (130, 131, "c")];
 
@@ -268,26 +234,13 @@ fn view_of(alloc: Global, row: &Viewed) -> Result<View, Fail> {
     Ok(View::new(3, last_of(row.1), floors, published(alloc, row.1)?))
 }
 
-/// What a view is asked must be answered as its row says.
-fn goes(alloc: Global, row: &Viewed) -> Result<(), Fail> {
-    let view = view_of(alloc, row)?;
-    let (mark, wrong) = (view.mark(), first_wrong(alloc, &view, row.4));
-    view.spend();
-    if mark == 3 && wrong.is_none() {
-        Ok(())
-    } else {
-        let what = row.0;
-        Err(Fail::new(format_args!("{what}: mark {mark}, question {wrong:?}")))
-    }
-}
-
 #[test]
 fn views_answer_of_their_times(rt: HostRuntime) -> Result<(), Fail> {
-    stands_to_the_last(rt.alloc())?;
-    nothing_before_the_floor(rt.alloc())?;
-    rows_are_cut(rt.alloc())?;
-    a_deletion_ends_a_row(rt.alloc())?;
-    a_scan_shows(rt.alloc())?;
-    refused_in_order(rt.alloc())?;
-    own_floors(rt.alloc())
+    for row in VIEWS {
+        let view = view_of(rt.alloc(), row)?;
+        let (mark, wrong) = (view.mark(), first_wrong(rt.alloc(), &view, row.4));
+        view.spend();
+        assert_eq!(rt; (mark, wrong), (3, None), "{}", row.0);
+    }
+    Ok(())
 }
