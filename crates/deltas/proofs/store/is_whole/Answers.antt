@@ -1,3 +1,4 @@
+use Rattle.std.proofs.lemmas.Grind.{common_steps}
 use Rattle.std.proofs.Common.{◌≡◌, ◌≤◌, ◌<◌, ◌+◌, length, List, ℕ, ap, sym, ◌∙◌, arith, ⊎_elim}
 use Rattle.std.proofs.lemmas.Bool.{cases_lt}
 use Rattle.std.proofs.lemmas.Bool.Decides.{nat_tests}
@@ -22,3 +23,6 @@ returns c =
           (λ (fits : length c.spelled.result.now ≤ 1 + c.changed_len.result). grind (arith, nat_tests))
           (cases_lt (1 + c.changed_len.result) (length c.spelled.result.now)),
     )
+
+pub returns-then-len : goal.returns-then-len
+returns-then-len c = grind (arith, common_steps)

@@ -1,3 +1,4 @@
+use Rattle.std.proofs.lemmas.Grind.{common_steps}
 use Rattle.std.proofs.Common.{◌≡◌, ◌↔◌, [], None, List, ℕ, rules, subst, arith}
 use Rattle.std.proofs.lemmas.List.{nil_from_length}
 use Rattle.deltas.specs.Unpacking.{ArePacked}
@@ -14,3 +15,6 @@ returns c =
     let next = c.peek.ensures in
     let is = c.is_none.ensures in
     (λ none. was.0 (all.1 (none_next c.loop-rest.left.left.now (let no : c.peek.result ≡ None = search rules in rw no at next))), λ packed. let e = all.0 (was.1 packed) in search rules)
+
+pub loop-rest-preserved : goal.loop-rest-preserved
+loop-rest-preserved c = grind (arith, common_steps)

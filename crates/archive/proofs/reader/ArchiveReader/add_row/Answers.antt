@@ -1,3 +1,4 @@
+use Rattle.std.proofs.lemmas.Grind.{common_steps}
 use Rattle.std.proofs.Common.{rules, ℕ, ap, subst, IsTrue, arith}
 use Rattle.std.proofs.lemmas.Result.{err_from_is_err_and}
 use Rattle.archive.specs.Answers.{head_of, is_wanted}
@@ -25,3 +26,6 @@ returns-clause-only g c = λ records r reads placed.
     let from = ap (λ h. h.from) placed.head in
     let to = ap (λ h. h.to) placed.head in
     search rules
+
+pub returns-clause-exact : goal.returns-clause-exact
+returns-clause-exact g c = grind (arith, common_steps)

@@ -1,4 +1,5 @@
-use Rattle.std.proofs.Common.{◌∙◌, ap, subst}
+use Rattle.std.proofs.lemmas.Grind.{common_steps}
+use Rattle.std.proofs.Common.{◌∙◌, ap, subst, arith}
 use Rattle.std.specs.List.{flat_map}
 use Rattle.archive.specs.Answers.{rows_of, with_record, rows_in}
 use Rattle.archive.specs.Searches.{archive_of}
@@ -19,3 +20,6 @@ returns-clause-exact g c = λ told right. (
   subst (λ w. IsOfRuns (IsWalked with_record (archive_of (g.D.Disk.state c.args.disk.now)) w) w.a c.args.runs.now c.in_ok-rows.rows.items) c.of_relation.ensures (c.in_ok-rows.ensures.exact told right),
   c.in_ok-order_rows.ensures.same,
 )
+
+pub returns-in_err-rows-clause-exact : goal.returns-in_err-rows-clause-exact
+returns-in_err-rows-clause-exact g c = grind (arith, common_steps)

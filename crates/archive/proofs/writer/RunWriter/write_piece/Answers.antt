@@ -1,3 +1,4 @@
+use Rattle.std.proofs.lemmas.Grind.{common_steps}
 use Rattle.std.proofs.Common.{◌≡◌, ◌∙◌, ◌-◌, ℕ, List, min, length, take, drop, ap, subst, arith, length-take, length-drop}
 use Rattle.std.specs.List.{slice_range}
 use Rattle.disk.specs.Calls.{Writes}
@@ -40,3 +41,6 @@ returns-clause-wrote g c = λ told some.
     let front = front_is all (slice_range out from c.fill-from.result.1) _ n c.fill-from.ensures.joined count size ∙ ap (λ (xs : List ℕ). take 8192 xs) is in
     let wrote = subst (λ (xs : List ℕ). Writes Archive c.self.inside.at xs c.write_at.result (g.D.Disk.state c.args.disk.now).areas (g.D.Disk.state c.write_at.new.self).areas) front (c.write_at.ensures.areas told) in
     subst (λ (n : ℕ). Writes Archive n (take 8192 c.args.self.now.left) c.write_at.result (g.D.Disk.state c.args.disk.now).areas (g.D.Disk.state c.write_at.new.self).areas) at wrote
+
+pub invariant_of-self : goal.invariant_of-self
+invariant_of-self g c = grind (arith, common_steps)
