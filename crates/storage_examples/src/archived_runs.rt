@@ -3,8 +3,7 @@ use crate::area_bytes::put;
 use crate::worked_bytes::{KEY, RUN_BYTES, two_records};
 use archive::{ArchiveFault, ArchiveReader, RunEntry};
 use disk::MemDisk;
-use std::alloc::{AllocError, Global};
-use std::test::Fail;
+use std::alloc::Global;
 use wire::Value;
 
 /// What is asked of the key, or of its relation.
@@ -94,16 +93,15 @@ fn ask(
 /// Queries, and what each is answered.
 type Asked = &'static [(Query, Result<Found, ArchiveFault>)];
 
-/// Asks the run of two records.
-fn ask_two(archived: &mut Archived, query: Query) -> Result<Found, ArchiveFault> {
-    let runs = [two_records()];
-    ask(&mut archived.reader, &mut archived.disk, &runs, query)
-}
-
 /// The place of the first query that is not answered as it should be.
-fn first_wrong(archived: &mut Archived, asked: Asked) -> Option<usize> {
+fn first_wrong(
+    reader: &mut ArchiveReader,
+    disk: &mut MemDisk,
+    runs: &[RunEntry],
+    asked: Asked,
+) -> Option<usize> {
     for (place, (query, want)) in asked.iter().enumerate() {
-        if ask_two(archived, *query) != *want {
+        if ask(reader, disk, runs, *query) != *want {
             return Some(place);
         }
     }
@@ -122,18 +120,18 @@ pub struct Archived {
     pub disk: MemDisk,
 }
 
-/// A reader, and a disk with these bytes as its archive.
-fn with_reader(alloc: Global, reader: ArchiveReader, bytes: &[u8]) -> Result<Archived, AllocError> {
-    let bytes = bytes.to_vec(alloc)?;
-    Ok(Archived {
+/// A reader with a cache, and a disk with these bytes as its archive; none where memory is short.
+pub fn read_archive(alloc: Global, bytes: &[u8]) -> Option<Archived> {
+    let Ok(reader) = ArchiveReader::new(alloc) else {
+        return None;
+    };
+    let Ok(bytes) = bytes.to_vec(alloc) else {
+        return None;
+    };
+    Some(Archived {
         reader,
         disk: disk_of(alloc, bytes),
     })
-}
-
-/// The same, the reader with a cache.
-pub fn read_archive(alloc: Global, bytes: &[u8]) -> Result<Archived, AllocError> {
-    with_reader(alloc, ArchiveReader::new(alloc)?, bytes)
 }
 
 /// The run of two records: a from 100 to 110, and b from 110 to 120.
@@ -151,20 +149,16 @@ const BY_TIMES: Asked = &[
 /// Once the run has ended, no head of it is read.
 const AFTER: Asked = &[(Query::Find(120), Ok(Found::Nothing))];
 
-/// Whether that is answered so, and no head is read for it.
-fn reads_no_head(archived: &mut Archived) -> bool {
-    let heads = archived.reader.heads();
-    first_wrong(archived, AFTER).is_none() && archived.reader.heads() == heads
-}
-
 #[test]
-fn a_run_answers_by_its_times(rt: HostRuntime) -> Result<(), Fail> {
-    let mut archived = read_archive(rt.alloc(), &RUN_BYTES)?;
-    if let Some(place) = first_wrong(&mut archived, BY_TIMES) {
-        return Err(Fail::new(format_args!("query {place}")));
-    }
-    assert!(rt; reads_no_head(&mut archived));
-    Ok(())
+fn a_run_answers_by_its_times(rt: HostRuntime) {
+    let Some(mut archived) = read_archive(rt.alloc(), &RUN_BYTES) else {
+        panic!(rt; "no memory");
+    };
+    let Archived { reader, disk } = &mut archived;
+    let runs = [two_records()];
+    assert_eq!(rt; first_wrong(reader, disk, &runs, BY_TIMES), None);
+    let heads = reader.heads();
+    assert!(rt; first_wrong(reader, disk, &runs, AFTER).is_none() && reader.heads() == heads);
 }
 
 const DAMAGED: Result<Found, ArchiveFault> = Err(ArchiveFault::Damaged(0));
@@ -260,17 +254,16 @@ const CHANGES: &[Change] = &[
 /// Whether a reader answers so where the archive has the run's bytes and one of them changed.
 fn answers(
     alloc: Global,
-    reader: ArchiveReader,
+    reader: &mut ArchiveReader,
     (at, byte): (u16, u8),
     query: Query,
     want: Result<Found, ArchiveFault>,
 ) -> bool {
-    let mut bytes = RUN_BYTES;
+    let Ok(mut bytes) = RUN_BYTES.to_vec(alloc) else {
+        return false;
+    };
     put(&mut bytes, at, &[byte]);
-    match with_reader(alloc, reader, &bytes) {
-        Ok(mut archived) => ask_two(&mut archived, query) == want,
-        Err(_) => false,
-    }
+    ask(reader, &mut disk_of(alloc, bytes), &[two_records()], query) == want
 }
 
 /// Whether two readers answer so, the one with a cache and the one without.
@@ -280,13 +273,13 @@ fn both_answer(
     query: Query,
     want: Result<Found, ArchiveFault>,
 ) -> bool {
-    let Ok(reader) = ArchiveReader::new(alloc) else {
+    let Ok(mut reader) = ArchiveReader::new(alloc) else {
         return false;
     };
-    answers(alloc, reader, change, query, want)
+    answers(alloc, &mut reader, change, query, want)
         && answers(
             alloc,
-            ArchiveReader::without_cache(alloc),
+            &mut ArchiveReader::without_cache(alloc),
             change,
             query,
             want,
@@ -310,8 +303,10 @@ fn damage_is_told_where_it_is_read(rt: HostRuntime) {
 }
 
 #[test]
-fn a_run_past_the_end_is_damaged(rt: HostRuntime) -> Result<(), Fail> {
-    let mut archived = read_archive(rt.alloc(), &RUN_BYTES[..73])?;
-    assert!(rt; ask_two(&mut archived, Query::Find(109)) == DAMAGED);
-    Ok(())
+fn a_run_past_the_end_is_damaged(rt: HostRuntime) {
+    let Some(mut archived) = read_archive(rt.alloc(), &RUN_BYTES[..73]) else {
+        panic!(rt; "no memory");
+    };
+    let Archived { reader, disk } = &mut archived;
+    assert!(rt; find(reader, disk, &[two_records()], 109) == DAMAGED);
 }

@@ -62,23 +62,15 @@ fn leaves(left: Result<MemDisk, AllocError>, area: Area, bytes: &[u8]) -> bool {
     }
 }
 
-/// Whether two bytes are written, and a stop tears them.
-fn is_torn_before_its_sync(alloc: Global, disk: &mut MemDisk) -> bool {
-    are_answered(disk, Area::Status, &[Call::Write(1, b"xy", true)])
-        && leaves(disk.left(alloc, 0xc7, b"z"), Area::Status, b"a\xc7\xc7dz")
-}
-
-/// Whether they are synced, and a stop leaves them.
-fn is_kept_behind_its_sync(alloc: Global, disk: &mut MemDisk) -> bool {
-    are_answered(disk, Area::Status, &[Call::Sync(true)])
-        && leaves(disk.left(alloc, 0xc7, b"z"), Area::Status, b"axyd")
-}
-
 #[test]
 fn a_stop_tears_what_was_written(rt: HostRuntime) -> Result<(), Fail> {
     let mut disk = four(rt.alloc())?;
-    assert!(rt; is_torn_before_its_sync(rt.alloc(), &mut disk));
-    assert!(rt; is_kept_behind_its_sync(rt.alloc(), &mut disk));
+    assert!(rt; are_answered(&mut disk, Area::Status, &[Call::Write(1, b"xy", true)]));
+    let left = disk.left(rt.alloc(), 0xc7, b"z");
+    assert!(rt; leaves(left, Area::Status, b"a\xc7\xc7dz"));
+    assert!(rt; are_answered(&mut disk, Area::Status, &[Call::Sync(true)]));
+    let left = disk.left(rt.alloc(), 0xc7, b"z");
+    assert!(rt; leaves(left, Area::Status, b"axyd"));
     Ok(())
 }
 
@@ -96,18 +88,14 @@ const ONE_REFUSED: &[Call] = &[
     Call::Counts(2, 1),
 ];
 
-/// Whether a write is refused, has reached nothing, and is torn by a stop.
-fn tears_what_it_refused(alloc: Global, disk: &mut FaultDisk) -> bool {
-    are_answered(disk, Area::Status, ONE_REFUSED)
-        && holds(disk, Area::Status, b"abcd")
-        && leaves(disk.left(alloc, 0, b""), Area::Status, b"a\0\0d")
-}
-
 /// A refused write that has reached nothing is torn by a stop all the same.
 #[test]
 fn a_refused_write_is_torn(rt: HostRuntime) -> Result<(), Fail> {
     let mut disk = FaultDisk::new(four(rt.alloc())?, REFUSED);
-    assert!(rt; tears_what_it_refused(rt.alloc(), &mut disk));
+    assert!(rt; are_answered(&mut disk, Area::Status, ONE_REFUSED));
+    assert!(rt; holds(&mut disk, Area::Status, b"abcd"));
+    let left = disk.left(rt.alloc(), 0, b"");
+    assert!(rt; leaves(left, Area::Status, b"a\0\0d"));
     Ok(())
 }
 
@@ -126,15 +114,10 @@ const ALL_REFUSED: &[Call] = &[
     Call::Counts(3, 3),
 ];
 
-/// Whether a disk refuses all calls behind the first, and nothing is left of its heap.
-fn refuses_all(alloc: Global, disk: &mut FaultDisk) -> bool {
-    are_answered(disk, Area::Heap, ALL_REFUSED)
-        && leaves(disk.left(alloc, b'q', b""), Area::Heap, b"")
-}
-
 #[test]
 fn a_stopped_disk_refuses_all(rt: HostRuntime) -> Result<(), Fail> {
     let mut disk = FaultDisk::new(four(rt.alloc())?, STOPPED);
-    assert!(rt; refuses_all(rt.alloc(), &mut disk));
+    assert!(rt; are_answered(&mut disk, Area::Heap, ALL_REFUSED));
+    assert!(rt; leaves(disk.left(rt.alloc(), b'q', b""), Area::Heap, b""));
     Ok(())
 }

@@ -154,24 +154,13 @@ fn first_wrong(alloc: Global, case: &Case) -> Result<Option<(usize, u32)>, Fail>
     Ok(None)
 }
 
-/// Each step of a case must be answered as it says.
-fn goes(alloc: Global, case: &Case) -> Result<(), Fail> {
-    match first_wrong(alloc, case)? {
-        Some((place, found)) => {
-            let what = case.what;
-            Err(Fail::new(format_args!("{what}: step {place} is answered {found}")))
-        }
-        None => Ok(()),
-    }
-}
-
 #[test]
 fn extents_are_answered_step_by_step(rt: HostRuntime) -> Result<(), Fail> {
     laws::list_taken();
     laws::list_given_back();
     laws::list_kept();
     for case in CASES {
-        goes(rt.alloc(), case)?;
+        assert_eq!(rt; first_wrong(rt.alloc(), case)?, None, "{}", case.what);
     }
     Ok(())
 }

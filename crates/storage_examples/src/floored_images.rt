@@ -2,8 +2,6 @@
 use crate::area_bytes::Parts;
 use crate::opened_images::{Image, Look, Opening, all_open};
 use crate::worked_bytes::{FOUR_COMMITS, FOUR_EXTENTS, HEADER, KEY};
-use std::alloc::Global;
-use std::test::Fail;
 use wire::Run;
 
 /// The only record of the first run, b from 110 to 120, and its index.
@@ -61,49 +59,43 @@ const FLOORED_BY_RELATION: Image = Image {
     ..FLOORED
 };
 
-const READ: &[Opening] = &[Opening(
-    "the last floor is recovered, and each run has the one before it",
-    &[],
-    Ok(&[
-        Look::Used(9),
-        Look::Times(130, 130, 0),
-        Look::Floors(130, &[]),
-        Look::Runs(2),
-        Look::Run(0, FIRST_RUN, 0, 115, &[]),
-        Look::Run(1, SECOND_RUN, 120, 120, &[]),
-        Look::Byte(KEY, 119, Some(b'b')),
-        Look::Byte(KEY, 125, None),
-        Look::Byte(KEY, 130, Some(b'c')),
-    ]),
-)];
-
-const READ_BY_RELATION: &[Opening] = &[Opening(
-    "each relation has its floor, and each run those before it",
-    &[],
-    Ok(&[
-        Look::Used(9),
-        Look::Times(130, 130, 0),
-        Look::FloorOf(1, 115),
-        Look::FloorOf(2, 120),
-        Look::FloorOf(3, 130),
-        Look::FloorOf(4, 0),
-        Look::Floors(0, &[(1, 115), (2, 120), (3, 130)]),
-        Look::Runs(2),
-        Look::Run(0, FIRST_RUN, 0, 0, &[(1, 115)]),
-        Look::Run(1, SECOND_RUN, 120, 0, &[(2, 120), (1, 115)]),
-    ]),
-)];
-
-fn floors_are_read(alloc: Global) -> Result<(), Fail> {
-    all_open(alloc, &FLOORED, READ)
-}
-
-fn floors_of_relations_are_read(alloc: Global) -> Result<(), Fail> {
-    all_open(alloc, &FLOORED_BY_RELATION, READ_BY_RELATION)
-}
+const FLOORED_IMAGES: &[Opening] = &[
+    Opening(
+        "the last floor is recovered, and each run has the one before it",
+        &FLOORED,
+        &[],
+        Ok(&[
+            Look::Used(9),
+            Look::Times(130, 130, 0),
+            Look::Floors(130, &[]),
+            Look::Runs(2),
+            Look::Run(0, FIRST_RUN, 0, 115, &[]),
+            Look::Run(1, SECOND_RUN, 120, 120, &[]),
+            Look::Byte(KEY, 119, Some(b'b')),
+            Look::Byte(KEY, 125, None),
+            Look::Byte(KEY, 130, Some(b'c')),
+        ]),
+    ),
+    Opening(
+        "each relation has its floor, and each run those before it",
+        &FLOORED_BY_RELATION,
+        &[],
+        Ok(&[
+            Look::Used(9),
+            Look::Times(130, 130, 0),
+            Look::FloorOf(1, 115),
+            Look::FloorOf(2, 120),
+            Look::FloorOf(3, 130),
+            Look::FloorOf(4, 0),
+            Look::Floors(0, &[(1, 115), (2, 120), (3, 130)]),
+            Look::Runs(2),
+            Look::Run(0, FIRST_RUN, 0, 0, &[(1, 115)]),
+            Look::Run(1, SECOND_RUN, 120, 0, &[(2, 120), (1, 115)]),
+        ]),
+    ),
+];
 
 #[test]
-fn floors_and_runs_are_recovered(rt: HostRuntime) -> Result<(), Fail> {
-    floors_are_read(rt.alloc())?;
-    floors_of_relations_are_read(rt.alloc())
+fn floors_and_runs_are_recovered(rt: HostRuntime) {
+    all_open(&rt, rt.alloc(), FLOORED_IMAGES);
 }

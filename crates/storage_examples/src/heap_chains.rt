@@ -148,13 +148,6 @@ fn holds(
     }
 }
 
-/// Whether the chain of two is held by its name and kind, and by no other.
-fn is_held_by_its_name(alloc: Global, images: &[Image]) -> bool {
-    holds(alloc, TWO_EXTENTS, Kinds::OfCommit, images, Some(1024))
-        && holds(alloc, FEWER_RECORDS, Kinds::OfCommit, images, None)
-        && holds(alloc, TWO_EXTENTS, Kinds::OfAnchors(9), images, None)
-}
-
 #[test]
 fn a_chain_is_held_by_its_name_and_kind(rt: HostRuntime) {
     laws::packed_is_held();
@@ -163,20 +156,18 @@ fn a_chain_is_held_by_its_name_and_kind(rt: HostRuntime) {
     let Some(images) = chain_of_two(alloc) else {
         panic!(rt; "no chain of two");
     };
-    assert!(rt; is_held_by_its_name(alloc, &images));
-}
-
-/// The only one of these bodies; none where there is none, or another.
-fn only(bodies: Vec<ExtentBody>) -> Option<ExtentBody> {
-    let mut bodies = bodies;
-    let body = bodies.pop();
-    if bodies.is_empty() { body } else { None }
+    assert!(rt; holds(alloc, TWO_EXTENTS, Kinds::OfCommit, &images, Some(1024)));
+    assert!(rt; holds(alloc, FEWER_RECORDS, Kinds::OfCommit, &images, None));
+    assert!(rt; holds(alloc, TWO_EXTENTS, Kinds::OfAnchors(9), &images, None));
 }
 
 /// The extent of one commit of one record.
 fn extent(alloc: Global) -> Option<Image> {
-    let body = only(packed(alloc, SEVEN)?)?;
-    Some(seal(1, 0, body))
+    let mut bodies = packed(alloc, SEVEN)?.into_iter();
+    match (bodies.next(), bodies.next()) {
+        (Some(body), None) => Some(seal(1, 0, body)),
+        _ => None,
+    }
 }
 
 /// Whether an extent is the one record's, byte for byte.
@@ -194,24 +185,19 @@ fn is_filled(source: &mut RecordList<'_>, image: &Image, want: (u32, u32)) -> bo
     (count.records, count.used) == want && image.bytes() == buffer.as_slice()
 }
 
-/// Whether these are the extents that are filled from a source, of so many records and bytes each.
-fn are_filled(source: &mut RecordList<'_>, images: &[Image], wants: &[(u32, u32)]) -> bool {
-    for (place, image) in images.iter().enumerate() {
-        match wants.get(place) {
-            Some(want) if is_filled(source, image, *want) => {}
-            _ => return false,
-        }
-    }
-    images.len() == wants.len() && source.peek().is_none()
-}
-
 /// Whether these are the extents that are filled from these records, of so many records and bytes
 /// each.
 fn fills(alloc: Global, records: Records, images: &[Image], wants: &[(u32, u32)]) -> bool {
-    match list_of(alloc, records) {
-        Some(records) => are_filled(&mut RecordList::new(&records), images, wants),
-        None => false,
+    let Some(records) = list_of(alloc, records) else {
+        return false;
+    };
+    let mut source = RecordList::new(&records);
+    for (image, want) in images.iter().zip(wants.iter()) {
+        if !is_filled(&mut source, image, *want) {
+            return false;
+        }
     }
+    source.peek().is_none()
 }
 
 #[test]
@@ -280,17 +266,12 @@ fn holds_changed(alloc: Global, at: u16, byte: u8, want: Option<usize>) -> bool 
     }
 }
 
-/// Whether these are two extents, one other than the other.
-fn are_apart(image: &Option<Image>, other: &Option<Image>) -> bool {
-    match (image, other) {
-        (Some(image), Some(other)) => !image.is_same(other),
-        _ => false,
-    }
-}
-
 /// Whether the extent is another one once a byte is changed.
 fn is_another(alloc: Global, at: u16, byte: u8) -> bool {
-    are_apart(&extent(alloc), &changed(alloc, at, byte))
+    match (extent(alloc), changed(alloc, at, byte)) {
+        (Some(image), Some(other)) => !image.is_same(&other),
+        _ => false,
+    }
 }
 
 #[test]

@@ -18,20 +18,15 @@ fn value_of(alloc: Global, given: Given) -> Result<Option<Value>, ValueFault> {
     }
 }
 
-/// What a write over this value, or none, is stored as; none where memory is short.
-fn stored_over(alloc: Global, previous: Option<&Value>, write: Given) -> Option<Content> {
-    match value_of(alloc, write) {
-        Ok(write) => encode_write(alloc, previous, write.as_ref()).ok(),
-        Err(_) => None,
-    }
-}
-
 /// What a write over a previous value is stored as; none where memory is short.
 fn stored(alloc: Global, previous: Given, write: Given) -> Option<Content> {
-    match value_of(alloc, previous) {
-        Ok(previous) => stored_over(alloc, previous.as_ref(), write),
-        Err(_) => None,
-    }
+    let Ok(previous) = value_of(alloc, previous) else {
+        return None;
+    };
+    let Ok(write) = value_of(alloc, write) else {
+        return None;
+    };
+    encode_write(alloc, previous.as_ref(), write.as_ref()).ok()
 }
 
 /// Whether the one record of this content fills an extent with these bytes alone.
@@ -194,48 +189,24 @@ const APPLIED: &[Applied] = &[
     },
 ];
 
-/// Whether these are the same value, or no value.
-fn are_same(written: &Option<Value>, want: &Option<Value>) -> bool {
-    match written {
-        Some(written) => matches!(want, Some(want) if written.is_same(want)),
-        None => want.is_none(),
-    }
-}
-
 /// Whether these are the same: a value and its fields, or no value.
 fn is_written(alloc: Global, written: &Option<Value>, given: Given) -> bool {
-    match value_of(alloc, given) {
-        Ok(want) => are_same(written, &want),
-        Err(_) => false,
-    }
-}
-
-/// Whether this came of a record, or nothing did.
-fn is_come(alloc: Global, applied: &Option<Option<Value>>, want: Option<Given>) -> bool {
-    match applied {
-        Some(written) => matches!(want, Some(want) if is_written(alloc, written, want)),
-        None => want.is_none(),
-    }
-}
-
-/// Whether this content writes over a value, or none, what must come of it.
-fn writes_over(
-    alloc: Global,
-    content: &Content,
-    over: Option<&Value>,
-    want: Option<Given>,
-) -> bool {
-    match apply(alloc, over, content) {
-        Ok(applied) => is_come(alloc, &applied, want),
-        Err(_) => false,
+    match (written, value_of(alloc, given)) {
+        (Some(written), Ok(Some(value))) => written.is_same(&value),
+        (None, Ok(None)) => true,
+        _ => false,
     }
 }
 
 /// Whether this content writes over a row's other value what the row says.
 fn writes(alloc: Global, content: &Content, row: &Applied) -> bool {
-    match value_of(alloc, row.over) {
-        Ok(over) => writes_over(alloc, content, over.as_ref(), row.want),
-        Err(_) => false,
+    let Ok(over) = value_of(alloc, row.over) else {
+        return false;
+    };
+    match (apply(alloc, over.as_ref(), content), row.want) {
+        (Ok(Some(written)), Some(want)) => is_written(alloc, &written, want),
+        (Ok(None), None) => true,
+        _ => false,
     }
 }
 

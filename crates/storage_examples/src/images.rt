@@ -1,13 +1,13 @@
 //! Whole images: as they are formatted, read, and damaged.
 use crate::area_bytes::spells;
-use crate::opened_images::{Harm, Harmed, Image, Look, Opening, all_open, all_told, disk_of};
+use crate::opened_images::{Image, Look, Opening, all_open, disk_of};
 use crate::worked_bytes::{
     ANCHOR, COMMIT_BODY, EXTENT_FRONT, FOUR_COMMITS, FOUR_EXTENTS, HEADER, NEW_HEADER, RUN,
     RUN_BYTES,
 };
 use disk::{Area, Disk, MemDisk};
-use recovery::{FormatFault, OpenFault, Recovered, format, read_image};
-use std::alloc::{AllocError, Global};
+use recovery::{FormatFault, OpenFault, format, read_image};
+use std::alloc::Global;
 use std::test::Fail;
 
 /// Formats to so many slots in turn, how each is refused, and how long the status area is then.
@@ -96,97 +96,149 @@ const ONE_RUN: Image = Image {
     ..EMPTY
 };
 
-const NO_STORE: Option<OpenFault> = Some(OpenFault::NotAStore);
+const CUT_HEAP: Image = Image {
+    heap_len: 8191,
+    ..ONE_COMMIT
+};
 
-const SLOT: Option<OpenFault> = Some(OpenFault::Damaged(Area::Status, 0));
+const NO_HEAP: Image = Image {
+    heap_len: 0,
+    ..ONE_COMMIT
+};
 
-const NEXT_SLOT: Option<OpenFault> = Some(OpenFault::Damaged(Area::Status, 1));
+const CUT_HEADER: Image = Image {
+    status_len: 511,
+    ..EMPTY
+};
 
-const CHAIN: Option<OpenFault> = Some(OpenFault::Damaged(Area::Heap, 1));
+const CUT_SLOTS: Image = Image {
+    status_len: 8703,
+    ..EMPTY
+};
 
-const RUN_CUT: Option<OpenFault> = Some(OpenFault::Damaged(Area::Archive, 0));
+const NO_ARCHIVE: Image = Image {
+    archive_len: 0,
+    ..ONE_RUN
+};
 
-/// One commit, with a byte of the log or of the heap changed, or with a heap that is too short.
-const HARMED: &[Harmed] = &[
-    Harmed("the profile", Harm::Byte(Area::Status, 8, 9), NO_STORE),
-    Harmed("the slot's kind", Harm::Byte(Area::Status, 513, 5), SLOT),
-    Harmed(
+const CUT_ARCHIVE: Image = Image {
+    archive_len: 73,
+    ..ONE_RUN
+};
+
+const LONG_ARCHIVE: Image = Image {
+    archive_len: 100,
+    ..ONE_RUN
+};
+
+/// What is seen of no commit, and of one commit at 100.
+const NONE: Result<&[Look], OpenFault> = Ok(&[
+    Look::Counts([16, 0, 0, 0, 0]),
+    Look::Times(0, 0, 0),
+]);
+
+const ONE: Result<&[Look], OpenFault> = Ok(&[
+    Look::Counts([16, 1, 1, 1, 1]),
+    Look::Times(100, 0, 0),
+]);
+
+const NO_STORE: Result<&[Look], OpenFault> = Err(OpenFault::NotAStore);
+
+const SLOT: Result<&[Look], OpenFault> = Err(OpenFault::Damaged(Area::Status, 0));
+
+const NEXT_SLOT: Result<&[Look], OpenFault> = Err(OpenFault::Damaged(Area::Status, 1));
+
+const CHAIN: Result<&[Look], OpenFault> = Err(OpenFault::Damaged(Area::Heap, 1));
+
+const RUN_CUT: Result<&[Look], OpenFault> = Err(OpenFault::Damaged(Area::Archive, 0));
+
+/// One commit, with a byte of the log or of the heap changed.
+const CHANGED: &[Opening] = &[
+    Opening(
+        "the profile",
+        &ONE_COMMIT,
+        &[(Area::Status, 8, &[9])],
+        NO_STORE,
+    ),
+    Opening(
+        "a closed gate",
+        &ONE_COMMIT,
+        &[(Area::Status, 512, &[0x37])],
+        NONE,
+    ),
+    Opening(
+        "the slot's kind",
+        &ONE_COMMIT,
+        &[(Area::Status, 513, &[5])],
+        SLOT,
+    ),
+    Opening(
         "how many commits it has",
-        Harm::Byte(Area::Status, 514, 0),
+        &ONE_COMMIT,
+        &[(Area::Status, 514, &[0])],
         SLOT,
     ),
-    Harmed("its number", Harm::Byte(Area::Status, 516, 1), SLOT),
-    Harmed(
+    Opening(
+        "its number",
+        &ONE_COMMIT,
+        &[(Area::Status, 516, &[1])],
+        SLOT,
+    ),
+    Opening(
         "how many extents it has",
-        Harm::Byte(Area::Status, 540, 2),
+        &ONE_COMMIT,
+        &[(Area::Status, 540, &[2])],
         SLOT,
     ),
-    Harmed(
+    Opening(
         "a next slot of zeros",
-        Harm::Byte(Area::Status, 1024, 0xc7),
+        &ONE_COMMIT,
+        &[(Area::Status, 1024, &[0xc7])],
         NEXT_SLOT,
     ),
-    Harmed(
+    Opening(
+        "a slot past a closed one",
+        &ONE_COMMIT,
+        &[(Area::Status, 1536, &[0xc7])],
+        ONE,
+    ),
+    Opening(
         "how many bytes are used",
-        Harm::Byte(Area::Heap, 8, 13),
+        &ONE_COMMIT,
+        &[(Area::Heap, 8, &[13])],
         CHAIN,
     ),
-    Harmed("the record's kind", Harm::Byte(Area::Heap, 16, 4), CHAIN),
-    Harmed(
+    Opening(
+        "the record's kind",
+        &ONE_COMMIT,
+        &[(Area::Heap, 16, &[4])],
+        CHAIN,
+    ),
+    Opening(
         "what stands behind the record",
-        Harm::Byte(Area::Heap, 30, 1),
+        &ONE_COMMIT,
+        &[(Area::Heap, 30, &[1])],
         CHAIN,
     ),
-    Harmed("a heap of 8,191 bytes", Harm::Len(Area::Heap, 8191), CHAIN),
-    Harmed("no heap", Harm::Len(Area::Heap, 0), CHAIN),
 ];
 
-/// No commit, with a status area that is too short, or as long as it has to be at least.
-const CUT_LOG: &[Harmed] = &[
-    Harmed(
-        "a header of 511 bytes",
-        Harm::Len(Area::Status, 511),
-        NO_STORE,
-    ),
-    Harmed(
-        "slots that end in 8,703 bytes",
-        Harm::Len(Area::Status, 8703),
-        NO_STORE,
-    ),
-    Harmed(
-        "slots that end in 8,704 bytes",
-        Harm::Len(Area::Status, 8704),
-        None,
-    ),
+/// Areas that are too short, or as long as they have to be at least.
+const CUT: &[Opening] = &[
+    Opening("a heap of 8,191 bytes", &CUT_HEAP, &[], CHAIN),
+    Opening("no heap", &NO_HEAP, &[], CHAIN),
+    Opening("a header of 511 bytes", &CUT_HEADER, &[], NO_STORE),
+    Opening("slots that end in 8,703 bytes", &CUT_SLOTS, &[], NO_STORE),
+    Opening("slots that end in 8,704 bytes", &EMPTY, &[], Ok(&[])),
+    Opening("no archive", &NO_ARCHIVE, &[], RUN_CUT),
+    Opening("an archive of 73 bytes", &CUT_ARCHIVE, &[], RUN_CUT),
+    Opening("an archive of 74 bytes", &ONE_RUN, &[], Ok(&[])),
+    Opening("an archive of 100 bytes", &LONG_ARCHIVE, &[], Ok(&[])),
 ];
 
-/// The same of an archive of 74 bytes.
-const CUT_ARCHIVE: &[Harmed] = &[
-    Harmed("no archive", Harm::Len(Area::Archive, 0), RUN_CUT),
-    Harmed(
-        "an archive of 73 bytes",
-        Harm::Len(Area::Archive, 73),
-        RUN_CUT,
-    ),
-    Harmed("an archive of 74 bytes", Harm::Len(Area::Archive, 74), None),
-    Harmed(
-        "an archive of 100 bytes",
-        Harm::Len(Area::Archive, 100),
-        None,
-    ),
-];
-
-/// Two commits.
-const SHARED_EXTENT: &[Harmed] = &[Harmed(
-    "one extent in two chains",
-    Harm::Byte(Area::Status, 564, 1),
-    CHAIN,
-)];
-
-/// What is seen of one commit at 100, also where a gate is changed: its own, or one past a closed one.
-const READ_ONE: &[Opening] = &[
+const READ: &[Opening] = &[
     Opening(
         "one commit",
+        &ONE_COMMIT,
         &[],
         Ok(&[
             Look::Counts([16, 1, 1, 1, 1]),
@@ -197,101 +249,52 @@ const READ_ONE: &[Opening] = &[
         ]),
     ),
     Opening(
-        "a closed gate",
-        &[(Area::Status, 512, &[0x37])],
-        Ok(&[Look::Counts([16, 0, 0, 0, 0]), Look::Times(0, 0, 0)]),
+        "two commits in one slot",
+        &TWO_COMMITS,
+        &[],
+        Ok(&[Look::Counts([16, 1, 2, 2, 2]), Look::Times(110, 0, 0)]),
     ),
     Opening(
-        "a slot past a closed one",
-        &[(Area::Status, 1536, &[0xc7])],
-        Ok(&[Look::Counts([16, 1, 1, 1, 1]), Look::Times(100, 0, 0)]),
+        "one extent in two chains",
+        &TWO_COMMITS,
+        &[(Area::Status, 564, &[1])],
+        CHAIN,
+    ),
+    Opening(
+        "an archived slot",
+        &ONE_RUN,
+        &[],
+        Ok(&[
+            Look::Used(5),
+            Look::Times(130, 120, 0),
+            Look::Floors(0, &[]),
+            Look::Runs(1),
+            Look::Run(0, RUN, 0, 0, &[]),
+            Look::Fields(115, Some(1)),
+            Look::Fields(125, None),
+        ]),
     ),
 ];
 
-const READ_TWO: &[Opening] = &[Opening(
-    "two commits in one slot",
-    &[],
-    Ok(&[Look::Counts([16, 1, 2, 2, 2]), Look::Times(110, 0, 0)]),
-)];
-
-const READ_RUN: &[Opening] = &[Opening(
-    "an archived slot",
-    &[],
-    Ok(&[
-        Look::Used(5),
-        Look::Times(130, 120, 0),
-        Look::Floors(0, &[]),
-        Look::Runs(1),
-        Look::Run(0, RUN, 0, 0, &[]),
-        Look::Fields(115, Some(1)),
-        Look::Fields(125, None),
-    ]),
-)];
-
-fn empty_is_told(alloc: Global) -> Result<(), Fail> {
-    all_told(alloc, &EMPTY, CUT_LOG)
-}
-
-fn one_commit_is_read(alloc: Global, image: &Image) -> Result<(), Fail> {
-    all_open(alloc, image, READ_ONE)
-}
-
-fn one_commit_is_told(alloc: Global, image: &Image) -> Result<(), Fail> {
-    all_told(alloc, image, HARMED)
-}
-
-fn two_commits_are_read(alloc: Global, image: &Image) -> Result<(), Fail> {
-    all_open(alloc, image, READ_TWO)?;
-    all_told(alloc, image, SHARED_EXTENT)
-}
-
-fn one_run_is_read(alloc: Global, image: &Image) -> Result<(), Fail> {
-    all_open(alloc, image, READ_RUN)
-}
-
-fn one_run_is_told(alloc: Global, image: &Image) -> Result<(), Fail> {
-    all_told(alloc, image, CUT_ARCHIVE)
-}
-
-fn one_commit() -> Image {
-    ONE_COMMIT
-}
-
-fn two_commits() -> Image {
-    TWO_COMMITS
-}
-
-fn one_run() -> Image {
-    ONE_RUN
-}
-
 #[test]
-fn images_are_read_or_refused(rt: HostRuntime) -> Result<(), Fail> {
-    empty_is_told(rt.alloc())?;
-    one_commit_is_read(rt.alloc(), &one_commit())?;
-    one_commit_is_told(rt.alloc(), &one_commit())?;
-    two_commits_are_read(rt.alloc(), &two_commits())?;
-    one_run_is_read(rt.alloc(), &one_run())?;
-    one_run_is_told(rt.alloc(), &one_run())
+fn images_are_read_or_refused(rt: HostRuntime) {
+    all_open(&rt, rt.alloc(), READ);
+    all_open(&rt, rt.alloc(), CHANGED);
+    all_open(&rt, rt.alloc(), CUT);
 }
 
-/// Whether an image of a last commit at 110 was opened, or memory is short.
-fn is_open_or_short(read: &Result<Recovered, OpenFault>) -> bool {
-    match read {
+/// Whether an image of a last commit at 110 opens, or memory is short.
+fn opens_or_is_short(alloc: Global, disk: &mut MemDisk) -> bool {
+    match read_image(alloc, disk) {
         Ok(found) => found.last == 110,
-        Err(fault) => *fault == OpenFault::NoMemory,
+        Err(fault) => fault == OpenFault::NoMemory,
     }
-}
-
-/// The same of the image of two commits.
-fn opens_or_is_short(alloc: Global) -> Result<bool, AllocError> {
-    let mut disk = disk_of(alloc, &two_commits(), &[])?;
-    Ok(is_open_or_short(&read_image(alloc, &mut disk)))
 }
 
 /// Tried with each allocation failing in turn.
 #[test]
 fn a_refused_growth_is_no_memory(rt: HostRuntime) -> Result<(), Fail> {
-    assert!(rt; opens_or_is_short(rt.alloc())?);
+    let mut disk = disk_of(rt.alloc(), &TWO_COMMITS, &[])?;
+    assert!(rt; opens_or_is_short(rt.alloc(), &mut disk));
     Ok(())
 }

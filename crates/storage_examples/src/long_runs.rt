@@ -109,18 +109,17 @@ fn heads_read(alloc: Global, run: RunEntry, record: u64) -> Result<Option<u64>, 
     }
 }
 
-/// Whether a reader finds a key's version in such a run, and reads so many heads for it at most.
-fn is_found_within(alloc: Global, run: RunEntry, record: u64, most: u64) -> bool {
-    matches!(heads_read(alloc, run, record), Ok(Some(heads)) if heads <= most)
-}
-
 #[test]
 fn few_heads_are_read_of_many(rt: HostRuntime) {
     for hundred in 0..10u64 {
-        let right = is_found_within(rt.alloc(), thousand(), 111 * hundred, 11);
-        assert!(rt; right, "in hundred {hundred}");
+        let heads = heads_read(rt.alloc(), thousand(), 111 * hundred);
+        assert!(rt;
+            matches!(heads, Ok(Some(n)) if n <= 11),
+            "in hundred {hundred}"
+        );
     }
-    assert!(rt; is_found_within(rt.alloc(), more(), 1023, 12));
+    let heads = heads_read(rt.alloc(), more(), 1023);
+    assert!(rt; matches!(heads, Ok(Some(n)) if n <= 12));
     assert!(rt; heads_read(rt.alloc(), no_record(), 7) == Ok(None));
 }
 
@@ -164,11 +163,10 @@ fn answers_beside_damage(alloc: Global, record: u64, want: Result<bool, ArchiveF
         return false;
     };
     put(&mut bytes, 2 * 29 + 18, &[100]);
-    let mut disk = disk_of(alloc, bytes);
-    match ArchiveReader::new(alloc) {
-        Ok(mut reader) => finds(&mut reader, &mut disk, thousand(), record) == want,
-        Err(_) => false,
-    }
+    let Ok(mut reader) = ArchiveReader::new(alloc) else {
+        return false;
+    };
+    finds(&mut reader, &mut disk_of(alloc, bytes), thousand(), record) == want
 }
 
 #[test]

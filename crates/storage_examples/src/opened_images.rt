@@ -8,7 +8,7 @@ use floors::Floors;
 use history::Key;
 use recovery::{OpenFault, Recovered, read_image};
 use std::alloc::{AllocError, Global};
-use std::test::Fail;
+use std::process::Abort;
 use wire::Run;
 
 /// How long each area of an image is, and what stands in it. The rest is zeros.
@@ -26,15 +26,6 @@ pub struct Image {
 
 /// Bytes that stand at places of areas, in the place of those of an image.
 pub type Changes = &'static [(Area, u16, &'static [u8])];
-
-/// What is done to an image.
-#[derive(Clone, Copy)]
-pub enum Harm {
-    /// A byte stands at a place of an area.
-    Byte(Area, u16, u8),
-    /// An area has this length.
-    Len(Area, usize),
-}
 
 /// The first bytes are 0xff, as many as are stained.
 fn stain(bytes: &mut [u8], stained: usize) {
@@ -58,7 +49,7 @@ fn area_of(
     Ok(bytes)
 }
 
-fn change(status: &mut [u8], heap: &mut [u8], changes: &[(Area, u16, &[u8])]) {
+fn change(status: &mut [u8], heap: &mut [u8], changes: Changes) {
     for (area, at, bytes) in changes {
         match area {
             Area::Status => put(status, *at, bytes),
@@ -68,54 +59,14 @@ fn change(status: &mut [u8], heap: &mut [u8], changes: &[(Area, u16, &[u8])]) {
     }
 }
 
-/// A disk with these bytes and an image's archive.
-fn with_archive(
-    alloc: Global,
-    status: Vec<u8>,
-    heap: Vec<u8>,
-    image: &Image,
-) -> Result<MemDisk, AllocError> {
-    let mut archive = zeros(alloc, image.archive_len)?;
-    put(&mut archive, 0, image.archive);
-    Ok(MemDisk::with_bytes(status, heap, archive))
-}
-
 /// A disk with an image and these changes.
-pub fn disk_of(
-    alloc: Global,
-    image: &Image,
-    changes: &[(Area, u16, &[u8])],
-) -> Result<MemDisk, AllocError> {
+pub fn disk_of(alloc: Global, image: &Image, changes: Changes) -> Result<MemDisk, AllocError> {
     let mut status = area_of(alloc, image.status_len, 0, image.status)?;
     let mut heap = area_of(alloc, image.heap_len, image.stained, image.heap)?;
+    let mut archive = zeros(alloc, image.archive_len)?;
+    put(&mut archive, 0, image.archive);
     change(&mut status, &mut heap, changes);
-    with_archive(alloc, status, heap, image)
-}
-
-/// The image with an area of this length.
-fn cut(image: &Image, area: Area, len: usize) -> Image {
-    match area {
-        Area::Status => Image {
-            status_len: len,
-            ..*image
-        },
-        Area::Heap => Image {
-            heap_len: len,
-            ..*image
-        },
-        Area::Archive => Image {
-            archive_len: len,
-            ..*image
-        },
-    }
-}
-
-/// A disk with an image to which this is done.
-fn with_harm(alloc: Global, image: &Image, harm: Harm) -> Result<MemDisk, AllocError> {
-    match harm {
-        Harm::Byte(area, at, byte) => disk_of(alloc, image, &[(area, at, &[byte])]),
-        Harm::Len(area, len) => disk_of(alloc, &cut(image, area, len), &[]),
-    }
+    Ok(MemDisk::with_bytes(status, heap, archive))
 }
 
 /// What an image is asked, and what it must answer.
@@ -241,70 +192,40 @@ fn first_unseen(alloc: Global, found: &Recovered, looks: &[Look]) -> Option<usiz
     None
 }
 
-/// What a row shows, changes of an image, and why it does not open or what is seen of it.
+/// What a row shows, an image, changes of it, and why it does not open or what is seen of it.
 #[derive(Clone, Copy)]
 pub struct Opening(
     pub &'static str,
+    pub &'static Image,
     pub Changes,
     pub Result<&'static [Look], OpenFault>,
 );
 
-/// The place of the first look that is answered otherwise; 0 also where it is not opened or refused as
-/// it should be.
-fn wrong_in(
-    alloc: Global,
-    read: &Result<Recovered, OpenFault>,
-    want: Result<&[Look], OpenFault>,
-) -> Option<usize> {
-    match read {
-        Ok(found) => match want {
-            Ok(looks) => first_unseen(alloc, found, looks),
-            Err(_) => Some(0),
-        },
-        Err(fault) => match want {
-            Err(wanted) if *fault == wanted => None,
-            _ => Some(0),
-        },
-    }
-}
-
-/// The same of a row.
-fn first_wrong(alloc: Global, image: &Image, row: &Opening) -> Option<usize> {
-    match disk_of(alloc, image, row.1) {
-        Ok(mut disk) => wrong_in(alloc, &read_image(alloc, &mut disk), row.2),
+/// The place of the first look that is answered otherwise; 0 where it should not have opened.
+fn wrong_in(alloc: Global, found: &Recovered, row: &Opening) -> Option<usize> {
+    match row.3 {
+        Ok(looks) => first_unseen(alloc, found, looks),
         Err(_) => Some(0),
     }
 }
 
-/// Each row must be as it says of an image.
-pub fn all_open(alloc: Global, image: &Image, rows: &[Opening]) -> Result<(), Fail> {
-    for row in rows {
-        if let Some(place) = first_wrong(alloc, image, row) {
-            let what = row.0;
-            return Err(Fail::new(format_args!("{what}: look {place}")));
-        }
-    }
-    Ok(())
-}
-
-/// What a row shows, what is done to an image, and why it does not open then, if it does not.
-#[derive(Clone, Copy)]
-pub struct Harmed(pub &'static str, pub Harm, pub Option<OpenFault>);
-
-/// Whether an image opens then, or is refused as it must be.
-fn is_told(alloc: Global, image: &Image, row: &Harmed) -> bool {
-    match with_harm(alloc, image, row.1) {
-        Ok(mut disk) => read_image(alloc, &mut disk).err() == row.2,
-        Err(_) => false,
+/// The same of a row; 0 also where it is refused otherwise than it should be.
+fn first_wrong(alloc: Global, row: &Opening) -> Option<usize> {
+    let Ok(mut disk) = disk_of(alloc, row.1, row.2) else {
+        return Some(0);
+    };
+    match read_image(alloc, &mut disk) {
+        Ok(found) => wrong_in(alloc, &found, row),
+        Err(fault) if row.3.err() == Some(fault) => None,
+        Err(_) => Some(0),
     }
 }
 
-/// Each row must be as it says of an image.
-pub fn all_told(alloc: Global, image: &Image, rows: &[Harmed]) -> Result<(), Fail> {
+/// Each row must be as it says.
+pub fn all_open(rt: &impl Abort, alloc: Global, rows: &[Opening]) {
     for row in rows {
-        if !is_told(alloc, image, row) {
-            return Err(Fail::new(row.0));
+        if let Some(place) = first_wrong(alloc, row) {
+            panic!(rt; "{}: look {place}", row.0);
         }
     }
-    Ok(())
 }

@@ -1,12 +1,10 @@
 //! Images with a reclaimed slot: what is read of them, and which damage is found.
-use crate::opened_images::{Harm, Harmed, Image, Look, Opening, all_open, all_told};
+use crate::opened_images::{Image, Look, Opening, all_open};
 use crate::worked_bytes::{HEADER, KEY};
 use disk::Area;
 use extents::Usage;
 use history::Key;
 use recovery::OpenFault;
-use std::alloc::Global;
-use std::test::Fail;
 
 const OTHER_KEY: Key = Key {
     relation: 1,
@@ -72,8 +70,9 @@ const RECLAIMED: Image = Image {
 };
 
 /// The anchors and the commits behind them are read, and extents of chains up to the mark are free.
-const READ: &[Opening] = &[Opening(
+const READ: Opening = Opening(
     "a reclaimed slot",
+    &RECLAIMED,
     &[],
     Ok(&[
         Look::Counts([16, 5, 3, 1, 2]),
@@ -93,101 +92,109 @@ const READ: &[Opening] = &[Opening(
         Look::Has(3, Usage::Kept),
         Look::Has(4, Usage::Kept),
     ]),
-)];
+);
 
-const ANCHORS: OpenFault = OpenFault::Damaged(Area::Heap, 4);
+const ANCHORS: Result<&[Look], OpenFault> = Err(OpenFault::Damaged(Area::Heap, 4));
 
-const COMMIT: OpenFault = OpenFault::Damaged(Area::Heap, 3);
+const COMMIT: Result<&[Look], OpenFault> = Err(OpenFault::Damaged(Area::Heap, 3));
 
-const RECLAIM: OpenFault = OpenFault::Damaged(Area::Status, 4);
+const RECLAIM: Result<&[Look], OpenFault> = Err(OpenFault::Damaged(Area::Status, 4));
 
-/// A byte of the heap that is changed, and where damage is found then.
-const HEAP: &[Harmed] = &[
-    Harmed(
-        "the last anchor is of the mark, and not later",
-        Harm::Byte(Area::Heap, EXTENT_4 + 49, 106),
-        Some(ANCHORS),
-    ),
-    Harmed(
-        "an anchor is of time 1 at least",
-        Harm::Byte(Area::Heap, EXTENT_4 + 27, 0),
-        Some(ANCHORS),
-    ),
-    Harmed(
-        "a key twice",
-        Harm::Byte(Area::Heap, EXTENT_4 + 41, 7),
-        Some(ANCHORS),
-    ),
-    Harmed(
-        "keys that fall",
-        Harm::Byte(Area::Heap, EXTENT_4 + 41, 6),
-        Some(ANCHORS),
-    ),
-    Harmed(
-        "a deletion among the anchors",
-        Harm::Byte(Area::Heap, EXTENT_4 + 16, 3),
-        Some(ANCHORS),
-    ),
-    Harmed(
-        "an anchor among a commit's records",
-        Harm::Byte(Area::Heap, EXTENT_3 + 16, 4),
-        Some(COMMIT),
-    ),
-    Harmed(
-        "the extent's own number",
-        Harm::Byte(Area::Heap, EXTENT_4, 5),
-        Some(ANCHORS),
-    ),
-];
-
-/// The same of the log.
-const LOG: &[Harmed] = &[
-    Harmed(
-        "fewer records than the slot says",
-        Harm::Byte(Area::Status, RECLAIMED_SLOT + 24, 3),
-        Some(ANCHORS),
-    ),
-    Harmed(
-        "the anchors' chain is a commit's",
-        Harm::Byte(Area::Status, RECLAIMED_SLOT + 16, 3),
-        Some(COMMIT),
-    ),
-    Harmed(
-        "a commit's chain is the anchors'",
-        Harm::Byte(Area::Status, COMMIT_SLOT + 24, 4),
-        Some(ANCHORS),
-    ),
-    Harmed(
-        "extents without a first one",
-        Harm::Byte(Area::Status, RECLAIMED_SLOT + 16, 0),
-        Some(RECLAIM),
-    ),
-    Harmed(
-        "more extents than records",
-        Harm::Byte(Area::Status, RECLAIMED_SLOT + 20, 3),
-        Some(RECLAIM),
-    ),
-    Harmed(
-        "short of the archive mark",
-        Harm::Byte(Area::Status, RECLAIMED_SLOT + 8, 104),
-        Some(RECLAIM),
-    ),
-];
-
-/// Bytes that are changed, and where damage is found then, if any.
+/// Bytes of an area that are changed, and where damage is found then, if any.
 const CHANGED: &[Opening] = &[
     Opening(
         "nothing reads a chain up to the mark",
+        &RECLAIMED,
         &[(Area::Heap, EXTENT_1, &[1, 0, 0, 0])],
         Ok(&[]),
     ),
     Opening(
+        "the last anchor is of the mark, and not later",
+        &RECLAIMED,
+        &[(Area::Heap, EXTENT_4 + 49, &[106])],
+        ANCHORS,
+    ),
+    Opening(
+        "an anchor is of time 1 at least",
+        &RECLAIMED,
+        &[(Area::Heap, EXTENT_4 + 27, &[0])],
+        ANCHORS,
+    ),
+    Opening(
+        "a key twice",
+        &RECLAIMED,
+        &[(Area::Heap, EXTENT_4 + 41, &[7])],
+        ANCHORS,
+    ),
+    Opening(
+        "keys that fall",
+        &RECLAIMED,
+        &[(Area::Heap, EXTENT_4 + 41, &[6])],
+        ANCHORS,
+    ),
+    Opening(
+        "a deletion among the anchors",
+        &RECLAIMED,
+        &[(Area::Heap, EXTENT_4 + 16, &[3])],
+        ANCHORS,
+    ),
+    Opening(
+        "an anchor among a commit's records",
+        &RECLAIMED,
+        &[(Area::Heap, EXTENT_3 + 16, &[4])],
+        COMMIT,
+    ),
+    Opening(
+        "the extent's own number",
+        &RECLAIMED,
+        &[(Area::Heap, EXTENT_4, &[5])],
+        ANCHORS,
+    ),
+    Opening(
+        "fewer records than the slot says",
+        &RECLAIMED,
+        &[(Area::Status, RECLAIMED_SLOT + 24, &[3])],
+        ANCHORS,
+    ),
+    Opening(
+        "the anchors' chain is a commit's",
+        &RECLAIMED,
+        &[(Area::Status, RECLAIMED_SLOT + 16, &[3])],
+        COMMIT,
+    ),
+    Opening(
+        "a commit's chain is the anchors'",
+        &RECLAIMED,
+        &[(Area::Status, COMMIT_SLOT + 24, &[4])],
+        ANCHORS,
+    ),
+    Opening(
+        "extents without a first one",
+        &RECLAIMED,
+        &[(Area::Status, RECLAIMED_SLOT + 16, &[0])],
+        RECLAIM,
+    ),
+    Opening(
+        "more extents than records",
+        &RECLAIMED,
+        &[(Area::Status, RECLAIMED_SLOT + 20, &[3])],
+        RECLAIM,
+    ),
+    Opening(
+        "short of the archive mark",
+        &RECLAIMED,
+        &[(Area::Status, RECLAIMED_SLOT + 8, &[104])],
+        RECLAIM,
+    ),
+    Opening(
         "a second reclaim without an archive between",
+        &RECLAIMED,
         &[(Area::Status, NEXT_SLOT, &[0xc7, 3, 0, 0, 5, 0, 0, 0, 105])],
         Err(OpenFault::Damaged(Area::Status, 5)),
     ),
     Opening(
         "a deletion of an anchored key",
+        &RECLAIMED,
         &[(
             Area::Heap,
             EXTENT_3 + 8,
@@ -199,6 +206,7 @@ const CHANGED: &[Opening] = &[
     ),
     Opening(
         "a deletion of a key without an anchor",
+        &RECLAIMED,
         &[(
             Area::Heap,
             EXTENT_3 + 8,
@@ -206,39 +214,18 @@ const CHANGED: &[Opening] = &[
                 11, 0, 0, 0, 0, 0, 0, 0, 3, 1, 0, 9, 0, 0, 0, 0, 0, 0, 0, 0, 0, 0,
             ],
         )],
-        Err(COMMIT),
+        COMMIT,
     ),
     Opening(
         "anchors come before commits: where both are damaged, they are named",
+        &RECLAIMED,
         &[(Area::Heap, EXTENT_3, &[0]), (Area::Heap, EXTENT_4, &[0])],
-        Err(ANCHORS),
+        ANCHORS,
     ),
+    READ,
 ];
 
-fn heap_is_told(alloc: Global, image: &Image) -> Result<(), Fail> {
-    all_told(alloc, image, HEAP)
-}
-
-fn log_is_told(alloc: Global, image: &Image) -> Result<(), Fail> {
-    all_told(alloc, image, LOG)
-}
-
-fn changes_are_told(alloc: Global, image: &Image) -> Result<(), Fail> {
-    all_open(alloc, image, CHANGED)
-}
-
-fn is_read(alloc: Global, image: &Image) -> Result<(), Fail> {
-    all_open(alloc, image, READ)
-}
-
-fn reclaimed() -> Image {
-    RECLAIMED
-}
-
 #[test]
-fn damage_beside_anchors_is_found_in_its_place(rt: HostRuntime) -> Result<(), Fail> {
-    heap_is_told(rt.alloc(), &reclaimed())?;
-    log_is_told(rt.alloc(), &reclaimed())?;
-    changes_are_told(rt.alloc(), &reclaimed())?;
-    is_read(rt.alloc(), &reclaimed())
+fn damage_beside_anchors_is_found_in_its_place(rt: HostRuntime) {
+    all_open(&rt, rt.alloc(), CHANGED);
 }

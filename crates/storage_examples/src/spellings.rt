@@ -2,7 +2,6 @@
 use crate::area_bytes::{begin_with, put};
 use crate::worked_bytes::{COMMIT_BODY, RUN, Said, body_of};
 use std::alloc::{AllocError, Global};
-use std::test::Fail;
 use wire::{
     Anchors, BadSlot, Fields, Slot, Value, ValueFault, decode_encoded, decode_slot, encode_slot,
     is_in_range, one_spelling, one_value, put_fields, take_fields,
@@ -104,24 +103,18 @@ fn the_least_fault_of_a_slot_is_told(rt: HostRuntime) {
     }
 }
 
-fn has_same_copy(alloc: Global, value: &Value) -> bool {
-    match value.copy(alloc) {
-        Ok(copy) => value.is_same(&copy),
-        Err(_) => false,
-    }
-}
-
-/// Whether a value has two fields, the first of them a.
-fn has_two_fields(value: &Value) -> bool {
-    value.len() == 2 && matches!(value.field(0), Some(b"a")) && value.field(2).is_none()
-}
-
 /// Whether a value of two fields has these alone, and so has its copy.
 fn has_its_fields(alloc: Global) -> bool {
-    match Value::new(alloc, &[b"a", b""]) {
-        Ok(value) => has_two_fields(&value) && has_same_copy(alloc, &value),
-        Err(_) => false,
-    }
+    let Ok(value) = Value::new(alloc, &[b"a", b""]) else {
+        return false;
+    };
+    let Ok(copy) = value.copy(alloc) else {
+        return false;
+    };
+    value.len() == 2
+        && value.field(0) == Some(b"a")
+        && value.field(2).is_none()
+        && value.is_same(&copy)
 }
 
 #[test]
@@ -146,23 +139,16 @@ fn is_taken(alloc: Global, value: &Value, bytes: &[u8], left: &[u8]) -> bool {
     }
 }
 
-/// Whether a value of two fields has these bytes, and is taken from them.
-fn is_taken_from(alloc: Global, value: &Value, bytes: &[u8]) -> bool {
-    bytes == [7, 2, 1, 97, 0, 9].as_slice() && is_taken(alloc, value, &bytes[1..], &[9])
-}
-
-/// Whether a value is put, and taken from its bytes.
-fn is_put(alloc: Global, value: &Value) -> bool {
-    match put_between(alloc, value) {
-        Ok(bytes) => is_taken_from(alloc, value, &bytes),
-        Err(_) => false,
-    }
-}
-
-/// The same of a value of two fields.
+/// Whether a value of two fields has its bytes, and is taken from them.
 fn is_put_and_taken(alloc: Global) -> bool {
-    match Value::new(alloc, &[b"a", b""]) {
-        Ok(value) => is_put(alloc, &value),
+    let Ok(value) = Value::new(alloc, &[b"a", b""]) else {
+        return false;
+    };
+    match put_between(alloc, &value) {
+        Ok(bytes) => {
+            bytes.as_slice() == [7, 2, 1, 97, 0, 9].as_slice()
+                && is_taken(alloc, &value, &bytes[1..], &[9])
+        }
         Err(_) => false,
     }
 }
@@ -175,14 +161,14 @@ fn a_value_is_put_and_taken(rt: HostRuntime) {
 /// Bytes that are cut within a value.
 const CUT: &[&[u8]] = &[&[0, 1], &[1, 2, 97]];
 
-fn is_no_value(alloc: Global, bytes: &[u8]) -> bool {
-    matches!(take_fields(alloc, bytes), Ok(None))
-}
-
 #[test]
 fn cut_bytes_are_no_value(rt: HostRuntime) {
     for bytes in CUT {
-        assert!(rt; is_no_value(rt.alloc(), bytes), "{} bytes", bytes.len());
+        assert!(rt;
+            matches!(take_fields(rt.alloc(), bytes), Ok(None)),
+            "{} bytes",
+            bytes.len()
+        );
     }
 }
 
@@ -213,26 +199,12 @@ fn counts_with(alloc: Global, field: &[u8], count: Option<u8>) -> bool {
     }
 }
 
-/// Why no value has these fields.
-fn value_fault(alloc: Global, fields: &[&[u8]]) -> Option<ValueFault> {
-    Value::new(alloc, fields).err()
-}
-
-/// Each row must be as it says.
-fn sizes_are_told(alloc: Global) -> Result<(), Fail> {
-    for (what, fields, fault) in SIZES {
-        if value_fault(alloc, fields) != *fault {
-            return Err(Fail::new(*what));
-        }
-    }
-    Ok(())
-}
-
 #[test]
-fn fields_of_other_sizes_are_no_value(rt: HostRuntime) -> Result<(), Fail> {
+fn fields_of_other_sizes_are_no_value(rt: HostRuntime) {
     let alloc = rt.alloc();
-    sizes_are_told(alloc)?;
+    for (what, fields, fault) in SIZES {
+        assert!(rt; Value::new(alloc, fields).err() == *fault, "{what}");
+    }
     assert!(rt; Value::of(Fields::none(alloc)).is_none());
     assert!(rt; counts_with(alloc, TOO_LONG, None) && counts_with(alloc, ONE, Some(1)));
-    Ok(())
 }

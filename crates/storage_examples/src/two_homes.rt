@@ -3,12 +3,11 @@ use crate::archived_runs::{Archived, read_archive};
 use crate::version_walks::one_key;
 use crate::worked_bytes::{KEY, RUN_BYTES, two_records};
 use archive::ArchiveReader;
-use chains::{Frozen, SharedValue};
+use chains::SharedValue;
 use disk::MemDisk;
 use floors::Floors;
 use history::Version;
 use std::alloc::{AllocError, Global};
-use std::test::Fail;
 use timequery::{QueryFault, Runs, View};
 
 /// From when on a version stands, up to when, and the byte of its one field.
@@ -26,7 +25,7 @@ const STANDING: &[(u64, Option<u8>)] = &[
 ];
 
 /// Its rows from one time up to another.
-const ROWS: &[Rows] = &[
+const ROWS: &[(u64, u64, &[Part])] = &[
     (
         100,
         131,
@@ -50,106 +49,69 @@ fn byte_of(value: &SharedValue) -> u8 {
     }
 }
 
-/// Whether this is a value of this one byte, or none.
-fn is_found(value: Option<&SharedValue>, want: Option<u8>) -> bool {
-    match value {
-        Some(value) => want == Some(byte_of(value)),
-        None => want.is_none(),
+/// Whether the answer is a value of this one byte, or none.
+fn is_found(answer: &Result<Option<SharedValue>, QueryFault>, want: Option<u8>) -> bool {
+    match answer {
+        Ok(Some(value)) => want == Some(byte_of(value)),
+        Ok(None) => want.is_none(),
+        Err(_) => false,
     }
 }
 
-/// Whether this is the one record that has this value, or no record.
-fn is_listed(list: &[(u64, SharedValue)], want: Option<u8>) -> bool {
-    match list {
+/// Whether the answer is the one record that has this value, or no record.
+fn is_listed(answer: &Result<Vec<(u64, SharedValue)>, QueryFault>, want: Option<u8>) -> bool {
+    let Ok(list) = answer else {
+        return false;
+    };
+    match list.as_slice() {
         [] => want.is_none(),
         [row] => want == Some(byte_of(&row.1)),
         _ => false,
     }
 }
 
-fn is_row(row: &Version<SharedValue>, part: Option<&Part>) -> bool {
-    match part {
-        Some(part) => { row.from == part.0 && row.to == part.1 && byte_of(&row.value) == part.2 }
-        None => false,
-    }
+fn is_row(row: &Version<SharedValue>, part: &Part) -> bool {
+    row.from == part.0 && row.to == part.1 && byte_of(&row.value) == part.2
 }
 
 /// Whether these are the rows of record 7.
-fn are_rows(rows: &[(u64, Version<SharedValue>)], parts: &[Part]) -> bool {
-    for (place, row) in rows.iter().enumerate() {
-        if row.0 != 7 || !is_row(&row.1, parts.get(place)) {
+fn are_rows(answer: &Result<Vec<(u64, Version<SharedValue>)>, QueryFault>, parts: &[Part]) -> bool {
+    let Ok(rows) = answer else {
+        return false;
+    };
+    for (row, part) in rows.iter().zip(parts.iter()) {
+        if row.0 != 7 || !is_row(&row.1, part) {
             return false;
         }
     }
     rows.len() == parts.len()
 }
 
-fn are_key_rows(rows: &[Version<SharedValue>], parts: &[Part]) -> bool {
-    for (place, row) in rows.iter().enumerate() {
-        if !is_row(row, parts.get(place)) {
+fn are_key_rows(answer: &Result<Vec<Version<SharedValue>>, QueryFault>, parts: &[Part]) -> bool {
+    let Ok(rows) = answer else {
+        return false;
+    };
+    for (row, part) in rows.iter().zip(parts.iter()) {
+        if !is_row(row, part) {
             return false;
         }
     }
     rows.len() == parts.len()
-}
-
-/// The run of two records alone.
-fn one_run(alloc: Global) -> Result<Runs, AllocError> {
-    let mut runs = Vec::new(alloc);
-    runs.push(two_records())?;
-    Runs::from_vec(alloc, runs)
-}
-
-/// The versions of the one key that are kept from a mark on.
-fn kept_from(alloc: Global, mark: u64) -> Result<Frozen, AllocError> {
-    one_key(alloc)?.forget(alloc, mark)
 }
 
 /// A view over the run of two records, of a store that has reclaimed up to this mark.
 fn reclaimed(alloc: Global, mark: u64) -> Result<View, AllocError> {
-    let runs = one_run(alloc)?;
-    let state = kept_from(alloc, mark)?;
+    let mut runs = Vec::new(alloc);
+    runs.push(two_records())?;
+    let runs = Runs::from_vec(alloc, runs)?;
+    let state = one_key(alloc)?.forget(alloc, mark)?;
     Ok(View::new(3, 130, Floors::none(), state).with_archive(mark, runs))
 }
 
-/// Whether a view says that this stands of the key at a time.
-fn finds(
-    view: &View,
-    reader: &mut ArchiveReader,
-    disk: &mut MemDisk,
-    time: u64,
-    want: Option<u8>,
-) -> bool {
-    match view.value_at(reader, disk, KEY, time) {
-        Ok(found) => is_found(found.as_ref(), want),
-        Err(_) => false,
-    }
-}
-
-/// Whether a view says so of the key's relation.
-fn lists(alloc: Global, view: &View, archived: &mut Archived, time: u64, want: Option<u8>) -> bool {
-    match view.values_at(alloc, &mut archived.reader, &mut archived.disk, 1, time) {
-        Ok(list) => is_listed(&list, want),
-        Err(_) => false,
-    }
-}
-
-/// Whether a view says that this stands at a time, of the key and of its relation.
+/// Whether a view from a mark on says that this stands at a time, of the key and of its relation.
 fn stands(
     alloc: Global,
-    view: &View,
-    archived: &mut Archived,
-    time: u64,
-    want: Option<u8>,
-) -> bool {
-    finds(view, &mut archived.reader, &mut archived.disk, time, want)
-        && lists(alloc, view, archived, time, want)
-}
-
-/// The same of a view from a mark on.
-fn stands_from(
-    alloc: Global,
-    archived: &mut Archived,
+    Archived { reader, disk }: &mut Archived,
     mark: u64,
     time: u64,
     want: Option<u8>,
@@ -157,82 +119,52 @@ fn stands_from(
     let Ok(view) = reclaimed(alloc, mark) else {
         return false;
     };
-    let right = stands(alloc, &view, archived, time, want);
+    let found = view.value_at(reader, disk, KEY, time);
+    let listed = view.values_at(alloc, reader, disk, 1, time);
     view.spend();
-    right
-}
-
-/// All that stood must be told from a mark on.
-fn all_stand(alloc: Global, archived: &mut Archived, mark: u64) -> Result<(), Fail> {
-    for (time, want) in STANDING {
-        if !stands_from(alloc, archived, mark, *time, *want) {
-            return Err(failure(mark, *time, *time));
-        }
-    }
-    Ok(())
-}
-
-/// The failure of a row of a view from a mark on, of one time or from one up to another.
-fn failure(mark: u64, from: u64, to: u64) -> Fail {
-    Fail::new(format_args!("from the mark {mark} on: {from} {to}"))
+    is_found(&found, want) && is_listed(&listed, want)
 }
 
 #[test]
-fn both_homes_say_what_stood_at_a_time(rt: HostRuntime) -> Result<(), Fail> {
-    let mut archived = read_archive(rt.alloc(), &RUN_BYTES)?;
+fn both_homes_say_what_stood_at_a_time(rt: HostRuntime) {
+    let Some(mut archived) = read_archive(rt.alloc(), &RUN_BYTES) else {
+        panic!(rt; "no memory");
+    };
     for mark in MARKS {
-        all_stand(rt.alloc(), &mut archived, *mark)?;
-    }
-    Ok(())
-}
-
-/// From one time up to another, the rows of a key.
-type Rows = (u64, u64, &'static [Part]);
-
-/// Whether a view has these rows of the key.
-fn has_key_rows(alloc: Global, view: &View, archived: &mut Archived, (a, b, parts): Rows) -> bool {
-    match view.rows_between(alloc, &mut archived.reader, &mut archived.disk, KEY, a, b) {
-        Ok(rows) => are_key_rows(&rows, parts),
-        Err(_) => false,
-    }
-}
-
-/// Whether a view has them of the key's relation.
-fn has_rows(alloc: Global, view: &View, archived: &mut Archived, (a, b, parts): Rows) -> bool {
-    match view.scan_rows_between(alloc, &mut archived.reader, &mut archived.disk, 1, a, b) {
-        Ok(rows) => are_rows(&rows, parts),
-        Err(_) => false,
+        for (time, want) in STANDING {
+            let right = stands(rt.alloc(), &mut archived, *mark, *time, *want);
+            assert!(rt; right, "{mark} {time}");
+        }
     }
 }
 
 /// Whether a view from a mark on has these rows, of the key and of its relation.
-fn has_rows_from(alloc: Global, archived: &mut Archived, mark: u64, rows: Rows) -> bool {
+fn has_rows(
+    alloc: Global,
+    Archived { reader, disk }: &mut Archived,
+    mark: u64,
+    (a, b, parts): &(u64, u64, &[Part]),
+) -> bool {
     let Ok(view) = reclaimed(alloc, mark) else {
         return false;
     };
-    let right = has_key_rows(alloc, &view, archived, rows)
-        && has_rows(alloc, &view, archived, rows);
+    let rows = view.rows_between(alloc, reader, disk, KEY, *a, *b);
+    let listed = view.scan_rows_between(alloc, reader, disk, 1, *a, *b);
     view.spend();
-    right
-}
-
-/// All rows must be shown from a mark on.
-fn all_are_shown(alloc: Global, archived: &mut Archived, mark: u64) -> Result<(), Fail> {
-    for rows in ROWS {
-        if !has_rows_from(alloc, archived, mark, *rows) {
-            return Err(failure(mark, rows.0, rows.1));
-        }
-    }
-    Ok(())
+    are_key_rows(&rows, parts) && are_rows(&listed, parts)
 }
 
 #[test]
-fn a_version_in_both_homes_is_shown_once(rt: HostRuntime) -> Result<(), Fail> {
-    let mut archived = read_archive(rt.alloc(), &RUN_BYTES)?;
+fn a_version_in_both_homes_is_shown_once(rt: HostRuntime) {
+    let Some(mut archived) = read_archive(rt.alloc(), &RUN_BYTES) else {
+        panic!(rt; "no memory");
+    };
     for mark in MARKS {
-        all_are_shown(rt.alloc(), &mut archived, *mark)?;
+        for row in ROWS {
+            let right = has_rows(rt.alloc(), &mut archived, *mark, row);
+            assert!(rt; right, "{mark} {} {}", row.0, row.1);
+        }
     }
-    Ok(())
 }
 
 /// Whether the value at a time is this, and of the archive some heads are read, or none.
@@ -243,40 +175,37 @@ fn is_read(
     (time, want, reads): (u64, u8, bool),
 ) -> bool {
     let mut reader = ArchiveReader::without_cache(alloc);
-    let right = finds(view, &mut reader, disk, time, Some(want));
+    let found = view.value_at(&mut reader, disk, KEY, time);
     let heads = reader.heads();
-    right && heads <= 3 && (heads > 0) == reads
+    is_found(&found, Some(want)) && heads <= 3 && (heads > 0) == reads
 }
 
 /// Whether memory alone has the value at a time, where it is this one; else the disk is needed.
 fn is_recent(view: &View, time: u64, want: Option<u8>) -> bool {
     match view.recent(KEY, time) {
-        Ok(Some(value)) => is_found(Some(value), want),
+        Ok(Some(value)) => want == Some(byte_of(value)),
         Err(QueryFault::NeedsDisk) => want.is_none(),
         _ => false,
     }
 }
 
-/// Whether all that is so of this view, from 110 on.
-fn reads_below_110(alloc: Global, view: &View, disk: &mut MemDisk) -> bool {
-    is_read(alloc, view, disk, (110, b'b', false))
-        && is_read(alloc, view, disk, (109, b'a', true))
-        && is_recent(view, 109, None)
-        && is_recent(view, 110, Some(b'b'))
-}
-
+/// Whether all that is so of a view from 110 on.
 fn reads_below_the_mark(alloc: Global, disk: &mut MemDisk) -> bool {
     let Ok(view) = reclaimed(alloc, 110) else {
         return false;
     };
-    let right = reads_below_110(alloc, &view, disk);
+    let right = is_read(alloc, &view, disk, (110, b'b', false))
+        && is_read(alloc, &view, disk, (109, b'a', true))
+        && is_recent(&view, 109, None)
+        && is_recent(&view, 110, Some(b'b'));
     view.spend();
     right
 }
 
 #[test]
-fn from_the_reclaim_mark_on_no_run_is_read(rt: HostRuntime) -> Result<(), Fail> {
-    let mut archived = read_archive(rt.alloc(), &RUN_BYTES)?;
+fn from_the_reclaim_mark_on_no_run_is_read(rt: HostRuntime) {
+    let Some(mut archived) = read_archive(rt.alloc(), &RUN_BYTES) else {
+        panic!(rt; "no memory");
+    };
     assert!(rt; reads_below_the_mark(rt.alloc(), &mut archived.disk));
-    Ok(())
 }

@@ -70,30 +70,15 @@ const TWO_KEYS: Commits = &[
     (110, 7, Some(b"b")),
 ];
 
-/// The versions with one more write; no memory also where its time is not past the last one.
-fn written_later(
-    alloc: Global,
-    frozen: &Frozen,
-    last: u64,
-    time: u64,
-    number: u64,
-    field: Option<&[u8]>,
-) -> Result<Frozen, AllocError>
-    requires { latest frozen.now ≤ last }
-    ensures { IfOk result (λ f. latest f ≤ time) }
-{
-    if time <= last || time > LAST_TIME {
-        return Err(AllocError);
-    }
-    written(alloc, frozen, time, number, field)
-}
-
 /// What these commits leave; no memory also where their times do not rise.
 fn commits(alloc: Global, commits: Commits) -> Result<Frozen, AllocError> {
     let mut frozen = Frozen::new();
     let mut last = 0;
     for (time, number, field) in commits {
-        frozen = written_later(alloc, &frozen, last, *time, *number, *field)?;
+        if *time <= last || *time > LAST_TIME {
+            return Err(AllocError);
+        }
+        frozen = written(alloc, &frozen, *time, *number, *field)?;
         last = *time;
     }
     Ok(frozen)
@@ -103,21 +88,14 @@ pub fn one_key(alloc: Global) -> Result<Frozen, AllocError> {
     commits(alloc, ONE_KEY)
 }
 
-/// Record 7 is 1 from 10 on, 2 from 20 on and so forth up to 100 from 1,000 on.
-fn hundred(alloc: Global) -> Result<Frozen, AllocError>
-    ensures { IfOk result (λ f. latest f < 1010) }
-{
+/// Record 7 is 1 from 10 on, 2 from 20 on and so forth up to 100 from 1,000 on, and record 9 is x
+/// from 1,010 up to 1,020.
+fn long_key(alloc: Global) -> Result<Frozen, AllocError> {
     let mut frozen = Frozen::new();
     for number in 1..101u8 {
         let time = u64::from(number) * 10;
         frozen = written(alloc, &frozen, time, 7, Some(&[number]))?;
     }
-    Ok(frozen)
-}
-
-/// The same, and record 9 is x from 1,010 up to 1,020.
-fn long_key(alloc: Global) -> Result<Frozen, AllocError> {
-    let frozen = hundred(alloc)?;
     let frozen = written(alloc, &frozen, 1010, 9, Some(b"x"))?;
     written(alloc, &frozen, 1020, 9, Some(b"y"))
 }
@@ -191,20 +169,17 @@ const WALKS: &[Walk] = &[
     },
 ];
 
-/// Whether a walk goes over these versions, and again from its beginning.
-fn goes_twice(walk: &mut ArchiveWalk, want: &[(u64, u64, u64)]) -> bool {
-    let is_first = walks_over(walk, want);
-    walk.restart();
-    is_first && walks_over(walk, want)
-}
-
-/// Whether a row's walk does so.
+/// Whether a row's walk goes over its versions, and again from its beginning.
 fn walks_twice(alloc: Global, row: &Walk) -> bool {
     let Ok(versions) = versions_of(alloc, row.versions) else {
         return false;
     };
     let mut walk = ArchiveWalk::new(versions, since(row.mark, 0), row.upto);
-    goes_twice(&mut walk, row.want)
+    if !walks_over(&mut walk, row.want) {
+        return false;
+    }
+    walk.restart();
+    walks_over(&mut walk, row.want)
 }
 
 #[test]
@@ -214,36 +189,30 @@ fn a_walk_goes_over_what_ended_in_its_time(rt: HostRuntime) {
     }
 }
 
-/// What a run's slot names, and what writes the run, where it is one.
-type MadeRun = Option<(Run, RunWriter<ArchiveWalk>)>;
-
-/// Whether a run is written in one piece.
-fn is_written(writer: &mut RunWriter<ArchiveWalk>, disk: &mut MemDisk) -> bool {
-    writer.write_piece(disk).is_ok() && writer.left() == 0
-}
-
 /// Whether a run is written in one piece with its bytes, and named as its slot names it.
-fn is_made(made: &mut MadeRun, disk: &mut MemDisk) -> bool {
-    match made {
-        Some((run, writer)) => {
-            *run == RUN && is_written(writer, disk) && holds(disk, Area::Archive, &RUN_BYTES)
-        }
-        None => false,
-    }
+fn is_made(run: Run, writer: &mut RunWriter<ArchiveWalk>, disk: &mut MemDisk) -> bool {
+    run == RUN
+        && writer.write_piece(disk).is_ok()
+        && writer.left() == 0
+        && holds(disk, Area::Archive, &RUN_BYTES)
 }
 
 /// Whether the run up to 120 is made of the versions of one key.
 fn is_made_of_one_key(alloc: Global, disk: &mut MemDisk) -> bool {
-    match one_key(alloc) {
-        Ok(versions) => is_made(&mut archive_run(versions, since(0, 0), 120, 0), disk),
-        Err(_) => false,
+    let Ok(versions) = one_key(alloc) else {
+        return false;
+    };
+    match archive_run(versions, since(0, 0), 120, 0) {
+        Some((run, mut writer)) => is_made(run, &mut writer, disk),
+        None => false,
     }
 }
 
 #[test]
 fn a_run_is_made_of_versions(rt: HostRuntime) {
     laws::archive_is_walked();
-    assert!(rt; is_made_of_one_key(rt.alloc(), &mut MemDisk::new(rt.alloc())));
+    let mut disk = MemDisk::new(rt.alloc());
+    assert!(rt; is_made_of_one_key(rt.alloc(), &mut disk));
 }
 
 /// A run that goes up to a time and starts at a place of the archive. What ended by the mark is left
@@ -358,19 +327,21 @@ fn floors_of(alloc: Global, (scope, floor): (Option<u16>, u64)) -> Result<Floors
     }
 }
 
-fn records_of(made: &MadeRun) -> Option<u64> {
-    match made {
-        Some((run, _)) => Some(run.records),
-        None => None,
-    }
-}
-
 /// How many records a run would have, where it is one and memory is not short.
 fn counted(alloc: Global, row: &RunCount) -> Result<Option<u64>, AllocError> {
-    let mark = row.mark;
-    let floors = floors_of(alloc, row.floor)?;
-    let versions = versions_of(alloc, row.versions)?;
-    Ok(records_of(&archive_run(versions, Since { mark, floors }, row.upto, row.start)))
+    let since = Since {
+        mark: row.mark,
+        floors: floors_of(alloc, row.floor)?,
+    };
+    match archive_run(
+        versions_of(alloc, row.versions)?,
+        since,
+        row.upto,
+        row.start,
+    ) {
+        Some((run, _)) => Ok(Some(run.records)),
+        None => Ok(None),
+    }
 }
 
 #[test]

@@ -8,7 +8,6 @@ use disk::{Area, Disk, MemDisk};
 use floors::Floors;
 use history::Key;
 use std::alloc::Global;
-use std::test::Fail;
 use wire::{Run, Value, ValueFault};
 
 /// A version of a key with these fields.
@@ -57,21 +56,16 @@ const WRITTEN: &[Written] = &[
     ),
 ];
 
-/// Whether a run is written so.
-fn writes_all(writer: &mut RunWriter<ListWalk<'_>>, disk: &mut MemDisk, row: &Written) -> bool {
+/// Whether a run of these records is written so.
+fn is_written(records: &[(Head, Value)], disk: &mut MemDisk, row: &Written) -> bool {
+    let Some(mut writer) = RunWriter::new(ListWalk::new(records), 0) else {
+        return false;
+    };
     let [(first, first_calls), (second, second_calls)] = row.3;
     writer.records() == 2
         && writer.left() == row.2
-        && writes(writer, disk, first, first_calls)
-        && writes(writer, disk, second, second_calls)
-}
-
-/// Whether a run of these records is written so.
-fn is_written(records: &[(Head, Value)], disk: &mut MemDisk, row: &Written) -> bool {
-    match RunWriter::new(ListWalk::new(records), 0) {
-        Some(mut writer) => writes_all(&mut writer, disk, row),
-        None => false,
-    }
+        && writes(&mut writer, disk, first, first_calls)
+        && writes(&mut writer, disk, second, second_calls)
 }
 
 /// Whether a row's run is written, and the archive is as long then.
@@ -131,19 +125,15 @@ const LESSER: Key = Key {
     record: 3,
 };
 
-/// Writes a run behind the one of two records; whether that is made.
-fn adds(records: &[(Head, Value)], disk: &mut MemDisk) -> bool {
-    match RunWriter::new(ListWalk::new(records), 74) {
+/// Writes that run behind the other one on a disk; whether that is made.
+fn adds_later(alloc: Global, disk: &mut MemDisk) -> bool {
+    let Ok(record) = version(alloc, LESSER, (110, 130), &[b"x"]) else {
+        return false;
+    };
+    let records = [record];
+    match RunWriter::new(ListWalk::new(&records), 74) {
         Some(mut writer) => writer.write_piece(disk).is_ok(),
         None => false,
-    }
-}
-
-/// The same of that later run.
-fn adds_later(alloc: Global, disk: &mut MemDisk) -> bool {
-    match version(alloc, LESSER, (110, 130), &[b"x"]) {
-        Ok(record) => adds(&[record], disk),
-        Err(_) => false,
     }
 }
 
@@ -156,14 +146,14 @@ fn scans(reader: &mut ArchiveReader, disk: &mut MemDisk, from: u64, count: usize
     }
 }
 
-/// Whether the later run is added, and both are merged.
-fn merges(alloc: Global, Archived { reader, disk }: &mut Archived) -> bool {
-    adds_later(alloc, disk) && scans(reader, disk, 100, 3) && scans(reader, disk, 120, 1)
-}
-
 #[test]
-fn scans_of_several_runs_are_merged(rt: HostRuntime) -> Result<(), Fail> {
-    let mut archived = read_archive(rt.alloc(), &RUN_BYTES)?;
-    assert!(rt; merges(rt.alloc(), &mut archived));
-    Ok(())
+fn scans_of_several_runs_are_merged(rt: HostRuntime) {
+    let Some(mut archived) = read_archive(rt.alloc(), &RUN_BYTES) else {
+        panic!(rt; "no memory");
+    };
+    let Archived { reader, disk } = &mut archived;
+    let right = adds_later(rt.alloc(), disk)
+        && scans(reader, disk, 100, 3)
+        && scans(reader, disk, 120, 1);
+    assert!(rt; right);
 }

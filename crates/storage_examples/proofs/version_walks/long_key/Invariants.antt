@@ -1,6 +1,6 @@
 use Rattle.std.proofs.Common.{◌*◌, ◌<◌, ◌≤◌}
 use Rattle.chains.specs.KeyWrites.{latest}
-use Rattle.storage_examples.proofs.version_walks.hundred.Given as goal
+use Rattle.storage_examples.proofs.version_walks.long_key.Given as goal
 
 -- all of them are older than the next one
 abbrev pub invariant-loop-number : goal.invariant-loop-number
