@@ -4,74 +4,46 @@ use std::alloc::{AllocError, Global};
 use std::time::{Clock, Instant};
 use std::{fmt, io};
 
-/// A number that is printed.
-#[derive(Clone, Copy)]
-pub(crate) enum Number {
-    Whole(u64),
-    /// It has three digits behind the point.
-    Thousandths(u128),
-}
+/// A number with three digits behind the point.
+#[derive(Clone, Copy, Debug)]
+pub(crate) struct Thousandths(u128);
 
-impl fmt::Display for Number {
+impl fmt::Display for Thousandths {
     fn fmt<W: fmt::Write>(&self, f: &mut fmt::Formatter<W>) -> fmt::Result {
-        match self {
-            Number::Whole(number) => write!(f, "{number}"),
-            Number::Thousandths(number) => {
-                let whole = *number / 1000;
-                let rest = *number % 1000;
-                write!(f, "{whole}.{rest:03}")
-            }
-        }
+        let whole = self.0 / 1000;
+        let rest = self.0 % 1000;
+        write!(f, "{whole}.{rest:03}")
     }
 }
 
 /// A quotient, rounded down. A divisor of 0 counts as 1.
-pub(crate) fn quotient(dividend: u64, divisor: u64) -> Number {
-    Number::Thousandths((dividend as u128).saturating_mul(1000) / (divisor as u128).max(1))
+pub(crate) fn quotient(dividend: u64, divisor: u64) -> Thousandths {
+    Thousandths((dividend as u128).saturating_mul(1000) / (divisor as u128).max(1))
 }
 
 /// How many there are in a second, where so many took so many nanoseconds.
-pub(crate) fn rate(count: u64, nanoseconds: u64) -> Number {
-    let dividend = (count as u128).saturating_mul(1_000_000_000_000);
-    Number::Thousandths(dividend / (nanoseconds as u128).max(1))
+pub(crate) fn rate(count: u64, nanoseconds: u64) -> Thousandths {
+    Thousandths((count as u128).saturating_mul(1_000_000_000_000) / (nanoseconds as u128).max(1))
 }
 
 /// How many megabytes of 10^6 bytes there are in a second, where so many bytes took so many nanoseconds.
-pub(crate) fn megabytes_a_second(bytes: u64, nanoseconds: u64) -> Number {
-    let dividend = (bytes as u128).saturating_mul(1_000_000);
-    Number::Thousandths(dividend / (nanoseconds as u128).max(1))
+pub(crate) fn megabytes_a_second(bytes: u64, nanoseconds: u64) -> Thousandths {
+    Thousandths((bytes as u128).saturating_mul(1_000_000) / (nanoseconds as u128).max(1))
 }
 
 /// Nanoseconds as microseconds.
-pub(crate) fn microseconds(nanoseconds: u64) -> Number {
-    Number::Thousandths(nanoseconds as u128)
+pub(crate) fn microseconds(nanoseconds: u64) -> Thousandths {
+    Thousandths(nanoseconds as u128)
 }
 
 /// Nanoseconds as milliseconds.
-pub(crate) fn milliseconds(nanoseconds: u64) -> Number {
-    Number::Thousandths((nanoseconds / 1000) as u128)
+pub(crate) fn milliseconds(nanoseconds: u64) -> Thousandths {
+    Thousandths((nanoseconds / 1000) as u128)
 }
 
-/// Prints a line of JSON, of these numbers.
-pub(crate) fn print_line<R: Print>(rt: &R, fields: &[(&str, Number)]) -> io::Result<()> {
-    let mut before = "{";
-    for (name, number) in fields {
-        print!(rt; "{before}\"{name}\": {number}")?;
-        before = ", ";
-    }
-    println!(rt; "}}")
-}
-
-/// Nanoseconds since the start, as `Instant::now` answered. A clock that could not be read then is told now.
-pub(crate) fn nanoseconds<R: Clock>(rt: &R, start: io::Result<Instant>) -> io::Result<u64> {
-    let elapsed = start?.elapsed(rt)?;
-    Ok(u64::try_from(elapsed.as_nanos()).unwrap_or(u64::MAX))
-}
-
-/// The time that half of these are at most; 0 of none.
-pub(crate) fn median(times: &mut [u64]) -> u64 {
-    times.sort_unstable();
-    times.get(times.len() / 2).copied().unwrap_or(0)
+/// Nanoseconds since the start.
+pub(crate) fn nanoseconds<R: Clock>(rt: &R, start: &Instant) -> io::Result<u64> {
+    Ok(u64::try_from(start.elapsed(rt)?.as_nanos()).unwrap_or(u64::MAX))
 }
 
 /// Times of one thing done often, in nanoseconds.
@@ -113,7 +85,9 @@ impl Times {
         most
     }
 
-    pub(crate) fn median(&mut self) -> u64 {
-        median(self.each.as_mut_slice())
+    /// The time that half of them are at most; 0 of none.
+    pub(crate) fn median(&mut self) -> Result<u64, AllocError> {
+        self.each.sort()?;
+        Ok(self.each.get(self.each.len() / 2).copied().unwrap_or(0))
     }
 }

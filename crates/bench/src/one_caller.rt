@@ -18,6 +18,9 @@ mod writing;
 use crate::fault::Fault;
 use crate::words::Request;
 use std::alloc::Global;
+use std::fs::File;
+use std::rt::Files;
+use std::time::Clock;
 pub(crate) use verb::{Verb, known};
 
 /// Measures so often, or of so many versions, and prints a line of JSON.
@@ -28,28 +31,16 @@ pub(crate) fn measure(
     request: &Request<'_>,
 ) -> Result<(), Fault> {
     let folder = request.folder;
-    let store = format!(in alloc; "{folder}/store")?;
-    measure_store(rt, alloc, verb, request, store.as_str())
-}
-
-/// The same; the store is, or is made, in this folder.
-fn measure_store(
-    rt: &HostRuntime,
-    alloc: Global,
-    verb: Verb,
-    request: &Request<'_>,
-    store: &str,
-) -> Result<(), Fault> {
     let count = request.count;
     match verb {
-        Verb::Commits(shape) => { writing::measure(rt, alloc, request.folder, store, shape, count) }
-        Verb::Queries(question) => asking::measure(rt, alloc, store, question, count),
-        Verb::Opening => opening::measure(rt, alloc, store, count),
-        Verb::Size => asking::measure_size(rt, alloc, store),
-        Verb::Preparing(breadth) => preparing::measure(rt, alloc, store, breadth, count),
-        Verb::Vacuum(task) => vacuuming::measure(rt, alloc, request, store, task),
-        Verb::Past(question) => past::measure(rt, alloc, store, question, count),
-        Verb::Reopening => reopening::measure(rt, alloc, store, count),
-        Verb::Memory => memory::measure(rt, alloc, store, count),
+        Verb::Commits(shape) => writing::measure(rt, alloc, folder, shape, count),
+        Verb::Queries(question) => asking::measure(rt, alloc, folder, question, count),
+        Verb::Opening => opening::measure(rt, alloc, folder, count),
+        Verb::Size => asking::measure_size(rt, alloc, folder),
+        Verb::Preparing(breadth) => preparing::measure(rt, alloc, folder, breadth, count),
+        Verb::Vacuum(task) => vacuuming::measure(rt, alloc, folder, task, count, request.number),
+        Verb::Past(question) => past::measure(rt, alloc, folder, question, count),
+        Verb::Reopening => reopening::measure(rt, alloc, folder, count),
+        Verb::Memory => memory::measure(rt, alloc, folder, count),
     }
 }

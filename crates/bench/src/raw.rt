@@ -2,7 +2,6 @@
 
 use crate::fault::Fault;
 use crate::stores;
-use crate::stores::MOST_SLOTS;
 use std::alloc::Global;
 use std::fs::{File, OpenOptions};
 use std::io;
@@ -29,54 +28,46 @@ pub(crate) struct RawFiles {
     slots: u64,
 }
 
-fn open<R: Files<File = File> + AllocGlobal>(rt: &R, folder: &str, name: &str) -> io::Result<File> {
+fn open<R: Files<File = File> + AllocGlobal>(
+    rt: &R,
+    folder: &str,
+    name: &str,
+) -> Result<File, Fault> {
     let path = format!(in rt.alloc(); "{folder}/{name}")?;
-    OpenOptions::new()
+    let file = OpenOptions::new()
         .read(true)
         .write(true)
-        .open(rt, path.as_str())
+        .open(rt, path.as_str())?;
+    Ok(file)
 }
 
 impl RawFiles {
-    /// Makes the folder `raw` below this one, with the files of a store of as many slots as one may have.
-    pub(crate) fn below<R: Files<File = File> + AllocGlobal>(
+    /// Makes a folder with the files of a store of this many slots.
+    pub(crate) fn new<R: Files<File = File> + AllocGlobal>(
         rt: &R,
         alloc: Global,
         folder: &str,
+        slots: u32,
     ) -> Result<RawFiles, Fault> {
-        let folder = format!(in alloc; "{folder}/raw")?;
-        RawFiles::new(rt, alloc, folder.as_str())
-    }
-
-    fn new<R: Files<File = File> + AllocGlobal>(
-        rt: &R,
-        alloc: Global,
-        folder: &str,
-    ) -> Result<RawFiles, Fault> {
-        stores::make(rt, alloc, folder, MOST_SLOTS)?;
-        let status = open(rt, folder, "status")?;
-        let heap = open(rt, folder, "heap")?;
+        stores::make(rt, alloc, folder, slots)?;
         Ok(RawFiles {
-            status,
-            heap,
+            status: open(rt, folder, "status")?,
+            heap: open(rt, folder, "heap")?,
             extents: 0,
             slots: 0,
         })
     }
 
-    /// Writes so many extents at the end of the heap.
-    fn write_extents(&mut self, count: u64) -> io::Result<()> {
+    /// Writes so many extents, the body of the next slot and its gate, with a sync after each of the
+    /// three.
+    pub(crate) fn write_group(&mut self, extents: u64) -> io::Result<()> {
         let extent = [(self.slots % 251) as u8; EXTENT_LEN as usize];
-        for _ in 0..count {
+        for _ in 0..extents {
             self.heap
                 .write_all_at(&extent, self.extents.wrapping_mul(EXTENT_LEN))?;
             self.extents = self.extents.wrapping_add(1);
         }
-        Ok(())
-    }
-
-    /// Writes the body of the next slot and its gate, with a sync after each of the two.
-    fn write_slot(&mut self) -> io::Result<()> {
+        self.heap.sync_data()?;
         self.slots = self.slots.wrapping_add(1);
         let slot = self.slots.wrapping_mul(SLOT_LEN);
         self.status
@@ -84,13 +75,5 @@ impl RawFiles {
         self.status.sync_data()?;
         self.status.write_all_at(&OPEN, slot)?;
         self.status.sync_data()
-    }
-
-    /// Writes so many extents, the body of the next slot and its gate, with a sync after each of the
-    /// three.
-    pub(crate) fn write_group(&mut self, extents: u64) -> io::Result<()> {
-        self.write_extents(extents)?;
-        self.heap.sync_data()?;
-        self.write_slot()
     }
 }

@@ -1,8 +1,7 @@
 //! What stood at some time, in maps of keys of more and more versions.
 
-use crate::leaves::publishing::{Published, open_history};
-use crate::leaves::table::{Scale, print_rate};
-use crate::numbers::nanoseconds;
+use crate::leaves::publishing::{Published, open_history, with_history};
+use crate::leaves::table::{Scale, nanoseconds, print_rate};
 use chains::Frozen;
 use history::Key;
 use std::alloc::{AllocError, Global};
@@ -17,38 +16,6 @@ const TRIAL_VERSIONS: u64 = 10;
 
 /// The fields of each value.
 const FIELDS: u64 = 4;
-
-/// What is asked of a map.
-#[derive(Clone, Copy)]
-enum Question {
-    /// The value of a key at a time.
-    Value,
-    /// The same, with a view for each.
-    ValueByView,
-    /// All rows of a key.
-    Rows,
-    /// All keys as of a time.
-    Scan,
-}
-
-/// What a measurement of a question is called.
-fn name_of(question: Question) -> &'static str {
-    match question {
-        Question::Value => "chains: value at a time, versions",
-        Question::ValueByView => "chains: value at a time with a view each, versions",
-        Question::Rows => "chains: rows of a key, versions",
-        Question::Scan => "chains: scan of a thousand keys, versions",
-    }
-}
-
-/// How often a question is asked of a map whose keys have this many versions.
-fn rounds_of(question: Question, scale: Scale, versions: u64) -> u64 {
-    match question {
-        Question::Value | Question::ValueByView => scale.rounds(1_000_000),
-        Question::Rows => scale.rounds(10_000_000 / versions.max(1)).min(100_000),
-        Question::Scan => scale.rounds(2_000),
-    }
-}
 
 /// A number that looks like chance, for each round another one.
 fn mixed(round: u64) -> u64 {
@@ -113,77 +80,54 @@ fn scan_often(alloc: Global, frozen: &Frozen, last: u64, rounds: u64) -> Result<
     Ok(found)
 }
 
-/// Asks a question this often. Gives how many fields, rows or records were found.
-fn found_by(
-    alloc: Global,
-    published: &Published,
-    frozen: &Frozen,
-    question: Question,
-    rounds: u64,
-) -> Result<u64, AllocError> {
-    let last = published.last();
-    match question {
-        Question::Value => Ok(ask_often(frozen, last, rounds)),
-        Question::ValueByView => ask_with_views(published, rounds),
-        Question::Rows => list_often(alloc, frozen, rounds),
-        Question::Scan => scan_often(alloc, frozen, last, rounds),
-    }
-}
-
-/// What a measurement counts where so much was found, or what was missed.
-fn counted(question: Question, found: u64, rounds: u64) -> Result<u64, &'static str> {
-    let (whole, missed) = match question {
-        Question::Rows => return Ok(found),
-        Question::Scan => (ASKED_KEYS, "chains: a record was not shown"),
-        Question::Value | Question::ValueByView => (FIELDS, "chains: a value was not found"),
-    };
-    if found == rounds.saturating_mul(whole) {
-        Ok(rounds)
-    } else {
-        Err(missed)
-    }
-}
-
-fn measure_question(
+fn measure_values(
     rt: &HostRuntime,
-    alloc: Global,
     scale: Scale,
     published: &Published,
-    frozen: &Frozen,
-    question: Question,
     versions: u64,
 ) -> io::Result<()> {
-    let rounds = rounds_of(question, scale, versions);
-    let start = Instant::now(rt);
-    let found = found_by(alloc, published, frozen, question, rounds)?;
-    let time = nanoseconds(rt, start);
-    match counted(question, found, rounds) {
-        Ok(count) => print_rate(rt, scale, name_of(question), versions, time, count),
-        Err(missed) => println!(rt; "{missed}"),
+    let frozen = published.freeze()?;
+    let rounds = scale.rounds(1_000_000);
+    let start = Instant::now(rt)?;
+    let fields = ask_often(&frozen, published.last(), rounds);
+    let time = nanoseconds(rt, &start)?;
+    if fields != rounds.saturating_mul(FIELDS) {
+        return println!(rt; "chains: a value was not found");
     }
+    print_rate(
+        rt,
+        scale,
+        "chains: value at a time, versions",
+        versions,
+        time,
+        rounds,
+    )
 }
 
-fn measure_questions(
+fn measure_views(
     rt: &HostRuntime,
-    alloc: Global,
     scale: Scale,
     published: &Published,
-    frozen: &Frozen,
     versions: u64,
 ) -> io::Result<()> {
-    for question in [
-        Question::Value,
-        Question::ValueByView,
-        Question::Rows,
-        Question::Scan,
-    ] {
-        measure_question(rt, alloc, scale, published, frozen, question, versions)?;
+    let rounds = scale.rounds(1_000_000);
+    let start = Instant::now(rt)?;
+    let fields = ask_with_views(published, rounds)?;
+    let time = nanoseconds(rt, &start)?;
+    if fields != rounds.saturating_mul(FIELDS) {
+        return println!(rt; "chains: a value was not found");
     }
-    Ok(())
+    print_rate(
+        rt,
+        scale,
+        "chains: value at a time with a view each, versions",
+        versions,
+        time,
+        rounds,
+    )
 }
 
-/// What a map answers.
-fn measure_answers(
+fn measure_rows(
     rt: &HostRuntime,
     alloc: Global,
     scale: Scale,
@@ -191,14 +135,50 @@ fn measure_answers(
     versions: u64,
 ) -> io::Result<()> {
     let frozen = published.freeze()?;
-    measure_questions(rt, alloc, scale, published, &frozen, versions)
+    let rounds = scale.rounds(10_000_000 / versions.max(1)).min(100_000);
+    let start = Instant::now(rt)?;
+    let found = list_often(alloc, &frozen, rounds)?;
+    let time = nanoseconds(rt, &start)?;
+    print_rate(
+        rt,
+        scale,
+        "chains: rows of a key, versions",
+        versions,
+        time,
+        found,
+    )
+}
+
+fn measure_scans(
+    rt: &HostRuntime,
+    alloc: Global,
+    scale: Scale,
+    published: &Published,
+    versions: u64,
+) -> io::Result<()> {
+    let frozen = published.freeze()?;
+    let rounds = scale.rounds(2_000);
+    let start = Instant::now(rt)?;
+    let found = scan_often(alloc, &frozen, published.last(), rounds)?;
+    let time = nanoseconds(rt, &start)?;
+    if found != rounds.saturating_mul(ASKED_KEYS) {
+        return println!(rt; "chains: a record was not shown");
+    }
+    print_rate(
+        rt,
+        scale,
+        "chains: scan of a thousand keys, versions",
+        versions,
+        time,
+        rounds,
+    )
 }
 
 /// The same versions, made in place as those of a store that is opened.
 fn measure_opening(rt: &HostRuntime, alloc: Global, scale: Scale, versions: u64) -> io::Result<()> {
-    let start = Instant::now(rt);
+    let start = Instant::now(rt)?;
     let _opened = open_history(alloc, ASKED_KEYS, versions)?;
-    let time = nanoseconds(rt, start);
+    let time = nanoseconds(rt, &start)?;
     print_rate(
         rt,
         scale,
@@ -209,45 +189,29 @@ fn measure_opening(rt: &HostRuntime, alloc: Global, scale: Scale, versions: u64)
     )
 }
 
-/// What the making of a map takes, of a thousand keys of this many versions.
-fn measure_making(
-    rt: &HostRuntime,
-    alloc: Global,
-    scale: Scale,
-    published: &mut Published,
-    versions: u64,
-) -> io::Result<()> {
-    let start = Instant::now(rt);
-    published.publish_history(alloc, ASKED_KEYS, versions)?;
-    let time = nanoseconds(rt, start);
+/// A map of a thousand keys of this many versions: what its making takes, and what it answers.
+fn measure_map(rt: &HostRuntime, alloc: Global, scale: Scale, versions: u64) -> io::Result<()> {
+    let start = Instant::now(rt)?;
+    let published = with_history(alloc, ASKED_KEYS, versions)?;
+    let time = nanoseconds(rt, &start)?;
+    let writes = ASKED_KEYS.saturating_mul(versions);
     print_rate(
         rt,
         scale,
         "chains: writes by a thousand, versions",
         versions,
         time,
-        ASKED_KEYS.saturating_mul(versions),
-    )
-}
-
-/// A map of a thousand keys of this many versions: what its making takes, and what it answers.
-fn measure_map(rt: &HostRuntime, alloc: Global, scale: Scale, versions: u64) -> io::Result<()> {
-    let mut published = Published::new();
-    measure_making(rt, alloc, scale, &mut published, versions)?;
-    measure_answers(rt, alloc, scale, &published, versions)
-}
-
-/// Whether a map whose keys have this many versions is measured.
-fn is_asked(scale: Scale, versions: u64) -> bool {
-    match scale {
-        Scale::Trial => versions <= TRIAL_VERSIONS,
-        Scale::Whole => true,
-    }
+        writes,
+    )?;
+    measure_values(rt, scale, &published, versions)?;
+    measure_views(rt, scale, &published, versions)?;
+    measure_rows(rt, alloc, scale, &published, versions)?;
+    measure_scans(rt, alloc, scale, &published, versions)
 }
 
 pub(crate) fn measure(rt: &HostRuntime, alloc: Global, scale: Scale) -> io::Result<()> {
     for versions in [1, 10, 100, 1_000] {
-        if is_asked(scale, versions) {
+        if scale == Scale::Whole || versions <= TRIAL_VERSIONS {
             measure_opening(rt, alloc, scale, versions)?;
             measure_map(rt, alloc, scale, versions)?;
         }

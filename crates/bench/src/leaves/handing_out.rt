@@ -1,7 +1,6 @@
 //! Extents that are taken, kept, retired and given back.
 
-use crate::leaves::table::{Scale, print_rate};
-use crate::numbers::nanoseconds;
+use crate::leaves::table::{Scale, nanoseconds, print_rate};
 use extents::{Extents, LAST_EXTENT};
 use std::alloc::Global;
 use std::io;
@@ -44,35 +43,32 @@ fn measure_nearly_full(
 ) -> io::Result<()> {
     let rounds = scale.rounds(1_000_000);
     extents.retire(free);
-    let start = Instant::now(rt);
+    let start = Instant::now(rt)?;
     take_and_give_back(extents, rounds);
-    let time = nanoseconds(rt, start);
+    let time = nanoseconds(rt, &start)?;
     keep_many(extents, 1);
     print_rate(rt, scale, name, LAST_EXTENT as u64, time, rounds)
 }
 
-/// The nanoseconds of taking and keeping all extents.
-fn time_keeping(rt: &HostRuntime, extents: &mut Extents) -> io::Result<u64> {
-    let start = Instant::now(rt);
+/// All extents are taken, and then retired: the nanoseconds that each of the two takes.
+fn time_all(rt: &HostRuntime, extents: &mut Extents) -> io::Result<(u128, u128)> {
+    let start = Instant::now(rt)?;
     keep_many(extents, LAST_EXTENT as u64);
-    nanoseconds(rt, start)
-}
-
-/// The nanoseconds of retiring them.
-fn time_retiring(rt: &HostRuntime, extents: &mut Extents) -> io::Result<u64> {
-    let start = Instant::now(rt);
+    let kept = nanoseconds(rt, &start)?;
+    let start = Instant::now(rt)?;
     retire_many(extents, LAST_EXTENT);
-    nanoseconds(rt, start)
+    Ok((kept, nanoseconds(rt, &start)?))
 }
 
 fn measure_all(rt: &HostRuntime, scale: Scale, extents: &mut Extents) -> io::Result<()> {
     let size = LAST_EXTENT as u64;
     let rounds = scale.rounds(50);
-    let mut taking = 0u64;
-    let mut retiring = 0u64;
+    let mut taking = 0u128;
+    let mut retiring = 0u128;
     for _ in 0..rounds {
-        taking = taking.saturating_add(time_keeping(rt, extents)?);
-        retiring = retiring.saturating_add(time_retiring(rt, extents)?);
+        let (taken, retired) = time_all(rt, extents)?;
+        taking = taking.saturating_add(taken);
+        retiring = retiring.saturating_add(retired);
     }
     let count = rounds.saturating_mul(size);
     print_rate(
@@ -80,39 +76,28 @@ fn measure_all(rt: &HostRuntime, scale: Scale, extents: &mut Extents) -> io::Res
         scale,
         "extents: taken and kept, all",
         size,
-        Ok(taking),
+        taking,
         count,
     )?;
-    print_rate(
-        rt,
-        scale,
-        "extents: retired, all",
-        size,
-        Ok(retiring),
-        count,
-    )
+    print_rate(rt, scale, "extents: retired, all", size, retiring, count)
 }
 
-fn measure_extents(rt: &HostRuntime, scale: Scale, extents: &mut Extents) -> io::Result<()> {
-    measure_all(rt, scale, extents)?;
-    keep_many(extents, LAST_EXTENT as u64);
+pub(crate) fn measure(rt: &HostRuntime, alloc: Global, scale: Scale) -> io::Result<()> {
+    let mut extents = Extents::new(alloc)?;
+    measure_all(rt, scale, &mut extents)?;
+    keep_many(&mut extents, LAST_EXTENT as u64);
     measure_nearly_full(
         rt,
         scale,
-        extents,
+        &mut extents,
         1,
         "extents: the first taken and given back, alone free of",
     )?;
     measure_nearly_full(
         rt,
         scale,
-        extents,
+        &mut extents,
         LAST_EXTENT,
         "extents: the last taken and given back, alone free of",
     )
-}
-
-pub(crate) fn measure(rt: &HostRuntime, alloc: Global, scale: Scale) -> io::Result<()> {
-    let mut extents = Extents::new(alloc)?;
-    measure_extents(rt, scale, &mut extents)
 }

@@ -5,8 +5,7 @@ ghost use Rattle.std.specs.List.Sorted.{IsStrictlySortedBy};
 ghost use Rattle.history.specs.Key.{key_cmp};
 ghost use Rattle.chains.specs.KeyWrites.{latest};
 
-use crate::leaves::table::{Scale, print_time};
-use crate::numbers::nanoseconds;
+use crate::leaves::table::{Scale, nanoseconds, print_time};
 use chains::{ChainMap, Frozen, Pending, SharedValue};
 use history::{Key, KeyWrite, LAST_TIME};
 use snapshot::Txn;
@@ -52,7 +51,7 @@ impl Model for Published {
 
 impl Published {
     /// Nothing was published yet.
-    pub(crate) fn new() -> Published {
+    fn new() -> Published {
         Published {
             map: ChainMap::new(),
             last: 0,
@@ -70,42 +69,6 @@ impl Published {
         let next = self.map.freeze()?.with_commit(alloc, time, writes)?;
         self.map.put_in_place(Pending::new(next));
         self.last = time;
-        Ok(())
-    }
-
-    /// Publishes a version of so many keys from the first on, at most 1,024, with these fields.
-    fn publish_keys(
-        &mut self,
-        alloc: Global,
-        first: u64,
-        count: u64,
-        fields: &[&[u8]],
-    ) -> Result<(), AllocError> {
-        let writes = writes(alloc, first, 1, count, fields)?;
-        self.publish(alloc, &writes)
-    }
-
-    /// Publishes one version of this many keys.
-    fn publish_all(&mut self, alloc: Global, keys: u64) -> Result<(), AllocError> {
-        for part in 0..keys / MOST + 1 {
-            let first = part.saturating_mul(MOST);
-            let count = keys.saturating_sub(first).min(MOST);
-            self.publish_keys(alloc, first, count, &[b"a"])?;
-        }
-        Ok(())
-    }
-
-    /// Publishes this many versions of this many keys, at most 1,024: each version a value of its own, of
-    /// four fields of 16 bytes.
-    pub(crate) fn publish_history(
-        &mut self,
-        alloc: Global,
-        keys: u64,
-        versions: u64,
-    ) -> Result<(), AllocError> {
-        for _ in 0..versions {
-            self.publish_keys(alloc, 0, keys, &FIELDS)?;
-        }
         Ok(())
     }
 
@@ -171,6 +134,46 @@ fn writes(
     }
 }
 
+/// A map of this many keys, each of one version.
+fn with_keys(alloc: Global, keys: u64) -> Result<Published, AllocError> {
+    let mut published = Published::new();
+    for part in 0..keys / MOST + 1 {
+        let first = part.saturating_mul(MOST);
+        let count = keys.saturating_sub(first).min(MOST);
+        let writes = writes(alloc, first, 1, count, &[b"a"])?;
+        published.publish(alloc, &writes)?;
+    }
+    Ok(published)
+}
+
+/// A map of one key, which these writes are published to this often.
+fn with_versions(
+    alloc: Global,
+    writes: &[KeyWrite<SharedValue>],
+    versions: u64,
+) -> Result<Published, AllocError>
+    requires { IsStrictlySortedBy key_cmp (map (λ w. w.key) writes.now) }
+{
+    let mut published = Published::new();
+    published.publish_often(alloc, writes, versions)?;
+    Ok(published)
+}
+
+/// A map of this many keys, at most 1,024, each of this many versions: each version a value of its
+/// own, of four fields of 16 bytes.
+pub(crate) fn with_history(
+    alloc: Global,
+    keys: u64,
+    versions: u64,
+) -> Result<Published, AllocError> {
+    let mut published = Published::new();
+    for _ in 0..versions {
+        let writes = writes(alloc, 0, 1, keys, &FIELDS)?;
+        published.publish(alloc, &writes)?;
+    }
+    Ok(published)
+}
+
 /// Versions that nothing else holds, and the time of their last commit, in microseconds since 1970.
 #[derive(Drop)]
 pub(crate) struct Opened {
@@ -203,7 +206,7 @@ impl Opened {
     }
 }
 
-/// The versions of `publish_history`, made as a store's are that is opened.
+/// The versions of `with_history`, made as a store's are that is opened.
 pub(crate) fn open_history(alloc: Global, keys: u64, versions: u64) -> Result<Opened, AllocError> {
     let mut opened = Opened::new();
     for _ in 0..versions {
@@ -213,65 +216,22 @@ pub(crate) fn open_history(alloc: Global, keys: u64, versions: u64) -> Result<Op
     Ok(opened)
 }
 
-/// What a map has before commits to it are timed.
-#[derive(Clone, Copy)]
-enum Before {
-    /// This many keys, each of one version.
-    Keys(u64),
-    /// This many versions of what is written then.
-    Versions(u64),
-}
-
-/// The nanoseconds of some commits of these writes, one after another, to a map that was empty.
+/// The nanoseconds of some commits of these writes, one after another.
 fn time_commits(
     rt: &HostRuntime,
     alloc: Global,
-    published: &mut Published,
-    before: Before,
+    mut published: Published,
     writes: &[KeyWrite<SharedValue>],
-) -> io::Result<u64>
+) -> io::Result<u128>
     requires { IsStrictlySortedBy key_cmp (map (λ w. w.key) writes.now) }
 {
-    match before {
-        Before::Keys(keys) => published.publish_all(alloc, keys)?,
-        Before::Versions(versions) => published.publish_often(alloc, writes, versions)?,
-    }
-    let start = Instant::now(rt);
+    let start = Instant::now(rt)?;
     published.publish_often(alloc, writes, COMMITS)?;
-    nanoseconds(rt, start)
+    nanoseconds(rt, &start)
 }
 
-/// The same of a new map.
-fn time_map(
-    rt: &HostRuntime,
-    alloc: Global,
-    before: Before,
-    writes: &[KeyWrite<SharedValue>],
-) -> io::Result<u64>
-    requires { IsStrictlySortedBy key_cmp (map (λ w. w.key) writes.now) }
-{
-    let mut published = Published::new();
-    time_commits(rt, alloc, &mut published, before, writes)
-}
-
-/// The same of this many maps. Each is timed while it is new, since its keys get more versions by each commit.
-fn time_maps(
-    rt: &HostRuntime,
-    alloc: Global,
-    before: Before,
-    writes: &[KeyWrite<SharedValue>],
-    maps: u64,
-) -> io::Result<u64>
-    requires { IsStrictlySortedBy key_cmp (map (λ w. w.key) writes.now) }
-{
-    let mut time = 0u64;
-    for _ in 0..maps {
-        time = time.saturating_add(time_map(rt, alloc, before, writes)?);
-    }
-    Ok(time)
-}
-
-/// Commits of 16 keys, to this many maps of this many keys.
+/// Commits of 16 keys, to this many maps of this many keys. Each is timed while it is new, since its
+/// keys get more versions by each commit.
 fn measure_keys(
     rt: &HostRuntime,
     alloc: Global,
@@ -279,9 +239,13 @@ fn measure_keys(
     keys: u64,
     maps: u64,
 ) -> io::Result<()> {
-    let maps = scale.rounds(maps);
     let writes = writes(alloc, 0, keys / KEYS, KEYS, &[b"a"])?;
-    let time = time_maps(rt, alloc, Before::Keys(keys), &writes, maps);
+    let maps = scale.rounds(maps);
+    let mut time = 0u128;
+    for _ in 0..maps {
+        let published = with_keys(alloc, keys)?;
+        time = time.saturating_add(time_commits(rt, alloc, published, &writes)?);
+    }
     let commits = maps.saturating_mul(COMMITS);
     print_time(
         rt,
@@ -293,25 +257,31 @@ fn measure_keys(
     )
 }
 
-/// What a frozen view of a map of this many keys takes.
-fn time_freezing(
-    rt: &HostRuntime,
-    alloc: Global,
-    published: &mut Published,
-    keys: u64,
-    rounds: u64,
-) -> io::Result<u64> {
-    published.publish_all(alloc, keys)?;
-    let start = Instant::now(rt);
+fn measure_freezing(rt: &HostRuntime, alloc: Global, scale: Scale, keys: u64) -> io::Result<()> {
+    let published = with_keys(alloc, keys)?;
+    let rounds = scale.rounds(1_000_000);
+    let start = Instant::now(rt)?;
     published.freeze_often(rounds)?;
-    nanoseconds(rt, start)
+    let time = nanoseconds(rt, &start)?;
+    print_time(rt, scale, "chains: freeze, keys", keys, time, rounds)
 }
 
-fn measure_freezing(rt: &HostRuntime, alloc: Global, scale: Scale, keys: u64) -> io::Result<()> {
-    let rounds = scale.rounds(1_000_000);
-    let mut published = Published::new();
-    let time = time_freezing(rt, alloc, &mut published, keys, rounds);
-    print_time(rt, scale, "chains: freeze, keys", keys, time, rounds)
+/// The nanoseconds of commits of these writes, of one key, to this many maps in which it has this many versions.
+fn time_versions(
+    rt: &HostRuntime,
+    alloc: Global,
+    writes: &[KeyWrite<SharedValue>],
+    versions: u64,
+    maps: u64,
+) -> io::Result<u128>
+    requires { IsStrictlySortedBy key_cmp (map (λ w. w.key) writes.now) }
+{
+    let mut time = 0u128;
+    for _ in 0..maps {
+        let published = with_versions(alloc, writes, versions)?;
+        time = time.saturating_add(time_commits(rt, alloc, published, writes)?);
+    }
+    Ok(time)
 }
 
 /// Commits of one key, to this many maps in which it has this many versions. They are made twice, and timed the
@@ -323,11 +293,10 @@ fn measure_versions(
     versions: u64,
     maps: u64,
 ) -> io::Result<()> {
-    let maps = scale.rounds(maps);
-    let before = Before::Versions(versions);
     let writes = writes(alloc, 7, 1, 1, &[b"a"])?;
-    time_maps(rt, alloc, before, &writes, maps)?;
-    let time = time_maps(rt, alloc, before, &writes, maps);
+    let maps = scale.rounds(maps);
+    time_versions(rt, alloc, &writes, versions, maps)?;
+    let time = time_versions(rt, alloc, &writes, versions, maps)?;
     let commits = maps.saturating_mul(COMMITS);
     print_time(
         rt,

@@ -1,10 +1,10 @@
 //! The lines that are printed, and what their numbers are made of.
 
-use crate::numbers::{Number, megabytes_a_second, quotient, rate};
 use std::io;
+use std::time::{Clock, Instant};
 
 /// How much of each measurement is done.
-#[derive(Clone, Copy)]
+#[derive(Clone, Copy, Debug, PartialEq, Eq)]
 pub(crate) enum Scale {
     /// A little, to see that it runs: its numbers say nothing, and are not printed.
     Trial,
@@ -22,23 +22,36 @@ impl Scale {
 
     /// Whether something of this size is measured.
     pub(crate) fn has(self, size: u64) -> bool {
-        matches!(self, Scale::Whole) || size <= 1_024
+        self == Scale::Whole || size <= 1_024
     }
 }
 
-/// Prints a line: what was measured and at which size, a number, and its unit.
-fn print(
+/// The thousandths of a quotient, rounded down. A divisor of 0 counts as 1.
+fn thousandths(dividend: u128, divisor: u128) -> u128 {
+    dividend.saturating_mul(1000) / divisor.max(1)
+}
+
+/// Nanoseconds since the start.
+pub(crate) fn nanoseconds(rt: &HostRuntime, start: &Instant) -> io::Result<u128> {
+    Ok(start.elapsed(rt)?.as_nanos())
+}
+
+/// Prints a line: what was measured and at which size, a quotient, and its unit.
+fn print_quotient(
     rt: &HostRuntime,
     scale: Scale,
     name: &str,
     size: u64,
-    number: Number,
+    quotient: (u128, u128),
     unit: &str,
 ) -> io::Result<()> {
-    match scale {
-        Scale::Trial => println!(rt; "{name} {size}\t-\t{unit}"),
-        Scale::Whole => println!(rt; "{name} {size}\t{number}\t{unit}"),
+    if scale == Scale::Trial {
+        return println!(rt; "{name} {size}\t-\t{unit}");
     }
+    let number = thousandths(quotient.0, quotient.1);
+    let whole = number / 1000;
+    let rest = number % 1000;
+    println!(rt; "{name} {size}\t{whole}.{rest:03}\t{unit}")
 }
 
 /// Prints the microseconds of one round, where so many took so many nanoseconds.
@@ -47,11 +60,11 @@ pub(crate) fn print_time(
     scale: Scale,
     name: &str,
     size: u64,
-    nanoseconds: io::Result<u64>,
+    nanoseconds: u128,
     rounds: u64,
 ) -> io::Result<()> {
-    let number = quotient(nanoseconds?, rounds.saturating_mul(1000));
-    print(rt, scale, name, size, number, "us")
+    let divisor = (rounds as u128).saturating_mul(1000);
+    print_quotient(rt, scale, name, size, (nanoseconds, divisor), "us")
 }
 
 /// Prints the rounds in a second, where so many took so many nanoseconds.
@@ -60,10 +73,11 @@ pub(crate) fn print_rate(
     scale: Scale,
     name: &str,
     size: u64,
-    nanoseconds: io::Result<u64>,
+    nanoseconds: u128,
     rounds: u64,
 ) -> io::Result<()> {
-    print(rt, scale, name, size, rate(rounds, nanoseconds?), "/s")
+    let dividend = (rounds as u128).saturating_mul(1_000_000_000);
+    print_quotient(rt, scale, name, size, (dividend, nanoseconds), "/s")
 }
 
 /// Prints the megabytes in a second, where so many bytes took so many nanoseconds.
@@ -72,11 +86,11 @@ pub(crate) fn print_flow(
     scale: Scale,
     name: &str,
     size: u64,
-    nanoseconds: io::Result<u64>,
+    nanoseconds: u128,
     bytes: u64,
 ) -> io::Result<()> {
-    let number = megabytes_a_second(bytes, nanoseconds?);
-    print(rt, scale, name, size, number, "MB/s")
+    let dividend = (bytes as u128).saturating_mul(1000);
+    print_quotient(rt, scale, name, size, (dividend, nanoseconds), "MB/s")
 }
 
 /// Prints how many there were for each round.
@@ -88,5 +102,12 @@ pub(crate) fn print_share(
     count: u64,
     rounds: u64,
 ) -> io::Result<()> {
-    print(rt, scale, name, size, quotient(count, rounds), "heads")
+    print_quotient(
+        rt,
+        scale,
+        name,
+        size,
+        (count as u128, rounds as u128),
+        "heads",
+    )
 }

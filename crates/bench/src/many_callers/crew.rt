@@ -1,5 +1,7 @@
 //! Threads that write and read a shared store beside its committer.
-ghost use Rattle.std.specs.Prelude.{◌≡◌, ◌+◌, ◌<◌};
+ghost use Rattle.std.specs.Prelude.{◌≡◌, ◌+◌, ◌<◌, [], true, length, IfOk};
+ghost use Rattle.crossbeam_utils.specs.Seq.{cell_view};
+ghost use Rattle.shared.specs.Naming.{IsFresh};
 
 use crate::fault::Fault;
 use crate::many_callers::groups::{Spent, Watch};
@@ -7,18 +9,17 @@ use crate::numbers::nanoseconds;
 use crate::records;
 use crate::records::KEYS;
 use disk::Disk;
-use shared::{Change, Committed, Observer, Opening, SharedStore, SharedTxn, SharedView};
+use shared::{Change, Committed, Observer, Opened, Opening, SharedStore};
 use std::alloc::{AllocError, Global};
-use std::io;
 use std::sync::Wait;
 use std::sync::atomic::{AtomicU64, Ordering};
 use std::sync::ledger::Share;
 use std::thread::{Threads, join, map_vec};
 use std::time::{Clock, Instant};
-use store::{Did, PumpFault, Submitted, TxnFault};
+use store::{Did, Store};
 
 /// What the readers do.
-#[derive(Clone, Copy)]
+#[derive(Clone, Copy, Debug, PartialEq, Eq)]
 pub(crate) enum Reading {
     /// Each takes a view for each key that it asks for.
     Views,
@@ -30,10 +31,11 @@ pub(crate) enum Reading {
     Asks,
 }
 
-/// How often each thread that writes commits, and how many threads read, each so often. Where some read,
-/// the others write until these have ended.
-#[derive(Clone, Copy)]
+/// So many threads that commit, each so often, and so many that read. Where some read, the others write
+/// until these have ended.
+#[derive(Clone, Copy, Debug)]
 pub(crate) struct Load {
+    pub(crate) writers: u8,
     pub(crate) commits: u64,
     pub(crate) readers: u8,
     pub(crate) reads: u64,
@@ -41,7 +43,7 @@ pub(crate) struct Load {
 }
 
 /// What was done.
-#[derive(Clone, Copy)]
+#[derive(Clone, Copy, Debug)]
 pub(crate) struct Work {
     pub(crate) commits: u64,
     pub(crate) spent: Spent,
@@ -136,32 +138,6 @@ fn write_one<D: Disk, L: Opening, R: Wait>(
 
 // Commits records of its own, one at a time, until the readers have ended. How many, or none where one
 // was refused.
-fn write_often<D: Disk, L: Opening, R: Wait>(
-    rt: &R,
-    store: &SharedStore<D, L>,
-    number: u64,
-    rounds: u64,
-    share: &mut Share<L>,
-    me: &mut Observer<L>,
-    done: &AtomicU64,
-) -> Option<u64>
-    requires { 0 < share.old.parts }
-{
-    let first = number.wrapping_add(1).wrapping_mul(KEYS);
-    let mut commits = 0u64;
-    for version in 0..rounds {
-        if done.load(Ordering::SeqCst) != 0 {
-            break;
-        }
-        let record = first.wrapping_add(version % KEYS);
-        if !write_one(rt, store, record, version, share, me) {
-            return None;
-        }
-        commits = commits.wrapping_add(1);
-    }
-    Some(commits)
-}
-
 fn write<D: Disk, L: Opening, R: Wait>(
     rt: &R,
     store: &SharedStore<D, L>,
@@ -174,18 +150,22 @@ fn write<D: Disk, L: Opening, R: Wait>(
         mut share,
         mut me,
     } = writer;
-    write_often(rt, store, number, rounds, &mut share, &mut me, done)
-}
-
-// Asks for a key that was written before. Whether it was answered right.
-fn is_right<L: Opening>(view: &SharedView<L>, record: u64) -> bool {
-    match view.recent(records::key(record), 1) {
-        Ok(Some(value)) => records::is_version(value, record, 0),
-        _ => false,
+    let first = number.wrapping_add(1).wrapping_mul(KEYS);
+    let mut commits = 0u64;
+    for version in 0..rounds {
+        if done.load(Ordering::SeqCst) != 0 {
+            break;
+        }
+        let record = first.wrapping_add(version % KEYS);
+        if !write_one(rt, store, record, version, &mut share, &mut me) {
+            return None;
+        }
+        commits = commits.wrapping_add(1);
     }
+    Some(commits)
 }
 
-// Takes a view and asks it for a key. Whether it was answered right.
+// Takes a view and asks it for a key that was written before. Whether it was answered right.
 fn view_one<D: Disk, L: Opening, R: Wait>(
     rt: &R,
     store: &SharedStore<D, L>,
@@ -197,67 +177,43 @@ fn view_one<D: Disk, L: Opening, R: Wait>(
         Reading::LatestViews => store.latest_view(rt, me),
         Reading::Views | Reading::RenewedViews | Reading::Asks => store.view(rt, me),
     };
-    match taken {
-        Ok(view) => {
-            let right = is_right(&view, record);
-            store.end(rt, view);
-            right
-        }
-        Err(AllocError) => false,
-    }
-}
-
-// Asks a view for keys, and renews it before each where it is to be. How many were answered right.
-fn ask_often<D: Disk, L: Opening, R: Wait>(
-    rt: &R,
-    store: &SharedStore<D, L>,
-    view: &mut SharedView<L>,
-    me: &mut Observer<L>,
-    load: Load,
-) -> u64 {
-    let is_renewed = matches!(load.reading, Reading::RenewedViews);
-    let mut right = 0u64;
-    for number in 0..load.reads {
-        if is_renewed && store.renew(rt, view, me).is_err() {
-            break;
-        }
-        let record = number.wrapping_mul(7) % KEYS;
-        right = right.wrapping_add(u64::from(is_right(view, record)));
-    }
+    let view = match taken {
+        Ok(view) => view,
+        Err(AllocError) => return false,
+    };
+    let right = match view.recent(records::key(record), 1) {
+        Ok(Some(value)) => records::is_version(value, record, 0),
+        _ => false,
+    };
+    store.end(rt, view);
     right
 }
 
-// Asks one view for all keys. How many were answered right.
+// Asks one view for keys that were written before, which is renewed before each where it is to be. How many
+// were answered right.
 fn ask<D: Disk, L: Opening, R: Wait>(
     rt: &R,
     store: &SharedStore<D, L>,
     me: &mut Observer<L>,
     load: Load,
 ) -> u64 {
-    match store.view(rt, me) {
-        Ok(view) => {
-            let mut view = view;
-            let right = ask_often(rt, store, &mut view, me, load);
-            store.end(rt, view);
-            right
-        }
-        Err(AllocError) => 0,
-    }
-}
-
-// Takes a view for each key. How many were answered right, up to the first that was not.
-fn view_often<D: Disk, L: Opening, R: Wait>(
-    rt: &R,
-    store: &SharedStore<D, L>,
-    me: &mut Observer<L>,
-    load: Load,
-) -> u64 {
+    let mut view = match store.view(rt, me) {
+        Ok(view) => view,
+        Err(AllocError) => return 0,
+    };
+    let is_renewed = matches!(load.reading, Reading::RenewedViews);
+    let mut right = 0u64;
     for number in 0..load.reads {
-        if !view_one(rt, store, me, load.reading, number % KEYS) {
-            return number;
+        if is_renewed && store.renew(rt, &mut view, me).is_err() {
+            break;
+        }
+        let record = number.wrapping_mul(7) % KEYS;
+        if let Ok(Some(value)) = view.recent(records::key(record), 1) {
+            right = right.wrapping_add(u64::from(records::is_version(value, record, 0)));
         }
     }
-    load.reads
+    store.end(rt, view);
+    right
 }
 
 // Reads so often. How often, or none where an answer was not right.
@@ -268,25 +224,32 @@ fn read<D: Disk, L: Opening, R: Wait>(
     load: Load,
 ) -> Option<u64> {
     let mut me = me;
-    let right = match load.reading {
-        Reading::Asks | Reading::RenewedViews => ask(rt, store, &mut me, load),
-        Reading::Views | Reading::LatestViews => view_often(rt, store, &mut me, load),
-    };
-    (right == load.reads).then_some(right)
+    match load.reading {
+        Reading::Asks | Reading::RenewedViews => {
+            let right = ask(rt, store, &mut me, load);
+            (right == load.reads).then_some(right)
+        }
+        Reading::Views | Reading::LatestViews => {
+            for number in 0..load.reads {
+                if !view_one(rt, store, &mut me, load.reading, number % KEYS) {
+                    return None;
+                }
+            }
+            Some(load.reads)
+        }
+    }
 }
 
 // All of them together; none where one was refused.
-fn sum_of(each: &[Option<u64>]) -> Option<u64> {
-    let mut sum = 0u64;
-    for one in each {
-        sum = sum.wrapping_add((*one)?);
-    }
-    Some(sum)
-}
-
 fn sum(each: Result<Vec<Option<u64>>, AllocError>) -> Option<u64> {
+    let mut sum = 0u64;
     match each {
-        Ok(each) => sum_of(&each),
+        Ok(each) => {
+            for one in &each {
+                sum = sum.wrapping_add((*one)?);
+            }
+            Some(sum)
+        }
         Err(AllocError) => None,
     }
 }
@@ -339,61 +302,6 @@ fn publish_all<D: Disk, L: Opening, R: Wait + Clock>(rt: &R, store: &SharedStore
     watch.spent()
 }
 
-// Writes a version 0 of each key that is read.
-fn put_keys<L: Opening>(alloc: Global, txn: &mut SharedTxn<L>) -> Result<(), TxnFault> {
-    for record in 0..KEYS {
-        let fields = records::fields(record, 0);
-        txn.put(alloc, records::key(record), &records::slices(&fields))?;
-    }
-    Ok(())
-}
-
-// Submits a transaction, as of the time 1.
-fn send<D: Disk, L: Opening, R: Wait>(
-    rt: &R,
-    store: &SharedStore<D, L>,
-    txn: SharedTxn<L>,
-    me: &mut Observer<L>,
-) -> Result<(), Fault> {
-    match store.submit(rt, txn, 0, 1, me) {
-        Ok(Submitted::Queued(ticket)) => {
-            ticket.give_up();
-            Ok(())
-        }
-        Ok(Submitted::ReadOnly(_)) => Err(Fault::Wrong("nothing was written")),
-        Err(fault) => Err(Fault::Submit(fault)),
-    }
-}
-
-fn submit_keys<D: Disk, L: Opening, R: Wait>(
-    rt: &R,
-    alloc: Global,
-    store: &SharedStore<D, L>,
-    me: &mut Observer<L>,
-) -> Result<(), Fault> {
-    let mut txn = store.begin(rt, me)?;
-    match put_keys(alloc, &mut txn) {
-        Ok(()) => send(rt, store, txn, me),
-        Err(fault) => {
-            store.abort(rt, txn);
-            Err(Fault::Txn(fault))
-        }
-    }
-}
-
-// Publishes all that waits.
-fn pump_all<D: Disk, L: Opening, R: Wait>(
-    rt: &R,
-    store: &SharedStore<D, L>,
-) -> Result<(), PumpFault> {
-    for _ in 0..u64::MAX {
-        if let Did::Idle = store.pump(rt)? {
-            break;
-        }
-    }
-    Ok(())
-}
-
 // The keys that are read, each with a version 0 at 1.
 fn load_keys<D: Disk, L: Opening, R: Wait>(
     rt: &R,
@@ -401,25 +309,24 @@ fn load_keys<D: Disk, L: Opening, R: Wait>(
     store: &SharedStore<D, L>,
     me: &mut Observer<L>,
 ) -> Result<(), Fault> {
-    submit_keys(rt, alloc, store, me)?;
-    Ok(pump_all(rt, store)?)
-}
-
-// What was done, where no thread was refused.
-fn work_of(called: Called, spent: Spent, nanoseconds: io::Result<u64>) -> Result<Work, Fault> {
-    let nanoseconds = nanoseconds?;
-    let Some(commits) = called.commits else {
-        return Err(Fault::Wrong("a commit was refused"));
-    };
-    let Some(reads) = called.reads else {
-        return Err(Fault::Wrong("a view answered wrong"));
-    };
-    Ok(Work {
-        commits,
-        spent,
-        reads,
-        nanoseconds,
-    })
+    let mut txn = store.begin(rt, me)?;
+    for record in 0..KEYS {
+        let fields = records::fields(record, 0);
+        if let Err(fault) = txn.put(alloc, records::key(record), &records::slices(&fields)) {
+            store.abort(rt, txn);
+            return Err(Fault::Txn(fault));
+        }
+    }
+    match store.submit(rt, txn, 0, 1, me)? {
+        store::Submitted::Queued(ticket) => ticket.give_up(),
+        store::Submitted::ReadOnly(_) => return Err(Fault::Wrong("nothing was written")),
+    }
+    for _ in 0..u64::MAX {
+        if store.pump(rt)? == Did::Idle {
+            break;
+        }
+    }
+    Ok(())
 }
 
 fn run_threads<D: Disk + Send, L: Opening + Send + Sync, R: Threads + Wait + Clock + Sync>(
@@ -429,32 +336,48 @@ fn run_threads<D: Disk + Send, L: Opening + Send + Sync, R: Threads + Wait + Clo
     readers: Vec<Observer<L>>,
     load: Load,
 ) -> Result<Work, Fault> {
-    let start = Instant::now(rt);
+    let start = Instant::now(rt)?;
     let (called, spent) = join(
         rt,
         move || call_all(rt, store, writers, readers, load),
         move || publish_all(rt, store),
     );
-    work_of(called, spent, nanoseconds(rt, start))
+    let nanoseconds = nanoseconds(rt, &start)?;
+    match (called.commits, called.reads) {
+        (Some(commits), Some(reads)) => Ok(Work {
+            commits,
+            spent,
+            reads,
+            nanoseconds,
+        }),
+        (None, _) => Err(Fault::Wrong("a commit was refused")),
+        (_, None) => Err(Fault::Wrong("a view answered wrong")),
+    }
 }
 
-/// The load over a store that was just opened, with so many threads that write.
+/// The load's threads over a store that was just opened. Gives the store back.
 pub(crate) fn run<D: Disk + Send, L: Opening + Send + Sync, R: Threads + Wait + Clock + Sync>(
     rt: &R,
     alloc: Global,
-    store: &SharedStore<D, L>,
-    all: &mut Share<L>,
-    me: &mut Observer<L>,
-    writers: u8,
+    opened: Opened<D>,
     load: Load,
-) -> Result<Work, Fault>
-    requires parts { all.old.parts ≡ writers + 1 }
-    requires amount { all.old.amount ≡ 0 }
+) -> (Store<D>, Result<Work, Fault>)
+    requires name { (opened.blank.name ≡ L.name) × (opened.blank.parts ≡ L.parts) × (opened.cell.table.shared.table_id ≡ L.table) }
+    requires parts { L.parts ≡ load.writers + 1 }
+    requires fresh { IsFresh D.tells L.start L.mark opened.store (cell_view opened.writer) }
 {
-    if load.readers > 0 {
-        load_keys(rt, alloc, store, me)?;
-    }
-    let writers = writers_for(alloc, store, all, me, writers, load.commits)?;
-    let readers = readers_for(alloc, store, me, load.readers)?;
-    run_threads(rt, store, writers, readers, load)
+    let (store, mut all, mut me) = opened.named::<L>();
+    let loaded = if load.readers > 0 {
+        load_keys(rt, alloc, &store, &mut me)
+    } else {
+        Ok(())
+    };
+    let writers = writers_for(alloc, &store, &mut all, &mut me, load.writers, load.commits);
+    let readers = readers_for(alloc, &store, &mut me, load.readers);
+    let done = match (loaded, writers, readers) {
+        (Ok(()), Ok(writers), Ok(readers)) => run_threads(rt, &store, writers, readers, load),
+        (Err(fault), _, _) => Err(fault),
+        (_, Err(AllocError), _) | (_, _, Err(AllocError)) => Err(Fault::Memory(AllocError)),
+    };
+    (store.into_store(&mut all), done)
 }

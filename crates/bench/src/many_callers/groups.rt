@@ -1,13 +1,12 @@
 //! Where a committer's time goes.
 
 use crate::numbers::nanoseconds;
-use std::io;
 use std::time::{Clock, Instant};
 use store::{Did, PumpFault};
 
 /// The groups that a committer published, and the nanoseconds that it waited for the commits of one, wrote
 /// and synced.
-#[derive(Clone, Copy, Drop)]
+#[derive(Clone, Copy, Debug, Drop)]
 pub(crate) struct Spent {
     pub(crate) groups: u64,
     /// From the end of a group to that of the first write of the next.
@@ -19,7 +18,7 @@ pub(crate) struct Spent {
 /// What a committer has spent so far. Where the clock cannot be read nothing is added.
 #[derive(Drop)]
 pub(crate) struct Watch {
-    start: io::Result<Instant>,
+    start: Option<Instant>,
     // When the last step ended, in nanoseconds from the start.
     last: u64,
     gathers: bool,
@@ -29,7 +28,7 @@ pub(crate) struct Watch {
 impl Watch {
     pub(crate) fn new<R: Clock>(rt: &R) -> Watch {
         Watch {
-            start: Instant::now(rt),
+            start: Instant::now(rt).ok(),
             last: 0,
             gathers: true,
             spent: Spent {
@@ -47,7 +46,10 @@ impl Watch {
 
     // The nanoseconds since the last step ended.
     fn lap<R: Clock>(&mut self, rt: &R) -> u64 {
-        let now = nanoseconds(rt, self.start).unwrap_or(self.last);
+        let now = match &self.start {
+            Some(start) => nanoseconds(rt, start).unwrap_or(self.last),
+            None => 0,
+        };
         let lap = now.saturating_sub(self.last);
         self.last = now;
         lap

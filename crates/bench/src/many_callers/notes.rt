@@ -1,12 +1,12 @@
 //! What the threads of a soak were told, one line each, for a check by a program that was written apart.
 
+use crate::fault::Fault;
 use chains::SharedValue;
 use history::Version;
-use std::io;
 use store::QueryFault;
 
 /// How a commit ended.
-#[derive(Clone, Copy)]
+#[derive(Clone, Copy, Debug)]
 pub(crate) enum Ending {
     /// It is published, with this time.
     Done(u64),
@@ -19,7 +19,7 @@ pub(crate) enum Ending {
 }
 
 /// What a thread was told. A value of 0 is that of a record that is not there.
-#[derive(Clone, Copy)]
+#[derive(Clone, Copy, Debug)]
 pub(crate) enum Note {
     /// A commit by one call, of the label to the one record, and of it or of none to the other. Its caller
     /// had seen what was published up to a time.
@@ -63,34 +63,18 @@ pub(crate) enum Note {
     },
 }
 
-/// Prints a word and numbers behind it.
-fn print_words<R: Print>(rt: &R, word: &str, numbers: &[u64]) -> io::Result<()> {
-    print!(rt; "{word}")?;
-    for number in numbers {
-        print!(rt; " {number}")?;
+fn print_ending<R: Print>(rt: &R, ending: Ending) -> Result<(), Fault> {
+    match ending {
+        Ending::Done(time) => println!(rt; "done {time}")?,
+        Ending::Conflict(record) => println!(rt; "conflict {record}")?,
+        Ending::Missing => println!(rt; "missing")?,
+        Ending::Full => println!(rt; "full")?,
     }
     Ok(())
 }
 
-fn print_ending<R: Print>(rt: &R, ending: Ending) -> io::Result<()> {
-    match ending {
-        Ending::Done(time) => print_words(rt, " done", &[time]),
-        Ending::Conflict(record) => print_words(rt, " conflict", &[record]),
-        Ending::Missing => print_words(rt, " missing", &[]),
-        Ending::Full => print_words(rt, " full", &[]),
-    }
-}
-
-/// How the note ends, of a commit.
-pub(crate) fn ending_of(note: Note) -> Option<Ending> {
-    match note {
-        Note::Commit { ending, .. } | Note::Txn { ending, .. } => Some(ending),
-        Note::Value { .. } | Note::Recent { .. } | Note::Rows { .. } => None,
-    }
-}
-
-/// Prints what a note begins with.
-fn print_head<R: Print>(rt: &R, note: Note) -> io::Result<()> {
+/// Prints the line of a note.
+pub(crate) fn print<R: Print>(rt: &R, note: Note) -> Result<(), Fault> {
     match note {
         Note::Commit {
             label,
@@ -98,47 +82,52 @@ fn print_head<R: Print>(rt: &R, note: Note) -> io::Result<()> {
             puts,
             other,
             deletes,
-            ..
+            ending,
         } => {
-            let deletes = u64::from(deletes);
-            print_words(rt, "commit", &[label, seen, puts, other, deletes])
+            print!(rt;
+                "commit {label} {seen} {puts} {other} {} ",
+                u64::from(deletes)
+            )?;
+            print_ending(rt, ending)
         }
         Note::Txn {
             label,
             snapshot,
             record,
             read,
-            ..
-        } => print_words(rt, "txn", &[label, snapshot, record, read]),
+            ending,
+        } => {
+            print!(rt; "txn {label} {snapshot} {record} {read} ")?;
+            print_ending(rt, ending)
+        }
+        read => print_read(rt, read),
+    }
+}
+
+fn print_read<R: Print>(rt: &R, note: Note) -> Result<(), Fault> {
+    match note {
         Note::Value {
             seen,
             record,
             time,
             value,
-        } => print_words(rt, "value", &[seen, record, time, value]),
+        } => println!(rt; "value {seen} {record} {time} {value}")?,
         Note::Recent {
             seen,
             record,
             time,
             value,
-        } => print_words(rt, "recent", &[seen, record, time, value]),
+        } => println!(rt; "recent {seen} {record} {time} {value}")?,
         Note::Rows {
             record,
             a,
             b,
             rows,
             digest,
-        } => print_words(rt, "rows", &[record, a, b, rows, digest]),
+        } => println!(rt; "rows {record} {a} {b} {rows} {digest}")?,
+        _ => {}
     }
-}
-
-/// Prints the line of a note.
-pub(crate) fn print<R: Print>(rt: &R, note: Note) -> io::Result<()> {
-    print_head(rt, note)?;
-    if let Some(ending) = ending_of(note) {
-        print_ending(rt, ending)?;
-    }
-    println!(rt; "")
+    Ok(())
 }
 
 /// The number that is a value's one field.

@@ -1,23 +1,33 @@
 //! A soak: writers of the same records and readers, beside a committer and a vacuum.
-ghost use Rattle.std.specs.Prelude.{◌≡◌, ◌+◌, ◌<◌};
+ghost use Rattle.std.specs.Prelude.{◌≡◌, ◌+◌, ◌<◌, [], true, false, length};
+ghost use Rattle.crossbeam_utils.specs.Seq.{cell_view};
+ghost use Rattle.history.specs.Machine.{opened};
+ghost use Rattle.refinement.specs.Stands.{Stands};
+ghost use Rattle.shared.specs.Naming.{IsFresh};
+ghost use Rattle.shared.specs.Counts.{told_count};
 
 use crate::fault::Fault;
 use crate::many_callers::crew::{Writer, readers_for, writers_for};
 use crate::many_callers::notes;
 use crate::many_callers::notes::Note;
+use crate::many_callers::sharing::{MOST_SLOTS, fresh};
 use crate::many_callers::soaking::{Worker, read_once, source, write};
 use disk::Disk;
-use rand_xoshiro::Xoshiro256PlusPlus;
-use shared::{Observer, Opening, SharedStore};
+use disk_file::FileDisk;
+use shared::{Observer, Opened, Opening, SharedStore};
 use std::alloc::{AllocError, Global};
+use std::fs::File;
+use std::marker::Brand;
+use std::rt::Files;
 use std::sync::Wait;
 use std::sync::atomic::{AtomicU64, Ordering};
-use std::sync::ledger::Share;
+use std::thread;
 use std::thread::{Threads, join, map_vec};
 use std::time::{Clock, Duration};
-use std::{io, thread};
+use store::Store;
 
-/// The threads that read.
+const WRITERS: u8 = 8;
+
 const READERS: u8 = 8;
 
 /// The milliseconds between two steps of the vacuum. Each of its jobs takes a slot.
@@ -28,11 +38,11 @@ const READ_MS: u64 = 20;
 
 /// The numbers of a soak's threads come from the seed; each writer writes so often, and there are so many
 /// milliseconds from one round of all writers to the next.
-#[derive(Clone, Copy)]
-pub(crate) struct Plan {
-    pub(crate) seed: u64,
-    pub(crate) rounds: u64,
-    pub(crate) pace: u64,
+#[derive(Clone, Copy, Debug)]
+struct Plan {
+    seed: u64,
+    rounds: u64,
+    pace: u64,
 }
 
 /// A thread that writes, with what it needs.
@@ -75,15 +85,14 @@ fn writing_of<L: Opening>(
 fn reading_of<L: Opening>(
     alloc: Global,
     readers: Vec<Observer<L>>,
-    writers: u8,
-    seed: u64,
+    plan: Plan,
 ) -> Result<Vec<Reading<L>>, AllocError> {
     let mut all = Vec::new(alloc);
-    let mut number = u64::from(writers);
+    let mut number = u64::from(WRITERS);
     for me in readers {
         all.push(Reading {
             alloc,
-            seed,
+            seed: plan.seed,
             number,
             me,
         })?;
@@ -118,24 +127,6 @@ fn write_notes<D: Disk, L: Opening, R: Wait + Clock>(
 }
 
 // Reads again and again, until the writers are done.
-fn read_often<D: Disk, L: Opening, R: Wait + Clock>(
-    rt: &R,
-    store: &SharedStore<D, L>,
-    random: &mut Xoshiro256PlusPlus,
-    me: &mut Observer<L>,
-    notes: &mut Vec<Note>,
-    done: &AtomicU64,
-) -> Option<()> {
-    for _ in rt.forever() {
-        if done.load(Ordering::SeqCst) != 0 {
-            break;
-        }
-        read_once(rt, store, random, me, notes)?;
-        thread::sleep(rt, Duration::from_millis(READ_MS));
-    }
-    Some(())
-}
-
 fn read_notes<D: Disk, L: Opening, R: Wait + Clock>(
     rt: &R,
     store: &SharedStore<D, L>,
@@ -150,7 +141,13 @@ fn read_notes<D: Disk, L: Opening, R: Wait + Clock>(
     } = reading;
     let mut random = source(seed, number);
     let mut notes = Vec::new(alloc);
-    read_often(rt, store, &mut random, &mut me, &mut notes, done)?;
+    for _ in rt.forever() {
+        if done.load(Ordering::SeqCst) != 0 {
+            break;
+        }
+        read_once(rt, store, &mut random, &mut me, &mut notes)?;
+        thread::sleep(rt, Duration::from_millis(READ_MS));
+    }
     Some(notes)
 }
 
@@ -222,85 +219,94 @@ fn keep_up<D: Disk + Send, L: Opening + Send + Sync, R: Threads + Wait + Clock +
 
 fn run_threads<D: Disk + Send, L: Opening + Send + Sync, R: Threads + Wait + Clock + Sync>(
     rt: &R,
+    alloc: Global,
     store: &SharedStore<D, L>,
-    writers: Vec<Writing<L>>,
-    readers: Vec<Reading<L>>,
+    writers: Vec<Writer<L>>,
+    readers: Vec<Observer<L>>,
     me: Observer<L>,
-) -> (Noted, Noted) {
+    plan: Plan,
+) -> Result<(Noted, Noted), Fault> {
+    let writers = writing_of(alloc, writers, plan)?;
+    let readers = reading_of(alloc, readers, plan)?;
     let (noted, ()) = join(
         rt,
         move || call_all(rt, store, writers, readers),
         move || keep_up(rt, store, me),
     );
-    noted
+    Ok(noted)
 }
 
-// The threads of a soak, of which so many write.
+// The soak on a store that was just opened, which is given back.
 fn run<D: Disk + Send, L: Opening + Send + Sync, R: Threads + Wait + Clock + Sync>(
     rt: &R,
     alloc: Global,
-    store: &SharedStore<D, L>,
-    all: &mut Share<L>,
-    me: &mut Observer<L>,
-    writers: u8,
+    opened: Opened<D>,
     plan: Plan,
-) -> Result<(Noted, Noted), AllocError>
-    requires parts { all.old.parts ≡ writers + 1 }
-    requires amount { all.old.amount ≡ 0 }
+) -> (Store<D>, Result<(Noted, Noted), Fault>)
+    requires name { (opened.blank.name ≡ L.name) × (opened.blank.parts ≡ L.parts) × (opened.cell.table.shared.table_id ≡ L.table) }
+    requires parts { L.parts ≡ 9 }
+    requires fresh { IsFresh D.tells L.start L.mark opened.store (cell_view opened.writer) }
 {
-    let writing = writers_for(alloc, store, all, me, writers, plan.rounds)?;
-    let writing = writing_of(alloc, writing, plan)?;
-    let reading = readers_for(alloc, store, me, READERS)?;
-    let reading = reading_of(alloc, reading, writers, plan.seed)?;
-    Ok(run_threads(rt, store, writing, reading, store.another(me)))
+    let (store, mut all, mut me) = opened.named::<L>();
+    let writers = writers_for(alloc, &store, &mut all, &mut me, WRITERS, plan.rounds);
+    let readers = readers_for(alloc, &store, &mut me, READERS);
+    let noted = match (writers, readers) {
+        (Ok(writers), Ok(readers)) => run_threads(rt, alloc, &store, writers, readers, me, plan),
+        _ => Err(Fault::Memory(AllocError)),
+    };
+    (store.into_store(&mut all), noted)
 }
 
-fn print_notes<R: Print>(rt: &R, each: &[Note]) -> io::Result<()> {
-    for note in each {
-        notes::print(rt, *note)?;
+fn run_over<R: Threads + Wait + Clock + Sync>(
+    rt: &R,
+    alloc: Global,
+    store: Store<FileDisk>,
+    plan: Plan,
+) -> Result<(Noted, Noted), Fault>
+    requires stands { Stands false store (opened [] (λ relation. 0)) }
+    requires fresh { told_count store.transactions.heads ≡ 0 }
+{
+    match Opened::new(rt, alloc, u64::from(WRITERS) + 1, store) {
+        Ok(opened) => {
+            let (store, noted) = run::<FileDisk, Brand, R>(rt, alloc, opened, plan);
+            let _disk = store.close();
+            noted
+        }
+        Err((AllocError, store)) => {
+            let _disk = store.close();
+            Err(Fault::Memory(AllocError))
+        }
     }
-    Ok(())
 }
 
-// Prints the notes of each thread behind a line with what it did and its number.
-fn print_threads<R: Print>(rt: &R, kind: &str, noted: &[Option<Vec<Note>>]) -> Result<(), Fault> {
+/// Prints the notes of each thread behind a line with what it did and its number.
+fn print_all<R: Print>(rt: &R, kind: &str, noted: Noted) -> Result<(), Fault> {
     let mut number = 0u64;
-    for each in noted {
+    for each in noted? {
         println!(rt; "{kind} {number}")?;
         number = number.wrapping_add(1);
         let Some(each) = each else {
             return Err(Fault::Wrong("a thread met a refusal that is not a named one"));
         };
-        print_notes(rt, each)?;
+        for note in each {
+            notes::print(rt, note)?;
+        }
     }
     Ok(())
 }
 
-fn print_all<R: Print>(rt: &R, kind: &str, noted: Noted) -> Result<(), Fault> {
-    match noted {
-        Ok(noted) => print_threads(rt, kind, &noted),
-        Err(AllocError) => Err(Fault::Memory(AllocError)),
-    }
-}
-
-/// Prints a line for each thing that a thread was told, of so many that write.
-pub(crate) fn measure_on<
-    D: Disk + Send,
-    L: Opening + Send + Sync,
-    R: Print + Clock + Threads + Wait + Sync,
->(
+/// Prints a line for each thing that a thread was told.
+pub(crate) fn measure<R: Files<File = File> + AllocGlobal + Print + Clock + Threads + Wait + Sync>(
     rt: &R,
     alloc: Global,
-    store: &SharedStore<D, L>,
-    all: &mut Share<L>,
-    me: &mut Observer<L>,
-    writers: u8,
-    plan: Plan,
-) -> Result<(), Fault>
-    requires parts { all.old.parts ≡ writers + 1 }
-    requires amount { all.old.amount ≡ 0 }
-{
-    let (written, read) = run(rt, alloc, store, all, me, writers, plan)?;
+    folder: &str,
+    rounds: u64,
+    seed: u64,
+    pace: u64,
+) -> Result<(), Fault> {
+    let store = fresh(rt, alloc, folder, MOST_SLOTS)?;
+    let plan = Plan { seed, rounds, pace };
+    let (written, read) = run_over(rt, alloc, store, plan)?;
     print_all(rt, "writer", written)?;
     print_all(rt, "reader", read)
 }

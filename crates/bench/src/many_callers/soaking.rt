@@ -2,7 +2,6 @@
 //! what they were told.
 ghost use Rattle.std.specs.Prelude.{◌≡◌, ◌<◌};
 
-use crate::many_callers::notes;
 use crate::many_callers::notes::{Ending, Note, digest_of, number_in, number_of};
 use disk::Disk;
 use history::Key;
@@ -26,7 +25,7 @@ const WAIT_US: u64 = 200;
 
 /// A thread of a soak: where its numbers come from, its own number, how often it writes, and how many
 /// milliseconds there are from one round of all writers to the next.
-#[derive(Clone, Copy)]
+#[derive(Clone, Copy, Debug)]
 pub(crate) struct Worker {
     pub(crate) seed: u64,
     pub(crate) number: u64,
@@ -37,7 +36,7 @@ pub(crate) struct Worker {
 /// Labels of one writer are this far from those of the next.
 const LABELS: u64 = 1 << 32;
 
-fn key(record: u64) -> Key {
+pub(crate) fn key(record: u64) -> Key {
     Key {
         relation: 1,
         record,
@@ -156,25 +155,6 @@ fn rewrite<L: Opening>(
     }
 }
 
-// Submits a transaction that wrote, and waits for its ending.
-fn end_txn<D: Disk, L: Opening, R: Wait + Clock>(
-    rt: &R,
-    store: &SharedStore<D, L>,
-    txn: SharedTxn<L>,
-    label: u64,
-    share: &mut Share<L>,
-    me: &mut Observer<L>,
-) -> Option<Ending>
-    requires { 0 < share.old.parts }
-    ensures { share.new.parts ≡ share.old.parts }
-{
-    match store.submit(rt, txn, label, 0, me) {
-        Ok(Submitted::Queued(ticket)) => wait_for(rt, store, ticket, share, me),
-        Ok(Submitted::ReadOnly(_)) => None,
-        Err(fault) => refused_by(fault),
-    }
-}
-
 // One transaction that reads a record and writes it, step by step.
 fn transact_one<D: Disk, L: Opening, R: Wait + Clock>(
     rt: &R,
@@ -195,7 +175,11 @@ fn transact_one<D: Disk, L: Opening, R: Wait + Clock>(
         store.abort(rt, txn);
         return None;
     };
-    let ending = end_txn(rt, store, txn, label, share, me)?;
+    let ending = match store.submit(rt, txn, label, 0, me) {
+        Ok(Submitted::Queued(ticket)) => wait_for(rt, store, ticket, share, me)?,
+        Ok(Submitted::ReadOnly(_)) => return None,
+        Err(fault) => refused_by(fault)?,
+    };
     Some(Note::Txn {
         label,
         snapshot,
@@ -234,34 +218,7 @@ fn write_once<D: Disk, L: Opening, R: Wait + Clock>(
     }
 }
 
-// Writes so often, or until the store is full. None where a refusal is not a named one.
-fn write_often<D: Disk, L: Opening, R: Wait + Clock>(
-    rt: &R,
-    alloc: Global,
-    store: &SharedStore<D, L>,
-    worker: Worker,
-    share: &mut Share<L>,
-    me: &mut Observer<L>,
-    notes: &mut Vec<Note>,
-) -> Option<()>
-    requires { 0 < share.old.parts }
-{
-    let mut random = source(worker.seed, worker.number);
-    let first = worker.number.wrapping_mul(LABELS);
-    let start = Instant::now(rt).ok()?;
-    for round in 0..worker.rounds {
-        await_round(rt, &start, round, worker.pace)?;
-        let label = first.wrapping_add(round).wrapping_add(1);
-        let note = write_once(rt, alloc, store, &mut random, label, share, me)?;
-        notes.push(note).ok()?;
-        if is_full(note) {
-            break;
-        }
-    }
-    Some(())
-}
-
-/// The same; the notes of what was told.
+/// Writes so often, or until the store is full. None where a refusal is not a named one.
 pub(crate) fn write<D: Disk, L: Opening, R: Wait + Clock>(
     rt: &R,
     alloc: Global,
@@ -272,17 +229,31 @@ pub(crate) fn write<D: Disk, L: Opening, R: Wait + Clock>(
 ) -> Option<Vec<Note>>
     requires { 0 < share.old.parts }
 {
+    let mut random = source(worker.seed, worker.number);
+    let first = worker.number.wrapping_mul(LABELS);
+    let start = Instant::now(rt).ok()?;
     let mut notes = Vec::new(alloc);
-    write_often(rt, alloc, store, worker, share, me, &mut notes)?;
+    for round in 0..worker.rounds {
+        await_round(rt, &start, round, worker.pace)?;
+        let label = first.wrapping_add(round).wrapping_add(1);
+        let note = write_once(rt, alloc, store, &mut random, label, share, me)?;
+        notes.push(note).ok()?;
+        if is_full(note) {
+            break;
+        }
+    }
     Some(notes)
 }
 
 fn is_full(note: Note) -> bool {
-    matches!(notes::ending_of(note), Some(Ending::Full))
+    match note {
+        Note::Commit { ending, .. } | Note::Txn { ending, .. } => matches!(ending, Ending::Full),
+        _ => false,
+    }
 }
 
-// A value through the lock.
-fn ask_locked<D: Disk, L: Opening, R: Wait>(
+// A value through the lock, and by memory alone at the time of the view.
+fn ask_values<D: Disk, L: Opening, R: Wait>(
     rt: &R,
     store: &SharedStore<D, L>,
     view: &mut SharedView<L>,
@@ -299,17 +270,7 @@ fn ask_locked<D: Disk, L: Opening, R: Wait>(
             time,
             value,
         })
-        .ok()
-}
-
-// A value by memory alone at the time of the view.
-fn ask_memory<L: Opening>(
-    view: &SharedView<L>,
-    seen: u64,
-    place: (u64, u64),
-    notes: &mut Vec<Note>,
-) -> Option<()> {
-    let (record, time) = place;
+        .ok()?;
     let value = match view.recent(key(record), time) {
         Ok(Some(value)) => number_of(value),
         Ok(None) => 0,
@@ -323,19 +284,8 @@ fn ask_memory<L: Opening>(
             time,
             value,
         })
-        .ok()
-}
-
-fn ask_values<D: Disk, L: Opening, R: Wait>(
-    rt: &R,
-    store: &SharedStore<D, L>,
-    view: &mut SharedView<L>,
-    seen: u64,
-    place: (u64, u64),
-    notes: &mut Vec<Note>,
-) -> Option<()> {
-    ask_locked(rt, store, view, seen, place, notes)?;
-    ask_memory(view, seen, place, notes)
+        .ok()?;
+    Some(())
 }
 
 fn ask_rows<D: Disk, L: Opening, R: Wait>(

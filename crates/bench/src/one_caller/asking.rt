@@ -1,20 +1,21 @@
 //! Queries of a store with 1,000 keys of 100 versions each, beside copies of their answers.
 
 use crate::fault::Fault;
-use crate::numbers::{Number, milliseconds, nanoseconds, print_line, quotient, rate};
+use crate::numbers::{milliseconds, nanoseconds, quotient, rate};
 use crate::one_caller::committing::{Batch, commit};
 use crate::one_caller::copying::time_copies;
 use crate::one_caller::verb::Question;
 use crate::records::{FIRST_TIME, KEYS, RELATION, STEP, VERSIONS, is_version, key};
 use crate::stores;
-use crate::stores::Lens;
 use chains::SharedValue;
+use disk::{Area, Disk};
 use disk_file::FileDisk;
 use history::Version;
 use rand_core::{Rng, SeedableRng};
 use rand_xoshiro::Xoshiro256PlusPlus;
 use std::alloc::Global;
-use std::io;
+use std::fs::File;
+use std::rt::Files;
 use std::time::{Clock, Instant};
 use store::{QueryFault, Store, View};
 
@@ -41,25 +42,25 @@ fn load(alloc: Global, store: &mut Store<FileDisk>) -> Result<(), Fault> {
     Ok(())
 }
 
-/// Makes a folder with a store of all versions, and closes it.
-fn make(rt: &HostRuntime, alloc: Global, folder: &str) -> Result<(), Fault> {
+/// Makes a folder with a store of all versions, and closes it. Gives its disk.
+fn make(rt: &HostRuntime, alloc: Global, folder: &str) -> Result<FileDisk, Fault> {
     stores::make(rt, alloc, folder, SLOTS)?;
-    let store = stores::open(rt, alloc, folder)?;
-    stores::close_behind(store, |store| load(alloc, store))
+    let mut store = stores::open(rt, alloc, folder)?;
+    let loaded = load(alloc, &mut store);
+    let disk = store.close();
+    loaded?;
+    Ok(disk)
 }
 
-/// Whether this is the value of a key as of a time.
-fn is_value(
-    store: &mut Store<FileDisk>,
-    view: &View,
-    record: u64,
-    after: u64,
-) -> Result<bool, QueryFault> {
-    let found = store.at(view, key(record), FIRST_TIME.wrapping_add(after))?;
-    Ok(match found {
-        Some(value) => is_version(&value, record, after / STEP),
-        None => false,
-    })
+/// Asks for the value of a key as of a time.
+fn ask_value(store: &mut Store<FileDisk>, record: u64, after: u64) -> Result<(), Fault> {
+    let view = store.view()?;
+    let found = store.at(&view, key(record), FIRST_TIME.wrapping_add(after));
+    store.end(view);
+    match found? {
+        Some(value) if is_version(&value, record, after / STEP) => Ok(()),
+        _ => Err(Fault::Wrong("another value")),
+    }
 }
 
 /// Whether these are all versions of a key.
@@ -74,17 +75,19 @@ fn are_versions(rows: &[Version<SharedValue>], record: u64) -> bool {
     version == VERSIONS
 }
 
-/// Whether a query finds all versions of a key.
-fn finds_versions(
-    store: &mut Store<FileDisk>,
-    view: &View,
-    record: u64,
-) -> Result<bool, QueryFault> {
-    let rows = store.between(view, key(record), FIRST_TIME, FIRST_TIME + SPAN + 1)?;
-    Ok(are_versions(&rows, record))
+/// Asks for all versions of a key.
+fn ask_rows(store: &mut Store<FileDisk>, record: u64) -> Result<(), Fault> {
+    let view = store.view()?;
+    let found = store.between(&view, key(record), FIRST_TIME, FIRST_TIME + SPAN + 1);
+    store.end(view);
+    if are_versions(&found?, record) {
+        Ok(())
+    } else {
+        Err(Fault::Wrong("other rows"))
+    }
 }
 
-/// Whether a walk, in a loan, goes over all versions of a key.
+/// Whether a walk goes over all versions of a key.
 fn walks_versions(view: &View, record: u64) -> Result<bool, QueryFault> {
     let mut walk = view.recent_rows(key(record), FIRST_TIME, FIRST_TIME + SPAN + 1)?;
     let mut version = 0u64;
@@ -95,6 +98,18 @@ fn walks_versions(view: &View, record: u64) -> Result<bool, QueryFault> {
         version = version.wrapping_add(1);
     }
     Ok(version == VERSIONS)
+}
+
+/// Asks for all versions of a key, in a loan.
+fn ask_walk(store: &mut Store<FileDisk>, record: u64) -> Result<(), Fault> {
+    let view = store.view()?;
+    let found = walks_versions(&view, record);
+    store.end(view);
+    if found? {
+        Ok(())
+    } else {
+        Err(Fault::Wrong("other rows"))
+    }
 }
 
 /// Whether these are all keys with this version.
@@ -109,34 +124,15 @@ fn are_records(found: &[(u64, SharedValue)], version: u64) -> bool {
     record == KEYS
 }
 
-/// Whether a scan finds all records as of a time.
-fn finds_records(store: &mut Store<FileDisk>, view: &View, after: u64) -> Result<bool, QueryFault> {
-    let found = store.scan_at(view, RELATION, FIRST_TIME.wrapping_add(after))?;
-    Ok(are_records(&found, after / STEP))
-}
-
-/// Whether a question is answered right.
-fn is_right(
-    store: &mut Store<FileDisk>,
-    view: &View,
-    question: Question,
-    record: u64,
-    after: u64,
-) -> Result<bool, QueryFault> {
-    match question {
-        Question::Value => is_value(store, view, record, after),
-        Question::Rows => finds_versions(store, view, record),
-        Question::Walk => walks_versions(view, record),
-        Question::Scan => finds_records(store, view, after),
-    }
-}
-
-/// What was answered where it should not have been.
-fn wrong(question: Question) -> &'static str {
-    match question {
-        Question::Value => "another value",
-        Question::Rows | Question::Walk => "other rows",
-        Question::Scan => "other records",
+/// Asks for all records as of a time.
+fn ask_scan(store: &mut Store<FileDisk>, after: u64) -> Result<(), Fault> {
+    let view = store.view()?;
+    let found = store.scan_at(&view, RELATION, FIRST_TIME.wrapping_add(after));
+    store.end(view);
+    if are_records(&found?, after / STEP) {
+        Ok(())
+    } else {
+        Err(Fault::Wrong("other records"))
     }
 }
 
@@ -147,13 +143,11 @@ pub(crate) fn ask(
     record: u64,
     after: u64,
 ) -> Result<(), Fault> {
-    let view = store.view()?;
-    let right = is_right(store, &view, question, record, after);
-    store.end(view);
-    match right {
-        Ok(true) => Ok(()),
-        Ok(false) => Err(Fault::Wrong(wrong(question))),
-        Err(fault) => Err(Fault::Query(fault)),
+    match question {
+        Question::Value => ask_value(store, record, after),
+        Question::Rows => ask_rows(store, record),
+        Question::Walk => ask_walk(store, record),
+        Question::Scan => ask_scan(store, after),
     }
 }
 
@@ -167,13 +161,13 @@ pub(crate) fn time_questions(
     count: u64,
 ) -> Result<u64, Fault> {
     let mut random = Xoshiro256PlusPlus::seed_from_u64(SEED);
-    let start = Instant::now(rt);
+    let start = Instant::now(rt)?;
     for _ in 0..count {
         let record = random.next_u64() % KEYS;
         let after = random.next_u64() % times.max(1);
         ask(store, question, record, after)?;
     }
-    Ok(nanoseconds(rt, start)?)
+    Ok(nanoseconds(rt, &start)?)
 }
 
 /// How many values an answer has, and how many things the measurement counts of it.
@@ -185,19 +179,6 @@ fn sizes(question: Question) -> (u64, u64) {
     }
 }
 
-/// The nanoseconds since the start, in which a store was opened, and of this many questions.
-fn time_both(
-    rt: &HostRuntime,
-    store: &mut Store<FileDisk>,
-    start: io::Result<Instant>,
-    question: Question,
-    count: u64,
-) -> Result<(u64, u64), Fault> {
-    let opened = nanoseconds(rt, start)?;
-    let asked = time_questions(rt, store, question, SPAN + 1, count)?;
-    Ok((opened, asked))
-}
-
 /// The nanoseconds of opening a store and of this many questions.
 fn time_opened(
     rt: &HostRuntime,
@@ -206,11 +187,12 @@ fn time_opened(
     question: Question,
     count: u64,
 ) -> Result<(u64, u64), Fault> {
-    let start = Instant::now(rt);
-    let store = stores::open(rt, alloc, folder)?;
-    stores::close_behind(store, |store| {
-        time_both(rt, store, start, question, count)
-    })
+    let start = Instant::now(rt)?;
+    let mut store = stores::open(rt, alloc, folder)?;
+    let opened = nanoseconds(rt, &start);
+    let time = time_questions(rt, &mut store, question, SPAN + 1, count);
+    store.close();
+    Ok((opened?, time?))
 }
 
 /// Measures this many questions, after the store was closed and opened.
@@ -221,42 +203,37 @@ pub(crate) fn measure(
     question: Question,
     count: u64,
 ) -> Result<(), Fault> {
-    make(rt, alloc, folder)?;
-    let (opened, time) = time_opened(rt, alloc, folder, question, count)?;
+    let folder = format!(in alloc; "{folder}/store")?;
+    make(rt, alloc, folder.as_str())?;
+    let (opened, time) = time_opened(rt, alloc, folder.as_str(), question, count)?;
     let (values, each) = sizes(question);
-    let copying = time_copies(rt, alloc, values, count)?;
-    let counted = count.saturating_mul(each);
-    print_line(
-        rt,
-        &[
-            ("value", rate(counted, time)),
-            ("count", Number::Whole(count)),
-            ("copies", rate(counted, copying)),
-            ("opening_ms", milliseconds(opened)),
-        ],
+    let value = rate(count.saturating_mul(each), time);
+    let copies = rate(
+        count.saturating_mul(each),
+        time_copies(rt, alloc, values, count)?,
+    );
+    let opened = milliseconds(opened);
+    println!(rt;
+        "{{\"value\": {value}, \"count\": {count}, \"copies\": {copies}, \"opening_ms\": {opened}}}"
     )?;
     Ok(())
 }
 
 /// Measures the bytes on disk of a version: of the three files, and of the heap alone.
 pub(crate) fn measure_size(rt: &HostRuntime, alloc: Global, folder: &str) -> Result<(), Fault> {
-    make(rt, alloc, folder)?;
-    print_size(rt, stores::lens_of(rt, folder)?)
-}
-
-fn print_size(rt: &HostRuntime, lens: Lens) -> Result<(), Fault> {
-    let all = lens.heap.saturating_add(lens.status);
+    let folder = format!(in alloc; "{folder}/store")?;
+    let mut disk = make(rt, alloc, folder.as_str())?;
+    let heap = disk.len(Area::Heap)?;
+    let status = disk.len(Area::Status)?;
+    let archive = disk.len(Area::Archive)?;
     let versions = KEYS * VERSIONS;
-    print_line(
-        rt,
-        &[
-            (
-                "value",
-                quotient(all.saturating_add(lens.archive), versions),
-            ),
-            ("versions", Number::Whole(versions)),
-            ("heap", quotient(lens.heap, versions)),
-        ],
+    let value = quotient(
+        heap.saturating_add(status).saturating_add(archive),
+        versions,
+    );
+    println!(rt;
+        "{{\"value\": {value}, \"versions\": {versions}, \"heap\": {}}}",
+        quotient(heap, versions)
     )?;
     Ok(())
 }

@@ -2,17 +2,16 @@
 
 use crate::fault::Fault;
 use crate::records;
-use crate::stores::shown;
-use disk_file::FileDisk;
+use disk::Disk;
 use snapshot::Txn;
 use std::alloc::Global;
-use store::{Did, PumpFault, Store, Submitted, Ticket, TxnFault};
+use store::{Did, Redeemed, Store, Submitted, Ticket};
 
 /// The label of each commit.
 const LABEL: u64 = 9;
 
 /// What a transaction writes: a version of so many records, from the first on.
-#[derive(Clone, Copy)]
+#[derive(Clone, Copy, Debug)]
 pub(crate) struct Batch {
     pub(crate) first: u64,
     pub(crate) count: u64,
@@ -21,42 +20,41 @@ pub(crate) struct Batch {
     pub(crate) now: u64,
 }
 
-fn put_all(alloc: Global, txn: &mut Txn, batch: &Batch) -> Result<(), TxnFault> {
+fn put_all(alloc: Global, txn: &mut Txn, batch: &Batch) -> Result<(), Fault> {
     for number in 0..batch.count {
         let record = batch.first.wrapping_add(number);
-        let fields = records::fields(record, batch.version);
-        txn.put(alloc, records::key(record), &records::slices(&fields))?;
+        let [first, second, third, fourth] = records::fields(record, batch.version);
+        txn.put(
+            alloc,
+            records::key(record),
+            &[&first, &second, &third, &fourth],
+        )?;
     }
     Ok(())
 }
 
-/// Submits a transaction that wrote.
-fn send(store: &mut Store<FileDisk>, txn: Txn, now: u64) -> Result<Ticket, Fault> {
-    match store.submit(txn, LABEL, now) {
-        Ok(Submitted::Queued(ticket)) => Ok(ticket),
-        Ok(Submitted::ReadOnly(_)) => Err(Fault::Wrong("nothing was written")),
-        Err(fault) => Err(Fault::Submit(fault)),
-    }
-}
-
 /// Begins a transaction, writes to it and submits it.
-pub(crate) fn submit(
+pub(crate) fn submit<D: Disk>(
     alloc: Global,
-    store: &mut Store<FileDisk>,
+    store: &mut Store<D>,
     batch: &Batch,
 ) -> Result<Ticket, Fault> {
     let mut txn = store.begin()?;
     match put_all(alloc, &mut txn, batch) {
-        Ok(()) => send(store, txn, batch.now),
+        Ok(()) => {}
         Err(fault) => {
             store.abort(txn);
-            Err(Fault::Txn(fault))
+            return Err(fault);
         }
+    }
+    match store.submit(txn, LABEL, batch.now)? {
+        Submitted::Queued(ticket) => Ok(ticket),
+        Submitted::ReadOnly(_) => Err(Fault::Wrong("nothing was written")),
     }
 }
 
 /// Publishes all that waits. Gives how many commits that were.
-pub(crate) fn publish(store: &mut Store<FileDisk>) -> Result<u64, PumpFault> {
+pub(crate) fn publish<D: Disk>(store: &mut Store<D>) -> Result<u64, Fault> {
     let mut published = 0u64;
     for _ in 0..u64::MAX {
         match store.pump()? {
@@ -69,14 +67,22 @@ pub(crate) fn publish(store: &mut Store<FileDisk>) -> Result<u64, PumpFault> {
 }
 
 /// Shows the ticket of a commit that is published.
-pub(crate) fn redeem(store: &mut Store<FileDisk>, ticket: Ticket) -> Result<(), Fault> {
-    shown(store.redeem(ticket))
+pub(crate) fn redeem<D: Disk>(store: &mut Store<D>, ticket: Ticket) -> Result<(), Fault> {
+    match store.redeem(ticket) {
+        Redeemed::Done(_) => Ok(()),
+        Redeemed::Waiting(ticket) => {
+            ticket.give_up();
+            Err(Fault::Wrong("the commit waits"))
+        }
+        Redeemed::InDoubt => Err(Fault::Wrong("the commit is in doubt")),
+        Redeemed::Stranger => Err(Fault::Wrong("the ticket is a stranger's")),
+    }
 }
 
 /// One commit, from the beginning of its transaction until its ticket is shown.
-pub(crate) fn commit(
+pub(crate) fn commit<D: Disk>(
     alloc: Global,
-    store: &mut Store<FileDisk>,
+    store: &mut Store<D>,
     batch: &Batch,
 ) -> Result<(), Fault> {
     let ticket = submit(alloc, store, batch)?;
@@ -84,7 +90,7 @@ pub(crate) fn commit(
         Ok(_) => redeem(store, ticket),
         Err(fault) => {
             ticket.give_up();
-            Err(Fault::Pump(fault))
+            Err(fault)
         }
     }
 }

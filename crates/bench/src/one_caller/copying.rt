@@ -11,63 +11,26 @@ use std::time::{Clock, Instant};
 /// The seed of the answers that are copied.
 const SEED: u64 = 7;
 
-fn push_table(bytes: &mut Vec<u8>) -> Result<(), AllocError> {
-    for number in 0..KEYS * VERSIONS {
-        bytes.extend_from_slice(&[(number % 250 + 1) as u8; VALUE_LEN])?;
-    }
-    Ok(())
-}
-
 /// The bytes of all versions of all keys.
 fn table(alloc: Global) -> Result<Vec<u8>, AllocError> {
     let mut bytes = Vec::new(alloc);
-    push_table(&mut bytes)?;
-    Ok(bytes)
-}
-
-fn copy_bytes(to: &mut [u8], from: &[u8]) {
-    for (to, from) in to.iter_mut().zip(from) {
-        *to = *from;
+    for number in 0..KEYS * VERSIONS {
+        bytes.extend_from_slice(&[(number % 250 + 1) as u8; VALUE_LEN])?;
     }
+    Ok(bytes)
 }
 
 /// Copies the answer at a place to the front of `out`. Gives its first byte, 0 of none.
 fn copy(table: &[u8], place: usize, out: &mut [u8]) -> u8 {
     let start = place.saturating_mul(out.len());
     let end = start.saturating_add(out.len());
-    match table.get(start..end) {
-        Some(answer) => copy_bytes(out, answer),
-        None => return 0,
+    let Some(answer) = table.get(start..end) else {
+        return 0;
+    };
+    for (to, from) in out.iter_mut().zip(answer) {
+        *to = *from;
     }
     out.first().copied().unwrap_or(0)
-}
-
-/// Copies this many answers of so many, at random places. Gives the sum of their first bytes.
-fn copy_often(table: &[u8], out: &mut [u8], answers: u64, count: u64) -> u64 {
-    let mut random = Xoshiro256PlusPlus::seed_from_u64(SEED);
-    let mut sum = 0u64;
-    for _ in 0..count {
-        let place = random.next_u64() % answers.max(1);
-        sum = sum.wrapping_add(copy(table, place as usize, out) as u64);
-    }
-    sum
-}
-
-fn time_copying(
-    rt: &HostRuntime,
-    table: &[u8],
-    out: &mut [u8],
-    answers: u64,
-    count: u64,
-) -> Result<u64, Fault> {
-    let start = Instant::now(rt);
-    let sum = copy_often(table, out, answers, count);
-    let time = nanoseconds(rt, start)?;
-    if sum == 0 {
-        Err(Fault::Wrong("nothing was copied"))
-    } else {
-        Ok(time)
-    }
 }
 
 /// The nanoseconds of this many copies of answers of so many values each, at random places.
@@ -77,9 +40,20 @@ pub(crate) fn time_copies(
     values: u64,
     count: u64,
 ) -> Result<u64, Fault> {
+    let table = table(alloc)?;
     let answers = KEYS * VERSIONS / values.max(1);
     let len = (values as usize).saturating_mul(VALUE_LEN);
-    let table = table(alloc)?;
     let mut out = vec![in alloc; 0u8; len]?;
-    time_copying(rt, &table, &mut out, answers, count)
+    let mut random = Xoshiro256PlusPlus::seed_from_u64(SEED);
+    let mut sum = 0u64;
+    let start = Instant::now(rt)?;
+    for _ in 0..count {
+        let place = random.next_u64() % answers.max(1);
+        sum = sum.wrapping_add(copy(&table, place as usize, &mut out) as u64);
+    }
+    let time = nanoseconds(rt, &start)?;
+    if sum == 0 {
+        return Err(Fault::Wrong("nothing was copied"));
+    }
+    Ok(time)
 }

@@ -1,14 +1,16 @@
 //! The memory that the process holds, as the system tells it.
 
 use crate::fault::Fault;
-use crate::numbers::{Number, print_line, quotient};
+use crate::numbers::quotient;
 use crate::stores;
 use std::alloc::Global;
+use std::fs::File;
 use std::io;
 use std::rt::Files;
+use std::time::Clock;
 
 /// Bytes of memory.
-#[derive(Clone, Copy)]
+#[derive(Clone, Copy, Debug)]
 pub(crate) struct Held {
     /// What is held.
     pub(crate) now: u64,
@@ -16,20 +18,13 @@ pub(crate) struct Held {
     pub(crate) most: u64,
 }
 
-/// A number of kilobytes, in bytes; 0 where there is none.
-fn kilobytes(word: Option<&str>) -> u64 {
-    match word {
-        Some(word) => word.parse::<u64>().unwrap_or(0).saturating_mul(1_024),
-        None => 0,
-    }
-}
-
 /// The number of kilobytes behind this name, in bytes; 0 where the name isn't there.
 fn bytes_of(status: &str, name: &str) -> u64 {
     for line in status.lines() {
         let mut words = line.split_whitespace();
         if words.next() == Some(name) {
-            return kilobytes(words.next());
+            let number = words.next().and_then(|word| word.parse::<u64>().ok());
+            return number.unwrap_or(0).saturating_mul(1_024);
         }
     }
     0
@@ -49,12 +44,6 @@ pub(crate) fn forget_most(rt: &HostRuntime) -> io::Result<()> {
     std::fs::write(rt, "/proc/self/clear_refs", "5")
 }
 
-/// What the process holds while the store of a folder is open.
-fn read_opened(rt: &HostRuntime, alloc: Global, folder: &str) -> Result<Held, Fault> {
-    let store = stores::open(rt, alloc, folder)?;
-    stores::close_behind(store, |_| Ok(read_held(rt)?))
-}
-
 /// Measures the memory that the opened store of a folder holds, for each of this many versions.
 pub(crate) fn measure(
     rt: &HostRuntime,
@@ -62,18 +51,17 @@ pub(crate) fn measure(
     folder: &str,
     versions: u64,
 ) -> Result<(), Fault> {
+    let folder = format!(in alloc; "{folder}/store")?;
     let before = read_held(rt)?;
-    let after = read_opened(rt, alloc, folder)?;
+    let store = stores::open(rt, alloc, folder.as_str())?;
+    let after = read_held(rt);
+    store.close();
+    let after = after?;
     let opened = after.now.saturating_sub(before.now);
     let most = after.most.saturating_sub(before.now);
-    print_line(
-        rt,
-        &[
-            ("value", quotient(opened, versions)),
-            ("versions", Number::Whole(versions)),
-            ("held", Number::Whole(opened)),
-            ("most", Number::Whole(most)),
-        ],
+    println!(rt;
+        "{{\"value\": {}, \"versions\": {versions}, \"held\": {opened}, \"most\": {most}}}",
+        quotient(opened, versions)
     )?;
     Ok(())
 }

@@ -1,7 +1,7 @@
 //! Opening a store, beside reading its files.
 
 use crate::fault::Fault;
-use crate::numbers::{Number, milliseconds, nanoseconds, print_line};
+use crate::numbers::{milliseconds, nanoseconds};
 use crate::one_caller::committing::{Batch, commit};
 use crate::records::{KEYS, is_version, key};
 use crate::stores;
@@ -12,7 +12,7 @@ use std::io;
 use std::io::Read;
 use std::rt::Files;
 use std::time::{Clock, Instant};
-use store::{QueryFault, Store, View};
+use store::Store;
 
 /// The slots that a store has beyond its commits.
 const SPARE_SLOTS: u64 = 16;
@@ -37,65 +37,23 @@ fn load(alloc: Global, store: &mut Store<FileDisk>, count: u64) -> Result<(), Fa
     Ok(())
 }
 
-/// Whether a record has a value as of the last commit: of this version, where one is named.
-fn has_value(
-    store: &mut Store<FileDisk>,
-    view: &View,
-    record: u64,
-    version: Option<u64>,
-) -> Result<bool, QueryFault> {
+/// Asks for what the commit of this number wrote.
+fn ask(store: &mut Store<FileDisk>, number: u64) -> Result<(), Fault> {
+    let wrote = batch(number);
     let last = store.last();
-    let Some(value) = store.at(view, key(record), last)? else {
-        return Ok(false);
-    };
-    Ok(match version {
-        Some(version) => is_version(&value, record, version),
-        None => true,
-    })
-}
-
-/// Asks for the value of a record as of the last commit.
-fn ask(store: &mut Store<FileDisk>, record: u64, version: Option<u64>) -> Result<(), Fault> {
     let view = store.view()?;
-    let right = has_value(store, &view, record, version);
+    let found = store.at(&view, key(wrote.first), last);
     store.end(view);
-    match right {
-        Ok(true) => Ok(()),
-        Ok(false) => Err(Fault::Wrong("the last version is not there")),
-        Err(fault) => Err(Fault::Query(fault)),
+    match found? {
+        Some(value) if is_version(&value, wrote.first, wrote.version) => Ok(()),
+        _ => Err(Fault::Wrong("the last commit is not there")),
     }
 }
 
-/// The nanoseconds from the start up to a first answer.
-fn time_answer(
-    rt: &HostRuntime,
-    store: &mut Store<FileDisk>,
-    start: io::Result<Instant>,
-    record: u64,
-    version: Option<u64>,
-) -> Result<u64, Fault> {
-    ask(store, record, version)?;
-    Ok(nanoseconds(rt, start)?)
-}
-
-/// The nanoseconds of opening a store, up to a first answer: the value of a record as of the last commit,
-/// which is of this version, where one is named.
-pub(crate) fn time_opening(
-    rt: &HostRuntime,
-    alloc: Global,
-    folder: &str,
-    record: u64,
-    version: Option<u64>,
-) -> Result<u64, Fault> {
-    let start = Instant::now(rt);
-    let store = stores::open(rt, alloc, folder)?;
-    stores::close_behind(store, |store| {
-        time_answer(rt, store, start, record, version)
-    })
-}
-
 /// Reads a file to its end. Gives how many bytes it has.
-fn read_all(file: &mut File, buffer: &mut [u8]) -> io::Result<u64> {
+fn read_file(rt: &HostRuntime, folder: &str, name: &str, buffer: &mut [u8]) -> io::Result<u64> {
+    let path = format!(in rt.alloc(); "{folder}/{name}")?;
+    let mut file = std::fs::open(rt, path.as_str())?;
     let mut bytes = 0u64;
     for _ in 0..u64::MAX {
         let count = file.read(buffer)?;
@@ -107,60 +65,40 @@ fn read_all(file: &mut File, buffer: &mut [u8]) -> io::Result<u64> {
     Ok(bytes)
 }
 
-fn read_file(rt: &HostRuntime, folder: &str, name: &str, buffer: &mut [u8]) -> io::Result<u64> {
-    let path = format!(in rt.alloc(); "{folder}/{name}")?;
-    let mut file = std::fs::open(rt, path.as_str())?;
-    read_all(&mut file, buffer)
-}
-
 /// The nanoseconds of reading the three files, and how many bytes they have.
-fn time_reads(rt: &HostRuntime, folder: &str, buffer: &mut [u8]) -> io::Result<(u64, u64)> {
-    let start = Instant::now(rt);
-    let mut bytes = 0u64;
-    for name in ["status", "heap", "archive"] {
-        bytes = bytes.saturating_add(read_file(rt, folder, name, buffer)?);
-    }
-    Ok((nanoseconds(rt, start)?, bytes))
-}
-
-/// Prints what opening takes, of so many, beside reading the files of the folder.
-pub(crate) fn print_opening(
+pub(crate) fn time_reads(
     rt: &HostRuntime,
     alloc: Global,
     folder: &str,
-    nanoseconds: u64,
-    counted: (&str, u64),
-) -> Result<(), Fault> {
+) -> Result<(u64, u64), Fault> {
     let mut buffer = vec![in alloc; 0u8; READ_LEN]?;
-    let read = time_reads(rt, folder, &mut buffer);
-    print(rt, nanoseconds, counted, read)
-}
-
-fn print(
-    rt: &HostRuntime,
-    nanoseconds: u64,
-    counted: (&str, u64),
-    read: io::Result<(u64, u64)>,
-) -> Result<(), Fault> {
-    let (time, bytes) = read?;
-    print_line(
-        rt,
-        &[
-            ("value", milliseconds(nanoseconds)),
-            (counted.0, Number::Whole(counted.1)),
-            ("reading_ms", milliseconds(time)),
-            ("bytes", Number::Whole(bytes)),
-        ],
-    )?;
-    Ok(())
+    let start = Instant::now(rt)?;
+    let status = read_file(rt, folder, "status", &mut buffer)?;
+    let heap = read_file(rt, folder, "heap", &mut buffer)?;
+    let archive = read_file(rt, folder, "archive", &mut buffer)?;
+    let time = nanoseconds(rt, &start)?;
+    Ok((time, status.saturating_add(heap).saturating_add(archive)))
 }
 
 /// Makes a folder with a store of this many commits of one record each.
 fn make(rt: &HostRuntime, alloc: Global, folder: &str, count: u64) -> Result<(), Fault> {
     let slots = u32::try_from(count.saturating_add(SPARE_SLOTS)).unwrap_or(u32::MAX);
     stores::make(rt, alloc, folder, slots)?;
-    let store = stores::open(rt, alloc, folder)?;
-    stores::close_behind(store, |store| load(alloc, store, count))
+    let mut store = stores::open(rt, alloc, folder)?;
+    let loaded = load(alloc, &mut store, count);
+    store.close();
+    loaded
+}
+
+/// The nanoseconds of opening a store of this many commits, up to its first answer.
+fn time_opening(rt: &HostRuntime, alloc: Global, folder: &str, count: u64) -> Result<u64, Fault> {
+    let start = Instant::now(rt)?;
+    let mut store = stores::open(rt, alloc, folder)?;
+    let asked = ask(&mut store, count.saturating_sub(1));
+    let time = nanoseconds(rt, &start);
+    store.close();
+    asked?;
+    Ok(time?)
 }
 
 /// Measures the opening of a store of this many commits, up to its first answer.
@@ -170,8 +108,13 @@ pub(crate) fn measure(
     folder: &str,
     count: u64,
 ) -> Result<(), Fault> {
-    make(rt, alloc, folder, count)?;
-    let last = batch(count.saturating_sub(1));
-    let time = time_opening(rt, alloc, folder, last.first, Some(last.version))?;
-    print_opening(rt, alloc, folder, time, ("commits", count))
+    let folder = format!(in alloc; "{folder}/store")?;
+    make(rt, alloc, folder.as_str(), count)?;
+    let value = milliseconds(time_opening(rt, alloc, folder.as_str(), count)?);
+    let (read, bytes) = time_reads(rt, alloc, folder.as_str())?;
+    println!(rt;
+        "{{\"value\": {value}, \"commits\": {count}, \"reading_ms\": {}, \"bytes\": {bytes}}}",
+        milliseconds(read)
+    )?;
+    Ok(())
 }

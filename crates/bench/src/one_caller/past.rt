@@ -1,7 +1,7 @@
 //! Queries of a store that may have been vacuumed, at all its times and at its last.
 
 use crate::fault::Fault;
-use crate::numbers::{Number, median, microseconds, nanoseconds, print_line, quotient, rate};
+use crate::numbers::{Times, microseconds, nanoseconds, quotient, rate};
 use crate::one_caller::asking::{ask, time_questions};
 use crate::one_caller::verb::Question;
 use crate::records::{FIRST_TIME, KEYS};
@@ -10,11 +10,13 @@ use disk_file::FileDisk;
 use rand_core::{Rng, SeedableRng};
 use rand_xoshiro::Xoshiro256PlusPlus;
 use std::alloc::Global;
+use std::fs::File;
+use std::rt::Files;
 use std::time::{Clock, Instant};
 use store::Store;
 
 /// How often the store is opened and asked a first question.
-const OPENINGS: usize = 7;
+const OPENINGS: u64 = 7;
 
 /// How often that question is asked again.
 const REPEATS: u64 = 5;
@@ -27,22 +29,6 @@ fn span(store: &Store<FileDisk>) -> u64 {
     store.last().saturating_sub(FIRST_TIME)
 }
 
-/// The nanoseconds of a question that is asked this often.
-fn time_question(
-    rt: &HostRuntime,
-    store: &mut Store<FileDisk>,
-    question: Question,
-    record: u64,
-    after: u64,
-    count: u64,
-) -> Result<u64, Fault> {
-    let start = Instant::now(rt);
-    for _ in 0..count {
-        ask(store, question, record, after)?;
-    }
-    Ok(nanoseconds(rt, start)?)
-}
-
 /// The nanoseconds of a first question on a store that was just opened, and of the same again.
 fn time_first(
     rt: &HostRuntime,
@@ -52,21 +38,14 @@ fn time_first(
 ) -> Result<(u64, u64), Fault> {
     let record = random.next_u64() % KEYS;
     let after = random.next_u64() % span(store).max(1);
-    let first = time_question(rt, store, question, record, after, 1)?;
-    let again = time_question(rt, store, question, record, after, REPEATS)?;
-    Ok((first, again / REPEATS))
-}
-
-/// The same; the store is opened before, and closed then.
-fn time_opening(
-    rt: &HostRuntime,
-    alloc: Global,
-    folder: &str,
-    question: Question,
-    random: &mut Xoshiro256PlusPlus,
-) -> Result<(u64, u64), Fault> {
-    let store = stores::open(rt, alloc, folder)?;
-    stores::close_behind(store, |store| { time_first(rt, store, question, random) })
+    let start = Instant::now(rt)?;
+    ask(store, question, record, after)?;
+    let first = nanoseconds(rt, &start)?;
+    let start = Instant::now(rt)?;
+    for _ in 0..REPEATS {
+        ask(store, question, record, after)?;
+    }
+    Ok((first, nanoseconds(rt, &start)? / REPEATS))
 }
 
 /// The medians of first questions and of the same again, in nanoseconds.
@@ -77,14 +56,17 @@ fn time_openings(
     question: Question,
 ) -> Result<(u64, u64), Fault> {
     let mut random = Xoshiro256PlusPlus::seed_from_u64(SEED);
-    let mut firsts = [0; OPENINGS];
-    let mut others = [0; OPENINGS];
-    for number in 0..OPENINGS {
-        let (first, other) = time_opening(rt, alloc, folder, question, &mut random)?;
-        firsts[number] = first;
-        others[number] = other;
+    let mut firsts = Times::new(alloc);
+    let mut others = Times::new(alloc);
+    for _ in 0..OPENINGS {
+        let mut store = stores::open(rt, alloc, folder)?;
+        let times = time_first(rt, &mut store, question, &mut random);
+        store.close();
+        let (first, other) = times?;
+        firsts.push(first)?;
+        others.push(other)?;
     }
-    Ok((median(&mut firsts), median(&mut others)))
+    Ok((firsts.median()?, others.median()?))
 }
 
 /// The nanoseconds of this many questions at random keys, all as of the last commit.
@@ -96,27 +78,15 @@ fn time_last(
 ) -> Result<u64, Fault> {
     let mut random = Xoshiro256PlusPlus::seed_from_u64(SEED);
     let after = span(store);
-    let start = Instant::now(rt);
+    let start = Instant::now(rt)?;
     for _ in 0..count {
         ask(store, question, random.next_u64() % KEYS, after)?;
     }
-    Ok(nanoseconds(rt, start)?)
+    Ok(nanoseconds(rt, &start)?)
 }
 
 /// The nanoseconds of this many questions on one store, as of times before the last commit, and of as
 /// many as of the last.
-fn time_both(
-    rt: &HostRuntime,
-    store: &mut Store<FileDisk>,
-    question: Question,
-    count: u64,
-) -> Result<(u64, u64), Fault> {
-    let times = span(store);
-    let past = time_questions(rt, store, question, times, count)?;
-    let last = time_last(rt, store, question, count)?;
-    Ok((past, last))
-}
-
 fn time_opened(
     rt: &HostRuntime,
     alloc: Global,
@@ -124,8 +94,12 @@ fn time_opened(
     question: Question,
     count: u64,
 ) -> Result<(u64, u64), Fault> {
-    let store = stores::open(rt, alloc, folder)?;
-    stores::close_behind(store, |store| { time_both(rt, store, question, count) })
+    let mut store = stores::open(rt, alloc, folder)?;
+    let times = span(&store);
+    let past = time_questions(rt, &mut store, question, times, count);
+    let last = time_last(rt, &mut store, question, count);
+    store.close();
+    Ok((past?, last?))
 }
 
 /// Measures this many questions on the store of a folder.
@@ -136,19 +110,17 @@ pub(crate) fn measure(
     question: Question,
     count: u64,
 ) -> Result<(), Fault> {
-    let (first, again) = time_openings(rt, alloc, folder, question)?;
-    let (past, last) = time_opened(rt, alloc, folder, question, count)?;
-    print_line(
-        rt,
-        &[
-            ("value", rate(count, past)),
-            ("count", Number::Whole(count)),
-            ("us", quotient(past / 1000, count)),
-            ("first_us", microseconds(first)),
-            ("again_us", microseconds(again)),
-            ("last", rate(count, last)),
-            ("last_us", quotient(last / 1000, count)),
-        ],
+    let folder = format!(in alloc; "{folder}/store")?;
+    let (first, again) = time_openings(rt, alloc, folder.as_str(), question)?;
+    let (past, last) = time_opened(rt, alloc, folder.as_str(), question, count)?;
+    println!(rt;
+        "{{\"value\": {}, \"count\": {count}, \"us\": {}, \"first_us\": {}, \"again_us\": {}, \"last\": {}, \"last_us\": {}}}",
+        rate(count, past),
+        quotient(past / 1000, count),
+        microseconds(first),
+        microseconds(again),
+        rate(count, last),
+        quotient(last / 1000, count),
     )?;
     Ok(())
 }

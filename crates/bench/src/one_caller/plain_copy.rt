@@ -1,5 +1,6 @@
 //! Plain copies of files.
 
+use crate::fault::Fault;
 use crate::numbers::nanoseconds;
 use std::fs::{File, OpenOptions};
 use std::io;
@@ -32,17 +33,12 @@ fn copy(from: &mut File, to: &mut File, bytes: u64) -> io::Result<()> {
     to.sync_data()
 }
 
-/// The nanoseconds of a copy.
-fn time_copying(rt: &HostRuntime, from: &mut File, to: &mut File, bytes: u64) -> io::Result<u64> {
-    let start = Instant::now(rt);
-    copy(from, to, bytes)?;
-    nanoseconds(rt, start)
-}
-
 /// The nanoseconds of copying the first bytes of a file to another, which is made, in pieces of 8,192
 /// bytes, with one sync.
-pub(crate) fn time_copy(rt: &HostRuntime, from: &str, to: &str, bytes: u64) -> io::Result<u64> {
+pub(crate) fn time_copy(rt: &HostRuntime, from: &str, to: &str, bytes: u64) -> Result<u64, Fault> {
     let mut source = std::fs::open(rt, from)?;
     let mut target = OpenOptions::new().write(true).create(true).open(rt, to)?;
-    time_copying(rt, &mut source, &mut target, bytes)
+    let start = Instant::now(rt)?;
+    copy(&mut source, &mut target, bytes)?;
+    Ok(nanoseconds(rt, &start)?)
 }

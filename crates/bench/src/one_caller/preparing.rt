@@ -1,13 +1,16 @@
 //! Stores that are to be vacuumed: of each key the last version stands, and the others ended.
 
 use crate::fault::Fault;
-use crate::numbers::{Number, milliseconds, nanoseconds, print_line};
+use crate::numbers::{milliseconds, nanoseconds};
 use crate::one_caller::committing::{Batch, commit};
 use crate::one_caller::verb::Breadth;
 use crate::records::{FIRST_TIME, KEYS, STEP};
 use crate::stores;
+use disk::{Area, Disk};
 use disk_file::FileDisk;
 use std::alloc::Global;
+use std::fs::File;
+use std::rt::Files;
 use std::time::{Clock, Instant};
 use store::Store;
 
@@ -15,7 +18,7 @@ use store::Store;
 const SPARE_SLOTS: u64 = 256;
 
 /// How a store is filled.
-#[derive(Clone, Copy)]
+#[derive(Clone, Copy, Debug)]
 struct Filling {
     /// How many commits write each key once.
     parts: u64,
@@ -65,20 +68,7 @@ fn fill(alloc: Global, store: &mut Store<FileDisk>, filling: Filling) -> Result<
     Ok(())
 }
 
-/// The nanoseconds of opening, filling and closing a store.
-fn time_filling(
-    rt: &HostRuntime,
-    alloc: Global,
-    folder: &str,
-    filling: Filling,
-) -> Result<u64, Fault> {
-    let start = Instant::now(rt);
-    let store = stores::open(rt, alloc, folder)?;
-    stores::close_behind(store, |store| fill(alloc, store, filling))?;
-    Ok(nanoseconds(rt, start)?)
-}
-
-/// Makes this folder, with a store of which this many versions have ended.
+/// Makes the folder `store` below this one, with a store of which this many versions have ended.
 pub(crate) fn measure(
     rt: &HostRuntime,
     alloc: Global,
@@ -86,19 +76,18 @@ pub(crate) fn measure(
     breadth: Breadth,
     ended: u64,
 ) -> Result<(), Fault> {
+    let folder = format!(in alloc; "{folder}/store")?;
     let filling = plan(breadth, ended);
     let commits = filling.parts.saturating_mul(filling.rounds);
     let slots = u32::try_from(commits.saturating_add(SPARE_SLOTS)).unwrap_or(u32::MAX);
-    stores::make(rt, alloc, folder, slots)?;
-    let time = time_filling(rt, alloc, folder, filling)?;
-    let lens = stores::lens_of(rt, folder)?;
-    print_line(
-        rt,
-        &[
-            ("value", milliseconds(time)),
-            ("commits", Number::Whole(commits)),
-            ("heap", Number::Whole(lens.heap)),
-        ],
-    )?;
+    stores::make(rt, alloc, folder.as_str(), slots)?;
+    let start = Instant::now(rt)?;
+    let mut store = stores::open(rt, alloc, folder.as_str())?;
+    let filled = fill(alloc, &mut store, filling);
+    let mut disk = store.close();
+    filled?;
+    let value = milliseconds(nanoseconds(rt, &start)?);
+    let heap = disk.len(Area::Heap)?;
+    println!(rt; "{{\"value\": {value}, \"commits\": {commits}, \"heap\": {heap}}}")?;
     Ok(())
 }

@@ -1,16 +1,17 @@
 //! Archives and reclaims, beside a plain copy of as many bytes.
 
 use crate::fault::Fault;
-use crate::numbers::{Number, megabytes_a_second, milliseconds, nanoseconds, print_line};
+use crate::numbers::{megabytes_a_second, milliseconds, nanoseconds};
 use crate::one_caller::memory::{Held, forget_most, read_held};
 use crate::one_caller::plain_copy::time_copy;
 use crate::one_caller::verb::Task;
 use crate::records::{FIRST_TIME, VALUE_LEN};
 use crate::stores;
-use crate::words::Request;
+use disk::{Area, Disk};
 use disk_file::FileDisk;
 use std::alloc::Global;
-use std::io;
+use std::fs::File;
+use std::rt::Files;
 use std::time::{Clock, Instant};
 use store::{JobDid, Store};
 
@@ -21,7 +22,7 @@ const PIECE_LEN: u64 = 8_192;
 const SLOT_LEN: u64 = 512;
 
 /// The nanoseconds of jobs, and how many pieces they wrote.
-#[derive(Clone, Copy)]
+#[derive(Clone, Copy, Debug)]
 struct Spent {
     starting: u64,
     writing: u64,
@@ -70,10 +71,10 @@ impl Spent {
 
 /// Makes the next step of the job that runs. Gives whether there was one.
 fn step(rt: &HostRuntime, store: &mut Store<FileDisk>, spent: &mut Spent) -> Result<bool, Fault> {
-    let start = Instant::now(rt);
+    let start = Instant::now(rt)?;
     let did = store.job_pump()?;
-    spent.add(did, nanoseconds(rt, start)?);
-    Ok(!matches!(did, JobDid::Idle))
+    spent.add(did, nanoseconds(rt, &start)?);
+    Ok(did != JobDid::Idle)
 }
 
 /// Makes all steps of the job that runs.
@@ -93,9 +94,9 @@ fn archive(
     upto: u64,
     spent: &mut Spent,
 ) -> Result<(), Fault> {
-    let start = Instant::now(rt);
+    let start = Instant::now(rt)?;
     store.archive_start(upto)?;
-    spent.starting = spent.starting.saturating_add(nanoseconds(rt, start)?);
+    spent.starting = spent.starting.saturating_add(nanoseconds(rt, &start)?);
     finish(rt, store, spent)
 }
 
@@ -117,67 +118,31 @@ fn archive_all(
 
 /// Reclaims what is archived.
 fn reclaim(rt: &HostRuntime, store: &mut Store<FileDisk>, spent: &mut Spent) -> Result<(), Fault> {
-    let start = Instant::now(rt);
+    let start = Instant::now(rt)?;
     store.reclaim_start()?;
-    spent.starting = nanoseconds(rt, start)?;
+    spent.starting = nanoseconds(rt, &start)?;
     finish(rt, store, spent)
 }
 
-/// What a task took: its nanoseconds, and the memory before and after it.
-#[derive(Clone, Copy)]
+/// What a task took: its nanoseconds, the bytes that it wrote, and the memory before and after it.
+#[derive(Clone, Copy, Debug)]
 struct Took {
     spent: Spent,
+    bytes: u64,
     before: Held,
     after: Held,
 }
 
-/// Does a task. Gives the nanoseconds that it took.
 fn do_task(
     rt: &HostRuntime,
     store: &mut Store<FileDisk>,
     task: Task,
     runs: u64,
-) -> Result<Spent, Fault> {
-    let mut spent = Spent::new();
+    spent: &mut Spent,
+) -> Result<(), Fault> {
     match task {
-        Task::Archive => archive_all(rt, store, runs, &mut spent)?,
-        Task::Reclaim => reclaim(rt, store, &mut spent)?,
-    }
-    Ok(spent)
-}
-
-/// Does a task, between two looks at the memory.
-fn watch_task(
-    rt: &HostRuntime,
-    store: &mut Store<FileDisk>,
-    task: Task,
-    runs: u64,
-) -> Result<Took, Fault> {
-    forget_most(rt)?;
-    let before = read_held(rt)?;
-    let spent = do_task(rt, store, task, runs)?;
-    let after = read_held(rt)?;
-    Ok(Took {
-        spent,
-        before,
-        after,
-    })
-}
-
-/// The bytes that a task wrote.
-fn written(
-    rt: &HostRuntime,
-    folder: &str,
-    task: Task,
-    runs: u64,
-    pieces: u64,
-) -> Result<u64, Fault> {
-    match task {
-        Task::Archive => {
-            let lens = stores::lens_of(rt, folder)?;
-            Ok(lens.archive.saturating_add(runs.saturating_mul(SLOT_LEN)))
-        }
-        Task::Reclaim => Ok(pieces.saturating_mul(PIECE_LEN).saturating_add(SLOT_LEN)),
+        Task::Archive => archive_all(rt, store, runs, spent),
+        Task::Reclaim => reclaim(rt, store, spent),
     }
 }
 
@@ -189,8 +154,30 @@ fn take(
     task: Task,
     runs: u64,
 ) -> Result<Took, Fault> {
-    let store = stores::open(rt, alloc, folder)?;
-    stores::close_behind(store, |store| { watch_task(rt, store, task, runs) })
+    let mut store = stores::open(rt, alloc, folder)?;
+    let forgot = forget_most(rt);
+    let before = read_held(rt);
+    let mut spent = Spent::new();
+    let done = do_task(rt, &mut store, task, runs, &mut spent);
+    let after = read_held(rt);
+    let mut disk = store.close();
+    done?;
+    forgot?;
+    let written = match task {
+        Task::Archive => disk
+            .len(Area::Archive)?
+            .saturating_add(runs.saturating_mul(SLOT_LEN)),
+        Task::Reclaim => spent
+            .pieces
+            .saturating_mul(PIECE_LEN)
+            .saturating_add(SLOT_LEN),
+    };
+    Ok(Took {
+        spent,
+        bytes: written,
+        before: before?,
+        after: after?,
+    })
 }
 
 /// The file that a task writes most to.
@@ -201,68 +188,49 @@ fn file_of(task: Task) -> &'static str {
     }
 }
 
-/// The nanoseconds of a plain copy of as many bytes of the file that a task writes most to.
-fn time_plain(
-    rt: &HostRuntime,
-    alloc: Global,
-    folder: &str,
-    task: Task,
-    bytes: u64,
-) -> Result<u64, Fault> {
-    let file = file_of(task);
-    let from = format!(in alloc; "{folder}/store/{file}")?;
-    let to = format!(in alloc; "{folder}/copy of {file}")?;
-    Ok(time_copy(rt, from.as_str(), to.as_str(), bytes)?)
-}
-
 /// Prints the milliseconds of the task and of its parts, the bytes that it wrote and those of the
 /// values, the milliseconds of the copy, and the memory before the task, at most and after it.
 fn print(
     rt: &HostRuntime,
-    request: &Request<'_>,
+    runs: u64,
+    versions: u64,
     took: &Took,
-    bytes: u64,
     copied: u64,
-) -> io::Result<()> {
+) -> Result<(), Fault> {
     let spent = &took.spent;
-    let versions = request.count;
-    print_line(
-        rt,
-        &[
-            ("value", milliseconds(spent.sum())),
-            ("runs", Number::Whole(request.number)),
-            ("versions", Number::Whole(versions)),
-            ("starting_ms", milliseconds(spent.starting)),
-            ("writing_ms", milliseconds(spent.writing)),
-            ("syncing_ms", milliseconds(spent.syncing)),
-            ("turning_ms", milliseconds(spent.turning)),
-            ("ending_ms", milliseconds(spent.ending)),
-            ("bytes", Number::Whole(bytes)),
-            (
-                "value_bytes",
-                Number::Whole(versions.saturating_mul(VALUE_LEN as u64)),
-            ),
-            ("mb_s", megabytes_a_second(bytes, spent.sum())),
-            ("copy_ms", milliseconds(copied)),
-            ("copy_mb_s", megabytes_a_second(bytes, copied)),
-            ("held_before", Number::Whole(took.before.now)),
-            ("most", Number::Whole(took.after.most)),
-            ("held_after", Number::Whole(took.after.now)),
-        ],
-    )
+    println!(rt;
+        "{{\"value\": {}, \"runs\": {runs}, \"versions\": {versions}, \"starting_ms\": {}, \"writing_ms\": {}, \"syncing_ms\": {}, \"turning_ms\": {}, \"ending_ms\": {}, \"bytes\": {}, \"value_bytes\": {}, \"mb_s\": {}, \"copy_ms\": {}, \"copy_mb_s\": {}, \"held_before\": {}, \"most\": {}, \"held_after\": {}}}",
+        milliseconds(spent.sum()),
+        milliseconds(spent.starting),
+        milliseconds(spent.writing),
+        milliseconds(spent.syncing),
+        milliseconds(spent.turning),
+        milliseconds(spent.ending),
+        took.bytes,
+        versions.saturating_mul(VALUE_LEN as u64),
+        megabytes_a_second(took.bytes, spent.sum()),
+        milliseconds(copied),
+        megabytes_a_second(took.bytes, copied),
+        took.before.now,
+        took.after.most,
+        took.after.now,
+    )?;
+    Ok(())
 }
 
-/// Measures a task on the store of this folder, of which so many versions ended.
+/// Measures a task on the store of this many versions that ended.
 pub(crate) fn measure(
     rt: &HostRuntime,
     alloc: Global,
-    request: &Request<'_>,
-    store: &str,
+    folder: &str,
     task: Task,
+    versions: u64,
+    runs: u64,
 ) -> Result<(), Fault> {
-    let runs = request.number;
-    let took = take(rt, alloc, store, task, runs)?;
-    let bytes = written(rt, store, task, runs, took.spent.pieces)?;
-    let copied = time_plain(rt, alloc, request.folder, task, bytes)?;
-    Ok(print(rt, request, &took, bytes, copied)?)
+    let from = format!(in alloc; "{folder}/store/{}", file_of(task))?;
+    let to = format!(in alloc; "{folder}/copy of {}", file_of(task))?;
+    let folder = format!(in alloc; "{folder}/store")?;
+    let took = take(rt, alloc, folder.as_str(), task, runs)?;
+    let copied = time_copy(rt, from.as_str(), to.as_str(), took.bytes)?;
+    print(rt, runs, versions, &took, copied)
 }

@@ -2,7 +2,7 @@
 
 /// How a measurement of commits is made up: so many transactions under one gate, each of so many
 /// records, all in so many extents.
-#[derive(Clone, Copy)]
+#[derive(Clone, Copy, Debug)]
 pub(crate) struct Shape {
     pub(crate) transactions: u64,
     pub(crate) records: u64,
@@ -31,7 +31,7 @@ const LARGE: Shape = Shape {
 };
 
 /// What is asked of the versions of some keys.
-#[derive(Clone, Copy)]
+#[derive(Clone, Copy, Debug, PartialEq, Eq)]
 pub(crate) enum Question {
     /// The value of a key as of a time.
     Value,
@@ -44,7 +44,7 @@ pub(crate) enum Question {
 }
 
 /// Of what keys a store is made that is to be vacuumed.
-#[derive(Clone, Copy)]
+#[derive(Clone, Copy, Debug, PartialEq, Eq)]
 pub(crate) enum Breadth {
     /// Many versions of each of 1,000 keys.
     Deep,
@@ -53,13 +53,13 @@ pub(crate) enum Breadth {
 }
 
 /// What a vacuum does.
-#[derive(Clone, Copy)]
+#[derive(Clone, Copy, Debug, PartialEq, Eq)]
 pub(crate) enum Task {
     Archive,
     Reclaim,
 }
 
-#[derive(Clone, Copy)]
+#[derive(Clone, Copy, Debug)]
 pub(crate) enum Verb {
     Commits(Shape),
     Queries(Question),
@@ -74,32 +74,25 @@ pub(crate) enum Verb {
 }
 
 /// The verb of a name, and how often it is done where no count is given.
-const VERBS: [(&str, Verb, u64); 17] = [
-    ("w1", Verb::Commits(ALONE), 2_000),
-    ("w2g", Verb::Commits(GATHERED), 500),
-    ("w3", Verb::Commits(LARGE), 200),
-    ("w4", Verb::Queries(Question::Value), 1_000_000),
-    ("w5", Verb::Queries(Question::Rows), 50_000),
-    ("w5w", Verb::Queries(Question::Walk), 50_000),
-    ("w6", Verb::Queries(Question::Scan), 3_000),
-    ("w7", Verb::Opening, 3_000),
-    ("w8", Verb::Size, 1),
-    ("v0", Verb::Preparing(Breadth::Deep), 100_000),
-    ("v0k", Verb::Preparing(Breadth::Wide), 100_000),
-    ("v1", Verb::Vacuum(Task::Archive), 100_000),
-    ("v2", Verb::Vacuum(Task::Reclaim), 100_000),
-    ("v3", Verb::Past(Question::Value), 100_000),
-    ("v4", Verb::Past(Question::Scan), 10),
-    ("v5", Verb::Reopening, 5),
-    ("v6", Verb::Memory, 100_000),
-];
-
-/// The verb of a name, and how often it is done where no count is given.
 pub(crate) fn known(name: &str) -> Option<(Verb, u64)> {
-    for (known, verb, often) in &VERBS {
-        if *known == name {
-            return Some((*verb, *often));
-        }
+    match name {
+        "w1" => Some((Verb::Commits(ALONE), 2_000)),
+        "w2g" => Some((Verb::Commits(GATHERED), 500)),
+        "w3" => Some((Verb::Commits(LARGE), 200)),
+        "w4" => Some((Verb::Queries(Question::Value), 1_000_000)),
+        "w5" => Some((Verb::Queries(Question::Rows), 50_000)),
+        "w5w" => Some((Verb::Queries(Question::Walk), 50_000)),
+        "w6" => Some((Verb::Queries(Question::Scan), 3_000)),
+        "w7" => Some((Verb::Opening, 3_000)),
+        "w8" => Some((Verb::Size, 1)),
+        "v0" => Some((Verb::Preparing(Breadth::Deep), 100_000)),
+        "v0k" => Some((Verb::Preparing(Breadth::Wide), 100_000)),
+        "v1" => Some((Verb::Vacuum(Task::Archive), 100_000)),
+        "v2" => Some((Verb::Vacuum(Task::Reclaim), 100_000)),
+        "v3" => Some((Verb::Past(Question::Value), 100_000)),
+        "v4" => Some((Verb::Past(Question::Scan), 10)),
+        "v5" => Some((Verb::Reopening, 5)),
+        "v6" => Some((Verb::Memory, 100_000)),
+        _ => None,
     }
-    None
 }

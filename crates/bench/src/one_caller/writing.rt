@@ -1,21 +1,23 @@
 //! Commits, beside the raw writes and syncs of as many.
 
 use crate::fault::Fault;
-use crate::numbers::{Number, Times, microseconds, nanoseconds, print_line, quotient, rate};
+use crate::numbers::{Times, microseconds, nanoseconds, quotient, rate};
 use crate::one_caller::committing::{Batch, publish, redeem, submit};
 use crate::one_caller::verb::Shape;
 use crate::raw::RawFiles;
 use crate::records::KEYS;
 use crate::stores;
-use crate::stores::MOST_SLOTS;
 use disk_file::FileDisk;
 use rand_core::{Rng, SeedableRng};
 use rand_xoshiro::Xoshiro256PlusPlus;
 use std::alloc::Global;
-use std::io;
-use std::ops::Range;
+use std::fs::File;
+use std::rt::Files;
 use std::time::{Clock, Instant};
-use store::{Store, Ticket};
+use store::Store;
+
+/// As many slots as a store may have.
+const MOST_SLOTS: u32 = 65_536;
 
 /// The groups that are timed before as many raw ones are.
 const TURN: u64 = 20;
@@ -40,21 +42,6 @@ fn batch(random: &mut Xoshiro256PlusPlus, shape: Shape, member: u64, version: u6
     }
 }
 
-/// Shows the ticket of a group's last member, where all members were published.
-fn end_group(
-    store: &mut Store<FileDisk>,
-    last: Ticket,
-    published: u64,
-    shape: Shape,
-) -> Result<(), Fault> {
-    redeem(store, last)?;
-    if published == shape.transactions {
-        Ok(())
-    } else {
-        Err(Fault::Wrong("other commits were published"))
-    }
-}
-
 /// Commits one group. The ticket of its last member is shown, the others are given up.
 fn commit_group(
     alloc: Global,
@@ -68,10 +55,17 @@ fn commit_group(
     }
     let last = submit(alloc, store, &batch(random, shape, 0, version))?;
     match publish(store) {
-        Ok(count) => end_group(store, last, count, shape),
+        Ok(count) => {
+            redeem(store, last)?;
+            if count == shape.transactions {
+                Ok(())
+            } else {
+                Err(Fault::Wrong("other commits were published"))
+            }
+        }
         Err(fault) => {
             last.give_up();
-            Err(Fault::Pump(fault))
+            Err(fault)
         }
     }
 }
@@ -85,41 +79,16 @@ fn time_group(
     shape: Shape,
     version: u64,
 ) -> Result<u64, Fault> {
-    let start = Instant::now(rt);
+    let start = Instant::now(rt)?;
     commit_group(alloc, store, random, shape, version)?;
-    Ok(nanoseconds(rt, start)?)
+    Ok(nanoseconds(rt, &start)?)
 }
 
-/// Times these groups.
-fn time_turn(
-    rt: &HostRuntime,
-    alloc: Global,
-    store: &mut Store<FileDisk>,
-    random: &mut Xoshiro256PlusPlus,
-    shape: Shape,
-    versions: Range<u64>,
-    groups: &mut Times,
-) -> Result<(), Fault> {
-    for version in versions {
-        groups.push(time_group(rt, alloc, store, random, shape, version)?)?;
-    }
-    Ok(())
-}
-
-/// Times the raw writes and syncs of so many groups.
-fn time_raws(
-    rt: &HostRuntime,
-    raw: &mut RawFiles,
-    shape: Shape,
-    rounds: u64,
-    raws: &mut Times,
-) -> Result<(), Fault> {
-    for _ in 0..rounds {
-        let start = Instant::now(rt);
-        raw.write_group(shape.extents)?;
-        raws.push(nanoseconds(rt, start)?)?;
-    }
-    Ok(())
+/// The nanoseconds of the raw writes and syncs of one group.
+fn time_raw(rt: &HostRuntime, raw: &mut RawFiles, shape: Shape) -> Result<u64, Fault> {
+    let start = Instant::now(rt)?;
+    raw.write_group(shape.extents)?;
+    Ok(nanoseconds(rt, &start)?)
 }
 
 /// Times this many groups, and as many of raw writes and syncs, in turns.
@@ -130,82 +99,67 @@ fn time_groups(
     raw: &mut RawFiles,
     shape: Shape,
     count: u64,
-    groups: &mut Times,
-    raws: &mut Times,
-) -> Result<(), Fault> {
+) -> Result<(Times, Times), Fault> {
     let mut random = Xoshiro256PlusPlus::seed_from_u64(SEED);
+    let mut groups = Times::new(alloc);
+    let mut raws = Times::new(alloc);
     for turn in 0..count / TURN + 1 {
         let first = turn.saturating_mul(TURN);
         let rounds = count.saturating_sub(first).min(TURN);
-        let end = first.saturating_add(rounds);
-        time_turn(rt, alloc, store, &mut random, shape, first..end, groups)?;
-        time_raws(rt, raw, shape, rounds, raws)?;
+        for round in 0..rounds {
+            let version = first.wrapping_add(round);
+            groups.push(time_group(rt, alloc, store, &mut random, shape, version)?)?;
+        }
+        for _ in 0..rounds {
+            raws.push(time_raw(rt, raw, shape)?)?;
+        }
     }
-    Ok(())
+    Ok((groups, raws))
 }
 
 /// Prints how many records are committed in a second, the median of a group's microseconds, the same
 /// of the raw writes and syncs, and how many times their median the group's is.
-fn print(rt: &HostRuntime, shape: Shape, groups: &mut Times, raws: &mut Times) -> io::Result<()> {
+fn print(rt: &HostRuntime, shape: Shape, times: (Times, Times)) -> Result<(), Fault> {
+    let (mut groups, mut raws) = times;
+    let each = shape.transactions.saturating_mul(shape.records);
     let count = groups.count();
-    let records = count.saturating_mul(shape.transactions.saturating_mul(shape.records));
-    let value = rate(records, groups.sum());
-    let raw = rate(records, raws.sum());
-    let median = groups.median();
-    let raw_median = raws.median();
-    print_line(
-        rt,
-        &[
-            ("value", value),
-            ("groups", Number::Whole(count)),
-            ("median_us", microseconds(median)),
-            ("raw", raw),
-            ("raw_median_us", microseconds(raw_median)),
-            ("times_raw", quotient(median, raw_median)),
-        ],
-    )
+    let value = rate(count.saturating_mul(each), groups.sum());
+    let raw = rate(count.saturating_mul(each), raws.sum());
+    let median = groups.median()?;
+    let raw_median = raws.median()?;
+    println!(rt;
+        "{{\"value\": {value}, \"groups\": {count}, \"median_us\": {}, \"raw\": {raw}, \"raw_median_us\": {}, \"times_raw\": {}}}",
+        microseconds(median),
+        microseconds(raw_median),
+        quotient(median, raw_median),
+    )?;
+    Ok(())
 }
 
-/// Measures this many groups of commits to a store that is open.
-fn measure_groups(
-    rt: &HostRuntime,
-    alloc: Global,
-    store: &mut Store<FileDisk>,
-    raw: &mut RawFiles,
-    shape: Shape,
-    count: u64,
-) -> Result<(), Fault> {
-    let mut groups = Times::new(alloc);
-    let mut raws = Times::new(alloc);
-    time_groups(rt, alloc, store, raw, shape, count, &mut groups, &mut raws)?;
-    Ok(print(rt, shape, &mut groups, &mut raws)?)
+/// The files of raw writes, in a folder of their own below this one.
+fn open_raw(rt: &HostRuntime, alloc: Global, folder: &str) -> Result<RawFiles, Fault> {
+    let folder = format!(in alloc; "{folder}/raw")?;
+    RawFiles::new(rt, alloc, folder.as_str(), MOST_SLOTS)
 }
 
-/// Makes a store in this folder, and measures it beside raw files.
-fn measure_beside(
-    rt: &HostRuntime,
-    alloc: Global,
-    folder: &str,
-    raw: &mut RawFiles,
-    shape: Shape,
-    count: u64,
-) -> Result<(), Fault> {
-    stores::make(rt, alloc, folder, MOST_SLOTS)?;
-    let store = stores::open(rt, alloc, folder)?;
-    stores::close_behind(store, |store| {
-        measure_groups(rt, alloc, store, raw, shape, count)
-    })
+/// A new store, in a folder of its own below this one.
+fn open_store(rt: &HostRuntime, alloc: Global, folder: &str) -> Result<Store<FileDisk>, Fault> {
+    let folder = format!(in alloc; "{folder}/store")?;
+    stores::make(rt, alloc, folder.as_str(), MOST_SLOTS)?;
+    stores::open(rt, alloc, folder.as_str())
 }
 
-/// Measures this many groups of commits to a store in a folder of its own.
+/// Measures this many groups of commits.
 pub(crate) fn measure(
     rt: &HostRuntime,
     alloc: Global,
     folder: &str,
-    store: &str,
     shape: Shape,
     count: u64,
 ) -> Result<(), Fault> {
-    let mut raw = RawFiles::below(rt, alloc, folder)?;
-    measure_beside(rt, alloc, store, &mut raw, shape, count)
+    let mut raw = open_raw(rt, alloc, folder)?;
+    let mut store = open_store(rt, alloc, folder)?;
+    let times = time_groups(rt, alloc, &mut store, &mut raw, shape, count);
+    store.close();
+    print(rt, shape, times?)
 }

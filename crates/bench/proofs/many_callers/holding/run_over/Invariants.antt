@@ -1,6 +1,6 @@
 use Rattle.std.proofs.Common.{[]}
 use Rattle.history.specs.Machine.{opened}
-use Rattle.bench.proofs.many_callers.sharing.run_over.Given as goal
+use Rattle.bench.proofs.many_callers.holding.run_over.Given as goal
 
 abbrev pub ghost-new : goal.ghost-new
 ghost-new g a = opened [] (λ relation. 0)
