@@ -4,7 +4,7 @@ import glob
 import re
 import sys
 
-TESTS = ["crates/call_examples/src/*.rt", "crates/storage_examples/src/*.rt"]
+TESTS = ["crates/test_calls/src/*.rt", "crates/test_storage/src/*.rt"]
 
 
 def main() -> int:

@@ -49,7 +49,7 @@ def refusals_of_program() -> set[str]:
 
 def main() -> None:
     store, host = listed("TS_OK", "TS_NOT_GROWABLE"), listed("TS_SYSTEM", "TS_OCCUPIED")
-    proved = numbers("crates/embedded/src/code.rt", r"Code::(\w+) => (-?\d+)")
+    proved = numbers("crates/c_engine/src/code.rt", r"Code::(\w+) => (-?\d+)")
     assert {cased(name): code for name, code in store.items()} == proved, (store, proved)
 
     codes, program = store | host, program_texts()

@@ -7,8 +7,8 @@ use Rattle.history.specs.declared.key.Key.{Key}
 use Rattle.history.specs.Key.{key_cmp, key_lt}
 use Rattle.history.proofs.Keys.{key_lt-from_less}
 use Rattle.floors.specs.Floors.{floor_at}
-use Rattle.image.specs.Reading.{ArchiveRecord}
-use Rattle.image.specs.StandsFor as stands
+use Rattle.law_image.specs.Reading.{ArchiveRecord}
+use Rattle.law_image.specs.StandsFor as stands
 use Rattle.archive.specs.declared.run.RunEntry.{RunEntry}
 use Rattle.archive.specs.Records.{IsArchiveRecord}
 use Rattle.archive.specs.Runs.{run_bytes, run_end, HoldsRun}

@@ -3,7 +3,7 @@ use Rattle.std.proofs.Common.{◌≡◌, ◌≢◌, ◌⊎◌, inl, inr, ℕ, ze
 use Rattle.std.specs.Prelude.{Result, Ok, Err, MatchResult}
 use Rattle.std.specs.List.{slice_range}
 use Rattle.disk.specs.Calls.{DiskState}
-use Rattle.image.specs.Values.{Value}
+use Rattle.law_image.specs.Values.{Value}
 use Rattle.wire.specs.Values.{IsValue, value_bytes}
 use Rattle.history.specs.declared.key.Key.{Key}
 use Rattle.archive.specs.declared.head.Placed.{Placed}

@@ -2,7 +2,7 @@
 use Rattle.std.proofs.Common.{◌≡◌, ℕ, ◌+◌, ◌-◌, ◌≤◌, List, length, take, drop, sym, ◌∙◌, ap, arith}
 use Rattle.std.specs.List.{slice_range}
 use Rattle.std.proofs.lemmas.List.{drop-take, take-take}
-use Rattle.image.specs.Reading.{ArchiveRecord}
+use Rattle.law_image.specs.Reading.{ArchiveRecord}
 use Rattle.archive.specs.declared.run.RunEntry.{RunEntry}
 use Rattle.archive.specs.Parts.{IsRight, EndBy}
 use Rattle.archive.specs.Runs.{HoldsRun, run_bytes, run_end}

@@ -4,7 +4,7 @@ use Rattle.std.specs.List.{concat}
 use Rattle.std.proofs.lemmas.Bool.{cases_lt}
 use Rattle.std.proofs.lemmas.List.{take_at, drop_at, take_all, drop_all}
 use Rattle.wire.specs.Numbers.{u64_bytes}
-use Rattle.image.specs.Reading.{ArchiveRecord}
+use Rattle.law_image.specs.Reading.{ArchiveRecord}
 use Rattle.archive.specs.Records.{record_bytes}
 use Rattle.archive.specs.Runs.{records_bytes, index_bytes, run_bytes}
 use Rattle.archive.specs.Pieces.{run_chunks, index_chunks}

@@ -2,7 +2,7 @@
 use Rattle.std.proofs.Common.{◌≡◌, ℕ, ◌+◌, ◌*◌, List, [], ◌∷◌, length, map, drop, Some, None, refl, ap, sym, ◌∙◌, arith, length-append}
 use Rattle.std.specs.List.{slice_get}
 use Rattle.wire.specs.Numbers.{u64_bytes}
-use Rattle.image.specs.Reading.{ArchiveRecord}
+use Rattle.law_image.specs.Reading.{ArchiveRecord}
 use Rattle.archive.specs.Records.{record_bytes}
 use Rattle.archive.specs.Runs.{records_bytes, index_bytes, run_bytes}
 use Rattle.archive.specs.Pieces.{size_of, index_chunks}

@@ -9,9 +9,9 @@ use Rattle.std.proofs.lemmas.List.Elements.{filter_agree}
 use Rattle.history.specs.declared.time.Version.{Version}
 use Rattle.history.specs.Key.{key_of}
 use Rattle.history.specs.Versions.{cut, lasts, rows}
-use Rattle.image.specs.Values.{Value}
-use Rattle.image.specs.Reading.{ArchiveRecord}
-use Rattle.image.specs.Facts.{run_versions}
+use Rattle.law_image.specs.Values.{Value}
+use Rattle.law_image.specs.Reading.{ArchiveRecord}
+use Rattle.law_image.specs.Facts.{run_versions}
 use Rattle.archive.specs.declared.run.RunEntry.{RunEntry}
 use Rattle.archive.specs.Runs.{HoldRuns}
 use Rattle.archive.specs.Answers.{versions_in, rows_of, head_of, of_relation, is_wanted, with_record, row_of, rows_in}

@@ -4,7 +4,7 @@ use Rattle.std.specs.List.{slice_get, slice_range}
 use Rattle.std.proofs.lemmas.Option.{slice_get_within}
 use Rattle.std.proofs.lemmas.Bool.Decides.{nat_tests}
 use Rattle.byteorder.specs.Endian.{little_number}
-use Rattle.image.specs.Reading.{ArchiveRecord}
+use Rattle.law_image.specs.Reading.{ArchiveRecord}
 use Rattle.archive.specs.declared.run.RunEntry.{RunEntry}
 use Rattle.archive.specs.declared.head.Head.{Head}
 use Rattle.archive.specs.Runs.{place_of, HoldsRun}

@@ -6,9 +6,9 @@ use Rattle.history.specs.declared.key.Key.{Key}
 use Rattle.history.specs.declared.time.Version.{Version}
 use Rattle.history.specs.Key.{same_key}
 use Rattle.history.specs.Versions.{stands_at, standing_at}
-use Rattle.image.specs.Values.{Value}
-use Rattle.image.specs.Reading.{ArchiveRecord}
-use Rattle.image.specs.Facts.{run_versions}
+use Rattle.law_image.specs.Values.{Value}
+use Rattle.law_image.specs.Reading.{ArchiveRecord}
+use Rattle.law_image.specs.Facts.{run_versions}
 use Rattle.archive.proofs.Orders.{stands_for}
 
 pub standing_is : (key : Key) (time : ℕ) (records : List ArchiveRecord)

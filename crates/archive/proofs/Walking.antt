@@ -10,9 +10,9 @@ use Rattle.history.specs.declared.key.Key.{Key}
 use Rattle.history.specs.declared.time.Version.{Version}
 use Rattle.history.specs.Key.{key_of, same_key}
 use Rattle.history.specs.Versions.{cut, lasts, rows}
-use Rattle.image.specs.Values.{Value}
-use Rattle.image.specs.Reading.{ArchiveRecord}
-use Rattle.image.specs.Facts.{run_versions}
+use Rattle.law_image.specs.Values.{Value}
+use Rattle.law_image.specs.Reading.{ArchiveRecord}
+use Rattle.law_image.specs.Facts.{run_versions}
 use Rattle.archive.specs.declared.run.RunEntry.{RunEntry}
 use Rattle.archive.specs.Laid.{IsBefore, IsLaidRun}
 use Rattle.archive.specs.declared.head.Head.{Head}

@@ -16,9 +16,9 @@ use Rattle.wire.specs.Spelling.{IsRun}
 use Rattle.history.specs.Key.{IsKey, key_lt}
 use Rattle.history.proofs.Keys.{key_cmp-from_lt}
 use Rattle.floors.specs.Floors.{floor_at}
-use Rattle.image.specs.Values.{Value}
-use Rattle.image.specs.Reading.{ArchiveRecord}
-use Rattle.image.specs.StandsFor as stands
+use Rattle.law_image.specs.Values.{Value}
+use Rattle.law_image.specs.Reading.{ArchiveRecord}
+use Rattle.law_image.specs.StandsFor as stands
 use Rattle.archive.specs.declared.run.RunEntry.{RunEntry}
 use Rattle.archive.specs.declared.head.Head.{Head}
 use Rattle.archive.specs.Records.{head_bytes, record_bytes, IsArchiveRecord}

@@ -1,7 +1,7 @@
 -- What stands in an area for a run, whatever its bytes are, and which rule of a run it breaks.
 use Rattle.std.specs.Prelude.{◌≡◌, ℕ, zero, suc, ◌+◌, ◌*◌, ◌<◌, ◌≤◌, ◌==◌, IsTrue, false, List, length, slice_range, Option, Some, None, if◌then◌else◌}
 use Rattle.byteorder.specs.Endian.{little_number}
-use Rattle.image.specs.Values.{Value}
+use Rattle.law_image.specs.Values.{Value}
 use Rattle.wire.specs.Values.{IsValue, value_bytes}
 use Rattle.archive.specs.declared.run.RunEntry.{RunEntry}
 use Rattle.archive.specs.declared.head.Head.{Head}

@@ -1,7 +1,7 @@
 -- A run by the places of its records, as a search sees it.
 use Rattle.std.specs.Prelude.{◌≡◌, ◌⊎◌, ℕ, ◌^◌, ◌<◌, ◌≤◌, List, [], ◌∷◌, length, slice_get, Some, slice_range}
 use Rattle.floors.specs.Floors.{floor_at}
-use Rattle.image.specs.Reading.{ArchiveRecord}
+use Rattle.law_image.specs.Reading.{ArchiveRecord}
 use Rattle.archive.specs.declared.run.RunEntry.{RunEntry}
 use Rattle.wire.specs.Values.{IsValue}
 use Rattle.archive.specs.Runs.{run_bytes, run_end}

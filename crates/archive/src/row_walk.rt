@@ -7,7 +7,7 @@ use history::Version;
 impl ArchiveReader {
     ghost use Rattle.std.specs.Prelude.{◌++◌, MatchResult, ◌≡◌, ℕ, ◌+◌, ◌<◌, ◌≤◌, List, Option, IsTrue, IfOk, IfErr, OnOk, length};
     ghost use Rattle.std.specs.List.{flat_map};
-    ghost use Rattle.image.specs.Reading.{ArchiveRecord};
+    ghost use Rattle.law_image.specs.Reading.{ArchiveRecord};
     ghost use Rattle.archive.specs.Digits.{digits};
     ghost use Rattle.archive.specs.Parts.{IsRight, Keeps};
     ghost use Rattle.archive.specs.Runs.{HoldRuns, RunsEndBy};

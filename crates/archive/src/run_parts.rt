@@ -37,7 +37,7 @@ fn is_record_room(place: u64, end: u64) -> bool
 
 impl ArchiveReader {
     ghost use Rattle.std.specs.Prelude.{◌⊎◌, ◌≢◌, MatchResult, ◌≡◌, ℕ, ◌+◌, ◌-◌, ◌^◌, ◌<◌, ◌≤◌, List, IsTrue, Some, IfOk, OnOk, min, length, slice_get, slice_range};
-    ghost use Rattle.image.specs.Reading.{ArchiveRecord};
+    ghost use Rattle.law_image.specs.Reading.{ArchiveRecord};
     ghost use Rattle.wire.specs.Values.{IsValue, value_bytes};
     ghost use Rattle.archive.specs.Parts.{IsRight};
     ghost use Rattle.archive.specs.Runs.{place_of, run_end};

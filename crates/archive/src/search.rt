@@ -13,10 +13,10 @@ pub(crate) struct Bound {
 
 impl ArchiveReader {
     ghost use Rattle.std.specs.Prelude.{MatchResult, ◌≡◌, ℕ, ◌+◌, ◌<◌, ◌≤◌, List, [], ◌∷◌, ◌++◌, true, None, IsTrue, IfOk};
-    ghost use Rattle.image.specs.Reading.{ArchiveRecord};
+    ghost use Rattle.law_image.specs.Reading.{ArchiveRecord};
     ghost use Rattle.archive.specs.Digits.{digits};
     ghost use Rattle.history.specs.Versions.{standing_at};
-    ghost use Rattle.image.specs.Facts.{run_versions};
+    ghost use Rattle.law_image.specs.Facts.{run_versions};
     ghost use Rattle.archive.specs.Parts.{IsRight};
     ghost use Rattle.archive.specs.Readers.{kept_of};
     ghost use Rattle.archive.specs.Searches.{archive_of, LooksInto, Reads, Answers, IsPlaced, IsSeen, IsBound};

@@ -1,5 +1,5 @@
 ghost use Rattle.std.specs.Prelude.{◌≡◌, List, Some, drop, slice_get, option_map};
-ghost use Rattle.image.specs.Reading.{ArchiveRecord};
+ghost use Rattle.law_image.specs.Reading.{ArchiveRecord};
 ghost use Rattle.archive.specs.Answers.{head_of, record_of};
 
 use crate::Head;

@@ -3,15 +3,15 @@ use Rattle.std.proofs.Common.{◌≡◌, ℕ, false, IsTrue, Bool, Option, None,
 use Rattle.disk.specs.Calls.{DiskState}
 use Rattle.disk_file.specs.Counts.{untold}
 use Rattle.history.specs.Machine.{Machine}
-use Rattle.image.specs.Values.{Value}
+use Rattle.law_image.specs.Values.{Value}
 use Rattle.status.specs.GrowthState.{GrowthState}
 use Rattle.store.specs.Values.{StoreValue, IsInStep, TurnsOne}
 use Rattle.store.specs.declared.job.Job.{Job}
 use Rattle.store.specs.declared.job.JobWork.{JobWork}
 use Rattle.store.specs.declared.job.JobWork.TheVariants.{Archive, Reclaim, Floor, Grow}
-use Rattle.refinement.specs.Homes.{HasPlace}
-use Rattle.refinement.specs.Stands.{RaisesFloor, Stands, StandsStill, StandsGrowing, without_growth}
-use Rattle.refinement.proofs.Growing.{as-still, as-growing, by-kind}
+use Rattle.law_refinement.specs.Homes.{HasPlace}
+use Rattle.law_refinement.specs.Stands.{RaisesFloor, Stands, StandsStill, StandsGrowing, without_growth}
+use Rattle.law_refinement.proofs.Growing.{as-still, as-growing, by-kind}
 
 turns-over : (v : StoreValue) (disk : DiskState) → TurnsOne v → TurnsOne (record v { disk = disk })
 turns-over v disk t = record { turning = t.turning; writing = t.writing; turn = t.turn; job = t.job }

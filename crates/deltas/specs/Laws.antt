@@ -1,9 +1,9 @@
 -- What holds of chains and of stored writes.
 use Rattle.std.specs.Prelude.{◌≡◌, ◌≢◌, ℕ, [], ◌∷◌, List, length, map, Option}
 use Rattle.std.specs.List.{AllByRecursion}
-use Rattle.image.specs.Values.{Value}
-use Rattle.image.specs.Reading as readings
-use Rattle.image.specs.Facts.{stored, written}
+use Rattle.law_image.specs.Values.{Value}
+use Rattle.law_image.specs.Reading as readings
+use Rattle.law_image.specs.Facts.{stored, written}
 use Rattle.deltas.specs.declared.«record».Record.{Record}
 use Rattle.deltas.specs.declared.chain.Kinds.{Kinds}
 use Rattle.deltas.specs.declared.chain.ChainName.{ChainName}

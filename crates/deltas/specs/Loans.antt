@@ -1,5 +1,5 @@
 -- Records in loans.
-use Rattle.image.specs.Facts.{mask_of, changed_of}
+use Rattle.law_image.specs.Facts.{mask_of, changed_of}
 use Rattle.deltas.specs.declared.«record».Content.{Content}
 use Rattle.deltas.specs.declared.«record».Content.TheVariants.{Anchor, Delta, Gone, Old}
 use Rattle.deltas.specs.declared.«record».Record.{Record}

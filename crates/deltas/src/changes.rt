@@ -1,7 +1,7 @@
 //! The fields that a value has otherwise than the one before.
 
 ghost use Rattle.std.specs.Prelude.{◌≡◌, ◌≤◌, ◌<◌, ◌^◌, ◌*◌, length};
-ghost use Rattle.image.specs.Facts.{mask_of, changed_of};
+ghost use Rattle.law_image.specs.Facts.{mask_of, changed_of};
 ghost use Rattle.wire.specs.Fields.{fields_bytes};
 
 use wire::FieldsIter;

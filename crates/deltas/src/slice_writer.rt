@@ -4,7 +4,7 @@ ghost use Rattle.std.specs.Prelude.{◌≡◌, ◌++◌, ◌+◌, ◌≤◌, [],
 ghost use Rattle.wire.specs.Numbers.{u16_bytes, u32_bytes, u64_bytes};
 ghost use Rattle.wire.specs.Fields.{field_bytes, fields_bytes};
 ghost use Rattle.wire.specs.Values.{value_bytes};
-ghost use Rattle.image.specs.Facts.{mask_of, changed_of};
+ghost use Rattle.law_image.specs.Facts.{mask_of, changed_of};
 ghost use Rattle.deltas.specs.Records.{kind_of, rest_of, spelling};
 ghost use Rattle.deltas.specs.Loans.{content_of_loan, record_of_loan};
 ghost use Rattle.deltas.specs.Images.{IsSameFrom};

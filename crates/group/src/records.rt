@@ -1,9 +1,9 @@
 //! A write set as the records that the heap keeps of it.
 ghost use Rattle.std.specs.Prelude.{◌≡◌, map, option_copied};
 ghost use Rattle.history.specs.declared.key.KeyWrite.{KeyWrite};
-ghost use Rattle.image.specs.Facts.{latest};
-ghost use Rattle.image.specs.Plans.{stored_record};
-ghost use Rattle.image.specs.Values.{Value};
+ghost use Rattle.law_image.specs.Facts.{latest};
+ghost use Rattle.law_image.specs.Plans.{stored_record};
+ghost use Rattle.law_image.specs.Values.{Value};
 ghost use Rattle.chains.specs.KeyWrites.{writes_of};
 ghost use Rattle.deltas.specs.Loans.{record_of_loan};
 ghost use Rattle.deltas.specs.Records.{record_of};
@@ -44,8 +44,8 @@ pub struct WriteRecords<'a> {
 
 impl<'a> Model for WriteRecords<'a> {
     ghost use Rattle.std.specs.Prelude.{List, map};
-    ghost use Rattle.image.specs.Facts.{latest};
-    ghost use Rattle.image.specs.Plans.{stored_record};
+    ghost use Rattle.law_image.specs.Facts.{latest};
+    ghost use Rattle.law_image.specs.Plans.{stored_record};
     ghost use Rattle.chains.specs.KeyWrites.{writes_of};
     ghost use Rattle.deltas.specs.Records.{record_of};
     ghost use Rattle.deltas.specs.declared.«record».Record.{Record};

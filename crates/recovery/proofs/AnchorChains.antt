@@ -10,10 +10,10 @@ use Rattle.history.specs.declared.key.Key.{Key}
 use Rattle.history.specs.declared.time.TimedWrite.{TimedWrite}
 use Rattle.history.specs.Key.{IsKey, key_cmp, key_lt, same_key}
 use Rattle.history.proofs.Keys.{key_lt-from_less}
-use Rattle.image.specs.Values.{Value}
-use Rattle.image.specs.Reading.{OldRecord}
-use Rattle.image.specs.Facts.{old_writes}
-use Rattle.image.specs.StandsFor.{IsAnchorUpto}
+use Rattle.law_image.specs.Values.{Value}
+use Rattle.law_image.specs.Reading.{OldRecord}
+use Rattle.law_image.specs.Facts.{old_writes}
+use Rattle.law_image.specs.StandsFor.{IsAnchorUpto}
 use Rattle.chains.specs.KeyWrites.{KeyWrites, is_of, AllAbove, IsOrdered, writes_in, writes_of, latest}
 use Rattle.chains.proofs.Order.{ordered-front}
 use Rattle.extents.specs.declared.usage.Usage.{Usage}
@@ -27,10 +27,10 @@ use Rattle.deltas.specs.declared.chain.Kinds.TheVariants.{OfAnchors}
 use Rattle.deltas.specs.Records as deltas
 use Rattle.deltas.specs.Records.{spelling, from_of, value_of, old_record, old_record_of}
 use Rattle.deltas.specs.Chains.{IsPermitted}
-use Rattle.layout.specs.Records.{old_bytes, IsOldRecord}
-use Rattle.layout.specs.Extents.{Extent, IsExtent, IsChain, HoldsExtent, first_of}
-use Rattle.layout.specs.Opening.{HasAnchors}
-use Rattle.layout.proofs.Lists.{both}
+use Rattle.law_layout.specs.Records.{old_bytes, IsOldRecord}
+use Rattle.law_layout.specs.Extents.{Extent, IsExtent, IsChain, HoldsExtent, first_of}
+use Rattle.law_layout.specs.Opening.{HasAnchors}
+use Rattle.law_layout.proofs.Lists.{both}
 use Rattle.recovery.specs.declared.records.ReadRecords.{ReadRecords}
 use Rattle.recovery.specs.declared.recovered.HeapRead.{HeapRead}
 use Rattle.recovery.specs.Walk.{extent_at, numbers_at, IsThere, claimed, AreClaimable}

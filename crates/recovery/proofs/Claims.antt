@@ -8,8 +8,8 @@ use Rattle.extents.specs.declared.usage.Usage.{Usage}
 use Rattle.extents.specs.declared.usage.Usage.TheVariants.{Free, Kept}
 use Rattle.extents.specs.Usages.{IsFree, IsKept, with_usage}
 use Rattle.extents.proofs.Frames.{other_stays, are_apart}
-use Rattle.layout.specs.Extents.{Extent, AreDistinct}
-use Rattle.layout.proofs.Lists.{AreCross}
+use Rattle.law_layout.specs.Extents.{Extent, AreDistinct}
+use Rattle.law_layout.proofs.Lists.{AreCross}
 use Rattle.recovery.specs.Walk.{IsThere, claimed, AreClaimable}
 use Rattle.recovery.specs.HeapReads.{numbers_in}
 

@@ -9,12 +9,12 @@ use Rattle.wire.specs.declared.slot.Member.{Member}
 use Rattle.wire.specs.declared.slot.Body.{Body}
 use Rattle.wire.specs.declared.slot.Body.TheVariants as bodies
 use Rattle.wire.specs.declared.slot.Slot.{Slot as Wired}
-use Rattle.image.specs.Reading.{Head, Slot, Commits, Archived, Reclaimed, Floor}
-use Rattle.image.specs.Log.{heads_of, last_time_after, last_time, archive_mark, reclaim_mark, reclaim_mark_after, floor_of, AreRisingAfter, MayAllCome}
-use Rattle.image.proofs.Logs.{heads_of-append, last_time_after-append, marked-all, marked-none}
+use Rattle.law_image.specs.Reading.{Head, Slot, Commits, Archived, Reclaimed, Floor}
+use Rattle.law_image.specs.Log.{heads_of, last_time_after, last_time, archive_mark, reclaim_mark, reclaim_mark_after, floor_of, AreRisingAfter, MayAllCome}
+use Rattle.law_image.proofs.Logs.{heads_of-append, last_time_after-append, marked-all, marked-none}
 use Rattle.status.specs.Rules.{head_of, slot_of, log_of, KeepsRules}
-use Rattle.layout.specs.Layouts.{entries_in, entries_of, later_than, no_anchors, anchors_in, anchors_after}
-use Rattle.layout.proofs.Rules.{rules_say}
+use Rattle.law_layout.specs.Layouts.{entries_in, entries_of, later_than, no_anchors, anchors_in, anchors_after}
+use Rattle.law_layout.proofs.Rules.{rules_say}
 
 rising_join : (t : ℕ) (xs ys : List Head) → AreRisingAfter t xs → AreRisingAfter (last_time_after t xs) ys → AreRisingAfter t (xs ++ ys)
 rising_join t [] ys a b = b

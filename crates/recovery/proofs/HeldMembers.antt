@@ -18,19 +18,19 @@ use Rattle.history.proofs.Orders.{is_le}
 use Rattle.history.proofs.Values.{value_after-append}
 use Rattle.history.proofs.Histories.{writes_of-append, last_after-append, rising-append}
 use Rattle.history.proofs.Filters.{AllByRecursion-append}
-use Rattle.image.specs.Values.{Value}
-use Rattle.image.specs.Reading as readings
-use Rattle.image.specs.Reading.{OldRecord}
-use Rattle.image.specs.Facts.{commit_read, commits_from, latest, old_writes}
-use Rattle.image.proofs.FactsOf.{commits_from-append}
+use Rattle.law_image.specs.Values.{Value}
+use Rattle.law_image.specs.Reading as readings
+use Rattle.law_image.specs.Reading.{OldRecord}
+use Rattle.law_image.specs.Facts.{commit_read, commits_from, latest, old_writes}
+use Rattle.law_image.proofs.FactsOf.{commits_from-append}
 use Rattle.chains.specs.Writes.{written}
 use Rattle.extents.specs.declared.usage.Usage.{Usage}
 use Rattle.extents.specs.declared.usage.Usage.TheVariants.{Free}
 use Rattle.deltas.specs.declared.«record».Record.{Record}
-use Rattle.layout.specs.Extents.{Extent, AreDistinct}
-use Rattle.layout.specs.Layouts.{StoredMember, extents_of}
-use Rattle.layout.specs.Opening.{HasMember, values_left, AreLive, FailsAt, HasAnchors}
-use Rattle.layout.proofs.Live.{values_behind, live_more, fails_behind, parts_of_live}
+use Rattle.law_layout.specs.Extents.{Extent, AreDistinct}
+use Rattle.law_layout.specs.Layouts.{StoredMember, extents_of}
+use Rattle.law_layout.specs.Opening.{HasMember, values_left, AreLive, FailsAt, HasAnchors}
+use Rattle.law_layout.proofs.Live.{values_behind, live_more, fails_behind, parts_of_live}
 use Rattle.recovery.specs.declared.recovered.HeapRead.{HeapRead}
 use Rattle.recovery.specs.Resolving.{before_of}
 use Rattle.recovery.specs.Walk.{claimed}

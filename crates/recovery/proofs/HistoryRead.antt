@@ -13,22 +13,22 @@ use Rattle.history.specs.Histories.{History, versions_of, writes_of}
 use Rattle.history.proofs.Orders.{is_lt, not_lt}
 use Rattle.history.proofs.Values.{writes_after-all}
 use Rattle.history.proofs.Histories.{writes_of-rising, writes_of-commits_after, rising-from_following}
-use Rattle.image.specs.Values.{Value, IsValue}
-use Rattle.image.specs.Reading.{OldRecord, Reading}
-use Rattle.image.specs.Log as log
-use Rattle.image.specs.Facts.{old_writes, heap_facts}
-use Rattle.image.specs.StandsFor.{StandsFor, IsAnchorUpto, reclaimed_upto}
-use Rattle.image.proofs.Standing.{last_time-heads}
+use Rattle.law_image.specs.Values.{Value, IsValue}
+use Rattle.law_image.specs.Reading.{OldRecord, Reading}
+use Rattle.law_image.specs.Log as log
+use Rattle.law_image.specs.Facts.{old_writes, heap_facts}
+use Rattle.law_image.specs.StandsFor.{StandsFor, IsAnchorUpto, reclaimed_upto}
+use Rattle.law_image.proofs.Standing.{last_time-heads}
 use Rattle.chains.specs.KeyWrites as chains
 use Rattle.chains.specs.Writes.{last_time, last_time_after}
 use Rattle.status.specs.declared.header.Header.{Header}
 use Rattle.floors.specs.Floors.{FloorsValue, floor_at}
 use Rattle.status.specs.Rules.{is_built}
 use Rattle.status.proofs.Kept.{kept-of}
-use Rattle.layout.specs.Layouts.{Layout, IsLayoutOf, HoldsLayout}
-use Rattle.layout.specs.Opening.{AreBuilt, unread, unread_layout}
-use Rattle.layout.proofs.Opening.{held_opens}
-use Rattle.layout.proofs.OpensAsOne.{opens_once}
+use Rattle.law_layout.specs.Layouts.{Layout, IsLayoutOf, HoldsLayout}
+use Rattle.law_layout.specs.Opening.{AreBuilt, unread, unread_layout}
+use Rattle.law_layout.proofs.Opening.{held_opens}
+use Rattle.law_layout.proofs.OpensAsOne.{opens_once}
 use Rattle.recovery.specs.declared.recovered.Recovered.{Recovered}
 use Rattle.recovery.specs.ReadsImage.{IsOpening, IsReadAs, IsReadFrom}
 use Rattle.recovery.specs.Laws.{IsHistoryRead}

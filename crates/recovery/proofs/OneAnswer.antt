@@ -8,9 +8,9 @@ use Rattle.disk.specs.Areas.{Image}
 use Rattle.disk.specs.declared.area.Area.TheVariants.{Status, Heap, Archive}
 use Rattle.wire.proofs.Again.{one_slot}
 use Rattle.wire.specs.declared.slot.Slot.{Slot}
-use Rattle.image.specs.Reading.{Reading}
-use Rattle.image.specs.Log.{heads_of, last_time, archive_mark, reclaim_mark}
-use Rattle.image.specs.Facts.{heap_facts}
+use Rattle.law_image.specs.Reading.{Reading}
+use Rattle.law_image.specs.Log.{heads_of, last_time, archive_mark, reclaim_mark}
+use Rattle.law_image.specs.Facts.{heap_facts}
 use Rattle.extents.specs.declared.usage.Usage.{Usage}
 use Rattle.extents.specs.declared.usage.Usage.TheVariants.{Free, Kept}
 use Rattle.extents.specs.Usages.{IsFree, IsKept, IsNoneOf}
@@ -22,11 +22,11 @@ use Rattle.status.specs.Rules.{MayFollow, runs_of}
 use Rattle.status.specs.Kept.{kept_of}
 use Rattle.status.specs.Reading.{ReadsHeader, HoldsLog, IsDamaged}
 use Rattle.status.proofs.Opening.{only_log, one_log}
-use Rattle.layout.specs.Layouts.{Layout, live}
-use Rattle.layout.specs.Opening.{FailsHeap, FailsRuns}
-use Rattle.layout.proofs.Once.{one_header}
-use Rattle.layout.proofs.Unique.{slot_within}
-use Rattle.layout.proofs.OpensAsOne as one
+use Rattle.law_layout.specs.Layouts.{Layout, live}
+use Rattle.law_layout.specs.Opening.{FailsHeap, FailsRuns}
+use Rattle.law_layout.proofs.Once.{one_header}
+use Rattle.law_layout.proofs.Unique.{slot_within}
+use Rattle.law_layout.proofs.OpensAsOne as one
 use Rattle.recovery.specs.declared.recovered.Recovered.{Recovered}
 use Rattle.recovery.specs.declared.fault.OpenFault.{OpenFault}
 use Rattle.recovery.specs.declared.fault.OpenFault.TheVariants.{NotAStore, Damaged, Device, NoMemory}

@@ -9,8 +9,8 @@ use Rattle.wire.specs.declared.slot.Member.{Member}
 use Rattle.wire.specs.declared.slot.Body.{Body}
 use Rattle.wire.specs.declared.slot.Body.TheVariants.{Commit, Archived, Reclaimed, Floor}
 use Rattle.wire.specs.declared.slot.Slot.{Slot}
-use Rattle.image.specs.Reading as readings
-use Rattle.image.specs.Log.{heads_of, last_time_after, archive_mark}
+use Rattle.law_image.specs.Reading as readings
+use Rattle.law_image.specs.Log.{heads_of, last_time_after, archive_mark}
 use Rattle.chains.specs.KeyWrites.{KeyWrites, writes_of as chain_writes_of}
 use Rattle.extents.specs.declared.usage.Usage.{Usage}
 use Rattle.extents.specs.declared.usage.Usage.TheVariants.{Free}
@@ -18,11 +18,11 @@ use Rattle.extents.specs.Usages.{IsKept, IsNoneOf}
 use Rattle.status.specs.declared.header.Header.{Header}
 use Rattle.status.specs.Kept.{kept_of}
 use Rattle.status.specs.Rules.{head_of, log_of, runs_in, runs_of}
-use Rattle.layout.specs.Extents.{Extent, HoldsExtent}
-use Rattle.layout.specs.Layouts.{StoredMember, IsStoredMember, Layout, extents_of, entries_of, later_than, no_anchors, anchors_after}
-use Rattle.layout.specs.Opening.{EndsWithin, mark_of}
-use Rattle.layout.proofs.Rules.{rules_say}
-use Rattle.layout.proofs.Live.{parts_of_live}
+use Rattle.law_layout.specs.Extents.{Extent, HoldsExtent}
+use Rattle.law_layout.specs.Layouts.{StoredMember, IsStoredMember, Layout, extents_of, entries_of, later_than, no_anchors, anchors_after}
+use Rattle.law_layout.specs.Opening.{EndsWithin, mark_of}
+use Rattle.law_layout.proofs.Rules.{rules_say}
+use Rattle.law_layout.proofs.Live.{parts_of_live}
 use Rattle.disk.specs.declared.area.Area.TheVariants.{Status, Heap, Archive}
 use Rattle.recovery.specs.declared.fault.OpenFault.{OpenFault}
 use Rattle.recovery.specs.declared.fault.OpenFault.TheVariants.{NotAStore, Damaged, Device, NoMemory}

@@ -9,9 +9,9 @@ use Rattle.wire.specs.Spelling.{IsMember}
 use Rattle.wire.specs.declared.slot.Member.{Member}
 use Rattle.history.specs.declared.key.Key.{Key}
 use Rattle.history.specs.Key.{key_cmp}
-use Rattle.image.specs.Values.{Value}
-use Rattle.image.specs.Reading as readings
-use Rattle.image.specs.Facts.{IsStored}
+use Rattle.law_image.specs.Values.{Value}
+use Rattle.law_image.specs.Reading as readings
+use Rattle.law_image.specs.Facts.{IsStored}
 use Rattle.status.specs.Rules.{head_of}
 use Rattle.extents.specs.declared.usage.Usage.{Usage}
 use Rattle.extents.specs.declared.usage.Usage.TheVariants.{Free, Kept}
@@ -23,12 +23,12 @@ use Rattle.deltas.specs.Records.{spelling, record_of, content_of, heap_content, 
 use Rattle.deltas.specs.Reading.{next_of}
 use Rattle.deltas.specs.Chains.{IsPermitted}
 use Rattle.deltas.proofs.OneList.{one_packing}
-use Rattle.layout.specs.Records.{record_bytes, IsRecord}
-use Rattle.layout.specs.Extents.{Extent, IsExtent, IsChain, AreLinked, AreDistinct, HoldsExtent, first_of, extent_start, extent_bytes}
-use Rattle.layout.specs.Layouts.{StoredMember}
-use Rattle.layout.specs.Opening.{IsLiveMember, HasMember}
-use Rattle.layout.proofs.Extents.{extent-length}
-use Rattle.layout.proofs.Lists.{weaker, both, distinct_parts, distinct_join, cross_turned}
+use Rattle.law_layout.specs.Records.{record_bytes, IsRecord}
+use Rattle.law_layout.specs.Extents.{Extent, IsExtent, IsChain, AreLinked, AreDistinct, HoldsExtent, first_of, extent_start, extent_bytes}
+use Rattle.law_layout.specs.Layouts.{StoredMember}
+use Rattle.law_layout.specs.Opening.{IsLiveMember, HasMember}
+use Rattle.law_layout.proofs.Extents.{extent-length}
+use Rattle.law_layout.proofs.Lists.{weaker, both, distinct_parts, distinct_join, cross_turned}
 use Rattle.recovery.specs.Walk.{extent_at, numbers_at, IsThere, claimed, AreClaimable}
 use Rattle.recovery.specs.Chains.{numbers_of, chain_name, HasRecords, IsRightChain}
 use Rattle.recovery.specs.HeapReads.{numbers_in}

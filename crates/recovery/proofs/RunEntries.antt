@@ -11,7 +11,7 @@ use Rattle.wire.specs.declared.slot.Body.TheVariants.{Commit, Archived, Reclaime
 use Rattle.wire.specs.declared.slot.Slot.{Slot}
 use Rattle.archive.specs.declared.run.RunEntry.{RunEntry}
 use Rattle.status.specs.Rules.{slot_of, log_of, runs_in, runs_of}
-use Rattle.layout.proofs.Lists.{all_of_front, all_of_back}
+use Rattle.law_layout.proofs.Lists.{all_of_front, all_of_back}
 use Rattle.recovery.specs.RunEntries.{runs_named, marks_before, floors_before, AreEntriesOf, AreMarkedFrom}
 
 -- ---- each goes on from the mark of the one before it

@@ -5,9 +5,9 @@ use Rattle.history.specs.Key.{key_cmp}
 use Rattle.std.specs.Prelude.{IsSome}
 use Rattle.history.specs.declared.key.Key.{Key}
 use Rattle.history.specs.declared.key.KeyWrite.{KeyWrite}
-use Rattle.image.specs.Values.{Value}
-use Rattle.image.specs.Reading as readings
-use Rattle.image.specs.Facts.{IsStored, stored, written, write_of}
+use Rattle.law_image.specs.Values.{Value}
+use Rattle.law_image.specs.Reading as readings
+use Rattle.law_image.specs.Facts.{IsStored, stored, written, write_of}
 use Rattle.deltas.specs.declared.«record».Content.{Content}
 use Rattle.deltas.specs.declared.«record».Content.TheVariants.{Anchor, Delta, Gone, Old}
 use Rattle.deltas.specs.declared.«record».Record.{Record}

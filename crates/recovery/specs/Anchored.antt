@@ -2,13 +2,13 @@
 use Rattle.std.specs.Prelude.{◌≡◌, ℕ, List, [], ◌∷◌, replicate, Some}
 use Rattle.wire.specs.declared.slot.Anchors.{Anchors}
 use Rattle.history.specs.declared.key.Key.{Key}
-use Rattle.image.specs.Facts.{old_writes}
+use Rattle.law_image.specs.Facts.{old_writes}
 use Rattle.chains.specs.KeyWrites.{KeyWrites, writes_of}
 use Rattle.deltas.specs.declared.«record».Record.{Record}
 use Rattle.deltas.specs.declared.chain.ChainName.{ChainName}
 use Rattle.deltas.specs.Records.{from_of, value_of}
 use Rattle.extents.specs.declared.usage.Usage.TheVariants.{Free}
-use Rattle.layout.specs.Opening.{HasAnchors}
+use Rattle.law_layout.specs.Opening.{HasAnchors}
 use Rattle.recovery.specs.declared.recovered.HeapRead.{HeapRead}
 use Rattle.recovery.specs.HeapReads.{numbers_in}
 use Rattle.recovery.specs.Walk.{claimed}

@@ -3,8 +3,8 @@ use Rattle.std.specs.Prelude.{◌≡◌, ℕ, List, [], ◌∷◌, ◌++◌, map
 use Rattle.std.specs.List.{AllByRecursion}
 use Rattle.wire.specs.declared.slot.Member.{Member}
 use Rattle.history.specs.declared.key.Key.{Key}
-use Rattle.image.specs.Values.{Value}
-use Rattle.image.specs.Facts.{IsStored, write_of}
+use Rattle.law_image.specs.Values.{Value}
+use Rattle.law_image.specs.Facts.{IsStored, write_of}
 use Rattle.chains.specs.KeyWrites.{writes_of}
 use Rattle.chains.specs.Writes.{written}
 use Rattle.deltas.specs.declared.«record».Record.{Record}

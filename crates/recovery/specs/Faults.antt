@@ -7,7 +7,7 @@ use Rattle.wire.specs.declared.slot.Slot.{Slot}
 use Rattle.status.specs.declared.header.Header.{Header}
 use Rattle.status.specs.Reading.{ReadsHeader, HoldsLog, IsDamaged}
 use Rattle.status.specs.Rules.{runs_of}
-use Rattle.layout.specs.Opening.{FailsHeap, HoldsHeap, FailsRuns}
+use Rattle.law_layout.specs.Opening.{FailsHeap, HoldsHeap, FailsRuns}
 use Rattle.recovery.specs.declared.fault.OpenFault.{OpenFault}
 use Rattle.recovery.specs.declared.fault.OpenFault.TheVariants.{NotAStore, Damaged, Device, NoMemory}
 

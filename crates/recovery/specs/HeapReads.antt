@@ -5,14 +5,14 @@ use Rattle.wire.specs.declared.slot.Anchors.{Anchors}
 use Rattle.wire.specs.declared.slot.Member.{Member as Entry}
 use Rattle.history.specs.declared.key.Key.{Key}
 use Rattle.history.specs.Histories.{History, HasRisingTimes, last_after, writes_of}
-use Rattle.image.specs.Values.{Value}
-use Rattle.image.specs.Reading.{OldRecord}
-use Rattle.image.specs.Facts.{commits_from, latest, old_writes}
+use Rattle.law_image.specs.Values.{Value}
+use Rattle.law_image.specs.Reading.{OldRecord}
+use Rattle.law_image.specs.Facts.{commits_from, latest, old_writes}
 use Rattle.chains.specs.KeyWrites as chains
 use Rattle.extents.specs.declared.usage.Usage.TheVariants.{Free}
-use Rattle.layout.specs.Extents.{Extent}
-use Rattle.layout.specs.Layouts.{StoredMember, extents_of}
-use Rattle.layout.specs.Opening.{AreLive, FailsAt, HasAnchors}
+use Rattle.law_layout.specs.Extents.{Extent}
+use Rattle.law_layout.specs.Layouts.{StoredMember, extents_of}
+use Rattle.law_layout.specs.Opening.{AreLive, FailsAt, HasAnchors}
 use Rattle.recovery.specs.declared.recovered.HeapRead.{HeapRead}
 use Rattle.recovery.specs.declared.fault.OpenFault.{OpenFault}
 use Rattle.recovery.specs.declared.fault.OpenFault.TheVariants.{NotAStore, Damaged, Device, NoMemory}

@@ -4,9 +4,9 @@ use Rattle.disk.specs.Areas.{Image}
 use Rattle.history.specs.declared.key.Key.{Key}
 use Rattle.history.specs.Versions.{versions, ends_after}
 use Rattle.history.specs.Histories.{History, last, versions_of, writes_of}
-use Rattle.image.specs.Values.{Value}
-use Rattle.image.specs.Reading.{Reading}
-use Rattle.image.specs.StandsFor.{StandsFor, head_of}
+use Rattle.law_image.specs.Values.{Value}
+use Rattle.law_image.specs.Reading.{Reading}
+use Rattle.law_image.specs.StandsFor.{StandsFor, head_of}
 use Rattle.chains.specs.Writes.{last_time}
 use Rattle.chains.specs.KeyWrites as chains
 use Rattle.extents.specs.Usages.{IsFree, IsKept}
@@ -14,8 +14,8 @@ use Rattle.floors.specs.Floors.{floor_at}
 use Rattle.status.specs.declared.header.Header.{Header}
 use Rattle.status.specs.Rules as rules
 use Rattle.status.specs.Rules.{is_built}
-use Rattle.layout.specs.Layouts.{Layout, IsLayoutOf, HoldsLayout}
-use Rattle.layout.specs.Opening.{AreBuilt}
+use Rattle.law_layout.specs.Layouts.{Layout, IsLayoutOf, HoldsLayout}
+use Rattle.law_layout.specs.Opening.{AreBuilt}
 use Rattle.recovery.specs.declared.recovered.Recovered.{Recovered}
 use Rattle.recovery.specs.declared.fault.OpenFault.{OpenFault}
 use Rattle.recovery.specs.Chains.{live_named}

@@ -3,17 +3,17 @@ use Rattle.std.specs.Prelude.{◌≡◌, ℕ, ◌≤◌, IsTrue, List, length, m
 use Rattle.std.specs.List.{AllByRecursion}
 use Rattle.disk.specs.Areas.{Image}
 use Rattle.history.specs.declared.key.Key.{Key}
-use Rattle.image.specs.Reading.{Reading}
-use Rattle.image.specs.Log.{heads_of, last_time, archive_mark, reclaim_mark}
-use Rattle.image.specs.Facts.{heap_facts}
+use Rattle.law_image.specs.Reading.{Reading}
+use Rattle.law_image.specs.Log.{heads_of, last_time, archive_mark, reclaim_mark}
+use Rattle.law_image.specs.Facts.{heap_facts}
 use Rattle.chains.specs.KeyWrites.{writes_of}
 use Rattle.extents.specs.declared.usage.Usage.{Usage}
 use Rattle.extents.specs.Usages.{IsFree, IsKept, IsNoneOf}
 use Rattle.status.specs.declared.header.Header.{Header}
 use Rattle.status.specs.Rules.{is_built, head_of}
 use Rattle.status.specs.Kept.{kept_of}
-use Rattle.layout.specs.Layouts.{Layout, live}
-use Rattle.layout.specs.Opening.{Opens}
+use Rattle.law_layout.specs.Layouts.{Layout, live}
+use Rattle.law_layout.specs.Opening.{Opens}
 use Rattle.recovery.specs.declared.recovered.Recovered.{Recovered}
 use Rattle.recovery.specs.RunEntries.{AreEntriesOf}
 use Rattle.recovery.specs.Chains.{live_named}

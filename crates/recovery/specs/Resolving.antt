@@ -1,8 +1,8 @@
 -- The values that records are resolved against.
 use Rattle.std.specs.Prelude.{List, Option}
 use Rattle.history.specs.declared.key.Key.{Key}
-use Rattle.image.specs.Values.{Value}
-use Rattle.image.specs.Facts.{latest}
+use Rattle.law_image.specs.Values.{Value}
+use Rattle.law_image.specs.Facts.{latest}
 use Rattle.chains.specs.KeyWrites.{KeyWrites, writes_of}
 
 -- the value that each key has after all of its writes

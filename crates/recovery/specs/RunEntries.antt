@@ -3,7 +3,7 @@ use Rattle.std.specs.Prelude.{◌≡◌, ℕ, List, [], ◌∷◌, map}
 use Rattle.wire.specs.declared.slot.Run.{Run}
 use Rattle.wire.specs.declared.slot.Slot.{Slot}
 use Rattle.floors.specs.Floors.{FloorsValue, no_floors, raised_in}
-use Rattle.image.specs.Reading as readings
+use Rattle.law_image.specs.Reading as readings
 use Rattle.archive.specs.declared.run.RunEntry.{RunEntry}
 use Rattle.status.specs.Rules.{log_of, runs_of}
 

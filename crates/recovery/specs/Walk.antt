@@ -1,7 +1,7 @@
 -- A walk over extents, each of which names the next one.
 use Rattle.std.specs.Prelude.{ℕ, zero, suc, ◌+◌, ◌*◌, ◌≤◌, List, [], ◌∷◌, slice_range}
 use Rattle.deltas.specs.Reading.{next_of}
-use Rattle.layout.specs.Extents.{extent_start}
+use Rattle.law_layout.specs.Extents.{extent_start}
 use Rattle.extents.specs.declared.usage.Usage.{Usage}
 use Rattle.extents.specs.declared.usage.Usage.TheVariants.{Kept}
 use Rattle.extents.specs.Usages.{IsFree, with_usage}

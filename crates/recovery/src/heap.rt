@@ -1,11 +1,11 @@
 //! The chains that the log names.
 
 ghost use Rattle.std.specs.Prelude.{◌≡◌, ℕ, IsTrue, IfOk, IfErr, map};
-ghost use Rattle.image.specs.Log.{AreRisingAfter, last_time_after};
+ghost use Rattle.law_image.specs.Log.{AreRisingAfter, last_time_after};
 ghost use Rattle.status.specs.Rules.{head_of};
 ghost use Rattle.status.specs.Reading.{AreSlots};
-ghost use Rattle.layout.specs.Layouts.{entries_of, later_than, anchors_after, no_anchors};
-ghost use Rattle.layout.specs.Opening.{mark_of};
+ghost use Rattle.law_layout.specs.Layouts.{entries_of, later_than, anchors_after, no_anchors};
+ghost use Rattle.law_layout.specs.Opening.{mark_of};
 ghost use Rattle.recovery.specs.Answers.{after_reads};
 ghost use Rattle.recovery.specs.Faults.{IsHeapFault};
 ghost use Rattle.recovery.specs.HeapReads.{HoldsEntries, IsMembersFault};

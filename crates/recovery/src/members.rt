@@ -3,8 +3,8 @@
 ghost use Rattle.std.specs.Prelude.{◌≡◌, ◌<◌, ◌≤◌, ◌^◌, ◌++◌, ◌∷◌, [], ℕ, IsTrue, IfOk, IfErr, IfSome, MatchOption, map, length};
 ghost use Rattle.std.specs.List.{AllByRecursion};
 ghost use Rattle.history.specs.declared.key.Key.{Key};
-ghost use Rattle.image.specs.Log.{AreRisingAfter, last_time_after};
-ghost use Rattle.image.specs.Facts.{IsStored, write_of};
+ghost use Rattle.law_image.specs.Log.{AreRisingAfter, last_time_after};
+ghost use Rattle.law_image.specs.Facts.{IsStored, write_of};
 ghost use Rattle.chains.specs.KeyWrites.{writes_of, latest};
 ghost use Rattle.chains.specs.Writes.{written};
 ghost use Rattle.deltas.specs.Records.{heap_record};

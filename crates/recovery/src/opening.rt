@@ -4,13 +4,13 @@ ghost use Rattle.std.specs.Prelude.{◌≡◌, ◌≤◌, ◌<◌, ◌^◌, ℕ,
 ghost use Rattle.std.specs.List.{AllByRecursion};
 ghost use Rattle.disk.specs.Areas.{image_of, settled_on, LeavesNoMore};
 ghost use Rattle.disk.specs.Calls.{refusals};
-ghost use Rattle.image.specs.Log.{AreRisingAfter, last_time_after};
+ghost use Rattle.law_image.specs.Log.{AreRisingAfter, last_time_after};
 ghost use Rattle.floors.specs.Floors.{floor_at};
 ghost use Rattle.status.specs.Header.{total};
 ghost use Rattle.status.specs.Rules.{head_of, row_end, AreInRow, KeepsRules};
-ghost use Rattle.image.specs.Reading.{Reading};
-ghost use Rattle.layout.specs.Layouts.{Layout, entries_of};
-ghost use Rattle.layout.specs.Opening.{EndsWithin, FailsRuns};
+ghost use Rattle.law_image.specs.Reading.{Reading};
+ghost use Rattle.law_layout.specs.Layouts.{Layout, entries_of};
+ghost use Rattle.law_layout.specs.Opening.{EndsWithin, FailsRuns};
 ghost use Rattle.status.specs.declared.header.Header.{Header};
 ghost use Rattle.chains.specs.KeyWrites.{latest};
 ghost use Rattle.status.specs.Reading.{ReadsHeader};

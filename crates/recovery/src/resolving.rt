@@ -6,7 +6,7 @@ ghost use Rattle.std.specs.List.{AllByRecursion};
 ghost use Rattle.deltas.specs.Records.{heap_record};
 ghost use Rattle.deltas.specs.Chains.{IsPermitted};
 ghost use Rattle.deltas.specs.declared.chain.Kinds.TheVariants.{OfCommit};
-ghost use Rattle.image.specs.Facts.{IsStored, write_of};
+ghost use Rattle.law_image.specs.Facts.{IsStored, write_of};
 ghost use Rattle.recovery.specs.Resolving.{before_of};
 
 use chains::{Frozen, SharedValue};

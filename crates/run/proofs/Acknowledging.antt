@@ -6,7 +6,7 @@ use Rattle.history.specs.Answers as answers
 use Rattle.history.specs.Histories.{History}
 use Rattle.history.proofs.Runs.{run-shows}
 use Rattle.history.proofs.Tickets.{done-published}
-use Rattle.image.specs.Values.{Value, IsValue}
+use Rattle.law_image.specs.Values.{Value, IsValue}
 use Rattle.run.specs.declared.calls.Call.{Call}
 use Rattle.run.specs.declared.calls.Call.TheVariants as call
 use Rattle.run.specs.declared.calls.Answer.{Answer}

@@ -9,7 +9,7 @@ use Rattle.disk.specs.Areas.{AreSound}
 use Rattle.history.specs.Histories.{History, last}
 use Rattle.history.specs.Machine.{Machine}
 use Rattle.history.specs.Steps as steps
-use Rattle.image.specs.Values.{Value, IsValue}
+use Rattle.law_image.specs.Values.{Value, IsValue}
 use Rattle.group.specs.declared.answers.PumpFault.{PumpFault}
 use Rattle.group.specs.declared.answers.PumpFault.TheVariants as pump
 use Rattle.transactions.specs.Values.{spare}
@@ -28,15 +28,15 @@ use Rattle.store.specs.declared.job.JobDid.{JobDid}
 use Rattle.store.specs.declared.job.JobDid.TheVariants as did
 use Rattle.store.specs.declared.job.StartFault.{StartFault}
 use Rattle.store.specs.declared.job.StartFault.TheVariants as start
-use Rattle.refinement.specs.Laws.{job_ends_in}
-use Rattle.refinement.specs.Stands.{Stands}
-use Rattle.refinement.proofs.JobLeaving.{start-leaves, reclaim-leaves, pumped-leaves}
-use Rattle.refinement.proofs.GrowingCalls.{archive-start-stands, reclaim-start-stands}
-use Rattle.refinement.proofs.GrowingViews.{archive-start-goes, reclaim-start-goes, job-pump-goes}
-use Rattle.refinement.proofs.GrowingPiece.{job-pump-stands}
-use Rattle.refinement.proofs.Memory.{last-is}
+use Rattle.law_refinement.specs.Laws.{job_ends_in}
+use Rattle.law_refinement.specs.Stands.{Stands}
+use Rattle.law_refinement.proofs.JobLeaving.{start-leaves, reclaim-leaves, pumped-leaves}
+use Rattle.law_refinement.proofs.GrowingCalls.{archive-start-stands, reclaim-start-stands}
+use Rattle.law_refinement.proofs.GrowingViews.{archive-start-goes, reclaim-start-goes, job-pump-goes}
+use Rattle.law_refinement.proofs.GrowingPiece.{job-pump-stands}
+use Rattle.law_refinement.proofs.Memory.{last-is}
 use Rattle.snapshot.specs.OpenTable.{lesser, least_with, least_open}
-use Rattle.refinement.specs.Standing.{snapshots_of}
+use Rattle.law_refinement.specs.Standing.{snapshots_of}
 use Rattle.run.specs.declared.calls.Call.TheVariants as call
 use Rattle.run.specs.declared.calls.Answer.TheVariants as answer
 use Rattle.run.specs.declared.held.Held.{Held}

@@ -10,7 +10,7 @@ use Rattle.history.specs.Histories.{Commit, History, last_after, writes_of, HasR
 use Rattle.history.proofs.Members.{Contains-cons_cases, Contains-head, Contains-tail, Contains-nil}
 use Rattle.history.proofs.Orders.{is_le}
 use Rattle.history.proofs.Histories.{rising-from_following}
-use Rattle.image.specs.Values.{IsValue}
+use Rattle.law_image.specs.Values.{IsValue}
 use Rattle.run.specs.Laws.{CommitHasItsTime, WriteStands}
 
 -- every commit is later than what the times rise from, and not later than the last

@@ -2,16 +2,16 @@
 use Rattle.std.proofs.Common.{◌≡◌, ℕ, ◌+◌, ◌≤◌, Bool, List, [], ◌∷◌, ◌++◌, Some, None, Option, Result, Ok, Err, MatchOption, refl, sym, ap, subst, arith}
 use Rattle.history.specs.Steps as steps
 use Rattle.history.specs.Machine.{Machine}
-use Rattle.image.specs.Values.{Value}
+use Rattle.law_image.specs.Values.{Value}
 use Rattle.store.specs.Values.{StoreValue}
 use Rattle.store.specs.Floors.{floor_refusal, BeginsFloor, StartsFloor}
 use Rattle.store.specs.declared.job.StartFault.{StartFault}
 use Rattle.store.specs.declared.job.StartFault.TheVariants as start
-use Rattle.refinement.specs.Calls.{raising_to, StartsOn}
-use Rattle.refinement.specs.Stands.{Stands}
-use Rattle.refinement.proofs.JobLeaving.{floor-leaves}
-use Rattle.refinement.proofs.GrowingCalls.{floor-start-stands}
-use Rattle.refinement.proofs.GrowingViews.{floor-start-goes}
+use Rattle.law_refinement.specs.Calls.{raising_to, StartsOn}
+use Rattle.law_refinement.specs.Stands.{Stands}
+use Rattle.law_refinement.proofs.JobLeaving.{floor-leaves}
+use Rattle.law_refinement.proofs.GrowingCalls.{floor-start-stands}
+use Rattle.law_refinement.proofs.GrowingViews.{floor-start-goes}
 use Rattle.run.specs.declared.calls.Call.TheVariants as call
 use Rattle.run.specs.declared.calls.Answer.TheVariants as answer
 use Rattle.run.specs.declared.held.Held.{Held}

@@ -10,7 +10,7 @@ use Rattle.history.specs.Steps.{Event, Step, Decided, FloorStarted, FloorPublish
 use Rattle.history.specs.Steps as steps
 use Rattle.history.specs.Submissions as submissions
 use Rattle.history.specs.Submissions.{Submission, Decision}
-use Rattle.image.specs.Values.{Value, IsValue}
+use Rattle.law_image.specs.Values.{Value, IsValue}
 use Rattle.group.specs.declared.answers.BeginFault.{BeginFault}
 use Rattle.group.specs.declared.answers.BeginFault.TheVariants as begin
 use Rattle.group.specs.declared.answers.Did.{Did}
@@ -24,7 +24,7 @@ use Rattle.store.specs.declared.job.JobDid.{JobDid}
 use Rattle.store.specs.declared.job.JobDid.TheVariants as job_did
 use Rattle.store.specs.declared.job.StartFault.{StartFault}
 use Rattle.store.specs.declared.job.StartFault.TheVariants as start
-use Rattle.refinement.specs.Laws.{begins_in, breaks_in, ends_in, floor_ends_in, floor_ends, job_breaks_in, job_ends_in}
+use Rattle.law_refinement.specs.Laws.{begins_in, breaks_in, ends_in, floor_ends_in, floor_ends, job_breaks_in, job_ends_in}
 use Rattle.run.specs.declared.calls.Call.{Call}
 use Rattle.run.specs.declared.calls.Call.TheVariants as call
 use Rattle.run.specs.declared.calls.Answer.{Answer}

@@ -6,10 +6,10 @@ use Rattle.store.specs.Values.{StoreValue}
 use Rattle.store.specs.Growths.{StartsGrowth, BeginsPiece, refusal_to_grow}
 use Rattle.store.specs.declared.job.StartFault.{StartFault}
 use Rattle.store.specs.declared.job.StartFault.TheVariants as start
-use Rattle.refinement.specs.Stands.{Stands}
-use Rattle.refinement.proofs.JobLeaving.{grow-leaves}
-use Rattle.refinement.proofs.GrowingJobs.{grow-start-stands}
-use Rattle.refinement.proofs.GrowingViews.{grow-start-goes}
+use Rattle.law_refinement.specs.Stands.{Stands}
+use Rattle.law_refinement.proofs.JobLeaving.{grow-leaves}
+use Rattle.law_refinement.proofs.GrowingJobs.{grow-start-stands}
+use Rattle.law_refinement.proofs.GrowingViews.{grow-start-goes}
 use Rattle.run.specs.declared.calls.Call.TheVariants as call
 use Rattle.run.specs.declared.calls.Answer.TheVariants as answer
 use Rattle.run.specs.declared.held.Held.{Held}

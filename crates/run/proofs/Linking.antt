@@ -1,10 +1,10 @@
 -- A call leads from one moment to the next, and one call after another makes a chain.
 use Rattle.std.proofs.Common.{◌+◌, ◌≤◌, Bool, List, [], ◌∷◌, ◌++◌, refl, sym, subst, inl, inr}
 use Rattle.store.specs.Values.{StoreValue}
-use Rattle.opened.proofs.Opened.{open-stands}
+use Rattle.law_opening.proofs.Opened.{open-stands}
 use Rattle.history.specs.Machine.{Machine, opened}
-use Rattle.image.specs.Values.{Value}
-use Rattle.refinement.specs.Stands.{Stands}
+use Rattle.law_image.specs.Values.{Value}
+use Rattle.law_refinement.specs.Stands.{Stands}
 use Rattle.run.specs.declared.calls.Call.{Call}
 use Rattle.run.specs.declared.calls.Answer.{Answer}
 use Rattle.run.specs.declared.held.Held.{Held}

@@ -17,7 +17,7 @@ use Rattle.history.specs.Steps.{Event, Step, Decided}
 use Rattle.history.specs.Steps as steps
 use Rattle.history.specs.Submissions as submissions
 use Rattle.history.specs.Submissions.{Submission, commit_made}
-use Rattle.image.specs.Values.{Value, IsValue}
+use Rattle.law_image.specs.Values.{Value, IsValue}
 use Rattle.group.specs.declared.answers.BeginFault.{BeginFault}
 use Rattle.group.specs.declared.answers.BeginFault.TheVariants as begin
 use Rattle.group.specs.declared.answers.SubmitFault.{SubmitFault}
@@ -27,7 +27,7 @@ use Rattle.snapshot.specs.declared.txn.TxnFault.{TxnFault}
 use Rattle.snapshot.proofs.WriteSetLemmas.{write_in-with_write}
 use Rattle.store.specs.declared.job.StartFault.{StartFault}
 use Rattle.store.specs.declared.job.StartFault.TheVariants as start
-use Rattle.refinement.specs.Calls.{raising_to}
+use Rattle.law_refinement.specs.Calls.{raising_to}
 use Rattle.run.specs.declared.calls.Call.{Call}
 use Rattle.run.specs.declared.calls.Call.TheVariants as call
 use Rattle.run.specs.declared.calls.Answer.{Answer}

@@ -9,7 +9,7 @@ use Rattle.history.specs.Machine.{Machine, IsMachine}
 use Rattle.history.specs.Steps.{Event, Run}
 use Rattle.history.proofs.Histories.{last_after-append, rising-from_following, times-earlier, state-append, may_follow-front, may_follow-behind}
 use Rattle.history.proofs.Runs.{last-later, run-shows}
-use Rattle.image.specs.Values.{Value, IsValue}
+use Rattle.law_image.specs.Values.{Value, IsValue}
 use Rattle.snapshot.specs.OpenTable.{joined, snapshot_of, with_opened, with_closed}
 use Rattle.snapshot.specs.Txn.{TxnValue}
 use Rattle.group.specs.CommitOrder.{is_awaited, redeemed, IsRisingAfter, last_time_after}
@@ -17,9 +17,9 @@ use Rattle.group.specs.Tickets.{TicketValue}
 use Rattle.group.specs.declared.commit_order.CommitHead.{CommitHead}
 use Rattle.timequery.specs.View.{ViewValue}
 use Rattle.transactions.specs.Values.{TransactionsValue}
-use Rattle.refinement.specs.Homes.{ViewStands}
-use Rattle.refinement.specs.Homes as homes
-use Rattle.refinement.proofs.Views.{view-goes-on}
+use Rattle.law_refinement.specs.Homes.{ViewStands}
+use Rattle.law_refinement.specs.Homes as homes
+use Rattle.law_refinement.proofs.Views.{view-goes-on}
 use Rattle.store.specs.Values.{StoreValue}
 use Rattle.run.specs.declared.held.Held.{Held}
 use Rattle.run.specs.declared.held.Held.TheVariants as held

@@ -6,7 +6,7 @@ use Rattle.disk.specs.Calls.{counted}
 use Rattle.history.specs.Machine.{Machine}
 use Rattle.history.specs.Steps as steps
 use Rattle.history.specs.Histories.{History}
-use Rattle.image.specs.Values.{Value, IsValue}
+use Rattle.law_image.specs.Values.{Value, IsValue}
 use Rattle.status.specs.TurnState.{TurnState}
 use Rattle.group.specs.CommitOrder.{is_awaited}
 use Rattle.group.specs.declared.commit_order.CommitHead.{CommitHead}
@@ -21,12 +21,12 @@ use Rattle.transactions.specs.declared.stage.NextStep.{NextStep}
 use Rattle.transactions.specs.declared.stage.NextStep.TheVariants as next
 use Rattle.store.specs.Values.{StoreValue, turn_of}
 use Rattle.store.specs.Pumps.{Pumps, TakesStep, WritesExtent, MayBeginSlot, TurnsSlot, started}
-use Rattle.refinement.specs.Laws.{begins_in, ends_in}
-use Rattle.refinement.specs.Leaving.{Leaves}
-use Rattle.refinement.specs.Stands.{Stands}
-use Rattle.refinement.proofs.Leaving.{pump-leaves}
-use Rattle.refinement.proofs.GrowingPumps.{pump-stands}
-use Rattle.refinement.proofs.GrowingViews as lasting
+use Rattle.law_refinement.specs.Laws.{begins_in, ends_in}
+use Rattle.law_refinement.specs.Leaving.{Leaves}
+use Rattle.law_refinement.specs.Stands.{Stands}
+use Rattle.law_refinement.proofs.Leaving.{pump-leaves}
+use Rattle.law_refinement.proofs.GrowingPumps.{pump-stands}
+use Rattle.law_refinement.proofs.GrowingViews as lasting
 use Rattle.run.specs.declared.calls.Call.TheVariants as call
 use Rattle.run.specs.declared.calls.Answer.TheVariants as answer
 use Rattle.run.specs.declared.held.Held.{Held}

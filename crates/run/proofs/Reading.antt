@@ -8,7 +8,7 @@ use Rattle.history.specs.declared.key.KeyWrite.{KeyWrite}
 use Rattle.history.specs.Key.{write_in}
 use Rattle.history.specs.Histories.{History, state}
 use Rattle.history.specs.Queries.{seen, IsScan}
-use Rattle.image.specs.Values.{Value}
+use Rattle.law_image.specs.Values.{Value}
 use Rattle.wire.specs.Values.{HasSizes}
 use Rattle.snapshot.specs.Txn.{TxnValue, at_snapshot, seen_by, IsFullFor, with_put, with_delete, writes_after_delete}
 use Rattle.snapshot.specs.WriteSets.{with_write}

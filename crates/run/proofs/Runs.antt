@@ -1,8 +1,8 @@
 -- Worlds before any call, and after one that leaves the machine as it is.
 use Rattle.std.proofs.Common.{Bool, [], refl}
 use Rattle.history.specs.Machine.{Machine}
-use Rattle.image.specs.Values.{Value}
-use Rattle.refinement.specs.Stands.{Stands}
+use Rattle.law_image.specs.Values.{Value}
+use Rattle.law_refinement.specs.Stands.{Stands}
 use Rattle.store.specs.Values.{StoreValue}
 use Rattle.run.specs.Worlds.{IsWorld, started}
 use Rattle.run.specs.Runs.{Follows}

@@ -8,7 +8,7 @@ use Rattle.history.specs.declared.key.KeyWrite.{KeyWrite}
 use Rattle.history.specs.Histories.{History, last}
 use Rattle.history.specs.Machine.{Machine}
 use Rattle.history.specs.Steps.{Step, Began, Aborted, begun}
-use Rattle.image.specs.Values.{Value, IsValue}
+use Rattle.law_image.specs.Values.{Value, IsValue}
 use Rattle.chains.specs.KeyWrites.{KeyWrites}
 use Rattle.snapshot.specs.OpenTable.{snapshot_of, with_opened}
 use Rattle.snapshot.specs.Txn.{TxnValue, at_snapshot, AreTxnWrites, EndsASeenValue}
@@ -17,9 +17,9 @@ use Rattle.group.specs.declared.answers.BeginFault.TheVariants as begin
 use Rattle.transactions.specs.Values.{TransactionsValue, is_own, is_snapshot, is_of_value, over}
 use Rattle.store.specs.Values.{StoreValue}
 use Rattle.store.specs.Calls as stores
-use Rattle.refinement.specs.Stands.{Stands}
-use Rattle.refinement.proofs.Memory.{begun-sees, open-sees}
-use Rattle.refinement.proofs.GrowingCalls.{begin-stands, abort-stands}
+use Rattle.law_refinement.specs.Stands.{Stands}
+use Rattle.law_refinement.proofs.Memory.{begun-sees, open-sees}
+use Rattle.law_refinement.proofs.GrowingCalls.{begin-stands, abort-stands}
 use Rattle.run.specs.declared.calls.Call.{Call}
 use Rattle.run.specs.declared.calls.Call.TheVariants as call
 use Rattle.run.specs.declared.calls.Answer.TheVariants as answer
@@ -29,7 +29,7 @@ use Rattle.run.specs.Places.{Place, Free, Running, place_at, HasNoTransaction, I
 use Rattle.run.specs.Worlds.{World, IsWorld, leaves, moved, same, spent}
 use Rattle.run.specs.Runs.{Goes, NamesNone, Aborts}
 use Rattle.run.proofs.Runs.{no-step}
-use Rattle.refinement.proofs.Whole.{rest-goes}
+use Rattle.law_refinement.proofs.Whole.{rest-goes}
 use Rattle.run.proofs.Places.{reads-move, reads-plain, reads-set, push, push_nothing, free, move, freed_apart, own_transaction, at_transaction, no_transaction, GoesOn, goes_on-same, run-goes_on, Keeps, stays, closed_other, opened_other, opened_here}
 
 -- ---- calls that change nothing

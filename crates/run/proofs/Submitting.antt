@@ -7,7 +7,7 @@ use Rattle.history.specs.Steps.{Event, Step, Decided}
 use Rattle.history.specs.Steps as steps
 use Rattle.history.specs.Submissions as submissions
 use Rattle.history.specs.Submissions.{Submission, commit_made}
-use Rattle.image.specs.Values.{Value, IsValue}
+use Rattle.law_image.specs.Values.{Value, IsValue}
 use Rattle.snapshot.specs.Txn.{TxnValue, AreTxnWrites}
 use Rattle.group.specs.CommitOrder.{last_time, last_time_after, IsRisingAfter}
 use Rattle.group.specs.Tickets.{TicketValue}
@@ -20,11 +20,11 @@ use Rattle.transactions.specs.Values.{TransactionsValue, is_own, over}
 use Rattle.transactions.specs.Submits.{with_queued, SubmitsOwn}
 use Rattle.store.specs.Values.{StoreValue}
 use Rattle.store.specs.Calls as stores
-use Rattle.refinement.specs.Laws.{submission_of, event_of}
-use Rattle.refinement.specs.Stands.{Stands}
-use Rattle.refinement.specs.Leaving.{LeftBySubmit}
-use Rattle.refinement.proofs.Told.{left-is, ticket-time}
-use Rattle.refinement.proofs.GrowingCalls.{submit-stands}
+use Rattle.law_refinement.specs.Laws.{submission_of, event_of}
+use Rattle.law_refinement.specs.Stands.{Stands}
+use Rattle.law_refinement.specs.Leaving.{LeftBySubmit}
+use Rattle.law_refinement.proofs.Told.{left-is, ticket-time}
+use Rattle.law_refinement.proofs.GrowingCalls.{submit-stands}
 use Rattle.run.specs.declared.calls.Call.TheVariants as call
 use Rattle.run.specs.declared.calls.SubmitOutcome.{SubmitOutcome}
 use Rattle.run.specs.declared.calls.SubmitOutcome.TheVariants as outcome
@@ -34,7 +34,7 @@ use Rattle.run.specs.Places.{Place, Free, Waits, place_at, IsOwnTicket, ShowsAs,
 use Rattle.run.specs.Worlds.{World, IsWorld, leaves, put, moved}
 use Rattle.run.specs.Runs.{Does, Goes, Submits, Follows}
 use Rattle.run.specs.Runs as told
-use Rattle.refinement.proofs.Whole.{rest-goes}
+use Rattle.law_refinement.proofs.Whole.{rest-goes}
 use Rattle.run.proofs.Places.{reads-move, reads-plain, reads-set, push, push_nothing, move, own_transaction, own_ticket, at_transaction, goes_on-same, run-goes_on, Keeps, stays, awaited-push, awaited-early, awaited-new}
 use Rattle.run.proofs.Steps.{own-is, over-places}
 

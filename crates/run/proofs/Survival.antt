@@ -7,13 +7,13 @@ use Rattle.history.specs.Floors.{Raising}
 use Rattle.history.specs.Fronts.{OnFront, OnOpened, OnRaised}
 use Rattle.history.specs.Histories.{History}
 use Rattle.history.specs.Machine.{Machine, Gate, Shut, Due, MayBeOpen, OfGroup, OfFloor, opened}
-use Rattle.image.specs.Values.{Value}
+use Rattle.law_image.specs.Values.{Value}
 use Rattle.status.specs.declared.header.Header.{Header}
 use Rattle.store.specs.Values.{StoreValue}
-use Rattle.refinement.specs.OnDisk.{IsImageOf}
-use Rattle.opened.proofs.Opened.{open-stands}
-use Rattle.opened.proofs.Reopened.{open-refuses}
-use Rattle.opened.proofs.Answering.{stands-answers}
+use Rattle.law_refinement.specs.OnDisk.{IsImageOf}
+use Rattle.law_opening.proofs.Opened.{open-stands}
+use Rattle.law_opening.proofs.Reopened.{open-refuses}
+use Rattle.law_opening.proofs.Answering.{stands-answers}
 use Rattle.run.specs.declared.held.Held.{Held}
 use Rattle.run.specs.Moments.{Moment, HasCommitAt, IsAtMoment}
 use Rattle.run.specs.Promise.{IsKeptAs, IsKeptWith, Leaves}

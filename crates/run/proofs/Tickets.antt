@@ -10,11 +10,11 @@ use Rattle.group.specs.declared.answers.Redeemed.TheVariants as redeemed
 use Rattle.transactions.specs.Values.{TransactionsValue}
 use Rattle.store.specs.Values.{StoreValue}
 use Rattle.store.specs.Calls as stores
-use Rattle.refinement.specs.Laws.{RedeemsAs}
-use Rattle.refinement.specs.Leaving.{LeftByRedeem}
-use Rattle.refinement.proofs.Told.{redeeming}
-use Rattle.refinement.specs.Stands.{Stands}
-use Rattle.refinement.proofs.GrowingCalls.{redeem-stands}
+use Rattle.law_refinement.specs.Laws.{RedeemsAs}
+use Rattle.law_refinement.specs.Leaving.{LeftByRedeem}
+use Rattle.law_refinement.proofs.Told.{redeeming}
+use Rattle.law_refinement.specs.Stands.{Stands}
+use Rattle.law_refinement.proofs.GrowingCalls.{redeem-stands}
 use Rattle.run.specs.declared.calls.Call.TheVariants as call
 use Rattle.run.specs.declared.calls.Answer.TheVariants as answer
 use Rattle.run.specs.declared.calls.RedeemOutcome.TheVariants as told
@@ -25,7 +25,7 @@ use Rattle.run.specs.Worlds.{World, IsWorld, same, spent}
 use Rattle.run.specs.Runs.{Does, Goes, Redeems, GivesUp, Follows}
 use Rattle.run.proofs.Runs.{no-step}
 use Rattle.run.proofs.Lists.{set-get}
-use Rattle.refinement.proofs.Whole.{rest-goes}
+use Rattle.law_refinement.proofs.Whole.{rest-goes}
 use Rattle.run.proofs.Places.{reads-move, reads-plain, reads-set, push_nothing, free, move, freed_apart, own_ticket, at_ticket, no_ticket, goes_on-same, Keeps, stays, awaited-redeemed}
 
 pub lacks-ticket : (tells : Bool) (v : StoreValue) (xs : List Held) (i : ℕ) → HasNoTicket (slice_get xs i) → (w : World) → IsWorld tells v xs w → IsNoTicket (place_at w.places i)

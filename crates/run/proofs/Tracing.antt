@@ -18,12 +18,12 @@ use Rattle.history.proofs.Histories.{rising-from_following}
 use Rattle.history.proofs.Machines.{run-machine}
 use Rattle.history.proofs.Runs as histories
 use Rattle.history.proofs.Tickets.{done-published}
-use Rattle.image.specs.Values.{Value, IsValue}
+use Rattle.law_image.specs.Values.{Value, IsValue}
 use Rattle.snapshot.specs.WriteSets.{with_write}
 use Rattle.snapshot.proofs.WriteSetLemmas.{write_in-with_write}
 use Rattle.timequery.specs.declared.fault.QueryFault.{QueryFault}
-use Rattle.refinement.specs.Homes.{IsSure}
-use Rattle.refinement.specs.Laws.{SaysAt}
+use Rattle.law_refinement.specs.Homes.{IsSure}
+use Rattle.law_refinement.specs.Laws.{SaysAt}
 use Rattle.run.specs.declared.calls.Call.{Call}
 use Rattle.run.specs.declared.calls.Call.TheVariants as call
 use Rattle.run.specs.declared.calls.Answer.{Answer}
@@ -39,7 +39,7 @@ use Rattle.run.specs.Laws.{AsManyAnswers, GoesToItsEnd, CallsLink, StopsSurvive,
 use Rattle.run.proofs.Lists.{length-set, place-set_same, place-push_old}
 use Rattle.run.proofs.Survival.{moment-leaves}
 use Rattle.run.proofs.Commits.{commit-one}
-use Rattle.refinement.proofs.RunsKept.{run-later}
+use Rattle.law_refinement.proofs.RunsKept.{run-later}
 use Rattle.run.proofs.Floors.{call-times}
 use Rattle.run.proofs.Passing.{QueuesAt, Gives, IsGiven, WasRunning, passes}
 

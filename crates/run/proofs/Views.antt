@@ -5,7 +5,7 @@ use Rattle.std.specs.declared.alloc.Global.{Global}
 use Rattle.std.specs.declared.alloc.AllocError.{AllocError}
 use Rattle.history.specs.declared.key.Key.{Key}
 use Rattle.history.specs.declared.time.Version.{Version}
-use Rattle.image.specs.Values.{Value}
+use Rattle.law_image.specs.Values.{Value}
 use Rattle.disk.specs.Calls.{DiskState}
 use Rattle.timequery.specs.Faults.{after_query}
 use Rattle.timequery.specs.View.{ViewValue}
@@ -16,11 +16,11 @@ use Rattle.store.specs.Calls as stores
 use Rattle.store.specs.Calls.{Finds, OrStranger, is_own}
 use Rattle.transactions.specs.Values.{TransactionsValue}
 use Rattle.history.specs.Histories.{History}
-use Rattle.refinement.specs.Homes.{ViewStands, ViewReads, GoesOn}
-use Rattle.refinement.specs.Stands.{Stands}
-use Rattle.refinement.proofs.Answering.{times-of_label}
-use Rattle.refinement.proofs.GrowingViews.{query-stands}
-use Rattle.refinement.proofs.Views.{view-of-history, at-answered, scan_at-answered, between-answered, scan_between-answered}
+use Rattle.law_refinement.specs.Homes.{ViewStands, ViewReads, GoesOn}
+use Rattle.law_refinement.specs.Stands.{Stands}
+use Rattle.law_refinement.proofs.Answering.{times-of_label}
+use Rattle.law_refinement.proofs.GrowingViews.{query-stands}
+use Rattle.law_refinement.proofs.Views.{view-of-history, at-answered, scan_at-answered, between-answered, scan_between-answered}
 use Rattle.run.specs.declared.calls.Call.TheVariants as call
 use Rattle.run.specs.declared.calls.Answer.TheVariants as answer
 use Rattle.run.specs.declared.held.Held.{Held}

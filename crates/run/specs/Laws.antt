@@ -9,15 +9,15 @@ use Rattle.history.specs.Floors.{covers}
 use Rattle.history.specs.Answers.{at_answer}
 use Rattle.history.specs.Histories.{Commit, History, last, state, IsHistory}
 use Rattle.history.specs.Machine.{Machine, IsMachine}
-use Rattle.image.specs.Values.{Value, IsValue}
+use Rattle.law_image.specs.Values.{Value, IsValue}
 use Rattle.snapshot.specs.WriteSets.{with_write}
 use Rattle.status.specs.declared.header.Header.{Header}
 use Rattle.timequery.specs.declared.fault.QueryFault.{QueryFault}
 use Rattle.store.specs.Values.{StoreValue}
-use Rattle.refinement.specs.Homes.{IsSure}
-use Rattle.refinement.specs.Laws.{SaysAt}
-use Rattle.refinement.specs.OnDisk.{IsImageOf}
-use Rattle.refinement.specs.Stands.{Stands}
+use Rattle.law_refinement.specs.Homes.{IsSure}
+use Rattle.law_refinement.specs.Laws.{SaysAt}
+use Rattle.law_refinement.specs.OnDisk.{IsImageOf}
+use Rattle.law_refinement.specs.Stands.{Stands}
 use Rattle.run.specs.declared.calls.Call.{Call}
 use Rattle.run.specs.declared.calls.Call.TheVariants as call
 use Rattle.run.specs.declared.calls.Answer.{Answer}

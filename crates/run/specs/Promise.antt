@@ -7,15 +7,15 @@ use Rattle.disk.specs.Within.{LeavesWithin}
 use Rattle.history.specs.Fronts.{OnFront}
 use Rattle.history.specs.Histories.{History}
 use Rattle.history.specs.Machine.{opened}
-use Rattle.image.specs.Values.{Value}
+use Rattle.law_image.specs.Values.{Value}
 use Rattle.status.specs.declared.header.Header.{Header}
 use Rattle.recovery.specs.Faults.{IsReadFault}
 use Rattle.recovery.specs.declared.fault.OpenFault.{OpenFault}
 use Rattle.store.specs.Values.{StoreValue}
 use Rattle.store.specs.Opens.{Opens, OpenRefuses}
-use Rattle.refinement.specs.OnDisk.{IsImageOf}
-use Rattle.refinement.specs.Stands.{Stands}
-use Rattle.opened.specs.Laws.{AnswersBy}
+use Rattle.law_refinement.specs.OnDisk.{IsImageOf}
+use Rattle.law_refinement.specs.Stands.{Stands}
+use Rattle.law_opening.specs.Laws.{AnswersBy}
 use Rattle.run.specs.declared.calls.Call.{Call}
 use Rattle.run.specs.declared.calls.Answer.{Answer}
 use Rattle.run.specs.declared.held.Held.{Held}

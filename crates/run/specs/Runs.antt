@@ -14,7 +14,7 @@ use Rattle.history.specs.FloorStarts as floors
 use Rattle.history.specs.Steps as steps
 use Rattle.history.specs.Submissions as submissions
 use Rattle.history.specs.Submissions.{Submission, commit_made}
-use Rattle.image.specs.Values.{Value, IsValue}
+use Rattle.law_image.specs.Values.{Value, IsValue}
 use Rattle.wire.specs.Values.{HasSizes}
 use Rattle.snapshot.specs.Txn.{IsFullFor}
 use Rattle.snapshot.specs.WriteSets.{with_write, without}
@@ -32,9 +32,9 @@ use Rattle.store.specs.Values.{StoreValue}
 use Rattle.store.specs.declared.job.JobDid.{JobDid}
 use Rattle.store.specs.declared.job.StartFault.{StartFault}
 use Rattle.store.specs.declared.job.StartFault.TheVariants as start
-use Rattle.refinement.specs.Homes.{IsSure}
-use Rattle.refinement.specs.Calls.{raising_to}
-use Rattle.refinement.specs.Laws.{begins_in, ends_in, job_ends_in, SaysAt, SaysScanAt, SaysBetween, SaysScanBetween}
+use Rattle.law_refinement.specs.Homes.{IsSure}
+use Rattle.law_refinement.specs.Calls.{raising_to}
+use Rattle.law_refinement.specs.Laws.{begins_in, ends_in, job_ends_in, SaysAt, SaysScanAt, SaysBetween, SaysScanBetween}
 use Rattle.run.specs.declared.calls.Call.{Call}
 use Rattle.run.specs.declared.calls.Call.TheVariants as call
 use Rattle.run.specs.declared.calls.Answer.{Answer}

@@ -8,7 +8,7 @@ use Rattle.history.specs.Histories.{Commit}
 use Rattle.history.specs.Machine.{Machine, IsMachine}
 use Rattle.history.specs.Steps.{Step, Decided}
 use Rattle.history.specs.Submissions.{Queues, commit_made}
-use Rattle.image.specs.Values.{Value, IsValue}
+use Rattle.law_image.specs.Values.{Value, IsValue}
 use Rattle.store.specs.Values.{StoreValue}
 use Rattle.run.specs.declared.calls.Call.{Call}
 use Rattle.run.specs.declared.calls.Call.TheVariants as call

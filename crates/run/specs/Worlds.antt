@@ -1,9 +1,9 @@
 -- The machine, together with what the places of a list of calls hold.
 use Rattle.std.specs.Prelude.{ℕ, Bool, List, [], ◌∷◌, ◌++◌, slice_set}
 use Rattle.history.specs.Machine.{Machine}
-use Rattle.image.specs.Values.{Value}
+use Rattle.law_image.specs.Values.{Value}
 use Rattle.store.specs.Values.{StoreValue}
-use Rattle.refinement.specs.Stands.{Stands}
+use Rattle.law_refinement.specs.Stands.{Stands}
 use Rattle.run.specs.declared.held.Held.{Held}
 use Rattle.run.specs.Places.{Place, Free, ArePlaces, AreRead}
 

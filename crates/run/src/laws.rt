@@ -18,7 +18,7 @@ impl Model for StoredValue {
 }
 
 impl Stored for StoredValue {
-    ghost use Rattle.image.specs.Values as values;
+    ghost use Rattle.law_image.specs.Values as values;
 
     ghost IsValue = { values.IsValue };
 }

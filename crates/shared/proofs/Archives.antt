@@ -4,13 +4,13 @@ use Rattle.std.proofs.lemmas.List.{append-nil}
 use Rattle.disk.specs.Parts.{HoldsPart}
 use Rattle.archive.specs.declared.run.RunEntry.{RunEntry}
 use Rattle.history.specs.Histories.{History}
-use Rattle.image.specs.Values.{Value}
+use Rattle.law_image.specs.Values.{Value}
 use Rattle.timequery.specs.View.{ViewValue}
 use Rattle.store.specs.Calls.{is_front}
 use Rattle.store.specs.Values.{StoreValue}
-use Rattle.refinement.specs.Homes.{KeepsUpTo, ViewReads, GoesOn}
-use Rattle.refinement.proofs.RunsKept.{up_to-same, runs-held, ends-later}
-use Rattle.refinement.proofs.RunsStep.{front-more}
+use Rattle.law_refinement.specs.Homes.{KeepsUpTo, ViewReads, GoesOn}
+use Rattle.law_refinement.proofs.RunsKept.{up_to-same, runs-held, ends-later}
+use Rattle.law_refinement.proofs.RunsStep.{front-more}
 use Rattle.shared.specs.Archives.{ArchiveSeen, IsArchiveLater, ReadsArchive, archive_seen, no_archive}
 use Rattle.shared.specs.Seen.{Known, IsMore, nothing_known}
 use Rattle.shared.proofs.Fronts.{later-same, later-then, later-nothing}

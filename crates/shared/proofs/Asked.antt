@@ -6,14 +6,14 @@ use Rattle.history.specs.declared.key.Key.{Key}
 use Rattle.history.specs.declared.time.Version.{Version}
 use Rattle.history.specs.Answers as answers
 use Rattle.history.specs.Machine.{Machine}
-use Rattle.image.specs.Values.{Value}
+use Rattle.law_image.specs.Values.{Value}
 use Rattle.timequery.specs.View.{ViewValue}
 use Rattle.timequery.specs.declared.fault.QueryFault.{QueryFault}
 use Rattle.store.specs.Calls as stores
 use Rattle.store.specs.Values.{StoreValue}
-use Rattle.refinement.specs.Homes.{IsSure}
-use Rattle.refinement.specs.Laws.{SaysAt, SaysScanAt, SaysBetween, SaysScanBetween}
-use Rattle.refinement.proofs.Views.{at-answered, scan_at-answered, between-answered, scan_between-answered}
+use Rattle.law_refinement.specs.Homes.{IsSure}
+use Rattle.law_refinement.specs.Laws.{SaysAt, SaysScanAt, SaysBetween, SaysScanBetween}
+use Rattle.law_refinement.proofs.Views.{at-answered, scan_at-answered, between-answered, scan_between-answered}
 use Rattle.shared.specs.Moments.{ViewMoment, OfSeen}
 use Rattle.shared.specs.Seen.{SightValue}
 use Rattle.shared.specs.Shared.{IsShared, Shows}

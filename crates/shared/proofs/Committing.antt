@@ -9,13 +9,13 @@ use Rattle.history.specs.Machine.{Machine}
 use Rattle.history.specs.Submissions.{Submission, Decision, Queues, Ends, decision_on, unless_conflict, conflict_of, commit_made}
 use Rattle.history.proofs.Histories.{rising-from_following}
 use Rattle.history.proofs.Members.{Contains-cons_cases, Contains-head, Contains-nil}
-use Rattle.image.specs.Values.{Value, IsValue}
+use Rattle.law_image.specs.Values.{Value, IsValue}
 use Rattle.snapshot.specs.Txn.{TxnValue, at_snapshot}
 use Rattle.snapshot.specs.WriteSets.{with_write, without}
 use Rattle.group.specs.Tickets.{TicketValue}
 use Rattle.group.specs.declared.answers.Submitted.{Submitted}
 use Rattle.group.specs.declared.answers.Submitted.TheVariants as submitted
-use Rattle.refinement.specs.Laws.{submission_of}
+use Rattle.law_refinement.specs.Laws.{submission_of}
 use Rattle.shared.specs.declared.change.Change.{Change}
 use Rattle.shared.specs.declared.change.Change.TheVariants as change
 use Rattle.shared.specs.declared.committed.Committed.{Committed}

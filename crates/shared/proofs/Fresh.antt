@@ -4,16 +4,16 @@ use Rattle.std.specs.Prelude.{IsTrue}
 use Rattle.disk.specs.Areas.{Areas, AreSound}
 use Rattle.disk.specs.Calls.{DiskState}
 use Rattle.history.specs.Machine.{Machine, opened}
-use Rattle.image.specs.Values.{Value}
+use Rattle.law_image.specs.Values.{Value}
 use Rattle.status.specs.Header.{new_header}
 use Rattle.recovery.specs.Format.{IsFormatted}
 use Rattle.wire.specs.declared.slot.Member.{Member}
 use Rattle.store.specs.Heads.{head_as}
 use Rattle.store.specs.Opens.{Opens}
 use Rattle.store.specs.Values.{StoreValue}
-use Rattle.refinement.specs.Stands.{Stands}
-use Rattle.opened.proofs.Formatted.{formatted-stands}
-use Rattle.opened.proofs.Opened.{open-stands}
+use Rattle.law_refinement.specs.Stands.{Stands}
+use Rattle.law_opening.proofs.Formatted.{formatted-stands}
+use Rattle.law_opening.proofs.Opened.{open-stands}
 use Rattle.shared.specs.Counts.{told_count}
 
 -- no ticket is out of a commit that the log names

@@ -4,7 +4,7 @@ use Rattle.std.proofs.lemmas.List.{append-nil}
 use Rattle.history.specs.Histories.{Commit, History, last, last_after, IsHistory, HasRisingTimes}
 use Rattle.history.proofs.Histories.{last_after-append, rising-from_following, may_follow-front, may_follow-behind}
 use Rattle.history.proofs.Runs.{last-later}
-use Rattle.image.specs.Values.{Value, IsValue}
+use Rattle.law_image.specs.Values.{Value, IsValue}
 use Rattle.shared.specs.Seen.{Seen, nothing, order_of, IsFrontOf, IsLater}
 
 pub front-same : (h : History Value) → IsFrontOf h h

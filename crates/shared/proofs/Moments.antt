@@ -8,12 +8,12 @@ use Rattle.history.specs.Key.{write_in}
 use Rattle.history.specs.Histories.{last, state}
 use Rattle.history.specs.Machine.{Machine}
 use Rattle.history.specs.Queries.{IsScan}
-use Rattle.image.specs.Values.{Value}
+use Rattle.law_image.specs.Values.{Value}
 use Rattle.snapshot.specs.Txn.{TxnValue, seen_by}
 use Rattle.atomic_table.specs.Seated.{TableId}
 use Rattle.timequery.specs.View.{ViewValue}
 use Rattle.store.specs.Values.{StoreValue}
-use Rattle.refinement.specs.Homes.{ViewReads}
+use Rattle.law_refinement.specs.Homes.{ViewReads}
 use Rattle.shared.specs.Archives.{ArchiveSeen, IsArchiveLater, archive_seen}
 use Rattle.shared.specs.Moments.{TxnMoment, ViewMoment, HoldsSeen, WorksOn, value_for}
 use Rattle.shared.specs.Seen.{Seen, SightValue, IsLater}

@@ -11,7 +11,7 @@ use Rattle.history.specs.Floors.{Raising}
 use Rattle.history.specs.Machine.{Machine}
 use Rattle.history.specs.Steps.{Step, Run, Began, Aborted, FloorStarted, begun, floor_started}
 use Rattle.history.specs.Submissions.{commit_made}
-use Rattle.image.specs.Values.{Value, IsValue}
+use Rattle.law_image.specs.Values.{Value, IsValue}
 use Rattle.snapshot.specs.Txn.{TxnValue, AreTxnWrites}
 use Rattle.group.specs.CommitOrder as orders
 use Rattle.group.specs.Tickets.{TicketValue}
@@ -47,26 +47,26 @@ use Rattle.store.specs.Jobs.{PumpsJob}
 use Rattle.store.specs.declared.job.JobDid.{JobDid}
 use Rattle.store.specs.declared.job.StartFault.{StartFault}
 use Rattle.store.specs.declared.job.StartFault.TheVariants as fault
-use Rattle.refinement.specs.Standing.{StandsInMemory}
-use Rattle.refinement.specs.Calls.{raising_to, StartsOn}
-use Rattle.refinement.specs.Homes.{GoesOn}
-use Rattle.refinement.specs.Laws.{submission_of, event_of, begins_in, ends_in, job_ends_in}
-use Rattle.refinement.specs.Stands.{Stands, raising_of}
-use Rattle.refinement.specs.Leaving.{Leaves, LeftBySubmit, LeftByRedeem, count_in}
-use Rattle.refinement.proofs.FloorStarts.{in-use}
-use Rattle.refinement.proofs.Leaving.{pump-leaves}
-use Rattle.refinement.proofs.JobLeaving.{start-leaves, reclaim-leaves, floor-leaves, grow-leaves, pumped-leaves}
-use Rattle.refinement.proofs.Told.{left-is, ticket-time, redeeming}
-use Rattle.refinement.proofs.Memory.{last-is}
-use Rattle.refinement.proofs.Submitting.{order-last}
-use Rattle.refinement.proofs.GrowingCalls.{begin-stands, abort-stands, submit-stands, redeem-stands}
-use Rattle.refinement.proofs.GrowingPumps.{pump-stands}
-use Rattle.refinement.proofs.GrowingViews.{pump-goes, job-pump-goes, archive-start-goes, reclaim-start-goes, floor-start-goes, grow-start-goes}
-use Rattle.refinement.proofs.GrowingJobs.{grow-start-stands}
-use Rattle.refinement.proofs.GrowingPiece.{job-pump-stands}
-use Rattle.refinement.proofs.GrowingCalls.{archive-start-stands, reclaim-start-stands, floor-start-stands}
-use Rattle.refinement.proofs.Whole.{rest-goes}
-use Rattle.refinement.proofs.GrowingViews.{query-stands}
+use Rattle.law_refinement.specs.Standing.{StandsInMemory}
+use Rattle.law_refinement.specs.Calls.{raising_to, StartsOn}
+use Rattle.law_refinement.specs.Homes.{GoesOn}
+use Rattle.law_refinement.specs.Laws.{submission_of, event_of, begins_in, ends_in, job_ends_in}
+use Rattle.law_refinement.specs.Stands.{Stands, raising_of}
+use Rattle.law_refinement.specs.Leaving.{Leaves, LeftBySubmit, LeftByRedeem, count_in}
+use Rattle.law_refinement.proofs.FloorStarts.{in-use}
+use Rattle.law_refinement.proofs.Leaving.{pump-leaves}
+use Rattle.law_refinement.proofs.JobLeaving.{start-leaves, reclaim-leaves, floor-leaves, grow-leaves, pumped-leaves}
+use Rattle.law_refinement.proofs.Told.{left-is, ticket-time, redeeming}
+use Rattle.law_refinement.proofs.Memory.{last-is}
+use Rattle.law_refinement.proofs.Submitting.{order-last}
+use Rattle.law_refinement.proofs.GrowingCalls.{begin-stands, abort-stands, submit-stands, redeem-stands}
+use Rattle.law_refinement.proofs.GrowingPumps.{pump-stands}
+use Rattle.law_refinement.proofs.GrowingViews.{pump-goes, job-pump-goes, archive-start-goes, reclaim-start-goes, floor-start-goes, grow-start-goes}
+use Rattle.law_refinement.proofs.GrowingJobs.{grow-start-stands}
+use Rattle.law_refinement.proofs.GrowingPiece.{job-pump-stands}
+use Rattle.law_refinement.proofs.GrowingCalls.{archive-start-stands, reclaim-start-stands, floor-start-stands}
+use Rattle.law_refinement.proofs.Whole.{rest-goes}
+use Rattle.law_refinement.proofs.GrowingViews.{query-stands}
 use Rattle.shared.specs.Archives.{ArchiveSeen, IsArchiveLater, archive_seen, no_archive}
 use Rattle.shared.specs.Counts.{told_count, told_after}
 use Rattle.shared.specs.Reached.{Reached, opened, stepped}

@@ -6,7 +6,7 @@ use lib.ListN.{get_elem?}
 use Rattle.crossbeam_utils.specs.Register.{Turns, Forks, Merges}
 use Rattle.atomic_table.proofs.Lists.{at_set, at_snoc, at_longer, set_again, set_else}
 use Rattle.history.specs.Histories.{IsHistory, last}
-use Rattle.image.specs.Values.{IsValue}
+use Rattle.law_image.specs.Values.{IsValue}
 use Rattle.shared.specs.Archives.{ArchiveSeen, IsArchiveLater}
 use Rattle.shared.specs.Seen.{Seen, Known, nothing_known, order_of, known_by, IsLater, IsMore, SightValue, first_sight}
 use Rattle.shared.specs.Cell.{IsPublished, Sees, Learns, Confirms, Advances, Moves, told, informed, idle}

@@ -10,21 +10,21 @@ use Rattle.history.specs.Queries.{IsScanAt, IsScanBetween}
 use Rattle.history.specs.Histories.{History, last, state, between}
 use Rattle.history.specs.Answers as answers
 use Rattle.history.specs.Machine.{Machine}
-use Rattle.image.specs.Values.{Value}
+use Rattle.law_image.specs.Values.{Value}
 use Rattle.chains.specs.KeyWrites.{writes_of}
 use Rattle.chains.specs.Rows.{rows_in, scanned_rows}
 use Rattle.chains.specs.Scans.{scanned}
 use Rattle.chains.proofs.Shown.{scan_is}
 use Rattle.chains.proofs.ShownRows.{scan_of_rows}
-use Rattle.scans.proofs.Written.{numbers_of, state-written, between-written}
-use Rattle.scans.proofs.Made.{scan-made, scan_of_rows-made}
+use Rattle.history.proofs.ScanNumbers.{numbers_of, state-written, between-written}
+use Rattle.history.proofs.ScansMade.{scan-made, scan_of_rows-made}
 use Rattle.floors.specs.Floors.{floor_at}
 use Rattle.timequery.specs.View.{ViewValue, AnswersAt, AnswersBetween, RefusesRecent, RefusesRecentScan, RefusesRecentRows, RefusesRecentWalk}
 use Rattle.timequery.specs.declared.fault.QueryFault.{QueryFault}
 use Rattle.timequery.specs.declared.fault.QueryFault.TheVariants as query
-use Rattle.refinement.specs.Homes.{ViewStands}
-use Rattle.refinement.specs.Views.{SaysRecent}
-use Rattle.refinement.proofs.Queries.{scan-there, rows-there, scan-same, rows-same, scan_rows-same, time-kept, interval-before, interval-late, interval-empty, rows-kept, recent-answered}
+use Rattle.law_refinement.specs.Homes.{ViewStands}
+use Rattle.law_refinement.specs.Views.{SaysRecent}
+use Rattle.law_refinement.proofs.Queries.{scan-there, rows-there, scan-same, rows-same, scan_rows-same, time-kept, interval-before, interval-late, interval-empty, rows-kept, recent-answered}
 use Rattle.shared.specs.Archives.{ArchiveSeen}
 use Rattle.shared.specs.Moments.{ViewMoment, OfSeen, answer_copied}
 use Rattle.shared.specs.Recent.{Recalls, RecallsScan, RecallsBetween, RecallsWalk, RecallsScanBetween}

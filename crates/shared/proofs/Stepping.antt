@@ -7,7 +7,7 @@ use Rattle.history.specs.Machine.{Machine, IsMachine, Gate, Shut, Due, MayBeOpen
 use Rattle.history.specs.Steps.{Event, Step, Run}
 use Rattle.history.specs.Submissions.{Submission, commit_made}
 use Rattle.history.proofs.Machines.{run-floors}
-use Rattle.image.specs.Values.{Value, IsValue}
+use Rattle.law_image.specs.Values.{Value, IsValue}
 use Rattle.group.specs.declared.answers.Did.{Did}
 use Rattle.group.specs.declared.answers.PumpFault.{PumpFault}
 use Rattle.group.specs.declared.answers.PumpFault.TheVariants as pump
@@ -20,11 +20,11 @@ use Rattle.store.specs.declared.job.JobWork.{JobWork}
 use Rattle.store.specs.declared.job.JobWork.TheVariants.{Archive, Reclaim, Floor, Grow}
 use Rattle.store.specs.declared.job.JobDid.{JobDid}
 use Rattle.store.specs.declared.job.JobDid.TheVariants as job_did
-use Rattle.refinement.specs.Laws.{event_of, begins_in, ends_in, floor_ends_in, floor_ends, job_breaks_in, job_ends_in}
-use Rattle.refinement.specs.Calls.{raising_to}
-use Rattle.refinement.specs.Leaving.{count_in}
-use Rattle.refinement.specs.Stands.{raising_by, raising_of}
-use Rattle.refinement.proofs.Told.{pump-publishes}
+use Rattle.law_refinement.specs.Laws.{event_of, begins_in, ends_in, floor_ends_in, floor_ends, job_breaks_in, job_ends_in}
+use Rattle.law_refinement.specs.Calls.{raising_to}
+use Rattle.law_refinement.specs.Leaving.{count_in}
+use Rattle.law_refinement.specs.Stands.{raising_by, raising_of}
+use Rattle.law_refinement.proofs.Told.{pump-publishes}
 use Rattle.shared.specs.Reached.{Reached, stepped}
 use Rattle.shared.specs.Seen.{Seen, floors_listed, floor_in, seen_of, order_of, IsFrontOf, IsLater}
 use Rattle.shared.specs.Shared.{published_seen, queued_seen, raised_seen, job_seen, is_done}

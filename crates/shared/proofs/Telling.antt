@@ -9,7 +9,7 @@ use Rattle.history.specs.Answers as answers
 use Rattle.history.specs.Histories.{last}
 use Rattle.history.specs.Machine.{Machine}
 use Rattle.history.proofs.Tickets.{done-published}
-use Rattle.image.specs.Values.{Value}
+use Rattle.law_image.specs.Values.{Value}
 use Rattle.chains.specs.KeyWrites.{KeyWrites}
 use Rattle.snapshot.specs.Txn.{TxnValue, at_snapshot}
 use Rattle.group.specs.Tickets.{TicketValue}
@@ -21,13 +21,13 @@ use Rattle.timequery.specs.View.{ViewValue}
 use Rattle.transactions.specs.Calls as calls
 use Rattle.store.specs.Values.{StoreValue}
 use Rattle.store.specs.Calls as stores
-use Rattle.refinement.specs.Laws.{RedeemsAs}
-use Rattle.refinement.specs.Leaving.{LeftByRedeem}
-use Rattle.refinement.proofs.Told.{redeeming}
-use Rattle.refinement.proofs.Answering.{times-of_label}
-use Rattle.refinement.proofs.Views.{view-of-history}
-use Rattle.refinement.proofs.Memory.{last-is, begun-sees}
-use Rattle.refinement.proofs.GrowingCalls.{begin-stands, redeem-stands}
+use Rattle.law_refinement.specs.Laws.{RedeemsAs}
+use Rattle.law_refinement.specs.Leaving.{LeftByRedeem}
+use Rattle.law_refinement.proofs.Told.{redeeming}
+use Rattle.law_refinement.proofs.Answering.{times-of_label}
+use Rattle.law_refinement.proofs.Views.{view-of-history}
+use Rattle.law_refinement.proofs.Memory.{last-is, begun-sees}
+use Rattle.law_refinement.proofs.GrowingCalls.{begin-stands, redeem-stands}
 use Rattle.shared.specs.Archives.{ArchiveSeen, ReadsArchive, archive_seen}
 use Rattle.shared.specs.Counts.{told_after, unredeemed}
 use Rattle.shared.specs.Seen.{Seen, SightValue}

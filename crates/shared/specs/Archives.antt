@@ -3,13 +3,13 @@ use Rattle.std.specs.Prelude.{ℕ, ◌≡◌, ◌≤◌, ◌++◌, Bool, true, I
 use Rattle.archive.specs.declared.run.RunEntry.{RunEntry}
 use Rattle.archive.specs.Runs.{HoldRuns, RunsEndBy}
 use Rattle.archive.specs.Searches.{archive_of}
-use Rattle.image.specs.Reading.{ArchiveRecord}
-use Rattle.image.specs.Values.{Value}
+use Rattle.law_image.specs.Reading.{ArchiveRecord}
+use Rattle.law_image.specs.Values.{Value}
 use Rattle.history.specs.Histories.{History}
 use Rattle.timequery.specs.View.{ViewValue, mark_of}
 use Rattle.store.specs.Calls.{is_front}
 use Rattle.store.specs.Values.{StoreValue}
-use Rattle.refinement.specs.Homes.{AreArchived, KeepsUpTo}
+use Rattle.law_refinement.specs.Homes.{AreArchived, KeepsUpTo}
 
 -- whether the disk tells its bytes, the runs, where the last of them ends, and the bytes
 pub record ArchiveSeen : Type 0 where

@@ -3,7 +3,7 @@ use Rattle.std.specs.Prelude.{◌≡◌, ℕ, List, slice_index, true, false}
 use mathlib.Core.Option.{some}
 use lib.ListN.{get_elem?}
 use Rattle.history.specs.Histories.{IsHistory, last}
-use Rattle.image.specs.Values.{IsValue}
+use Rattle.law_image.specs.Values.{IsValue}
 use Rattle.shared.specs.Archives.{ArchiveSeen, no_archive}
 use Rattle.shared.specs.Seen.{Seen, nothing, nothing_known, order_of, known_by, IsLater, IsMore, SightValue}
 

@@ -6,7 +6,7 @@ use Rattle.history.specs.declared.key.Key.{Key}
 use Rattle.history.specs.Key.{write_in}
 use Rattle.history.specs.Histories.{last, state}
 use Rattle.history.specs.Machine.{Machine}
-use Rattle.image.specs.Values.{Value}
+use Rattle.law_image.specs.Values.{Value}
 use Rattle.snapshot.specs.Txn.{TxnValue, at_snapshot}
 use Rattle.group.specs.declared.answers.BeginFault.{BeginFault}
 use Rattle.timequery.specs.View.{ViewValue}

@@ -4,7 +4,7 @@ use Rattle.history.specs.declared.key.Key.{Key}
 use Rattle.history.specs.declared.key.KeyWrite.{KeyWrite}
 use Rattle.history.specs.Histories.{History, last, state}
 use Rattle.history.specs.Machine.{Machine}
-use Rattle.image.specs.Values.{Value}
+use Rattle.law_image.specs.Values.{Value}
 use Rattle.snapshot.specs.Txn.{TxnValue, at_snapshot}
 use Rattle.snapshot.specs.WriteSets.{with_write, without}
 use Rattle.group.specs.Tickets.{TicketValue}

@@ -3,7 +3,7 @@ use Rattle.std.specs.Prelude.{ℕ, ◌≡◌, ◌≤◌, ◌^◌, ◌++◌, Bool
 use Rattle.std.specs.List.{range_with_len}
 use Rattle.history.specs.Histories.{History}
 use Rattle.history.specs.Machine.{Machine}
-use Rattle.image.specs.Values.{Value}
+use Rattle.law_image.specs.Values.{Value}
 use Rattle.shared.specs.Archives.{ArchiveSeen, IsArchiveLater, no_archive}
 
 -- the floors of all relations, in their order

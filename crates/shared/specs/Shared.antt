@@ -9,7 +9,7 @@ use Rattle.history.specs.Histories.{Commit, History, IsHistory, last, state}
 use Rattle.history.specs.Machine.{Machine}
 use Rattle.history.specs.Steps.{Step, Run, FloorStarted, FloorRefused, floor_started}
 use Rattle.history.specs.Submissions.{commit_made}
-use Rattle.image.specs.Values.{Value, IsValue}
+use Rattle.law_image.specs.Values.{Value, IsValue}
 use Rattle.snapshot.specs.Txn.{TxnValue, at_snapshot}
 use Rattle.snapshot.specs.WriteSets.{with_write, without}
 use Rattle.group.specs.Tickets.{TicketValue}
@@ -30,10 +30,10 @@ use Rattle.store.specs.declared.job.JobDid.{JobDid}
 use Rattle.store.specs.declared.job.JobDid.TheVariants as job_did
 use Rattle.store.specs.declared.job.StartFault.{StartFault}
 use Rattle.store.specs.declared.job.StartFault.TheVariants as start_fault
-use Rattle.refinement.specs.Calls.{raising_to}
-use Rattle.refinement.specs.Homes.{ViewStands}
-use Rattle.refinement.specs.Laws.{submission_of, event_of, begins_in, ends_in, job_ends_in}
-use Rattle.refinement.specs.Stands.{Stands}
+use Rattle.law_refinement.specs.Calls.{raising_to}
+use Rattle.law_refinement.specs.Homes.{ViewStands}
+use Rattle.law_refinement.specs.Laws.{submission_of, event_of, begins_in, ends_in, job_ends_in}
+use Rattle.law_refinement.specs.Stands.{Stands}
 use Rattle.shared.specs.declared.change.Change.{Change}
 use Rattle.shared.specs.declared.change.Change.TheVariants as change
 use Rattle.shared.specs.declared.committed.Committed.{Committed}

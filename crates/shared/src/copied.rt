@@ -1,6 +1,6 @@
 //! Changes with memory of their own, and what a transaction makes of them.
 ghost use Rattle.std.specs.Prelude.{◌≡◌, ◌≤◌, ◌↔◌, map, take, length, IfOk, OnOk, IsTrue};
-ghost use Rattle.image.specs.Values.{IsValue};
+ghost use Rattle.law_image.specs.Values.{IsValue};
 ghost use Rattle.snapshot.specs.Txn.{at_snapshot, with_put};
 ghost use Rattle.shared.specs.Posted.{write_of, written};
 

@@ -1,8 +1,8 @@
 //! Queries through the lock.
 ghost use Rattle.std.specs.Prelude.{◌≡◌, IfOk};
 ghost use Rattle.history.specs.Answers as answers;
-ghost use Rattle.refinement.specs.Homes.{IsSure};
-ghost use Rattle.refinement.specs.Laws.{SaysAt, SaysScanAt, SaysBetween, SaysScanBetween};
+ghost use Rattle.law_refinement.specs.Homes.{IsSure};
+ghost use Rattle.law_refinement.specs.Laws.{SaysAt, SaysScanAt, SaysBetween, SaysScanBetween};
 ghost use Rattle.shared.specs.Moments.{OfSeen};
 ghost use Rattle.shared.specs.Seen.{IsLater};
 ghost use Rattle.shared.specs.Shared.{SeenReached};

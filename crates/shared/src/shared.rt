@@ -2,8 +2,8 @@
 ghost use Rattle.std.specs.Prelude.{◌≡◌, ◌≤◌, ◌+◌, ◌<◌, length, IfOk};
 ghost use Rattle.history.specs.Histories.{last};
 ghost use Rattle.history.specs.Machine.{Machine};
-ghost use Rattle.image.specs.Values.{Value};
-ghost use Rattle.refinement.specs.Stands.{Stands};
+ghost use Rattle.law_image.specs.Values.{Value};
+ghost use Rattle.law_refinement.specs.Stands.{Stands};
 ghost use Rattle.shared.specs.Counts.{unredeemed};
 ghost use Rattle.shared.specs.Moments.{begun_txn};
 ghost use Rattle.shared.specs.Reached.{Reached};

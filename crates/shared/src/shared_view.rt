@@ -3,7 +3,7 @@ ghost use Rattle.std.specs.Prelude.{◌≡◌, true, IfOk};
 ghost use Rattle.crossbeam_utils.specs.Seq.{cell_view};
 ghost use Rattle.history.specs.Answers as answers;
 ghost use Rattle.history.specs.Histories.{last};
-ghost use Rattle.refinement.specs.Views.{SaysRecent};
+ghost use Rattle.law_refinement.specs.Views.{SaysRecent};
 ghost use Rattle.shared.specs.Moments.{OfSeen, answer_copied};
 ghost use Rattle.shared.specs.Recent.{RecallsScan, RecallsBetween, RecallsWalk, RecallsScanBetween};
 ghost use Rattle.shared.specs.Shared.{Shows};

@@ -4,13 +4,13 @@ use Rattle.std.specs.Prelude.{MatchOption}
 use Rattle.disk.specs.Areas.{AreSound, image_of}
 use Rattle.disk.specs.Calls.{DiskState}
 use Rattle.history.specs.Histories.{History}
-use Rattle.image.specs.Values.{Value}
+use Rattle.law_image.specs.Values.{Value}
 use Rattle.history.specs.Machine as machine
-use Rattle.opened.proofs.Formatted.{formatted-stands}
+use Rattle.law_opening.proofs.Formatted.{formatted-stands}
 use Rattle.status.specs.declared.header.Header.{Header}
 use Rattle.status.specs.Header.{new_header}
-use Rattle.refinement.specs.OnDisk.{IsImageOf}
-use Rattle.opened.proofs.Opened.{open-stands}
+use Rattle.law_refinement.specs.OnDisk.{IsImageOf}
+use Rattle.law_opening.proofs.Opened.{open-stands}
 use Rattle.script.specs.declared.line.Line.{Line}
 use Rattle.script.specs.declared.line.Line.TheVariants as line
 use Rattle.session.specs.Session.{State, Closes, Step}
@@ -18,11 +18,11 @@ use Rattle.session.specs.declared.reply.Reply.{Reply}
 use Rattle.status.specs.declared.fault.LogFault.{LogFault}
 use Rattle.status.specs.declared.fault.LogFault.TheVariants as log
 use Rattle.status.specs.Reading.{refused_by}
-use Rattle.script_promise.specs.ScriptMoments.{ScriptMoment, first_script_moment}
-use Rattle.script_promise.proofs.Closing.{close-keeps, first-script}
-use Rattle.script_promise.proofs.Leading.{IsScriptMoment}
-use Rattle.script_promise.proofs.Lines.{archive-line, reclaim-line, grow-line, finish-line}
-use Rattle.script_promise.proofs.Script.{promise}
+use Rattle.law_script.specs.ScriptMoments.{ScriptMoment, first_script_moment}
+use Rattle.law_script.proofs.Closing.{close-keeps, first-script}
+use Rattle.law_script.proofs.Leading.{IsScriptMoment}
+use Rattle.law_script.proofs.Lines.{archive-line, reclaim-line, grow-line, finish-line}
+use Rattle.law_script.proofs.Script.{promise}
 use Rattle.command_line.specs.declared.action.Action.{Action}
 use Rattle.command_line.specs.declared.action.Action.TheVariants as action
 use Rattle.shell.specs.Acts.{Acts, Grows, GrowsStore, Input, Output, RefusesTime, Runs, RunsNew, RunsOnNew, RunsScript, SaysGrown, SaysSlots, SaysVacuum, Vacuums, VacuumsStore}

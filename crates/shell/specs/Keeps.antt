@@ -4,12 +4,12 @@ use Rattle.disk.specs.Areas.{image_of}
 use Rattle.disk.specs.Calls.{DiskState}
 use Rattle.history.specs.Histories.{History}
 use Rattle.history.specs.Machine as machine
-use Rattle.image.specs.Values.{Value}
+use Rattle.law_image.specs.Values.{Value}
 use Rattle.recovery.specs.Format.{IsFormatted, FormatRefuses}
 use Rattle.recovery.specs.declared.fault.FormatFault.{FormatFault}
 use Rattle.recovery.specs.declared.fault.OpenFault.{OpenFault}
 use Rattle.status.specs.declared.header.Header.{Header}
-use Rattle.refinement.specs.OnDisk.{IsImageOf}
+use Rattle.law_refinement.specs.OnDisk.{IsImageOf}
 use Rattle.store.specs.Values.{StoreValue}
 use Rattle.store.specs.Opens.{Opens, OpenRefuses}
 use Rattle.script.specs.declared.line.Line.{Line}
@@ -18,9 +18,9 @@ use Rattle.session.specs.Lines.{AreLines}
 use Rattle.session.specs.declared.reply.Reply.{Reply}
 use Rattle.session.specs.Texts.{Text}
 use Rattle.session.specs.declared.ending.Ending.{Ending}
-use Rattle.script_promise.specs.Keeps.{Closed, LineKeeps}
-use Rattle.script_promise.specs.ScriptMoments.{ScriptMoment, first_script_moment}
-use Rattle.script_promise.specs.Promise.{ScriptKeeps}
+use Rattle.law_script.specs.Keeps.{Closed, LineKeeps}
+use Rattle.law_script.specs.ScriptMoments.{ScriptMoment, first_script_moment}
+use Rattle.law_script.specs.Promise.{ScriptKeeps}
 use Rattle.command_line.specs.declared.action.Action.{Action}
 use Rattle.command_line.specs.declared.action.Action.TheVariants as action
 use Rattle.shell.specs.Acts.{Input, Output, SaysAll, SaysGrown, SaysVacuum}

@@ -8,7 +8,7 @@ use Rattle.history.specs.declared.key.Key.{Key}
 use Rattle.history.specs.declared.key.KeyWrite.{KeyWrite}
 use Rattle.history.specs.Key.{same_key, write_in}
 use Rattle.history.specs.Histories.{IsWrite}
-use Rattle.image.specs.Values.{Value, IsValue}
+use Rattle.law_image.specs.Values.{Value, IsValue}
 use Rattle.chains.specs.KeyWrites.{KeyWrites}
 use Rattle.snapshot.specs.WriteSets.{AreRising, with_write, without}
 use Rattle.snapshot.specs.Txn.{AreTxnWrites, EndsASeenValue, at_snapshot}

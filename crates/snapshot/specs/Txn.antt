@@ -6,7 +6,7 @@ use Rattle.history.specs.declared.key.KeyWrite.{KeyWrite}
 use Rattle.history.specs.Key.{write_in}
 use Rattle.history.specs.Time.{value_at}
 use Rattle.history.specs.Histories.{IsWrite}
-use Rattle.image.specs.Values.{Value, IsValue}
+use Rattle.law_image.specs.Values.{Value, IsValue}
 use Rattle.chains.specs.KeyWrites.{KeyWrites, writes_of}
 use Rattle.snapshot.specs.WriteSets.{AreRising, with_write, without}
 

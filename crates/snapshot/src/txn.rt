@@ -3,7 +3,7 @@ ghost use Rattle.std.specs.Prelude.{◌≡◌, ◌≢◌, ◌≤◌, ◌↔◌, 
 ghost use Rattle.std.specs.Option.{option_copied};
 ghost use Rattle.history.specs.declared.key.Key.{Key};
 ghost use Rattle.history.specs.Key.{same_key, write_in};
-ghost use Rattle.image.specs.Values.{IsValue};
+ghost use Rattle.law_image.specs.Values.{IsValue};
 ghost use Rattle.wire.specs.Values.{HasSizes};
 ghost use Rattle.snapshot.specs.Txn.{seen_by, at_snapshot, AreTxnWrites, IsFullFor, with_put, with_delete};
 ghost use Rattle.history.specs.Queries.{IsScan};

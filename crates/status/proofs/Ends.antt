@@ -10,9 +10,9 @@ use Rattle.wire.specs.declared.slot.Body.{Body}
 use Rattle.wire.specs.declared.slot.Body.TheVariants.{Commit, Archived, Reclaimed, Floor}
 use Rattle.wire.specs.declared.slot.Slot.{Slot}
 use Rattle.floors.specs.Floors.{FloorsValue, no_floors}
-use Rattle.image.specs.Log.{heads_of, last_time, last_time_after, archive_mark, archive_mark_after, reclaim_mark, reclaim_mark_after}
-use Rattle.image.specs.Reading as readings
-use Rattle.image.proofs.Logs.{heads_of-append, last_time_after-append, archive_mark-append, reclaim_mark-append}
+use Rattle.law_image.specs.Log.{heads_of, last_time, last_time_after, archive_mark, archive_mark_after, reclaim_mark, reclaim_mark_after}
+use Rattle.law_image.specs.Reading as readings
+use Rattle.law_image.proofs.Logs.{heads_of-append, last_time_after-append, archive_mark-append, reclaim_mark-append}
 use Rattle.status.specs.Rules.{head_of, log_of, slot_of, runs_in, runs_of, row_end}
 use Rattle.status.specs.Kept.{kept_after, kept_of}
 use Rattle.status.proofs.Kept.{kept-append}

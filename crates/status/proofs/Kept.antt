@@ -3,8 +3,8 @@ use Rattle.std.proofs.Common.{◌≡◌, ℕ, List, [], ◌∷◌, ◌++◌, ref
 use Rattle.floors.specs.Floors.{FloorsValue, no_floors, floor_at, raised_in}
 use Rattle.floors.proofs.Owns.{raised-is}
 use Rattle.history.specs.Floors.{raised}
-use Rattle.image.specs.Log.{floor_of, floors_after}
-use Rattle.image.specs.Reading.{Slot, Commits, Archived, Reclaimed, Floor}
+use Rattle.law_image.specs.Log.{floor_of, floors_after}
+use Rattle.law_image.specs.Reading.{Slot, Commits, Archived, Reclaimed, Floor}
 use Rattle.status.specs.Kept.{kept_after, kept_of}
 
 pub kept-is : (before : FloorsValue) (log : List Slot) (relation : ℕ) → floor_at (kept_after before log) relation ≡ floors_after (floor_at before) log relation

@@ -10,7 +10,7 @@ use Rattle.wire.specs.declared.slot.Body.TheVariants.{Commit, Archived, Reclaime
 use Rattle.wire.specs.declared.slot.Slot.{Slot}
 use Rattle.wire.specs.Spelling.{Rises, AreMembers, IsRelationOf, InRange, kind_of}
 use Rattle.floors.specs.Floors.{FloorsValue, floor_at}
-use Rattle.image.specs.Log.{last_time_after, floor_of, AreRisingAfter, IsScopeOf}
+use Rattle.law_image.specs.Log.{last_time_after, floor_of, AreRisingAfter, IsScopeOf}
 use Rattle.status.specs.Rules.{is_built, head_of, log_of, MayFollow}
 use Rattle.status.specs.declared.log_end.LogEnd.{LogEnd}
 use Rattle.status.specs.Walking.{StartsAfter, IsNextRun, AreNextAnchors, IsNextFloor, EndsAt}

@@ -1,7 +1,7 @@
 -- The header of a status area: what its first 512 bytes say.
 use Rattle.std.specs.Prelude.{◌≡◌, ◌≢◌, ℕ, ◌+◌, ◌*◌, ◌<◌, ◌≤◌, ◌==◌, if◌then◌else◌, List, take, drop, ◌++◌, slice_index, codes}
 use Rattle.byteorder.specs.Endian.{little_number, little_bytes}
-use Rattle.image.specs.StandsFor.{IsHeader}
+use Rattle.law_image.specs.StandsFor.{IsHeader}
 use Rattle.status.specs.declared.header.Header.{Header}
 
 -- the slots of a store: those that it was made with, and 256 for each open piece

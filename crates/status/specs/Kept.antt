@@ -1,7 +1,7 @@
 -- The floors of a log, as they are kept.
 use Rattle.std.specs.Prelude.{List, [], ◌∷◌}
 use Rattle.floors.specs.Floors.{FloorsValue, no_floors, raised_in}
-use Rattle.image.specs.Reading.{Slot, Floor}
+use Rattle.law_image.specs.Reading.{Slot, Floor}
 
 -- those after some slots, of a log that had these before them
 abbrev pub kept_after : FloorsValue → List Slot → FloorsValue

@@ -2,8 +2,8 @@
 use Rattle.std.specs.Prelude.{ℕ, ◌≡◌, ◌<◌, List, length}
 use Rattle.disk.specs.Parts.{Agrees}
 use Rattle.floors.specs.Floors.{FloorsValue, floor_at}
-use Rattle.image.specs.Reading as readings
-use Rattle.image.specs.Log.{floors_after}
+use Rattle.law_image.specs.Reading as readings
+use Rattle.law_image.specs.Log.{floors_after}
 use Rattle.wire.specs.Spelling.{IsSpelled}
 use Rattle.wire.specs.declared.slot.Slot.{Slot}
 use Rattle.status.specs.declared.header.Header.{Header}

@@ -6,8 +6,8 @@ use Rattle.wire.specs.declared.slot.Run.{Run}
 use Rattle.wire.specs.declared.slot.Body.{Body}
 use Rattle.wire.specs.declared.slot.Body.TheVariants.{Commit, Archived, Reclaimed, Floor}
 use Rattle.wire.specs.declared.slot.Slot.{Slot}
-use Rattle.image.specs.Reading as readings
-use Rattle.image.specs.Log.{MayCome}
+use Rattle.law_image.specs.Reading as readings
+use Rattle.law_image.specs.Log.{MayCome}
 
 -- Which kinds of slot are built, in which profiles. A store of a profile is read once its commits are built.
 abbrev pub is_built : ℕ → ℕ → Bool

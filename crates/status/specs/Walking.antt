@@ -6,7 +6,7 @@ use Rattle.wire.specs.declared.slot.Run.{Run}
 use Rattle.wire.specs.declared.slot.Anchors.{Anchors}
 use Rattle.wire.specs.declared.slot.Slot.{Slot}
 use Rattle.floors.specs.Floors.{AreBelow}
-use Rattle.image.specs.Log.{last_time, archive_mark, reclaim_mark}
+use Rattle.law_image.specs.Log.{last_time, archive_mark, reclaim_mark}
 use Rattle.status.specs.declared.header.Header.{Header}
 use Rattle.status.specs.declared.fault.LogFault.{LogFault}
 use Rattle.status.specs.declared.fault.LogFault.TheVariants.{NotAStore, Damaged, Device, NoMemory}

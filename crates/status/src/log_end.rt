@@ -2,7 +2,7 @@
 ghost use Rattle.std.specs.Prelude.{◌≡◌, ◌↔◌, ◌+◌, ◌<◌, ◌≤◌, ◌^◌, List, [], ◌∷◌, ◌++◌, map, ℕ, IsTrue, IfOk};
 ghost use Rattle.wire.specs.Spelling.{InRange, kind_of};
 ghost use Rattle.wire.specs.declared.slot.Slot.{Slot};
-ghost use Rattle.image.specs.Log.{last_time_after};
+ghost use Rattle.law_image.specs.Log.{last_time_after};
 ghost use Rattle.status.specs.Rules.{head_of, slot_of, MayFollow};
 ghost use Rattle.status.specs.Kept.{kept_after};
 ghost use Rattle.status.specs.Walking.{StartsAfter, IsNextRun, AreNextAnchors, IsNextFloor, EndsAt};

@@ -1,6 +1,6 @@
 -- The commit order of an opened store.
 use Rattle.std.proofs.Common.{◌≡◌, ℕ, List, [], ◌∷◌, map, refl}
-use Rattle.image.specs.Log.{AreRisingAfter, last_time_after}
+use Rattle.law_image.specs.Log.{AreRisingAfter, last_time_after}
 use Rattle.group.specs.CommitOrder as orders
 use Rattle.wire.specs.declared.slot.Member.{Member}
 use Rattle.status.specs.Rules.{head_of}

@@ -1,6 +1,6 @@
 -- The beginning of an archive.
 use Rattle.std.specs.Prelude.{ℕ, ◌≡◌, ◌+◌, ◌^◌, ◌<◌, ◌≤◌, ◌==◌, nat_le, nat_lt, is_some, List, [], ◌∷◌, ◌++◌, length, Option, Some, None, Result, Ok, Err, MatchOption, if◌then◌else◌}
-use Rattle.image.specs.Reading.{ArchiveRecord}
+use Rattle.law_image.specs.Reading.{ArchiveRecord}
 use Rattle.wire.specs.Spelling.{IsRun}
 use Rattle.archive.specs.Runs.{run_bytes}
 use Rattle.archive.specs.declared.run.RunEntry.{RunEntry}

@@ -17,7 +17,7 @@ use Rattle.history.proofs.Intervals.{standing_at-kept, rows-kept}
 use Rattle.history.proofs.Views.{at-kept, between-kept, at-recent, between-recent, in-range}
 use Rattle.history.proofs.ViewScans.{time-kept, interval-kept}
 use Rattle.floors.specs.Floors.{floor_at}
-use Rattle.image.specs.Values.{Value, IsValue}
+use Rattle.law_image.specs.Values.{Value, IsValue}
 use Rattle.archive.specs.Answers.{versions_in, rows_of}
 use Rattle.chains.specs.KeyWrites.{writes_of, AreRising, IsOrdered}
 use Rattle.chains.specs.Rows.{rows_in, scanned_rows}

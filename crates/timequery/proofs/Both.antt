@@ -6,7 +6,7 @@ use Rattle.history.specs.declared.time.Version.{Version}
 use Rattle.history.specs.declared.key.Key.{Key}
 use Rattle.history.specs.Key.{key_of}
 use Rattle.history.specs.Versions.{versions}
-use Rattle.image.specs.Values.{Value}
+use Rattle.law_image.specs.Values.{Value}
 use Rattle.floors.specs.Floors.{floor_at}
 use Rattle.archive.specs.declared.run.RunEntry.{RunEntry}
 use Rattle.archive.specs.declared.fault.ArchiveFault.{ArchiveFault}

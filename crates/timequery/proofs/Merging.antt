@@ -4,7 +4,7 @@ use Rattle.std.specs.Prelude.{filter}
 use Rattle.std.specs.List.{AllByRecursion}
 use Rattle.std.proofs.lemmas.Bool.Decides.{nat_tests}
 use Rattle.history.specs.declared.time.Version.{Version}
-use Rattle.image.specs.Values.{Value}
+use Rattle.law_image.specs.Values.{Value}
 use Rattle.archive.specs.Answers.{rows_of}
 use Rattle.timequery.specs.Homes.{lesser, not_lesser, merged}
 use Rattle.timequery.proofs.Scanned.{Row, AreInOrder, rows_of-append, rows_of-above, rows_of-below, all-append, all-weaker, order-append}

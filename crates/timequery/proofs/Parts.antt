@@ -5,7 +5,7 @@ use Rattle.std.proofs.lemmas.Bool.Decides.{nat_tests}
 use Rattle.std.proofs.lemmas.List.Elements.{filter-append}
 use Rattle.history.specs.declared.time.Version.{Version}
 use Rattle.history.specs.Versions.{cut, lasts, rows, ends_after}
-use Rattle.image.specs.Values.{Value}
+use Rattle.law_image.specs.Values.{Value}
 use Rattle.timequery.specs.Homes.{rows_after}
 
 pub rows-append : (vs ws : List (Version Value)) (a b : ℕ) → rows (vs ++ ws) a b ≡ rows vs a b ++ rows ws a b

@@ -10,7 +10,7 @@ use Rattle.history.specs.declared.time.Version.{Version}
 use Rattle.history.specs.Key.{key_of}
 use Rattle.history.specs.Queries.{IsScanOfRows}
 use Rattle.history.proofs.Members.{Contains-nil, Contains-head, Contains-cons_cases}
-use Rattle.image.specs.Values.{Value}
+use Rattle.law_image.specs.Values.{Value}
 use Rattle.archive.specs.Answers.{rows_of}
 use Rattle.timequery.proofs.Scanned.{Row, AreInOrder, of_record, rows_of-above}
 

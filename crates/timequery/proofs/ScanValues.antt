@@ -11,7 +11,7 @@ use Rattle.history.specs.Queries.{IsScan, IsScanOfRows}
 use Rattle.history.specs.Versions.{stands_at, standing_at, cut, lasts, rows, FollowOneAnotherFrom}
 use Rattle.history.proofs.Members.{Contains-nil, Contains-head, Contains-cons_cases}
 use Rattle.std.proofs.lemmas.List.Elements.{Contains-append_right}
-use Rattle.image.specs.Values.{Value}
+use Rattle.law_image.specs.Values.{Value}
 use Rattle.timequery.specs.Homes.{values_of}
 use Rattle.timequery.proofs.Scanned.{Row}
 

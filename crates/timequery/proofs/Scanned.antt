@@ -8,7 +8,7 @@ use Rattle.history.specs.declared.key.Key.{Key}
 use Rattle.history.specs.declared.time.Version.{Version}
 use Rattle.history.specs.Key.{key_of}
 use Rattle.history.specs.Versions.{versions, rows}
-use Rattle.image.specs.Values.{Value}
+use Rattle.law_image.specs.Values.{Value}
 use Rattle.archive.specs.Answers.{rows_of}
 use Rattle.chains.specs.KeyWrites.{KeyWrites, is_of, AllAbove, IsOrdered, writes_in}
 use Rattle.chains.specs.Rows.{shown_rows, scanned_rows, rows_in}

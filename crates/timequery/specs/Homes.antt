@@ -9,8 +9,8 @@ use Rattle.history.specs.Time.{value_at}
 use Rattle.history.specs.Versions.{versions, rows, ends_after}
 use Rattle.history.specs.Histories.{History, IsHistory}
 use Rattle.history.specs.Views.{View, IsViewOf}
-use Rattle.image.specs.Values.{Value, IsValue}
-use Rattle.image.specs.Reading.{ArchiveRecord}
+use Rattle.law_image.specs.Values.{Value, IsValue}
+use Rattle.law_image.specs.Reading.{ArchiveRecord}
 use Rattle.chains.specs.KeyWrites.{writes_of}
 use Rattle.chains.specs.Rows.{rows_in, scanned_rows}
 use Rattle.chains.specs.Scans.{scanned}

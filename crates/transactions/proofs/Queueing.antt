@@ -5,9 +5,9 @@ use Rattle.std.proofs.lemmas.List.{append-nil}
 use Rattle.std.proofs.lemmas.List.Concat.{flat_map-cons}
 use Rattle.std.proofs.lemmas.Grind.{flat_map-append}
 use Rattle.history.specs.declared.key.KeyWrite.{KeyWrite}
-use Rattle.image.specs.Facts as facts
-use Rattle.image.specs.Plans.{stored_record}
-use Rattle.image.specs.Values.{Value}
+use Rattle.law_image.specs.Facts as facts
+use Rattle.law_image.specs.Plans.{stored_record}
+use Rattle.law_image.specs.Values.{Value}
 use Rattle.deltas.specs.Extents.{extent_bytes}
 use Rattle.deltas.specs.Packing.{bodies_from}
 use Rattle.deltas.specs.Records.{spelling, record_of}

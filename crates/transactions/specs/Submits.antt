@@ -2,9 +2,9 @@
 use Rattle.std.specs.Prelude.{ℕ, ◌≡◌, ◌+◌, ◌-◌, ◌^◌, true, nat_lt, nat_le, List, [], ◌∷◌, ◌++◌, length, map, find, Option, Some, None, Result, Ok, Err, MatchBool, if◌then◌else◌}
 use Rattle.history.specs.declared.key.Key.{Key}
 use Rattle.history.specs.declared.key.KeyWrite.{KeyWrite}
-use Rattle.image.specs.Facts.{latest}
-use Rattle.image.specs.Plans.{stored_record}
-use Rattle.image.specs.Values.{Value}
+use Rattle.law_image.specs.Facts.{latest}
+use Rattle.law_image.specs.Plans.{stored_record}
+use Rattle.law_image.specs.Values.{Value}
 use Rattle.deltas.specs.Extents.{extent_bytes}
 use Rattle.deltas.specs.Records.{spelling, record_of}
 use Rattle.deltas.specs.Packing.{bodies}

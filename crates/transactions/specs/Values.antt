@@ -3,7 +3,7 @@ use Rattle.std.specs.Prelude.{ℕ, ◌≡◌, ◌+◌, ◌-◌, ◌==◌, ◌||�
 use Rattle.std.specs.List.{list_all}
 use Rattle.history.specs.declared.key.KeyWrite.{KeyWrite}
 use Rattle.history.specs.Time.{value_at}
-use Rattle.image.specs.Values.{Value}
+use Rattle.law_image.specs.Values.{Value}
 use Rattle.chains.specs.KeyWrites.{KeyWrites, writes_of}
 use Rattle.extents.specs.declared.usage.Usage.{Usage}
 use Rattle.snapshot.specs.OpenTable.{snapshot_of, with_closed}

@@ -12,8 +12,8 @@ use Rattle.history.proofs.Values.{versions-apart}
 use Rattle.chains.specs.Writes.{Value}
 use Rattle.chains.specs.KeyWrites.{KeyWrites}
 use Rattle.chains.proofs.Walks.{find-none-filter}
-use Rattle.image.specs.PlansMade.{archive_record}
-use Rattle.image.specs.Reading.{ArchiveRecord}
+use Rattle.law_image.specs.PlansMade.{archive_record}
+use Rattle.law_image.specs.Reading.{ArchiveRecord}
 use Rattle.vacuum.specs.Archives.{key_records}
 
 not-by : {a b : ℕ} → b < a → nat_le a b ≡ false

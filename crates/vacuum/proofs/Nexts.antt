@@ -16,8 +16,8 @@ use Rattle.chains.specs.KeyWrites.{KeyWrites}
 use Rattle.chains.specs.Writes.{Value}
 use Rattle.archive.specs.declared.head.Head.{Head}
 use Rattle.archive.specs.Answers.{head_of}
-use Rattle.image.specs.PlansMade.{archive_record}
-use Rattle.image.specs.Reading.{ArchiveRecord}
+use Rattle.law_image.specs.PlansMade.{archive_record}
+use Rattle.law_image.specs.Reading.{ArchiveRecord}
 use Rattle.vacuum.specs.declared.ahead.Ahead.{Ahead}
 use Rattle.vacuum.specs.declared.archive_walk.Place.{Place}
 use Rattle.vacuum.specs.declared.archive_walk.Since.{Since}

@@ -16,14 +16,14 @@ use Rattle.chains.specs.Writes.{Value, Write}
 use Rattle.chains.specs.KeyWrites.{KeyWrites, AllAbove, IsOrdered, writes_of}
 use Rattle.chains.proofs.Order.{lt-other'}
 use Rattle.chains.proofs.Rising.{rising-writes_of}
-use Rattle.image.specs.Reading.{OldRecord, Reading}
-use Rattle.image.specs.Log.{floor_of}
-use Rattle.image.specs.Facts.{old_write, version_for}
-use Rattle.image.specs.StandsFor.{IsAnchorUpto, IsArchived, IsRun, archived_upto}
-use Rattle.image.specs.Plans.{IsArchivePlan, IsReclaimPlan}
-use Rattle.image.specs.PlansMade.{archive_record, archive_records, old_record, old_records}
-use Rattle.image.proofs.KeysInOrder.{AreOthers}
-use Rattle.image.proofs.PlansMade.{each-key, map-same, apart-filter, in_order, all-order, one-archived, one-anchor, keep-sorted, keys-above}
+use Rattle.law_image.specs.Reading.{OldRecord, Reading}
+use Rattle.law_image.specs.Log.{floor_of}
+use Rattle.law_image.specs.Facts.{old_write, version_for}
+use Rattle.law_image.specs.StandsFor.{IsAnchorUpto, IsArchived, IsRun, archived_upto}
+use Rattle.law_image.specs.Plans.{IsArchivePlan, IsReclaimPlan}
+use Rattle.law_image.specs.PlansMade.{archive_record, archive_records, old_record, old_records}
+use Rattle.law_image.proofs.KeysInOrder.{AreOthers}
+use Rattle.law_image.proofs.PlansMade.{each-key, map-same, apart-filter, in_order, all-order, one-archived, one-anchor, keep-sorted, keys-above}
 use Rattle.floors.specs.Floors.{floor_at}
 use Rattle.vacuum.specs.declared.archive_walk.Since.{Since}
 use Rattle.vacuum.specs.Archives.{AreInMemory, since_of, records_of}

@@ -10,7 +10,7 @@ use Rattle.vacuum.specs.declared.archive_walk.Place.{Place}
 use Rattle.vacuum.specs.declared.archive_walk.Since.{Since}
 use Rattle.vacuum.specs.Archives.{keys_within, since_of, key_left, key_records, records_of, records_left, records_at}
 use Rattle.history.specs.Time.{IsRisingAfter}
-use Rattle.image.specs.Reading.{ArchiveRecord}
+use Rattle.law_image.specs.Reading.{ArchiveRecord}
 use Rattle.archive.specs.declared.head.Head.{Head}
 use Rattle.archive.specs.Answers.{head_of}
 use Rattle.vacuum.proofs.Firsts.{key-of-first, first-later, records-behind}

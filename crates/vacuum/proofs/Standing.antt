@@ -9,7 +9,7 @@ use Rattle.history.specs.Versions.{first_time, versions, ends_after, stands_at, 
 use Rattle.history.proofs.Values.{versions-apart, filter-standing}
 use Rattle.chains.specs.Writes.{Value}
 use Rattle.chains.specs.KeyWrites.{KeyWrites}
-use Rattle.image.specs.PlansMade.{old_record}
+use Rattle.law_image.specs.PlansMade.{old_record}
 use Rattle.deltas.specs.Records.{old_record_of}
 use Rattle.vacuum.specs.Anchors.{key_olds}
 

@@ -8,8 +8,8 @@ use Rattle.chains.specs.Bounds.{is_in}
 use Rattle.chains.specs.Found.{IsPartFrom}
 use Rattle.chains.specs.KeyWrites.{KeyWrites, IsOrdered, AreRising}
 use Rattle.chains.specs.Writes.{Value}
-use Rattle.image.specs.Reading.{ArchiveRecord}
-use Rattle.image.specs.PlansMade.{archive_record}
+use Rattle.law_image.specs.Reading.{ArchiveRecord}
+use Rattle.law_image.specs.PlansMade.{archive_record}
 use Rattle.vacuum.specs.declared.ahead.Ahead.{Ahead}
 use Rattle.vacuum.specs.declared.archive_walk.Place.{Place}
 use Rattle.vacuum.specs.declared.archive_walk.Since.{Since}

@@ -4,8 +4,8 @@ use Rattle.std.specs.List.{flat_map}
 use Rattle.history.specs.Versions.{versions, stands_at}
 use Rattle.chains.specs.declared.bound.Bound.{Bound}
 use Rattle.chains.specs.KeyWrites.{KeyWrites}
-use Rattle.image.specs.Reading.{OldRecord}
-use Rattle.image.specs.PlansMade.{old_record}
+use Rattle.law_image.specs.Reading.{OldRecord}
+use Rattle.law_image.specs.PlansMade.{old_record}
 use Rattle.deltas.specs.declared.«record».Record.{Record}
 use Rattle.deltas.specs.Records.{old_record_of}
 use Rattle.vacuum.specs.Archives.{keys_within}

@@ -6,8 +6,8 @@ use Rattle.floors.specs.Floors.{floor_at}
 use Rattle.chains.specs.declared.bound.Bound.{Bound}
 use Rattle.chains.specs.Bounds.{is_in}
 use Rattle.chains.specs.KeyWrites.{KeyWrites, IsOrdered, AreRising}
-use Rattle.image.specs.Reading.{ArchiveRecord}
-use Rattle.image.specs.PlansMade.{archive_record}
+use Rattle.law_image.specs.Reading.{ArchiveRecord}
+use Rattle.law_image.specs.PlansMade.{archive_record}
 use Rattle.wire.specs.declared.slot.Run.{Run}
 use Rattle.archive.specs.Runs.{run_bytes}
 use Rattle.archive.specs.Pieces.{InWriting}

@@ -3,11 +3,11 @@ use Rattle.std.specs.Prelude.{◌≡◌, ℕ, List}
 use Rattle.history.specs.declared.key.Key.{Key}
 use Rattle.history.specs.Versions.{versions}
 use Rattle.chains.specs.KeyWrites.{KeyWrites, writes_of}
-use Rattle.image.specs.Reading.{Reading}
-use Rattle.image.specs.Log.{floor_of}
-use Rattle.image.specs.Facts.{heap_versions}
-use Rattle.image.specs.StandsFor.{archived_upto}
-use Rattle.image.specs.Plans.{IsArchivePlan, IsReclaimPlan}
+use Rattle.law_image.specs.Reading.{Reading}
+use Rattle.law_image.specs.Log.{floor_of}
+use Rattle.law_image.specs.Facts.{heap_versions}
+use Rattle.law_image.specs.StandsFor.{archived_upto}
+use Rattle.law_image.specs.Plans.{IsArchivePlan, IsReclaimPlan}
 use Rattle.floors.specs.Floors.{floor_at}
 use Rattle.vacuum.specs.declared.archive_walk.Since.{Since}
 use Rattle.vacuum.specs.Archives.{AreInMemory, records_of}

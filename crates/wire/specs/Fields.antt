@@ -1,7 +1,7 @@
 -- Fields and their one spelling.
 use Rattle.std.specs.Prelude.{◌≡◌, ℕ, zero, suc, ◌≤◌, List, [], ◌∷◌, length, take, drop}
 use Rattle.std.specs.List.{flat_map, AllByRecursion}
-pub use Rattle.image.specs.Values.{IsField}
+pub use Rattle.law_image.specs.Values.{IsField}
 
 -- a field is its length and its bytes
 abbrev pub field_bytes : List ℕ → List ℕ

@@ -1,6 +1,6 @@
 -- Values, and their one spelling.
 use Rattle.std.specs.Prelude.{ℕ, ◌<◌, ◌≤◌, List, ◌∷◌, length}
-pub use Rattle.image.specs.Values.{IsValue}
+pub use Rattle.law_image.specs.Values.{IsValue}
 use Rattle.wire.specs.Fields.{fields_bytes, AreShort}
 
 -- how many fields, and then each as its length and its bytes

@@ -1,8 +1,8 @@
 //! Many threads at once over a new store in memory.
 ghost use Rattle.std.specs.Prelude.{◌≡◌, ◌*◌, ◌+◌, [], length, IfOk, IfSome};
 ghost use Rattle.history.specs.Machine.{Machine};
-ghost use Rattle.image.specs.Values.{Value};
-ghost use Rattle.refinement.specs.Stands.{Stands};
+ghost use Rattle.law_image.specs.Values.{Value};
+ghost use Rattle.law_refinement.specs.Stands.{Stands};
 ghost use Rattle.shared.specs.Counts.{told_count, unredeemed};
 ghost use Rattle.shared.specs.Reached.{Reached};
 

@@ -1,7 +1,7 @@
 //! A store on files that threads share.
 ghost use Rattle.std.specs.Prelude.{◌≡◌, [], true, false, IfOk};
 ghost use Rattle.history.specs.Machine.{opened};
-ghost use Rattle.refinement.specs.Stands.{Stands};
+ghost use Rattle.law_refinement.specs.Stands.{Stands};
 ghost use Rattle.shared.specs.Counts.{told_count};
 
 use crate::fault::Fault;

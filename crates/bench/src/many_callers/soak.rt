@@ -2,7 +2,7 @@
 ghost use Rattle.std.specs.Prelude.{◌≡◌, ◌+◌, ◌<◌, [], true, false, length};
 ghost use Rattle.crossbeam_utils.specs.Seq.{cell_view};
 ghost use Rattle.history.specs.Machine.{opened};
-ghost use Rattle.refinement.specs.Stands.{Stands};
+ghost use Rattle.law_refinement.specs.Stands.{Stands};
 ghost use Rattle.shared.specs.Naming.{IsFresh};
 ghost use Rattle.shared.specs.Counts.{told_count};
 

@@ -1,7 +1,7 @@
 //! Commits and views of many threads, beside the raw writes and syncs of as many groups.
 ghost use Rattle.std.specs.Prelude.{◌≡◌, [], false, IfOk};
 ghost use Rattle.history.specs.Machine.{opened};
-ghost use Rattle.refinement.specs.Stands.{Stands};
+ghost use Rattle.law_refinement.specs.Stands.{Stands};
 ghost use Rattle.shared.specs.Counts.{told_count};
 
 use crate::fault::Fault;

@@ -2,7 +2,7 @@ use Rattle.std.proofs.lemmas.Grind.{common_steps}
 use Rattle.std.proofs.Common.{◌≡◌, ◌≤◌, ◌<◌, ◌+◌, length, List, ℕ, ap, sym, ◌∙◌, arith, ⊎_elim}
 use Rattle.std.proofs.lemmas.Bool.{cases_lt}
 use Rattle.std.proofs.lemmas.Bool.Decides.{nat_tests}
-use Rattle.image.specs.Facts.{changed_of}
+use Rattle.law_image.specs.Facts.{changed_of}
 use Rattle.wire.specs.Fields.{fields_bytes}
 use Rattle.deltas.proofs.Writes.{as_delta, as_anchor_longer}
 use Rattle.deltas.proofs.store.is_whole.Goals as goal

@@ -1,5 +1,5 @@
 use Rattle.std.proofs.Common.{rules, ◌≡◌, ◌==◌, ◌%◌, false, ◌∷◌, ◌/◌}
-use Rattle.image.specs.Facts.{patched}
+use Rattle.law_image.specs.Facts.{patched}
 use Rattle.deltas.proofs.Writes.{patched_clear, patched_out, field_stays}
 use Rattle.deltas.proofs.store.patched_fields.Goals as goal
 

@@ -1,5 +1,5 @@
 use Rattle.std.proofs.Common.{◌≡◌, ◌++◌, ◌+◌, ◌≤◌, length}
-use Rattle.image.specs.Facts.{patched}
+use Rattle.law_image.specs.Facts.{patched}
 use Rattle.deltas.proofs.store.patched_fields.Given as goal
 
 abbrev pub invariant-loop-field : goal.invariant-loop-field

@@ -1,6 +1,6 @@
 use Rattle.std.proofs.Common.{◌≡◌, refl, List, ℕ, ap, sym, ◌∙◌}
 use Rattle.std.proofs.lemmas.Bool.{false≢true}
-use Rattle.image.specs.Facts.{mask_of}
+use Rattle.law_image.specs.Facts.{mask_of}
 use Rattle.deltas.specs.declared.«record».Content.TheVariants.{Anchor, Delta}
 use Rattle.deltas.proofs.Writes.{delta_else}
 use Rattle.deltas.proofs.store.store_over.Goals as goal

@@ -1,6 +1,6 @@
 use Rattle.std.proofs.Common.{◌≡◌, ℕ, ◌+◌, ◌-◌, ◌*◌, List, ap, ◌∙◌, arith}
 use Rattle.std.specs.Prelude.{slice_range}
-use Rattle.layout.specs.Extents.{extent_start}
+use Rattle.law_layout.specs.Extents.{extent_start}
 use Rattle.recovery.specs.Walk.{extent_at}
 use Rattle.recovery.proofs.chain.read_into.Goals as goal
 

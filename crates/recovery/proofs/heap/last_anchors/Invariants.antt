@@ -1,5 +1,5 @@
 use Rattle.std.proofs.Common.{◌≡◌, length}
-use Rattle.layout.specs.Layouts.{anchors_after, no_anchors}
+use Rattle.law_layout.specs.Layouts.{anchors_after, no_anchors}
 use Rattle.recovery.proofs.heap.last_anchors.Given as goal
 
 abbrev pub invariant-loop-rest : goal.invariant-loop-rest

@@ -1,7 +1,7 @@
 use Rattle.std.proofs.Common.{◌≡◌, ℕ, map, length}
-use Rattle.image.specs.Log.{AreRisingAfter}
+use Rattle.law_image.specs.Log.{AreRisingAfter}
 use Rattle.status.specs.Rules.{head_of}
-use Rattle.layout.specs.Layouts.{later_than}
+use Rattle.law_layout.specs.Layouts.{later_than}
 use Rattle.recovery.proofs.heap.later_than.Given as goal
 
 abbrev pub invariant-loop-rest : goal.invariant-loop-rest

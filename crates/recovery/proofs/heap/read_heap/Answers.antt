@@ -5,10 +5,10 @@ use Rattle.wire.specs.Spelling.{IsMember}
 use Rattle.wire.specs.declared.slot.Anchors.{Anchors}
 use Rattle.wire.specs.declared.slot.Member.{Member}
 use Rattle.disk.specs.Calls.{DiskState}
-use Rattle.image.specs.Log.{AreRisingAfter, last_time_after}
+use Rattle.law_image.specs.Log.{AreRisingAfter, last_time_after}
 use Rattle.status.specs.Rules.{head_of}
-use Rattle.layout.specs.Layouts.{entries_of, later_than, anchors_after, no_anchors}
-use Rattle.layout.specs.Opening.{mark_of}
+use Rattle.law_layout.specs.Layouts.{entries_of, later_than, anchors_after, no_anchors}
+use Rattle.law_layout.specs.Opening.{mark_of}
 use Rattle.recovery.specs.HeapReads.{HoldsEntries, IsMembersFault}
 use Rattle.recovery.proofs.Heads.{entries_rise, reclaimed_upto_last, reclaimed_in_range, mark_is, later_rise, later_last}
 use Rattle.recovery.proofs.OpenedHeap.{entries_in_range, later_in_range}

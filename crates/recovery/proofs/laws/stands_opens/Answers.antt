@@ -1,4 +1,4 @@
-use Rattle.layout.specs.Opening.{unread, unread_layout}
+use Rattle.law_layout.specs.Opening.{unread, unread_layout}
 use Rattle.recovery.proofs.OneAnswer.{opening_only}
 use Rattle.recovery.proofs.HistoryRead.{stands_opening, history_read}
 use Rattle.recovery.proofs.laws.stands_opens.Goals as goal

@@ -1,7 +1,7 @@
 use Rattle.std.proofs.Common.{◌≡◌, inl, refl, ℕ, [], ◌∷◌, List, length, map, ap, sym, subst, ◌∙◌}
 use Rattle.std.specs.List.{AllByRecursion}
 use Rattle.disk.specs.Calls.{DiskState}
-use Rattle.image.specs.Log.{AreRisingAfter, last_time_after}
+use Rattle.law_image.specs.Log.{AreRisingAfter, last_time_after}
 use Rattle.status.specs.Rules.{head_of}
 use Rattle.wire.specs.Spelling.{IsMember}
 use Rattle.wire.specs.declared.slot.Member.{Member}

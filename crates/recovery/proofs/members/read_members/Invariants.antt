@@ -1,6 +1,6 @@
 use Rattle.std.proofs.Common.{◌≡◌, IsTrue, map, length}
 use Rattle.std.specs.List.{AllByRecursion}
-use Rattle.image.specs.Log.{AreRisingAfter, last_time_after}
+use Rattle.law_image.specs.Log.{AreRisingAfter, last_time_after}
 use Rattle.status.specs.Rules.{head_of}
 use Rattle.wire.specs.Spelling.{IsMember}
 use Rattle.recovery.proofs.HeldMembers.{IsUnderWay}

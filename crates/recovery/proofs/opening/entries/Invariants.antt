@@ -1,5 +1,5 @@
 use Rattle.std.proofs.Common.{◌≡◌, ◌++◌, length}
-use Rattle.layout.specs.Layouts.{entries_of}
+use Rattle.law_layout.specs.Layouts.{entries_of}
 use Rattle.recovery.proofs.opening.entries.Given as goal
 
 abbrev pub invariant-loop-rest : goal.invariant-loop-rest

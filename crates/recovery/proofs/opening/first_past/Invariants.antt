@@ -1,6 +1,6 @@
 use Rattle.std.proofs.Common.{ℕ, length}
 use Rattle.std.specs.List.{AllByRecursion}
-use Rattle.layout.specs.Opening.{EndsWithin, FailsRuns}
+use Rattle.law_layout.specs.Opening.{EndsWithin, FailsRuns}
 use Rattle.recovery.specs.RunEntries.{runs_named}
 use Rattle.recovery.proofs.opening.first_past.Given as goal
 

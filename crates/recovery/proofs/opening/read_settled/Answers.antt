@@ -8,17 +8,17 @@ use Rattle.wire.specs.Spelling.{IsRun}
 use Rattle.wire.specs.declared.slot.Run.{Run}
 use Rattle.wire.specs.declared.slot.Member.{Member}
 use Rattle.wire.specs.declared.slot.Slot.{Slot}
-use Rattle.image.specs.Reading.{Head}
-use Rattle.image.specs.Log.{AreRisingAfter, last_time_after, archive_mark}
+use Rattle.law_image.specs.Reading.{Head}
+use Rattle.law_image.specs.Log.{AreRisingAfter, last_time_after, archive_mark}
 use Rattle.floors.specs.Floors.{FloorsValue, floor_at}
 use Rattle.status.specs.Kept.{kept_of}
 use Rattle.status.specs.Rules.{head_of, log_of, runs_of, row_end, AreInRow}
 use Rattle.status.proofs.Kept.{kept-of}
-use Rattle.layout.specs.Layouts.{entries_of}
-use Rattle.layout.specs.Opening.{EndsWithin}
+use Rattle.law_layout.specs.Layouts.{entries_of}
+use Rattle.law_layout.specs.Opening.{EndsWithin}
 use Rattle.recovery.specs.declared.fault.OpenFault.{OpenFault}
 use Rattle.recovery.specs.Faults.{IsRunsFault}
-use Rattle.layout.proofs.Rules.{rules_say}
+use Rattle.law_layout.proofs.Rules.{rules_say}
 use Rattle.recovery.specs.RunEntries.{runs_named, AreEntriesOf}
 use Rattle.recovery.proofs.RunEntries.{go_on}
 use Rattle.recovery.proofs.Heads.{entries_rise, archived_upto_last, floor_upto_last}

@@ -4,7 +4,7 @@ use Rattle.std.specs.List.{AllByRecursion}
 use Rattle.deltas.specs.Records.{heap_record}
 use Rattle.deltas.specs.Chains.{IsPermitted}
 use Rattle.deltas.specs.declared.chain.Kinds.TheVariants.{OfCommit}
-use Rattle.image.specs.Facts.{IsStored, write_of}
+use Rattle.law_image.specs.Facts.{IsStored, write_of}
 use Rattle.recovery.specs.Resolving.{before_of}
 use Rattle.recovery.proofs.resolving.resolve.Given as goal
 

@@ -1,6 +1,6 @@
 use Rattle.std.proofs.Common.{Option, ap, sym, ◌∙◌}
-use Rattle.image.specs.Values.{Value}
-use Rattle.image.specs.Facts.{stored, written}
+use Rattle.law_image.specs.Values.{Value}
+use Rattle.law_image.specs.Facts.{stored, written}
 use Rattle.deltas.specs.Records.{content_of, heap_content}
 use Rattle.recovery.specs.Resolving.{before_of}
 use Rattle.recovery.proofs.Stored.{applied_is, stored_applies}

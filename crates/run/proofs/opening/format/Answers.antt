@@ -4,8 +4,8 @@ use Rattle.disk.specs.Areas.{Areas, Image, LeavesImage, image_of}
 use Rattle.status.specs.Header.{new_header}
 use Rattle.recovery.specs.Format.{IsFormatted}
 use Rattle.recovery.specs.declared.fault.FormatFault.{FormatFault}
-use Rattle.refinement.specs.OnDisk.{IsImageOf}
-use Rattle.opened.proofs.Formatted.{formatted-leaves, formatted-stands}
+use Rattle.law_refinement.specs.OnDisk.{IsImageOf}
+use Rattle.law_opening.proofs.Formatted.{formatted-leaves, formatted-stands}
 use Rattle.run.proofs.opening.format.Goals as goal
 
 by-result : (slots : _) (old new : Areas) (r : Result (Unit {0}) FormatFault) → OnOk r (IsFormatted slots old new) → OnOk r ((image : Image) → LeavesImage new image → IsImageOf (new_header 3 slots) image [] (λ relation. 0))

@@ -4,17 +4,17 @@ use Rattle.disk.specs.Areas.{AreSound, LeavesNoMore, image_of}
 use Rattle.disk.specs.Calls.{DiskState}
 use Rattle.history.specs.Histories.{History}
 use Rattle.history.specs.Machine.{opened}
-use Rattle.image.specs.Values.{Value}
+use Rattle.law_image.specs.Values.{Value}
 use Rattle.status.specs.declared.header.Header.{Header}
 use Rattle.recovery.specs.Faults.{IsReadFault}
 use Rattle.recovery.specs.declared.fault.OpenFault.{OpenFault}
 use Rattle.recovery.specs.Settling.{Settles, CountsMore, CountsAtMost}
 use Rattle.store.specs.Values.{StoreValue}
 use Rattle.store.specs.Opens.{Opens, OpenRefuses}
-use Rattle.refinement.specs.OnDisk.{IsImageOf}
-use Rattle.refinement.specs.Stands.{Stands}
-use Rattle.opened.proofs.Opened.{open-stands}
-use Rattle.opened.proofs.Reopened.{open-refuses}
+use Rattle.law_refinement.specs.OnDisk.{IsImageOf}
+use Rattle.law_refinement.specs.Stands.{Stands}
+use Rattle.law_opening.proofs.Opened.{open-stands}
+use Rattle.law_opening.proofs.Reopened.{open-refuses}
 use Rattle.run.proofs.opening.open.Goals as goal
 
 by-result : {S : Type 0} (tells : Bool) (disk_of : S → DiskState) (old : DiskState) (mark : ℕ) (r : Result StoreValue (OpenFault × S)) → IfOk r (λ s. Opens tells old mark s) → IfErr r (λ e. OpenRefuses tells old e.0 (disk_of e.1))

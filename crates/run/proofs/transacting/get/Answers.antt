@@ -1,6 +1,6 @@
 use Rattle.std.proofs.Common.{◌≡◌, Option, refl, subst}
 use Rattle.std.specs.Prelude.{slice_get, IfOk}
-use Rattle.image.specs.Values.{Value}
+use Rattle.law_image.specs.Values.{Value}
 use Rattle.run.specs.declared.calls.Call.TheVariants as call
 use Rattle.run.proofs.Steps.{unknown-goes, lacks-transaction}
 use Rattle.run.proofs.Reading.{held-transaction, held-no_transaction, get-goes}

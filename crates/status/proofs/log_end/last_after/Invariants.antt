@@ -1,6 +1,6 @@
 use Rattle.std.proofs.Common.{◌≡◌, take}
 use Rattle.std.specs.Prelude.{map}
-use Rattle.image.specs.Log.{last_time_after}
+use Rattle.law_image.specs.Log.{last_time_after}
 use Rattle.status.specs.Rules.{head_of}
 use Rattle.status.proofs.log_end.last_after.Given as goal
 

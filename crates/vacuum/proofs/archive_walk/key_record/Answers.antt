@@ -1,7 +1,7 @@
 use Rattle.std.proofs.Common.{◌≡◌, ◌∙◌, List, Some, ap, sym}
 use Rattle.std.specs.List.{slice_get}
-use Rattle.image.specs.Reading.{ArchiveRecord}
-use Rattle.image.specs.PlansMade.{archive_record}
+use Rattle.law_image.specs.Reading.{ArchiveRecord}
+use Rattle.law_image.specs.PlansMade.{archive_record}
 use Rattle.archive.specs.Answers.{record_of}
 use Rattle.chains.specs.Rows.{version_of_loan}
 use Rattle.vacuum.proofs.Firsts.{records-none, records-late, records-next}

@@ -1,6 +1,6 @@
 use Rattle.std.proofs.Common.{◌∙◌, List, ap, sym}
 use Rattle.std.specs.List.{slice_get}
-use Rattle.image.specs.Reading.{ArchiveRecord}
+use Rattle.law_image.specs.Reading.{ArchiveRecord}
 use Rattle.archive.specs.Answers.{record_of}
 use Rattle.vacuum.specs.Archives.{key_left}
 use Rattle.vacuum.proofs.Records.{tested-none, tested-some, at-none, next-is, past-key, fewer-keys}

@@ -1,6 +1,6 @@
 use Rattle.std.proofs.Common.{ℕ, ◌≡◌, ◌+◌, ◌-◌, ◌≤◌, ◌++◌, List, Some, false, IsTrue, length, take}
 use Rattle.std.specs.List.{flat_map, slice_get}
-use Rattle.image.specs.Reading.{ArchiveRecord}
+use Rattle.law_image.specs.Reading.{ArchiveRecord}
 use Rattle.archive.specs.Answers.{head_of, precedes, row_of}
 use Rattle.archive.specs.Digits.{digits}
 use Rattle.archive.specs.Parts.{IsRight, Keeps}

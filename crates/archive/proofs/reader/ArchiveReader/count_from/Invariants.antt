@@ -1,5 +1,5 @@
 use Rattle.std.proofs.Common.{◌≡◌, ◌-◌, ◌<◌, ◌≤◌, List, None, IsTrue}
-use Rattle.image.specs.Reading.{ArchiveRecord}
+use Rattle.law_image.specs.Reading.{ArchiveRecord}
 use Rattle.archive.specs.Parts.{IsRight, Keeps}
 use Rattle.archive.specs.Runs.{run_end}
 use Rattle.archive.specs.Readers.{kept_of}

@@ -1,6 +1,6 @@
 use Rattle.std.proofs.Common.{ℕ, ◌≡◌, ◌+◌, ◌≤◌, List, IsTrue, length, drop, take}
 use Rattle.std.specs.List.{flat_map}
-use Rattle.image.specs.Reading.{ArchiveRecord}
+use Rattle.law_image.specs.Reading.{ArchiveRecord}
 use Rattle.archive.specs.Parts.{IsRight, Keeps}
 use Rattle.archive.specs.Runs.{HoldRuns, RunsEndBy}
 use Rattle.archive.specs.Readers.{kept_of}

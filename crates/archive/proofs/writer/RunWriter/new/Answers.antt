@@ -1,6 +1,6 @@
 use Rattle.std.proofs.Common.{◌≡◌, ◌∙◌, List, length, ap, sym, arith}
 use Rattle.std.specs.List.{concat}
-use Rattle.image.specs.Reading.{ArchiveRecord}
+use Rattle.law_image.specs.Reading.{ArchiveRecord}
 use Rattle.archive.specs.Pieces.{size_of, run_chunks}
 use Rattle.archive.specs.Runs.{run_bytes}
 use Rattle.archive.proofs.Lefts.{run_size}

@@ -1,8 +1,8 @@
 use Rattle.std.proofs.Common.{rules, ap, subst, sym, ◌∙◌}
 use Rattle.history.specs.Histories.{IsHistory}
-use Rattle.image.specs.Values.{IsValue}
+use Rattle.law_image.specs.Values.{IsValue}
 use Rattle.store.specs.Values.{StoreValue}
-use Rattle.refinement.specs.Stands.{raising_of}
+use Rattle.law_refinement.specs.Stands.{raising_of}
 use Rattle.shared.specs.Seen.{Seen, order_of}
 use Rattle.shared.proofs.Moves.{job-pumped, job-later, job-keeps}
 use Rattle.shared.proofs.locked.Locked.job_step.Goals as goal

@@ -1,6 +1,6 @@
 use Rattle.std.proofs.Common.{rules, ◌∙◌, sym, subst, arith}
 use Rattle.history.specs.Histories.{IsHistory}
-use Rattle.image.specs.Values.{IsValue}
+use Rattle.law_image.specs.Values.{IsValue}
 use Rattle.shared.specs.Seen.{Seen, order_of}
 use Rattle.shared.specs.Shared.{SubmitHappens}
 use Rattle.shared.proofs.Moves.{submit-leaves, submit-keeps, noted-is}

@@ -1,6 +1,6 @@
 use Rattle.std.proofs.Common.{rules, refl, ap, subst, sym, ◌∙◌, [], ◌∷◌}
-use Rattle.refinement.specs.Stands.{Stands}
-use Rattle.refinement.proofs.Memory.{last-is}
+use Rattle.law_refinement.specs.Stands.{Stands}
+use Rattle.law_refinement.proofs.Memory.{last-is}
 use Rattle.shared.specs.Seen.{SightValue, IsLater, seen_of}
 use Rattle.shared.proofs.Fronts.{later-nothing}
 use Rattle.shared.proofs.Passes.{begins}

@@ -2,7 +2,7 @@ use Rattle.std.proofs.Common.{◌≡◌, Option, None, Err, subst}
 use Rattle.std.specs.Prelude.{◌↔◌, IsSome}
 use Rattle.history.specs.declared.key.Key.{Key}
 use Rattle.history.specs.Key.{same_key}
-use Rattle.image.specs.Values.{Value}
+use Rattle.law_image.specs.Values.{Value}
 use Rattle.snapshot.specs.Txn.{TxnValue, IsFullFor, with_delete, writes_after_delete}
 use Rattle.snapshot.specs.declared.txn.TxnFault.TheVariants as fault
 use Rattle.shared.specs.Moments.{TxnMoment, value_for}

@@ -2,7 +2,7 @@ use Rattle.std.proofs.lemmas.Grind.{common_steps}
 use Rattle.std.proofs.Common.{◌≡◌, ◌<◌, List, None, length, arith, unwrap_or, cond, ap, sym, ◌∙◌, subst}
 use Rattle.history.specs.declared.key.KeyWrite.{KeyWrite}
 use Rattle.history.specs.Key.{same_key, write_in}
-use Rattle.image.specs.Values.{Value}
+use Rattle.law_image.specs.Values.{Value}
 use Rattle.snapshot.specs.Txn.{TxnValue, AreTxnWrites, at_snapshot, seen_by}
 use Rattle.snapshot.proofs.TxnLemmas.{either, still_written, still_without, seen-with_write, seen-without, none_copied, some_copied}
 use Rattle.snapshot.proofs.txn.Txn.delete.Goals as goal

@@ -1,6 +1,6 @@
 use Rattle.std.proofs.Common.{◌≡◌, Option, unwrap_or, option_copied, ap, sym, ◌∙◌, subst}
 use Rattle.history.specs.declared.key.KeyWrite.{KeyWrite}
-use Rattle.image.specs.Values.{Value}
+use Rattle.law_image.specs.Values.{Value}
 use Rattle.snapshot.specs.WriteSets.{IsPlaceOf, IsPlaceFor}
 use Rattle.snapshot.specs.Txn.{TxnValue, at_snapshot, seen_by}
 use Rattle.snapshot.proofs.WriteSetLemmas.{write_in-at, write_in-for}

@@ -1,7 +1,7 @@
 use Rattle.std.proofs.Common.{◌≡◌, ◌<◌, List, map, None, Some, length, arith, unwrap_or, cond, ap, ◌∙◌, subst}
 use Rattle.history.specs.declared.key.KeyWrite.{KeyWrite}
 use Rattle.history.specs.Key.{same_key, write_in}
-use Rattle.image.specs.Values.{Value}
+use Rattle.law_image.specs.Values.{Value}
 use Rattle.snapshot.specs.Txn.{TxnValue, AreTxnWrites, at_snapshot, seen_by}
 use Rattle.snapshot.proofs.TxnLemmas.{either, still_written, seen-with_write}
 use Rattle.snapshot.proofs.txn.Txn.put.Goals as goal

@@ -1,7 +1,7 @@
 use Rattle.std.proofs.Common.{◌≡◌, ℕ, List, Result, Ok, Err, IfOk, unwrap_or, sym, ◌∙◌, subst}
 use Rattle.history.specs.Key.{write_in}
 use Rattle.history.specs.Queries.{IsScan}
-use Rattle.image.specs.Values.{Value}
+use Rattle.law_image.specs.Values.{Value}
 use Rattle.chains.specs.Scans.{scanned}
 use Rattle.snapshot.specs.Scans.{overlaid}
 use Rattle.snapshot.specs.Txn.{TxnValue, at_snapshot, seen_by}

@@ -1,7 +1,7 @@
 use Rattle.std.proofs.Common.{refl, ap, ◌∙◌, List}
 use Rattle.std.specs.Prelude.{map}
 use Rattle.wire.specs.declared.slot.Member.{Member}
-use Rattle.image.specs.Log.{last_time_after}
+use Rattle.law_image.specs.Log.{last_time_after}
 use Rattle.status.specs.Rules.{head_of}
 use Rattle.status.proofs.Ends.{commits_end, run_ends, reclaim_ends, floor_ends}
 use Rattle.status.proofs.log_end.LogEnd.with.Goals as goal

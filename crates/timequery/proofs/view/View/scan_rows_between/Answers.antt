@@ -4,7 +4,7 @@ use Rattle.std.specs.Prelude.{Ok}
 use Rattle.history.specs.declared.time.Version.{Version}
 use Rattle.history.specs.Answers.{IsScanBetweenAnswer}
 use Rattle.floors.specs.Floors.{floor_at}
-use Rattle.image.specs.Values.{Value}
+use Rattle.law_image.specs.Values.{Value}
 use Rattle.chains.specs.KeyWrites.{AreRising, IsOrdered}
 use Rattle.chains.specs.Rows.{scanned_rows}
 use Rattle.timequery.specs.View.{ViewValue}

@@ -3,7 +3,7 @@ use Rattle.std.proofs.Common.{◌≤◌, ◌<◌, ℕ, List, ap, sym, ◌∙◌,
 use Rattle.std.specs.Prelude.{Ok}
 use Rattle.history.specs.Answers.{IsScanAtAnswer}
 use Rattle.floors.specs.Floors.{floor_at}
-use Rattle.image.specs.Values.{Value}
+use Rattle.law_image.specs.Values.{Value}
 use Rattle.chains.specs.KeyWrites.{AreRising, IsOrdered}
 use Rattle.chains.specs.Scans.{scanned}
 use Rattle.timequery.specs.Homes.{ValuesOfBoth}

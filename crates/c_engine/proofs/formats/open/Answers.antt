@@ -1,0 +1,6 @@
+use Rattle.std.proofs.Common.{refl}
+use Rattle.recovery.specs.declared.fault.OpenFault.TheVariants.{NoMemory}
+use Rattle.c_engine.proofs.formats.open.Goals as goal
+
+pub returns-clause-refused : goal.returns-clause-refused
+returns-clause-refused c = (NoMemory, tt, refl)

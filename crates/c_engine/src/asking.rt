@@ -1,0 +1,94 @@
+//! The store's views and queries: nothing else of this crate asks for them.
+ghost use Rattle.std.specs.Prelude.{true, IfOk};
+ghost use Rattle.store.specs.Values.{StoreValue};
+ghost use Rattle.store.specs.Calls.{IsViewOf, FindsAt, FindsScanAt, FindsRows, FindsScanRows};
+ghost use Rattle.c_engine.specs.Queries.{IsOver, over};
+
+use archive::ArchiveReader;
+use chains::SharedValue;
+use history::{Key, Version};
+use c_relay::{RelayDisk, SliceDisk};
+use std::alloc::{AllocError, Global};
+use store::Store;
+use timequery::{QueryFault, View};
+
+/// The store under an engine.
+pub type Kept = Store<RelayDisk>;
+
+/// A view of all that is published.
+pub fn view(store: &Kept) -> Result<View, AllocError>
+    ensures { IfOk result (IsViewOf store.now) }
+{
+    store.view()
+}
+
+/// The archive that a host lends for one query, and its reader, which keeps nothing of it.
+#[derive(Drop)]
+pub struct Lent<'a> {
+    alloc: Global,
+    reader: ArchiveReader,
+    disk: SliceDisk<'a>,
+}
+
+impl<'a> Lent<'a> {
+    /// A reader of the archive's bytes, which the host lends for the call.
+    pub fn new(alloc: Global, archive: &'a [u8]) -> Lent<'a>
+        ensures { IsOver archive.now result }
+    {
+        Lent {
+            alloc,
+            reader: ArchiveReader::without_cache(alloc),
+            disk: SliceDisk::new(&[], &[], archive),
+        }
+    }
+
+    /// The value of a key at a time, in microseconds since 1970, as the view has it; why not, where it is not told.
+    pub fn at(
+        &mut self,
+        view: &View,
+        key: Key,
+        time: u64,
+    ) -> Result<Option<SharedValue>, QueryFault>
+        ensures { (v : StoreValue) → FindsAt true (over self.old v) view.now key time result (over self.new v) }
+    {
+        view.value_at(&mut self.reader, &mut self.disk, key, time)
+    }
+
+    /// The records of a relation that have a value at a time, with their values.
+    pub fn scan_at(
+        &mut self,
+        view: &View,
+        relation: u16,
+        time: u64,
+    ) -> Result<Vec<(u64, SharedValue)>, QueryFault>
+        ensures { (v : StoreValue) → FindsScanAt true (over self.old v) view.now relation time result (over self.new v) }
+    {
+        view.values_at(self.alloc, &mut self.reader, &mut self.disk, relation, time)
+    }
+
+    /// The rows of a key from one time up to another.
+    pub fn between(
+        &mut self,
+        view: &View,
+        key: Key,
+        a: u64,
+        b: u64,
+    ) -> Result<Vec<Version<SharedValue>>, QueryFault>
+        ensures { (v : StoreValue) → FindsRows true (over self.old v) view.now key a b result (over self.new v) }
+    {
+        view.rows_between(self.alloc, &mut self.reader, &mut self.disk, key, a, b)
+    }
+
+    /// The rows of a relation's records from one time up to another.
+    pub fn scan_between(
+        &mut self,
+        view: &View,
+        relation: u16,
+        a: u64,
+        b: u64,
+    ) -> Result<Vec<(u64, Version<SharedValue>)>, QueryFault>
+        ensures { (v : StoreValue) → FindsScanRows true (over self.old v) view.now relation a b result (over self.new v) }
+    {
+        view.scan_rows_between(self.alloc, &mut self.reader, &mut self.disk, relation, a, b)
+    }
+}

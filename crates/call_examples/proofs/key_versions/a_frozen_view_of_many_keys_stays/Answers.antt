@@ -1,5 +1,0 @@
-use Rattle.call_examples.proofs.WriteSets.{sorted_one}
-use Rattle.call_examples.proofs.key_versions.a_frozen_view_of_many_keys_stays.Goals as goal
-
-pub prepare-requires-clause-rising : goal.prepare-requires-clause-rising
-prepare-requires-clause-rising g c = sorted_one _

@@ -1,5 +1,0 @@
-use Rattle.call_examples.proofs.WriteSets.{sorted_one}
-use Rattle.call_examples.proofs.published.published.Goals as goal
-
-pub with_commit-requires-clause-rising : goal.with_commit-requires-clause-rising
-with_commit-requires-clause-rising c = sorted_one _

@@ -1,5 +1,0 @@
-use Rattle.client.proofs.Winning.{first-wins}
-use Rattle.client.proofs.first_wins.Goals as goal
-
-pub returns : goal.returns
-returns c = first-wins c.public_clauses.ensures

@@ -1,6 +1,0 @@
-use Rattle.std.proofs.Common.{refl}
-use Rattle.recovery.specs.declared.fault.OpenFault.TheVariants.{NoMemory}
-use Rattle.embedded.proofs.formats.open.Goals as goal
-
-pub returns-clause-refused : goal.returns-clause-refused
-returns-clause-refused c = (NoMemory, tt, refl)

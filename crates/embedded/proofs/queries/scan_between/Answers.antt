@@ -1,8 +1,0 @@
-use Rattle.std.proofs.Common.{◌≡◌, ◌∙◌, sym, false}
-use Rattle.embedded.specs.Queries.{is_none}
-use Rattle.embedded.proofs.queries.scan_between.Goals as goal
-
-pub returns : goal.returns
-returns c = λ v.
-    let some : is_none c.args.archive.now c.args.view.now ≡ false = sym c.is_none.ensures ∙ c.if-is_none.false in
-    rw some (c.new-lent.result, c.scan_between.new.self, c.new-lent.ensures, c.scan_between.ensures v)

@@ -1,6 +1,0 @@
-use Rattle.std.proofs.Common.{map, take}
-use Rattle.embedded.specs.Rows.{shown_version, AreLaid}
-use Rattle.embedded.proofs.rows.rows_out.Given as goal
-
-abbrev pub invariant-loop-version : goal.invariant-loop-version
-invariant-loop-version l = AreLaid (map (shown_version l.«record») (take l.version-index l.found)) l.copying l.rows l.out

@@ -1,9 +1,0 @@
-use Rattle.std.proofs.Common.{sym, ◌∙◌, w32, rules}
-use Rattle.std.proofs.lemmas.Int.{to_z-of_z}
-use mir.Val.{SFits}
-use Rattle.exported.proofs.ts_end.Goals as goal
-
-pub returns : goal.returns
-returns c =
-    let fits : SFits w32 c.put_back.result = search rules in
-    rw (c.in-Some.ensures.some, sym c.deref_mut.ensures.value, c.put_back.ensures.engine) (c.end-code.result, to_z-of_z w32 c.put_back.result fits ∙ c.put_back.ensures.code, c.end-code.ensures)

@@ -1,0 +1,22 @@
+-- The image of a new store stands for the empty history.
+use Rattle.std.proofs.Common.{ℕ, [], refl, arith}
+use Rattle.std.specs.List.Sorted.{IsStrictlySortedBy}
+use Rattle.law_image.specs.Plans.{empty_reading}
+use Rattle.law_image.specs.StandsFor.{IsHeader, StandsFor}
+
+pub empty-stands_for : (profile slots pieces : ℕ) → IsHeader profile slots pieces → StandsFor (empty_reading profile slots pieces) [] (λ relation. 0)
+unfolding IsStrictlySortedBy
+empty-stands_for profile slots pieces header = record {
+  opens = record {
+    reads = record { header = header; log = tt; fits = omega arith; members = refl; chains = tt; stored = tt; anchors = tt; anchor_times = tt; runs = tt };
+    floors_given = λ relation. refl;
+    history = tt;
+    commits = refl;
+    write_sets = refl;
+  };
+  homes = record {
+    marks = omega arith;
+    in_heap = λ key. refl;
+    in_archive = λ key. refl;
+  };
+}

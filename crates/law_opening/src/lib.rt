@@ -1,0 +1,45 @@
+//! What opening a store, formatting a disk and closing a store stand for: laws, each as a function with nothing to do.
+#![tactic(auto)]
+
+ghost use Rattle.law_opening.specs.Laws.{OpenStands, OpenAnswers, OpenRefusesFor, FormatStands, FormatStops, FormatOpens, CloseLeaves, ReopenStands, ReopenRefuses, OpeningStops, SecondStops, OpeningMoments, ClosedIsLeft, StandsAnswers, KeptAnswers, AnswersStay, LabelsStay};
+
+/// On an image that stands for a history an opened store stands for it, and there is one that
+/// opening answers. Where opening is refused, the device or memory gave out, the disk still holds the image, and a stop leaves nothing that it
+/// might not have left before.
+pub fn open_stands()
+    ensures opens { OpenStands }
+    ensures answers { OpenAnswers }
+    ensures refuses { OpenRefusesFor }
+{}
+
+/// A formatted disk stands for the empty history, and so does a store that is opened on it.
+pub fn format_stands()
+    ensures leaves { FormatStands }
+    ensures stops { FormatStops }
+    ensures opens { FormatOpens }
+{}
+
+/// Whatever a stop may leave of a closed store's disk stands for a front of the commit order.
+pub fn close_leaves()
+    ensures { CloseLeaves }
+{}
+
+/// A store that is opened again after a stop stands for a front of its commit order, with all that
+/// was published. So it does where it was closed. A stop at any moment while it is opened, refused
+/// or not, and a second stop leave nothing that the first might not have left.
+pub fn reopen_stands()
+    ensures opens { ReopenStands }
+    ensures refuses { ReopenRefuses }
+    ensures stops { OpeningStops }
+    ensures second { SecondStops }
+    ensures moments { OpeningMoments }
+    ensures closed { ClosedIsLeft }
+{}
+
+/// Views are answered by the history, and after a stop as before it. So are the times of a label.
+pub fn answers_are_kept()
+    ensures stands { StandsAnswers }
+    ensures kept { KeptAnswers }
+    ensures stay { AnswersStay }
+    ensures labels { LabelsStay }
+{}

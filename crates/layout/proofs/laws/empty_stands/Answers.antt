@@ -1,5 +1,0 @@
-use Rattle.layout.proofs.Ways.{empty_image_stands}
-use Rattle.layout.proofs.laws.empty_stands.Goals as goal
-
-pub returns : goal.returns
-returns c = λ header image log. empty_image_stands header image log

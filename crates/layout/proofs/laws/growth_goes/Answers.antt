@@ -1,5 +1,0 @@
-use Rattle.layout.proofs.Growing.{growth_goes}
-use Rattle.layout.proofs.laws.growth_goes.Goals as goal
-
-pub returns : goal.returns
-returns c = λ header stage calm old growing sound_calm sound. growth_goes header stage calm old growing sound_calm sound

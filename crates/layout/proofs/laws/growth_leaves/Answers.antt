@@ -1,5 +1,0 @@
-use Rattle.layout.proofs.Growing.{growth_leaves}
-use Rattle.layout.proofs.laws.growth_leaves.Goals as goal
-
-pub returns : goal.returns
-returns c = λ header stage calm a content growing sound left. growth_leaves header stage calm a content growing sound left

@@ -1,8 +1,0 @@
-use Rattle.named.proofs.Stays.{opened_behind, opened_names}
-use Rattle.named.proofs.opened_names.Goals as goal
-
-pub returns-clause-behind : goal.returns-clause-behind
-returns-clause-behind c = opened_behind
-
-pub returns-clause-names : goal.returns-clause-names
-returns-clause-names c = opened_names

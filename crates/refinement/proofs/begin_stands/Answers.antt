@@ -1,5 +1,0 @@
-use Rattle.refinement.proofs.GrowingCalls.{begin-stands}
-use Rattle.refinement.proofs.begin_stands.Goals as goal
-
-pub returns : goal.returns
-returns c = begin-stands

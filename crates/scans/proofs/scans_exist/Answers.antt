@@ -1,8 +1,0 @@
-use Rattle.history.specs.Key.{key_of}
-use Rattle.history.specs.Histories.{state}
-use Rattle.scans.proofs.Written.{numbers_of, state-written}
-use Rattle.scans.proofs.Made.{scan-made}
-use Rattle.scans.proofs.scans_exist.Goals as goal
-
-pub returns : goal.returns
-returns g c = λ h relation time. scan-made (state h time) relation (numbers_of h) (λ number value is. state-written h time (key_of relation number) value is)

@@ -1,7 +1,0 @@
-use Rattle.std.proofs.Common.{◌≤◌}
-use Rattle.chains.specs.KeyWrites.{latest}
-use Rattle.storage_examples.proofs.version_walks.commits.Given as goal
-
--- what is published is as old as the last commit, or older
-abbrev pub invariant-loop-time : goal.invariant-loop-time
-invariant-loop-time l = latest l.frozen ≤ l.last

@@ -1,5 +1,0 @@
-use Rattle.chains.proofs.Sorted.{sorted_one}
-use Rattle.storage_examples.proofs.version_walks.written.Goals as goal
-
-pub with_commit-requires-clause-rising : goal.with_commit-requires-clause-rising
-with_commit-requires-clause-rising c = sorted_one _

@@ -1,0 +1,12 @@
+use Rattle.std.proofs.Common.{[]}
+use Rattle.history.specs.Machine.{opened}
+use Rattle.test_threads.proofs.grown.a_store_grows_beside_commits.Given as goal
+
+abbrev pub ghost-new : goal.ghost-new
+ghost-new g a = opened [] (λ relation. 0)
+
+abbrev pub ghosts-fills_new_slots-L-Ledger : goal.ghosts-fills_new_slots-L-Ledger
+ghosts-fills_new_slots-L-Ledger g a = record { name = a.opened.blank.name; parts = a.opened.blank.parts }
+
+abbrev pub ghosts-fills_new_slots-L-Opening : goal.ghosts-fills_new_slots-L-Opening
+ghosts-fills_new_slots-L-Opening g a = record { start = opened [] (λ relation. 0); mark = a.opened.store.transactions.mark; table = a.opened.cell.table.shared.table_id }

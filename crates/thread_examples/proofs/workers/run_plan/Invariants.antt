@@ -1,6 +1,0 @@
-use Rattle.std.proofs.Common.{[]}
-use Rattle.history.specs.Machine.{opened}
-use Rattle.thread_examples.proofs.workers.run_plan.Given as goal
-
-abbrev pub ghost-stress_on : goal.ghost-stress_on
-ghost-stress_on g a = opened [] (λ relation. 0)
