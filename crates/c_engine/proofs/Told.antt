@@ -6,11 +6,11 @@ use mathlib.Core.Logic.{∥∥₁_map}
 use Rattle.disk.specs.Areas.{area_of, with_area, written}
 use Rattle.disk.specs.Calls.{DiskState}
 use Rattle.disk.specs.declared.area.Area.{Area}
-use Rattle.c_relay.specs.Calls.{IsNoted}
-use Rattle.c_relay.specs.State.{relay_state}
-use Rattle.c_relay.specs.declared.device_call.DeviceCall.{DeviceCall}
-use Rattle.c_relay.specs.declared.device_call.DeviceCall.TheVariants.{Write, Sync}
-use Rattle.c_relay.specs.declared.relay_disk.RelayDisk.{RelayDisk}
+use Rattle.c_engine.specs.RelayCalls.{IsNoted}
+use Rattle.c_engine.specs.RelayState.{relay_state}
+use Rattle.c_engine.specs.declared.device_call.DeviceCall.{DeviceCall}
+use Rattle.c_engine.specs.declared.device_call.DeviceCall.TheVariants.{Write, Sync}
+use Rattle.c_engine.specs.declared.relay_disk.RelayDisk.{RelayDisk}
 use Rattle.c_engine.specs.Areas.{area_number}
 use Rattle.c_engine.specs.Engines.{TellsLastCall}
 use Rattle.c_engine.specs.declared.code.Code.{Code}

@@ -13,9 +13,9 @@ use Rattle.group.specs.declared.answers.Submitted.TheVariants.{ReadOnly, Queued}
 use Rattle.group.specs.declared.answers.SubmitFault.{SubmitFault}
 use Rattle.recovery.specs.Faults.{IsImageFault}
 use Rattle.recovery.specs.declared.fault.OpenFault.{OpenFault}
-use Rattle.c_relay.specs.Calls.{LeadsTo}
-use Rattle.c_relay.specs.declared.device_call.DeviceCall.{DeviceCall}
-use Rattle.c_relay.specs.declared.device_call.DeviceCall.TheVariants.{Write, Sync}
+use Rattle.c_engine.specs.RelayCalls.{LeadsTo}
+use Rattle.c_engine.specs.declared.device_call.DeviceCall.{DeviceCall}
+use Rattle.c_engine.specs.declared.device_call.DeviceCall.TheVariants.{Write, Sync}
 use Rattle.snapshot.specs.Txn.{TxnValue}
 use Rattle.snapshot.specs.declared.txn.TxnFault.{TxnFault}
 use Rattle.store.specs.Archives.{StartsArchive}

@@ -2,7 +2,7 @@
 use Rattle.std.specs.Prelude.{◌≡◌, ◌⊎◌, ◌↔◌, ℕ, ℤ, List}
 use Rattle.disk.specs.Areas.{Areas}
 use Rattle.recovery.specs.Format.{IsSlotCount, IsFormatted}
-use Rattle.c_relay.specs.Noted.{empty_areas}
+use Rattle.c_engine.specs.RelayNoted.{empty_areas}
 use Rattle.c_engine.specs.Bytes.{AreBytesTold}
 use Rattle.c_engine.specs.Codes.{code_number}
 use Rattle.c_engine.specs.declared.code.Code.{Code}

@@ -8,3 +8,9 @@ pub mod Owned
 pub mod Queries
 pub mod Rows
 pub mod Writes
+pub mod RelayCalls
+pub mod RelayCodes
+pub mod RelayFacts
+pub mod RelayNoted
+pub mod RelaySound
+pub mod RelayState

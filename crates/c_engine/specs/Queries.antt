@@ -15,7 +15,7 @@ use Rattle.chains.specs.Scans.{scanned}
 use Rattle.chains.specs.Writes.{Value}
 use Rattle.archive.specs.Readers.{kept_of}
 use Rattle.archive.specs.declared.run.RunEntry.{RunEntry}
-use Rattle.c_relay.specs.State.{slices_state}
+use Rattle.c_engine.specs.RelayState.{slices_state}
 use Rattle.snapshot.specs.Txn.{seen_by}
 use Rattle.store.specs.Calls.{FindsAt, FindsScanAt, FindsRows, FindsScanRows}
 use Rattle.store.specs.Values.{StoreValue}

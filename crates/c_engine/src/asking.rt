@@ -4,10 +4,10 @@ ghost use Rattle.store.specs.Values.{StoreValue};
 ghost use Rattle.store.specs.Calls.{IsViewOf, FindsAt, FindsScanAt, FindsRows, FindsScanRows};
 ghost use Rattle.c_engine.specs.Queries.{IsOver, over};
 
+use crate::{RelayDisk, SliceDisk};
 use archive::ArchiveReader;
 use chains::SharedValue;
 use history::{Key, Version};
-use c_relay::{RelayDisk, SliceDisk};
 use std::alloc::{AllocError, Global};
 use store::Store;
 use timequery::{QueryFault, View};

@@ -1,13 +1,13 @@
 //! A store, what it gave out, and the device call that the host is to make.
 ghost use Rattle.std.specs.Prelude.{◌≡◌, IfSome};
 
+use crate::DeviceCall;
 use crate::asking::{self, Kept};
 use crate::code::{Call, Code, Info};
 use crate::codes::area_number;
 use crate::places::Places;
 use crate::values::copy_bytes;
 use disk::Disk;
-use c_relay::DeviceCall;
 use std::alloc::Global;
 use std::mem;
 use timequery::View;

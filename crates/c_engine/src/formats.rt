@@ -6,9 +6,9 @@ ghost use Rattle.c_engine.specs.Formats.{FormatsStore};
 use crate::code::{Code, Info};
 use crate::codes::open_code;
 use crate::engine::Engine;
+use crate::{RelayDisk, SliceDisk};
 use disk::{Area, Disk, MemDisk};
 use recovery::FormatFault;
-use c_relay::{RelayDisk, SliceDisk};
 use std::alloc::Global;
 use store::Store;
 

@@ -4,6 +4,7 @@
 mod asking;
 mod code;
 mod codes;
+mod device_call;
 mod engine;
 mod formats;
 mod handle;
@@ -11,11 +12,17 @@ mod jobs;
 mod parts;
 mod places;
 mod queries;
+mod relay_disk;
 mod rows;
+mod shadow;
+mod slice_disk;
 mod transacting;
 mod values;
 
 pub use code::{Call, Code, Info, Row};
+pub use device_call::DeviceCall;
 pub use engine::Engine;
 pub use formats::{format, open};
 pub use handle::Handle;
+pub use relay_disk::RelayDisk;
+pub use slice_disk::SliceDisk;

@@ -2,3 +2,9 @@ pub mod CommitOrder
 pub mod Tickets
 pub mod Queued
 pub mod Taking
+pub mod Values
+pub mod Calls
+pub mod Order
+pub mod Submits
+pub mod Steps
+pub mod Reclaims

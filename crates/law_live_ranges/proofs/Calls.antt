@@ -26,9 +26,9 @@ use Rattle.group.specs.declared.answers.SubmitFault.TheVariants as submit_fault
 use Rattle.group.specs.declared.answers.Redeemed.{Redeemed}
 use Rattle.group.specs.declared.answers.Redeemed.TheVariants as answers
 use Rattle.snapshot.specs.Txn.{TxnValue}
-use Rattle.transactions.specs.Values.{TransactionsValue, is_own, over}
-use Rattle.transactions.specs.Calls as calls
-use Rattle.transactions.specs.Submits as submits
+use Rattle.group.specs.Values.{TransactionsValue, is_own, over}
+use Rattle.group.specs.Calls as calls
+use Rattle.group.specs.Submits as submits
 use Rattle.status.specs.TurnState.{LogState}
 use Rattle.store.specs.Values.{StoreValue, HasRest}
 use Rattle.store.specs.Calls as asking

@@ -25,9 +25,9 @@ use Rattle.status.specs.SlotCalls as slots
 use Rattle.status.specs.TurnState.{TurnState, LogState}
 use Rattle.group.specs.declared.answers.PumpFault.{PumpFault}
 use Rattle.group.specs.declared.answers.PumpFault.TheVariants as fault
-use Rattle.transactions.specs.Order.{IsInOrder}
-use Rattle.transactions.specs.Values.{TransactionsValue}
-use Rattle.transactions.proofs.Publishing.{out-front, out-swapped}
+use Rattle.group.specs.Order.{IsInOrder}
+use Rattle.group.specs.Values.{TransactionsValue}
+use Rattle.group.proofs.Publishing.{out-front, out-swapped}
 use Rattle.floors.specs.Floors.{FloorsValue}
 use Rattle.store.specs.Values.{StoreValue, IsOnItsWay, turn_of}
 use Rattle.store.specs.Parts.{GrowsBehind}

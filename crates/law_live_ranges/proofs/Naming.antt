@@ -14,10 +14,10 @@ use Rattle.extents.proofs.Frames.{other_stays, are_apart, used_stays}
 use Rattle.group.specs.Queued.{QueuedValue, numbers_of}
 use Rattle.group.specs.Taking.{AreLeastFree}
 use Rattle.group.specs.declared.queued.StoredExtent.{StoredExtent}
-use Rattle.transactions.specs.Steps.{extent_at, extent_of, grouped}
-use Rattle.transactions.specs.Values.{TransactionsValue}
-use Rattle.transactions.specs.declared.stage.GroupStage.{GroupStage}
-use Rattle.transactions.specs.declared.stage.GroupStage.TheVariants.{NoGroup, Storing, Stored, Turning}
+use Rattle.group.specs.Steps.{extent_at, extent_of, grouped}
+use Rattle.group.specs.Values.{TransactionsValue}
+use Rattle.group.specs.declared.stage.GroupStage.{GroupStage}
+use Rattle.group.specs.declared.stage.GroupStage.TheVariants.{NoGroup, Storing, Stored, Turning}
 use Rattle.store.specs.Values.{StoreValue, KeepsJob}
 use Rattle.store.specs.declared.job.Job.{Job}
 use Rattle.law_live_ranges.specs.Named.{IsInKept, IsNamed, IsLeft, LeavesNamed, IsBehindRuns, WritesBehind}

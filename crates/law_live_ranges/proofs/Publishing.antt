@@ -18,14 +18,14 @@ use Rattle.group.specs.declared.answers.Did.{Did}
 use Rattle.group.specs.declared.answers.Did.TheVariants as group
 use Rattle.group.specs.declared.answers.PumpFault.{PumpFault}
 use Rattle.group.specs.declared.answers.PumpFault.TheVariants as fault
-use Rattle.transactions.proofs.Publishing.{out-front, out-swapped}
-use Rattle.transactions.specs.Order.{IsInOrder}
+use Rattle.group.proofs.Publishing.{out-front, out-swapped}
+use Rattle.group.specs.Order.{IsInOrder}
 use Rattle.vacuum.specs.Anchors.{Sourced}
 use Rattle.wire.specs.declared.slot.Anchors.{Anchors}
-use Rattle.transactions.specs.Values.{TransactionsValue}
-use Rattle.transactions.specs.Steps.{next_step, next_extent, grouped}
-use Rattle.transactions.specs.declared.stage.NextStep.{NextStep}
-use Rattle.transactions.specs.declared.stage.NextStep.TheVariants as step
+use Rattle.group.specs.Values.{TransactionsValue}
+use Rattle.group.specs.Steps.{next_step, next_extent, grouped}
+use Rattle.group.specs.declared.stage.NextStep.{NextStep}
+use Rattle.group.specs.declared.stage.NextStep.TheVariants as step
 use Rattle.floors.specs.Floors.{FloorsValue}
 use Rattle.store.specs.Values.{StoreValue, IsOnItsWay, turn_of, turn_in}
 use Rattle.store.specs.Pumps.{Pumps, TakesStep, WritesExtent, MayBeginSlot, TurnsSlot, IsTurned, started}

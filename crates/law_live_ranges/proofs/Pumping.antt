@@ -15,10 +15,10 @@ use Rattle.group.specs.declared.queued.StoredExtent.{StoredExtent}
 use Rattle.group.specs.declared.answers.Did.{Did}
 use Rattle.group.specs.declared.answers.PumpFault.{PumpFault}
 use Rattle.group.specs.declared.answers.PumpFault.TheVariants as fault
-use Rattle.transactions.specs.Values.{TransactionsValue}
-use Rattle.transactions.specs.Steps.{next_step, next_extent, grouped, fresh_at}
-use Rattle.transactions.specs.declared.stage.NextStep.{NextStep}
-use Rattle.transactions.specs.declared.stage.NextStep.TheVariants as step
+use Rattle.group.specs.Values.{TransactionsValue}
+use Rattle.group.specs.Steps.{next_step, next_extent, grouped, fresh_at}
+use Rattle.group.specs.declared.stage.NextStep.{NextStep}
+use Rattle.group.specs.declared.stage.NextStep.TheVariants as step
 use Rattle.store.specs.Values.{StoreValue, KeepsJob, IsOnItsWay, turn_of}
 use Rattle.store.specs.Pumps.{Pumps, TakesStep, WritesExtent, SyncsHeap, MayBeginSlot, TurnsSlot, IsTurned, TurnFails, Steps, started, begun, disk_answer}
 use Rattle.law_live_ranges.specs.Named.{IsNamed, WritesBehind, IsTyped}

@@ -8,7 +8,7 @@ use Rattle.deltas.specs.Extents.{extent_start}
 use Rattle.extents.specs.Times.{time_of}
 use Rattle.extents.specs.Usages.{IsKept}
 use Rattle.status.specs.Log.{slot_start}
-use Rattle.transactions.specs.Order.{IsInOrder}
+use Rattle.group.specs.Order.{IsInOrder}
 use Rattle.vacuum.specs.Anchors.{Sourced}
 use Rattle.wire.specs.declared.slot.Anchors.{Anchors}
 use Rattle.store.specs.Values.{StoreValue, IsInStep}

@@ -16,7 +16,7 @@ use Rattle.law_image.specs.Values.{Value, IsValue}
 use Rattle.group.specs.CommitOrder as orders
 use Rattle.timequery.specs.View.{ViewValue}
 use Rattle.timequery.specs.declared.fault.QueryFault.{QueryFault}
-use Rattle.transactions.specs.Calls.{order_of}
+use Rattle.group.specs.Calls.{order_of}
 use Rattle.store.specs.Values.{StoreValue}
 use Rattle.store.specs.Calls.{IsViewOf, AnswersAtView}
 use Rattle.law_refinement.specs.Homes.{GoesOn, IsSure}

@@ -50,7 +50,7 @@ use Rattle.recovery.specs.HeapReads.{numbers_in}
 use Rattle.recovery.specs.ReadsImage.{IsOpening, IsReadAs, IsReadFrom}
 use Rattle.recovery.specs.Laws.{IsHistoryRead}
 use Rattle.recovery.proofs.HistoryRead.{stands_opening, history_read, anchors_upto, facts_are}
-use Rattle.transactions.specs.Order.{IsInOrder}
+use Rattle.group.specs.Order.{IsInOrder}
 use Rattle.store.specs.Heads.{head_as}
 use Rattle.store.specs.Values.{ArchiveValue, StoreValue, IsInStep}
 use Rattle.store.specs.Opens.{Opens, opened_on, IsUnread}

@@ -23,7 +23,7 @@ use Rattle.recovery.specs.declared.fault.OpenFault.{OpenFault}
 use Rattle.group.specs.CommitOrder.{times_of}
 use Rattle.timequery.specs.View.{ViewValue}
 use Rattle.timequery.specs.declared.fault.QueryFault.{QueryFault}
-use Rattle.transactions.specs.Calls.{order_of}
+use Rattle.group.specs.Calls.{order_of}
 use Rattle.store.specs.Values.{StoreValue}
 use Rattle.store.specs.Calls.{IsViewOf, AnswersAtView, AnswersScanAt, AnswersRows, AnswersScanRows}
 use Rattle.store.specs.Opens.{Opens, OpenRefuses}

@@ -16,8 +16,8 @@ use Rattle.group.specs.declared.commit_order.TicketState.TheVariants as ticket_s
 use Rattle.group.specs.declared.answers.Redeemed.{Redeemed}
 use Rattle.group.specs.declared.answers.Redeemed.TheVariants as redeemed
 use Rattle.group.proofs.Heads.{redeemed-rising}
-use Rattle.transactions.specs.Values.{TransactionsValue}
-use Rattle.transactions.specs.Calls as calls
+use Rattle.group.specs.Values.{TransactionsValue}
+use Rattle.group.specs.Calls as calls
 use Rattle.law_refinement.specs.Standing.{Name, name_of, name_at, StandsInMemory}
 use Rattle.law_refinement.specs.Laws.{RedeemsAs}
 use Rattle.law_refinement.proofs.Names.{front-named}

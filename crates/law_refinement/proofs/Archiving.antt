@@ -31,8 +31,8 @@ use Rattle.status.specs.declared.header.Header.{Header}
 use Rattle.vacuum.specs.Archives.{AreInMemory, key_records, since_of, records_of, run_of}
 use Rattle.vacuum.specs.declared.archive_walk.Since.{Since}
 use Rattle.vacuum.proofs.Plans.{archive_plan-is}
-use Rattle.transactions.specs.Order.{IsInOrder}
-use Rattle.transactions.specs.Values.{TransactionsValue, spare, with_slot_lent}
+use Rattle.group.specs.Order.{IsInOrder}
+use Rattle.group.specs.Values.{TransactionsValue, spare, with_slot_lent}
 use Rattle.store.specs.Calls as stores
 use Rattle.archive.specs.declared.run.RunEntry.{RunEntry}
 use Rattle.store.specs.Archives.{refusal_now, since_now, archive_of, with_archive, BeginsRun, StartsArchive}

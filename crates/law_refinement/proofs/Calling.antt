@@ -45,16 +45,16 @@ use Rattle.group.specs.declared.answers.Submitted.TheVariants as submitted
 use Rattle.group.specs.declared.answers.SubmitFault.{SubmitFault}
 use Rattle.group.specs.declared.answers.SubmitFault.TheVariants as refused
 use Rattle.group.proofs.Sealed.{length-sealed}
-use Rattle.transactions.specs.Values.{TransactionsValue, ordered, is_own, over, spare}
-use Rattle.transactions.specs.Order.{AreBy, IsInOrder, StageFits}
-use Rattle.transactions.specs.Calls as calls
-use Rattle.transactions.specs.Submits.{Verdict, Queues, verdict, verdict_on_clock, verdict_on_conflict, first_conflict, free_count, bodies_for, time_now, queued_as, with_queued, SubmitsOwn, Submits}
-use Rattle.transactions.specs.Submits as verdicts
-use Rattle.transactions.specs.declared.stage.GroupStage.{GroupStage}
-use Rattle.transactions.specs.declared.stage.GroupStage.TheVariants.{NoGroup, Storing, Stored, Turning}
-use Rattle.transactions.proofs.Publishing.{numbers-stored, length-stored}
-use Rattle.transactions.proofs.Kept.{by-last}
-use Rattle.transactions.proofs.Queueing.{keeps-queued}
+use Rattle.group.specs.Values.{TransactionsValue, ordered, is_own, over, spare}
+use Rattle.group.specs.Order.{AreBy, IsInOrder, StageFits}
+use Rattle.group.specs.Calls as calls
+use Rattle.group.specs.Submits.{Verdict, Queues, verdict, verdict_on_clock, verdict_on_conflict, first_conflict, free_count, bodies_for, time_now, queued_as, with_queued, SubmitsOwn, Submits}
+use Rattle.group.specs.Submits as verdicts
+use Rattle.group.specs.declared.stage.GroupStage.{GroupStage}
+use Rattle.group.specs.declared.stage.GroupStage.TheVariants.{NoGroup, Storing, Stored, Turning}
+use Rattle.group.proofs.Publishing.{numbers-stored, length-stored}
+use Rattle.group.proofs.Kept.{by-last}
+use Rattle.group.proofs.Queueing.{keeps-queued}
 use Rattle.store.specs.Calls as stores
 use Rattle.floors.specs.Floors.{FloorsValue}
 use Rattle.store.specs.Values.{StoreValue, HasRest}

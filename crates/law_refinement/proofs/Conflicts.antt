@@ -14,7 +14,7 @@ use Rattle.chains.specs.Writes.{last_time, last_time_after}
 use Rattle.chains.proofs.Order.{ordered-forgotten}
 use Rattle.chains.proofs.Versions.{writes_of-forgotten}
 use Rattle.group.specs.Queued.{QueuedValue}
-use Rattle.transactions.specs.Values.{TransactionsValue, versions_after, mark_after, is_turning}
+use Rattle.group.specs.Values.{TransactionsValue, versions_after, mark_after, is_turning}
 use Rattle.law_refinement.specs.Standing.{HasWrites, HasForgotten, AllWait, StandsInMemory}
 use Rattle.law_refinement.proofs.KeptWrites.{later-kept}
 use Rattle.law_refinement.proofs.Held.{later-held, many-more}

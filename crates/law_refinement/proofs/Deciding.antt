@@ -10,8 +10,8 @@ use Rattle.history.specs.Submissions.{Submission, decision, conflict_of, commit_
 use Rattle.law_image.specs.Values.{Value}
 use Rattle.chains.specs.KeyWrites.{IsOrdered, forgotten}
 use Rattle.group.specs.CommitOrder.{last_time}
-use Rattle.transactions.specs.Values.{TransactionsValue, ordered, spare}
-use Rattle.transactions.specs.Submits.{Verdict, Reads, Conflicts, HeapIsFull, StatusIsFull, ClockEnds, Queues, verdict, verdict_on_conflict, verdict_on_clock, first_conflict, bodies_for, free_count, time_now}
+use Rattle.group.specs.Values.{TransactionsValue, ordered, spare}
+use Rattle.group.specs.Submits.{Verdict, Reads, Conflicts, HeapIsFull, StatusIsFull, ClockEnds, Queues, verdict, verdict_on_conflict, verdict_on_clock, first_conflict, bodies_for, free_count, time_now}
 use Rattle.law_refinement.specs.Standing.{HasWrites}
 use Rattle.law_refinement.proofs.Waiting.{AreRising}
 use Rattle.law_refinement.proofs.Conflicts.{conflicts-same}

@@ -20,8 +20,8 @@ use Rattle.law_image.proofs.Standing.{last-range}
 use Rattle.snapshot.specs.OpenTable.{lesser, least_with, least_open}
 use Rattle.status.specs.declared.header.Header.{Header}
 use Rattle.status.proofs.Rules.{scope_is as scope-of}
-use Rattle.transactions.specs.Values.{TransactionsValue, spare}
-use Rattle.transactions.specs.Reclaims.{oldest}
+use Rattle.group.specs.Values.{TransactionsValue, spare}
+use Rattle.group.specs.Reclaims.{oldest}
 use Rattle.store.specs.Calls as stores
 use Rattle.store.specs.Values.{StoreValue, IsInStep, turn_of, lent_to}
 use Rattle.store.specs.Reclaims.{below, refusal_for_use}

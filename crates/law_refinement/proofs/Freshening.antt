@@ -12,13 +12,13 @@ use Rattle.law_layout.specs.Layouts.{Layout, StoredMember}
 use Rattle.law_layout.specs.Turn.{Group}
 use Rattle.status.specs.declared.header.Header.{Header}
 use Rattle.group.specs.Queued.{QueuedValue}
-use Rattle.transactions.specs.Order.{IsInOrder}
-use Rattle.transactions.specs.Values.{TransactionsValue}
-use Rattle.transactions.specs.Steps as groups
-use Rattle.transactions.specs.Steps.{fresh_at, freshened}
-use Rattle.transactions.specs.declared.stage.GroupStage.{GroupStage}
-use Rattle.transactions.specs.declared.stage.GroupStage.TheVariants.{Stored}
-use Rattle.transactions.proofs.Reclaiming.{keeps-fresh}
+use Rattle.group.specs.Order.{IsInOrder}
+use Rattle.group.specs.Values.{TransactionsValue}
+use Rattle.group.specs.Steps as groups
+use Rattle.group.specs.Steps.{fresh_at, freshened}
+use Rattle.group.specs.declared.stage.GroupStage.{GroupStage}
+use Rattle.group.specs.declared.stage.GroupStage.TheVariants.{Stored}
+use Rattle.group.proofs.Reclaiming.{keeps-fresh}
 use Rattle.store.specs.Values.{StoreValue}
 use Rattle.store.specs.Pumps.{freshly}
 use Rattle.law_refinement.specs.OnDisk.{IsPacked, AllPacked, member_of, members_of, group_of, IsAtStage, Works}

@@ -13,7 +13,7 @@ use Rattle.group.specs.declared.answers.BeginFault.TheVariants as fault
 use Rattle.group.specs.declared.answers.Redeemed.{Redeemed}
 use Rattle.group.specs.declared.answers.Submitted.{Submitted}
 use Rattle.group.specs.declared.answers.SubmitFault.{SubmitFault}
-use Rattle.transactions.specs.Values.{is_own}
+use Rattle.group.specs.Values.{is_own}
 use Rattle.status.specs.GrowthState.{GrowthState}
 use Rattle.store.specs.Calls as stores
 use Rattle.store.specs.Values.{StoreValue, HasRest}

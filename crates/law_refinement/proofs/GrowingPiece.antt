@@ -31,9 +31,9 @@ use Rattle.law_layout.specs.Growing.{IsGrowing, IsGrowthWay, calm_after}
 use Rattle.law_layout.specs.Layouts.{Layout}
 use Rattle.law_layout.specs.Turn.{Group}
 use Rattle.law_layout.proofs.Growing.{growth_leaves, growth_goes, growth-alone, growing-synced, sound-synced}
-use Rattle.transactions.specs.Order.{StageFits}
-use Rattle.transactions.specs.declared.stage.GroupStage.{GroupStage}
-use Rattle.transactions.specs.declared.stage.GroupStage.TheVariants as group_stage
+use Rattle.group.specs.Order.{StageFits}
+use Rattle.group.specs.declared.stage.GroupStage.{GroupStage}
+use Rattle.group.specs.declared.stage.GroupStage.TheVariants as group_stage
 use Rattle.store.specs.Jobs.{PumpsJob, TakesJobStep, Grows, HasGrown, growing, grown_store, with_job, job_fails}
 use Rattle.store.specs.Pumps.{disk_answer}
 use Rattle.store.specs.Values.{StoreValue, turn_of}

@@ -27,15 +27,15 @@ use Rattle.group.specs.declared.answers.Did.{Did}
 use Rattle.group.specs.declared.answers.PumpFault.{PumpFault}
 use Rattle.group.specs.declared.answers.PumpFault.TheVariants as pump
 use Rattle.group.specs.declared.queued.StoredExtent.{StoredExtent}
-use Rattle.transactions.specs.Values.{TransactionsValue}
-use Rattle.transactions.specs.Order.{IsInOrder, StageFits}
-use Rattle.transactions.specs.Steps.{next_step, next_extent, grouped, entries, IsCommitOf, members, due}
-use Rattle.transactions.specs.declared.stage.GroupStage.{GroupStage}
-use Rattle.transactions.specs.declared.stage.GroupStage.TheVariants.{Storing}
-use Rattle.transactions.proofs.Kept.{advance-is, keeps-grouped}
+use Rattle.group.specs.Values.{TransactionsValue}
+use Rattle.group.specs.Order.{IsInOrder, StageFits}
+use Rattle.group.specs.Steps.{next_step, next_extent, grouped, entries, IsCommitOf, members, due}
+use Rattle.group.specs.declared.stage.GroupStage.{GroupStage}
+use Rattle.group.specs.declared.stage.GroupStage.TheVariants.{Storing}
+use Rattle.group.proofs.Kept.{advance-is, keeps-grouped}
 use Rattle.group.specs.Queued.{QueuedValue}
-use Rattle.transactions.specs.declared.stage.NextStep.{NextStep}
-use Rattle.transactions.specs.declared.stage.NextStep.TheVariants as step
+use Rattle.group.specs.declared.stage.NextStep.{NextStep}
+use Rattle.group.specs.declared.stage.NextStep.TheVariants as step
 use Rattle.store.specs.Jobs.{growing}
 use Rattle.store.specs.Pumps.{Pumps, TakesStep, Calls, Steps, WritesExtent, SyncsHeap, TurnsSlot, TurnFails, IsTurned, MayBeginSlot, started, freshly, taken, disk_answer}
 use Rattle.store.specs.Values.{StoreValue, KeepsJob, IsOnItsWay, turn_of}

@@ -26,10 +26,10 @@ use Rattle.law_layout.specs.Turn.{Group, laid_out}
 use Rattle.law_layout.proofs.Growing.{sound-synced}
 use Rattle.law_layout.proofs.Grown.{piece_laid, grown_rests, grown_turns}
 use Rattle.group.specs.Queued.{QueuedValue}
-use Rattle.transactions.specs.Order.{IsInOrder}
-use Rattle.transactions.specs.Values.{TransactionsValue, with_more_slots}
-use Rattle.transactions.specs.declared.stage.GroupStage.{GroupStage}
-use Rattle.transactions.specs.declared.stage.GroupStage.TheVariants.{NoGroup, Storing, Stored, Turning}
+use Rattle.group.specs.Order.{IsInOrder}
+use Rattle.group.specs.Values.{TransactionsValue, with_more_slots}
+use Rattle.group.specs.declared.stage.GroupStage.{GroupStage}
+use Rattle.group.specs.declared.stage.GroupStage.TheVariants.{NoGroup, Storing, Stored, Turning}
 use Rattle.store.specs.Jobs.{grown_store}
 use Rattle.store.specs.Values.{StoreValue}
 use Rattle.law_refinement.specs.Standing.{StandsInMemory}

@@ -9,7 +9,7 @@ use Rattle.status.specs.SlotCalls as slots
 use Rattle.status.specs.TurnState.{TurnState}
 use Rattle.group.specs.declared.answers.PumpFault.{PumpFault}
 use Rattle.group.specs.declared.answers.PumpFault.TheVariants as pump
-use Rattle.transactions.specs.Values.{TransactionsValue}
+use Rattle.group.specs.Values.{TransactionsValue}
 use Rattle.store.specs.Values.{StoreValue}
 use Rattle.store.specs.Archives.{refusal_now, BeginsRun, StartsArchive}
 use Rattle.store.specs.Reclaims.{reclaim_refusal, BeginsReclaim, StartsReclaim}

@@ -72,13 +72,13 @@ use Rattle.law_layout.proofs.RunWays.{row_end-more, front-grows, group-beside}
 use Rattle.group.specs.Queued.{QueuedValue, numbers_of}
 use Rattle.group.specs.declared.answers.PumpFault.{PumpFault}
 use Rattle.group.specs.declared.answers.PumpFault.TheVariants as pump
-use Rattle.transactions.specs.Order.{IsInOrder, StageFits}
-use Rattle.transactions.specs.Values.{TransactionsValue, is_turning, with_slot_used, with_floors}
-use Rattle.transactions.specs.Steps as groups
-use Rattle.transactions.specs.Reclaims.{prepared, versions_once, reclaimed_to}
-use Rattle.transactions.specs.declared.stage.GroupStage.{GroupStage}
-use Rattle.transactions.specs.declared.stage.GroupStage.TheVariants.{NoGroup, Storing, Stored, Turning}
-use Rattle.transactions.proofs.Publishing.{out-swapped}
+use Rattle.group.specs.Order.{IsInOrder, StageFits}
+use Rattle.group.specs.Values.{TransactionsValue, is_turning, with_slot_used, with_floors}
+use Rattle.group.specs.Steps as groups
+use Rattle.group.specs.Reclaims.{prepared, versions_once, reclaimed_to}
+use Rattle.group.specs.declared.stage.GroupStage.{GroupStage}
+use Rattle.group.specs.declared.stage.GroupStage.TheVariants.{NoGroup, Storing, Stored, Turning}
+use Rattle.group.proofs.Publishing.{out-swapped}
 use Rattle.store.specs.Values.{StoreValue, IsInStep, IsOnItsWay, turn_in, turn_of, lent_by, lent_to}
 use Rattle.store.specs.declared.job.Job.{Job}
 use Rattle.store.specs.declared.job.JobWork.{JobWork}

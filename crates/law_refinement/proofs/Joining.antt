@@ -42,8 +42,8 @@ use Rattle.law_layout.proofs.Lists.{AreCross, distinct_join}
 use Rattle.law_layout.proofs.Layouts.{group_extents_are, live_extents_are, stands_more, laid_more}
 use Rattle.law_layout.proofs.Groups.{group_holds, group_call_holds, group_call_leads}
 use Rattle.group.specs.Queued.{QueuedValue, numbers_of}
-use Rattle.transactions.specs.Values.{TransactionsValue}
-use Rattle.transactions.proofs.Publishing.{out-front}
+use Rattle.group.specs.Values.{TransactionsValue}
+use Rattle.group.proofs.Publishing.{out-front}
 use Rattle.store.specs.Values.{StoreValue}
 use Rattle.law_refinement.specs.Standing.{AllWait}
 use Rattle.law_refinement.specs.OnDisk.{IsImageOf, values_in, AllPacked, group_of}

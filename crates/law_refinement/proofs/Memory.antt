@@ -18,8 +18,8 @@ use Rattle.snapshot.specs.Txn.{TxnValue}
 use Rattle.group.specs.CommitOrder.{last_time}
 use Rattle.group.specs.declared.answers.BeginFault.{BeginFault}
 use Rattle.group.specs.declared.answers.BeginFault.TheVariants as fault
-use Rattle.transactions.specs.Values.{TransactionsValue, is_own, is_snapshot, is_of_value, over}
-use Rattle.transactions.specs.Calls as calls
+use Rattle.group.specs.Values.{TransactionsValue, is_own, is_snapshot, is_of_value, over}
+use Rattle.group.specs.Calls as calls
 use Rattle.law_refinement.specs.Standing.{StandsInMemory, snapshots_of}
 use Rattle.law_refinement.specs.Laws.{BeginsAs}
 use Rattle.law_refinement.proofs.Openings.{opened_one, closed_one}

@@ -6,8 +6,8 @@ use Rattle.law_image.specs.Values.{Value}
 use Rattle.chains.specs.KeyWrites.{KeyWrites}
 use Rattle.floors.specs.Floors.{FloorsValue}
 use Rattle.extents.specs.declared.usage.Usage.{Usage}
-use Rattle.transactions.specs.Values.{TransactionsValue, claimed}
-use Rattle.transactions.specs.Order.{IsInOrder}
+use Rattle.group.specs.Values.{TransactionsValue, claimed}
+use Rattle.group.specs.Order.{IsInOrder}
 use Rattle.law_refinement.specs.Standing.{StandsInMemory}
 
 pub memory-beside : (v : TransactionsValue) (pending : Option (List KeyWrites)) (usages : List Usage) (reserved : List ℕ) (slots used : ℕ) (m : Machine Value) (raising : Option Raising) (gate : Gate) → StandsInMemory v m

@@ -34,7 +34,7 @@ use Rattle.law_layout.specs.Records.{record_bytes, IsRecord}
 use Rattle.law_layout.specs.Layouts.{StoredMember, IsStoredMember, extents_of}
 use Rattle.group.specs.Queued.{QueuedValue, numbers_of}
 use Rattle.group.specs.declared.queued.StoredExtent.{StoredExtent}
-use Rattle.transactions.specs.Submits.{bodies_over}
+use Rattle.group.specs.Submits.{bodies_over}
 use Rattle.law_refinement.specs.Standing.{HasWrites, Waits, AllWait}
 use Rattle.law_refinement.specs.OnDisk.{values_in, packed, IsPacked, AllPacked, member_of, members_of}
 use Rattle.law_refinement.proofs.KeptWrites.{latest-kept}

@@ -11,9 +11,9 @@ use Rattle.law_layout.specs.Layouts.{StoredMember, extents_of}
 use Rattle.group.specs.Queued.{QueuedValue, numbers_of, stored_as}
 use Rattle.deltas.specs.Chains.{chain_of, first_number}
 use Rattle.group.specs.declared.queued.StoredExtent.{StoredExtent}
-use Rattle.transactions.specs.Steps.{extent_at, place_behind}
-use Rattle.transactions.specs.declared.stage.GroupStage.{GroupStage}
-use Rattle.transactions.specs.declared.stage.GroupStage.TheVariants.{Storing}
+use Rattle.group.specs.Steps.{extent_at, place_behind}
+use Rattle.group.specs.declared.stage.GroupStage.{GroupStage}
+use Rattle.group.specs.declared.stage.GroupStage.TheVariants.{Storing}
 use Rattle.law_refinement.specs.OnDisk.{packed, AllPacked, member_of, members_of, written_before}
 use Rattle.law_refinement.proofs.Packed.{length-numbers}
 

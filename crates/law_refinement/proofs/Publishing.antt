@@ -11,10 +11,10 @@ use Rattle.history.specs.Steps.{Event, Run}
 use Rattle.law_image.specs.Values.{Value, IsValue}
 use Rattle.chains.specs.KeyWrites.{KeyWrites, writes_of}
 use Rattle.group.specs.Queued.{QueuedValue}
-use Rattle.transactions.specs.Values.{TransactionsValue, versions_after, mark_after, is_turning}
-use Rattle.transactions.specs.Steps as groups
-use Rattle.transactions.specs.declared.stage.GroupStage.{GroupStage}
-use Rattle.transactions.specs.declared.stage.GroupStage.TheVariants.{NoGroup, Storing, Stored, Turning}
+use Rattle.group.specs.Values.{TransactionsValue, versions_after, mark_after, is_turning}
+use Rattle.group.specs.Steps as groups
+use Rattle.group.specs.declared.stage.GroupStage.{GroupStage}
+use Rattle.group.specs.declared.stage.GroupStage.TheVariants.{NoGroup, Storing, Stored, Turning}
 use Rattle.law_refinement.specs.Standing.{name_of, HasWrites, HasForgotten, AllWait, IsStaged, StandsInMemory}
 use Rattle.law_refinement.specs.Laws.{begins_in}
 use Rattle.law_refinement.proofs.Held.{many-more}

@@ -61,16 +61,16 @@ use Rattle.group.specs.declared.answers.Did.TheVariants as did
 use Rattle.group.specs.declared.answers.PumpFault.{PumpFault}
 use Rattle.group.specs.declared.answers.PumpFault.TheVariants as pump
 use Rattle.group.specs.declared.queued.StoredExtent.{StoredExtent}
-use Rattle.transactions.specs.Order.{IsInOrder, StageFits}
-use Rattle.transactions.specs.Values.{TransactionsValue, mark_after, is_turning}
-use Rattle.transactions.specs.Steps as groups
-use Rattle.transactions.specs.Steps.{IsCommitOf}
-use Rattle.transactions.specs.declared.stage.GroupStage.{GroupStage}
-use Rattle.transactions.specs.declared.stage.GroupStage.TheVariants.{NoGroup, Storing, Stored, Turning}
-use Rattle.transactions.specs.declared.stage.NextStep.{NextStep}
-use Rattle.transactions.specs.declared.stage.NextStep.TheVariants as next
-use Rattle.transactions.proofs.Kept.{advance-is, keeps-grouped, keeps-wrote, keeps-synced, keeps-begun, keeps-published}
-use Rattle.transactions.proofs.Publishing.{out-beside}
+use Rattle.group.specs.Order.{IsInOrder, StageFits}
+use Rattle.group.specs.Values.{TransactionsValue, mark_after, is_turning}
+use Rattle.group.specs.Steps as groups
+use Rattle.group.specs.Steps.{IsCommitOf}
+use Rattle.group.specs.declared.stage.GroupStage.{GroupStage}
+use Rattle.group.specs.declared.stage.GroupStage.TheVariants.{NoGroup, Storing, Stored, Turning}
+use Rattle.group.specs.declared.stage.NextStep.{NextStep}
+use Rattle.group.specs.declared.stage.NextStep.TheVariants as next
+use Rattle.group.proofs.Kept.{advance-is, keeps-grouped, keeps-wrote, keeps-synced, keeps-begun, keeps-published}
+use Rattle.group.proofs.Publishing.{out-beside}
 use Rattle.floors.specs.Floors.{FloorsValue}
 use Rattle.store.specs.Values.{StoreValue, KeepsJob, IsInStep, IsOnItsWay, turn_in, turn_of, lent_to}
 use Rattle.store.specs.declared.job.Job.{Job}

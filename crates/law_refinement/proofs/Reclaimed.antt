@@ -6,8 +6,8 @@ use Rattle.history.specs.Machine.{Machine, commit_order}
 use Rattle.history.proofs.Histories.{times-earlier}
 use Rattle.law_image.specs.Values.{Value}
 use Rattle.chains.specs.KeyWrites.{KeyWrites, forgotten}
-use Rattle.transactions.specs.Values.{TransactionsValue, is_turning}
-use Rattle.transactions.specs.Reclaims.{prepared, versions_once, reclaimed_to}
+use Rattle.group.specs.Values.{TransactionsValue, is_turning}
+use Rattle.group.specs.Reclaims.{prepared, versions_once, reclaimed_to}
 use Rattle.law_refinement.specs.Standing.{HasWrites, HasForgotten, AllWait, StandsInMemory, snapshots_of}
 use Rattle.law_refinement.proofs.Held.{rising-held}
 use Rattle.law_refinement.proofs.Waiting.{AreRising, forgotten-forgets, raised-waits}

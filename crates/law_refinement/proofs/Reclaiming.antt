@@ -24,11 +24,11 @@ use Rattle.vacuum.specs.Archives.{AreInMemory}
 use Rattle.vacuum.proofs.Plans.{reclaim_plan-is}
 use Rattle.law_layout.proofs.Lists.{weaker}
 use Rattle.group.specs.Taking.{AreLeastFree}
-use Rattle.transactions.specs.Order.{IsInOrder}
-use Rattle.transactions.specs.Values.{TransactionsValue, spare, with_slot_lent}
-use Rattle.transactions.specs.Submits.{free_count}
-use Rattle.transactions.specs.Reclaims.{oldest, with_reserved}
-use Rattle.transactions.proofs.Reclaiming.{keeps-reserved}
+use Rattle.group.specs.Order.{IsInOrder}
+use Rattle.group.specs.Values.{TransactionsValue, spare, with_slot_lent}
+use Rattle.group.specs.Submits.{free_count}
+use Rattle.group.specs.Reclaims.{oldest, with_reserved}
+use Rattle.group.proofs.Reclaiming.{keeps-reserved}
 use Rattle.store.specs.Values.{StoreValue, IsInStep, turn_of, lent_to}
 use Rattle.store.specs.Reclaims.{below, refusal_for_use, reclaim_refusal, anchors_of, anchor_bodies, with_reclaim, BeginsReclaim, StartsReclaim}
 use Rattle.store.specs.declared.job.Job.{Job}

@@ -24,12 +24,12 @@ use Rattle.law_layout.proofs.Lists.{weaker, three, all_of_front, all_of_back}
 use Rattle.group.specs.Queued.{QueuedValue, numbers_of}
 use Rattle.deltas.specs.Chains.{chain_of}
 use Rattle.group.specs.Taking.{AreLeastFree}
-use Rattle.transactions.specs.Values.{TransactionsValue}
-use Rattle.transactions.specs.Order.{IsInOrder}
-use Rattle.transactions.specs.Steps.{with_chains, published}
-use Rattle.transactions.specs.Reclaims.{with_reserved, reclaimed_to}
-use Rattle.transactions.proofs.Publishing.{out-front, out-swapped, out-reserved}
-use Rattle.transactions.proofs.Reclaiming.{keeps-reclaimed}
+use Rattle.group.specs.Values.{TransactionsValue}
+use Rattle.group.specs.Order.{IsInOrder}
+use Rattle.group.specs.Steps.{with_chains, published}
+use Rattle.group.specs.Reclaims.{with_reserved, reclaimed_to}
+use Rattle.group.proofs.Publishing.{out-front, out-swapped, out-reserved}
+use Rattle.group.proofs.Reclaiming.{keeps-reclaimed}
 use Rattle.law_refinement.specs.OnDisk.{HasTimes, packed, members_of, group_of}
 use Rattle.law_refinement.proofs.Usages.{AllKept, all-taken}
 

@@ -22,11 +22,11 @@ use Rattle.group.specs.declared.answers.Did.{Did}
 use Rattle.group.specs.declared.answers.PumpFault.{PumpFault}
 use Rattle.group.specs.declared.answers.PumpFault.TheVariants as fault
 use Rattle.group.specs.declared.queued.StoredExtent.{StoredExtent}
-use Rattle.transactions.specs.Values.{TransactionsValue}
-use Rattle.transactions.specs.Steps.{next_step, next_extent, grouped, published, broken}
-use Rattle.transactions.specs.declared.stage.GroupStage.TheVariants as stage
-use Rattle.transactions.specs.declared.stage.NextStep.{NextStep}
-use Rattle.transactions.specs.declared.stage.NextStep.TheVariants as step
+use Rattle.group.specs.Values.{TransactionsValue}
+use Rattle.group.specs.Steps.{next_step, next_extent, grouped, published, broken}
+use Rattle.group.specs.declared.stage.GroupStage.TheVariants as stage
+use Rattle.group.specs.declared.stage.NextStep.{NextStep}
+use Rattle.group.specs.declared.stage.NextStep.TheVariants as step
 use Rattle.store.specs.Values.{ArchiveValue, StoreValue, KeepsJob, turn_of}
 use Rattle.store.specs.Pumps.{Pumps, TakesStep, WritesExtent, Steps, MayBeginSlot, TurnsSlot, IsTurned, started, freshly, taken, disk_answer}
 use Rattle.store.specs.Jobs.{PumpsJob, TakesJobStep, Stores, WritesOrSyncs, AnchorsOrSync, BeginsJobSlot, TurnsJob, IsJobTurned, JobMoves, job_fails, work_done, slot_opened, slot_taken, made_ready, first_turn, piece_of, growing, grown_store, HasGrown}

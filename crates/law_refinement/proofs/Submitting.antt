@@ -35,9 +35,9 @@ use Rattle.group.specs.declared.answers.SubmitFault.{SubmitFault}
 use Rattle.group.specs.declared.answers.SubmitFault.TheVariants as refused
 use Rattle.group.specs.Queued.{QueuedValue}
 use Rattle.group.proofs.Heads.{IsRisingAfter-push}
-use Rattle.transactions.specs.Values.{TransactionsValue, versions_after, ordered, mark_after, ordered_mark, is_own, is_snapshot, is_of_value, over}
-use Rattle.transactions.specs.Submits.{Verdict, verdict, queued_as, with_queued, AnswersSubmit, SubmitsOwn, Submits}
-use Rattle.transactions.specs.Submits as verdicts
+use Rattle.group.specs.Values.{TransactionsValue, versions_after, ordered, mark_after, ordered_mark, is_own, is_snapshot, is_of_value, over}
+use Rattle.group.specs.Submits.{Verdict, verdict, queued_as, with_queued, AnswersSubmit, SubmitsOwn, Submits}
+use Rattle.group.specs.Submits as verdicts
 use Rattle.law_refinement.specs.Standing.{Name, name_of, name_at, HasWrites, Waits, AllWait, StandsInMemory}
 use Rattle.law_refinement.specs.Laws.{submission_of, event_of}
 use Rattle.law_refinement.proofs.KeptWrites.{kept-more, later-kept}

@@ -25,10 +25,10 @@ use Rattle.group.specs.declared.answers.Submitted.{Submitted}
 use Rattle.group.specs.declared.answers.Submitted.TheVariants as submitted
 use Rattle.group.specs.declared.answers.SubmitFault.{SubmitFault}
 use Rattle.group.specs.declared.answers.SubmitFault.TheVariants as refused
-use Rattle.transactions.specs.Values.{TransactionsValue}
-use Rattle.transactions.specs.Calls as calls
-use Rattle.transactions.specs.Submits.{JoinsQueue, with_queued, SubmitsOwn, AnswersSubmit}
-use Rattle.transactions.proofs.Orders.{last_time-push}
+use Rattle.group.specs.Values.{TransactionsValue}
+use Rattle.group.specs.Calls as calls
+use Rattle.group.specs.Submits.{JoinsQueue, with_queued, SubmitsOwn, AnswersSubmit}
+use Rattle.group.proofs.Orders.{last_time-push}
 use Rattle.law_refinement.specs.Standing.{StandsInMemory}
 use Rattle.law_refinement.specs.Laws.{submission_of, event_of, begins_in, ends_in}
 use Rattle.law_refinement.specs.Leaving.{LeftBySubmit, LeftByRedeem, Publishes, count_in}

@@ -13,8 +13,8 @@ use Rattle.chains.specs.KeyWrites.{KeyWrites, writes_of, IsOrdered, forgotten}
 use Rattle.chains.proofs.Order.{ordered-forgotten}
 use Rattle.chains.proofs.Versions.{writes_of-forgotten}
 use Rattle.group.specs.Queued.{QueuedValue}
-use Rattle.transactions.specs.Values.{versions_after, mark_after}
-use Rattle.transactions.specs.Steps.{fresh_at}
+use Rattle.group.specs.Values.{versions_after, mark_after}
+use Rattle.group.specs.Steps.{fresh_at}
 use Rattle.law_refinement.specs.Standing.{HasForgotten, Waits, AllWait}
 use Rattle.law_refinement.proofs.KeptWrites.{kept-again, kept-more, kept-rising}
 use Rattle.law_refinement.proofs.Held.{written-is}

@@ -7,10 +7,10 @@ use Rattle.status.specs.Header.{total}
 use Rattle.status.specs.Rules.{is_built}
 use Rattle.status.specs.TurnState.{TurnState}
 use Rattle.law_layout.specs.Turn.{Group}
-use Rattle.transactions.specs.Order.{IsInOrder}
-use Rattle.transactions.specs.Values.{claimed_by}
-use Rattle.transactions.specs.declared.stage.GroupStage.{GroupStage}
-use Rattle.transactions.specs.declared.stage.GroupStage.TheVariants.{NoGroup, Storing, Stored, Turning}
+use Rattle.group.specs.Order.{IsInOrder}
+use Rattle.group.specs.Values.{claimed_by}
+use Rattle.group.specs.declared.stage.GroupStage.{GroupStage}
+use Rattle.group.specs.declared.stage.GroupStage.TheVariants.{NoGroup, Storing, Stored, Turning}
 use Rattle.store.specs.Values.{StoreValue, IsInStep, turn_in, turn_of, lent_to}
 use Rattle.store.specs.declared.job.Job.{Job}
 use Rattle.store.specs.declared.job.JobStage.{JobStage}

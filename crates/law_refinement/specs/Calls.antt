@@ -18,7 +18,7 @@ use Rattle.group.specs.declared.answers.PumpFault.TheVariants as pump
 use Rattle.group.specs.declared.answers.Redeemed.{Redeemed}
 use Rattle.group.specs.declared.answers.Submitted.{Submitted}
 use Rattle.group.specs.declared.answers.SubmitFault.{SubmitFault}
-use Rattle.transactions.specs.Values.{is_own}
+use Rattle.group.specs.Values.{is_own}
 use Rattle.store.specs.Calls as stores
 use Rattle.store.specs.Values.{StoreValue}
 use Rattle.store.specs.Pumps.{Pumps}

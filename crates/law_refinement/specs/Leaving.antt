@@ -16,9 +16,9 @@ use Rattle.group.specs.declared.answers.Submitted.{Submitted}
 use Rattle.group.specs.declared.answers.Submitted.TheVariants as submitted
 use Rattle.group.specs.declared.answers.SubmitFault.{SubmitFault}
 use Rattle.group.specs.declared.answers.SubmitFault.TheVariants as refused
-use Rattle.transactions.specs.Values.{TransactionsValue}
-use Rattle.transactions.specs.Calls as calls
-use Rattle.transactions.specs.Submits.{JoinsQueue, SubmitsOwn}
+use Rattle.group.specs.Values.{TransactionsValue}
+use Rattle.group.specs.Calls as calls
+use Rattle.group.specs.Submits.{JoinsQueue, SubmitsOwn}
 use Rattle.store.specs.Values.{StoreValue}
 use Rattle.store.specs.Pumps.{Pumps}
 use Rattle.store.specs.Archives.{StartsArchive}

@@ -43,9 +43,9 @@ use Rattle.law_layout.specs.SlotTurns.{IsTurnAt}
 use Rattle.law_layout.specs.Turn.{Group, laid_out, IsStoring}
 use Rattle.group.specs.Queued.{QueuedValue, numbers_of, stored_as}
 use Rattle.deltas.specs.Chains.{chain_of, first_number}
-use Rattle.transactions.specs.Values.{TransactionsValue}
-use Rattle.transactions.specs.declared.stage.GroupStage.{GroupStage}
-use Rattle.transactions.specs.declared.stage.GroupStage.TheVariants.{NoGroup, Storing, Stored, Turning}
+use Rattle.group.specs.Values.{TransactionsValue}
+use Rattle.group.specs.declared.stage.GroupStage.{GroupStage}
+use Rattle.group.specs.declared.stage.GroupStage.TheVariants.{NoGroup, Storing, Stored, Turning}
 use Rattle.archive.specs.Pieces.{InWriting}
 use Rattle.vacuum.specs.Anchors.{Sourced}
 use Rattle.store.specs.declared.job.Job.{Job}

@@ -13,9 +13,9 @@ use Rattle.chains.specs.KeyWrites.{KeyWrites, writes_of, forgotten, IsOrdered}
 use Rattle.group.specs.CommitOrder.{IsRisingAfter}
 use Rattle.group.specs.declared.commit_order.CommitHead.{CommitHead}
 use Rattle.group.specs.Queued.{QueuedValue}
-use Rattle.transactions.specs.Values.{TransactionsValue, mark_after, is_turning}
-use Rattle.transactions.specs.declared.stage.GroupStage.{GroupStage}
-use Rattle.transactions.specs.declared.stage.GroupStage.TheVariants.{NoGroup, Storing, Stored, Turning}
+use Rattle.group.specs.Values.{TransactionsValue, mark_after, is_turning}
+use Rattle.group.specs.declared.stage.GroupStage.{GroupStage}
+use Rattle.group.specs.declared.stage.GroupStage.TheVariants.{NoGroup, Storing, Stored, Turning}
 
 -- a commit by its time and label
 pub record Name : Type 0 where

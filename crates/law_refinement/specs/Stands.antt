@@ -8,7 +8,7 @@ use Rattle.history.specs.Machine.{Machine, Change, OfGroup, OfFloor, Gate, Shut,
 use Rattle.floors.specs.Floors.{FloorsValue, raised_in}
 use Rattle.law_image.specs.Log.{IsScopeOf}
 use Rattle.law_image.specs.Values.{Value, IsValue}
-use Rattle.transactions.specs.Order.{IsInOrder}
+use Rattle.group.specs.Order.{IsInOrder}
 use Rattle.status.specs.declared.header.Header.{Header}
 use Rattle.status.specs.Header.{total}
 use Rattle.status.specs.Growth.{grown, may_be_open}

@@ -3,7 +3,7 @@ use Rattle.std.proofs.Common.{◌≡◌, ◌≢◌, ℕ, zero, suc, List, [], �
 use Rattle.std.specs.Prelude.{slice_get, slice_set}
 use Rattle.history.specs.Histories.{History}
 use Rattle.law_image.specs.Values.{Value}
-use Rattle.transactions.specs.Values.{TransactionsValue}
+use Rattle.group.specs.Values.{TransactionsValue}
 use Rattle.run.specs.declared.held.Held.{Held}
 use Rattle.run.specs.declared.held.Held.TheVariants as held
 use Rattle.run.specs.Places.{Place, place_at, HasNoView, ShowsAs, ArePlaces}

@@ -12,12 +12,12 @@ use Rattle.history.specs.Steps as steps
 use Rattle.law_image.specs.Values.{Value, IsValue}
 use Rattle.group.specs.declared.answers.PumpFault.{PumpFault}
 use Rattle.group.specs.declared.answers.PumpFault.TheVariants as pump
-use Rattle.transactions.specs.Values.{spare}
+use Rattle.group.specs.Values.{spare}
 use Rattle.store.specs.Values.{StoreValue}
 use Rattle.store.specs.Calls as stores
 use Rattle.store.specs.Archives.{refusal_now, BeginsRun, StartsArchive}
 use Rattle.store.specs.Reclaims.{below, refusal_for_use, reclaim_refusal, BeginsReclaim, StartsReclaim}
-use Rattle.transactions.specs.Reclaims.{oldest}
+use Rattle.group.specs.Reclaims.{oldest}
 use Rattle.store.specs.Jobs.{PumpsJob, TakesJobStep, Stores, WritesOrSyncs, AnchorsOrSync, BeginsJobSlot, TurnsJob, made_ready, first_turn, slot_taken}
 use Rattle.store.specs.declared.job.Job.{Job}
 use Rattle.store.specs.declared.job.JobWork.{JobWork}

@@ -16,7 +16,7 @@ use Rattle.group.specs.CommitOrder.{is_awaited, redeemed, IsRisingAfter, last_ti
 use Rattle.group.specs.Tickets.{TicketValue}
 use Rattle.group.specs.declared.commit_order.CommitHead.{CommitHead}
 use Rattle.timequery.specs.View.{ViewValue}
-use Rattle.transactions.specs.Values.{TransactionsValue}
+use Rattle.group.specs.Values.{TransactionsValue}
 use Rattle.law_refinement.specs.Homes.{ViewStands}
 use Rattle.law_refinement.specs.Homes as homes
 use Rattle.law_refinement.proofs.Views.{view-goes-on}

@@ -15,10 +15,10 @@ use Rattle.group.specs.declared.answers.PumpFault.{PumpFault}
 use Rattle.group.specs.declared.answers.PumpFault.TheVariants as pump
 use Rattle.group.specs.declared.queued.StoredExtent.{StoredExtent}
 use Rattle.snapshot.specs.OpenTable.{snapshot_of}
-use Rattle.transactions.specs.Values.{TransactionsValue}
-use Rattle.transactions.specs.Steps as groups
-use Rattle.transactions.specs.declared.stage.NextStep.{NextStep}
-use Rattle.transactions.specs.declared.stage.NextStep.TheVariants as next
+use Rattle.group.specs.Values.{TransactionsValue}
+use Rattle.group.specs.Steps as groups
+use Rattle.group.specs.declared.stage.NextStep.{NextStep}
+use Rattle.group.specs.declared.stage.NextStep.TheVariants as next
 use Rattle.store.specs.Values.{StoreValue, turn_of}
 use Rattle.store.specs.Pumps.{Pumps, TakesStep, WritesExtent, MayBeginSlot, TurnsSlot, started}
 use Rattle.law_refinement.specs.Laws.{begins_in, ends_in}

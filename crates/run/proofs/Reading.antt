@@ -14,7 +14,7 @@ use Rattle.snapshot.specs.Txn.{TxnValue, at_snapshot, seen_by, IsFullFor, with_p
 use Rattle.snapshot.specs.WriteSets.{with_write}
 use Rattle.snapshot.specs.declared.txn.TxnFault.{TxnFault}
 use Rattle.snapshot.specs.declared.txn.TxnFault.TheVariants as fault
-use Rattle.transactions.specs.Values.{TransactionsValue}
+use Rattle.group.specs.Values.{TransactionsValue}
 use Rattle.store.specs.Values.{StoreValue}
 use Rattle.run.specs.declared.calls.Call.{Call}
 use Rattle.run.specs.declared.calls.Call.TheVariants as call

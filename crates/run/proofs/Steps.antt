@@ -14,7 +14,7 @@ use Rattle.snapshot.specs.OpenTable.{snapshot_of, with_opened}
 use Rattle.snapshot.specs.Txn.{TxnValue, at_snapshot, AreTxnWrites, EndsASeenValue}
 use Rattle.group.specs.declared.answers.BeginFault.{BeginFault}
 use Rattle.group.specs.declared.answers.BeginFault.TheVariants as begin
-use Rattle.transactions.specs.Values.{TransactionsValue, is_own, is_snapshot, is_of_value, over}
+use Rattle.group.specs.Values.{TransactionsValue, is_own, is_snapshot, is_of_value, over}
 use Rattle.store.specs.Values.{StoreValue}
 use Rattle.store.specs.Calls as stores
 use Rattle.law_refinement.specs.Stands.{Stands}

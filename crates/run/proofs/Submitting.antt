@@ -16,8 +16,8 @@ use Rattle.group.specs.declared.answers.Submitted.{Submitted}
 use Rattle.group.specs.declared.answers.Submitted.TheVariants as submitted
 use Rattle.group.specs.declared.answers.SubmitFault.{SubmitFault}
 use Rattle.group.specs.declared.answers.SubmitFault.TheVariants as refused
-use Rattle.transactions.specs.Values.{TransactionsValue, is_own, over}
-use Rattle.transactions.specs.Submits.{with_queued, SubmitsOwn}
+use Rattle.group.specs.Values.{TransactionsValue, is_own, over}
+use Rattle.group.specs.Submits.{with_queued, SubmitsOwn}
 use Rattle.store.specs.Values.{StoreValue}
 use Rattle.store.specs.Calls as stores
 use Rattle.law_refinement.specs.Laws.{submission_of, event_of}

@@ -14,7 +14,7 @@ use Rattle.timequery.specs.declared.fault.QueryFault.TheVariants as query
 use Rattle.store.specs.Values.{StoreValue}
 use Rattle.store.specs.Calls as stores
 use Rattle.store.specs.Calls.{Finds, OrStranger, is_own}
-use Rattle.transactions.specs.Values.{TransactionsValue}
+use Rattle.group.specs.Values.{TransactionsValue}
 use Rattle.history.specs.Histories.{History}
 use Rattle.law_refinement.specs.Homes.{ViewStands, ViewReads, GoesOn}
 use Rattle.law_refinement.specs.Stands.{Stands}

@@ -16,7 +16,7 @@ use Rattle.group.specs.declared.answers.Submitted.{Submitted}
 use Rattle.group.specs.declared.answers.Submitted.TheVariants as submitted
 use Rattle.group.specs.declared.answers.SubmitFault.{SubmitFault}
 use Rattle.timequery.specs.View.{ViewValue}
-use Rattle.transactions.specs.Values.{TransactionsValue}
+use Rattle.group.specs.Values.{TransactionsValue}
 use Rattle.law_refinement.specs.Homes.{ViewStands, ViewReads}
 use Rattle.store.specs.Values.{StoreValue}
 use Rattle.run.specs.declared.calls.Answer.{Answer}

@@ -27,9 +27,9 @@ use Rattle.group.specs.declared.answers.Submitted.{Submitted}
 use Rattle.group.specs.declared.answers.Submitted.TheVariants as submitted
 use Rattle.group.specs.declared.answers.SubmitFault.{SubmitFault}
 use Rattle.group.specs.declared.answers.SubmitFault.TheVariants as refused
-use Rattle.transactions.specs.Reclaims.{oldest}
-use Rattle.transactions.specs.Values.{TransactionsValue, is_own, over, spare}
-use Rattle.transactions.specs.Submits.{SubmitsOwn}
+use Rattle.group.specs.Reclaims.{oldest}
+use Rattle.group.specs.Values.{TransactionsValue, is_own, over, spare}
+use Rattle.group.specs.Submits.{SubmitsOwn}
 use Rattle.status.specs.Growth.{next_piece}
 use Rattle.status.specs.GrowthState.{GrowthState}
 use Rattle.timequery.specs.View.{ViewValue}

@@ -26,9 +26,9 @@ use Rattle.status.proofs.turn.SlotTurn.TheSendSync as slot_turn
 use Rattle.group.proofs.commit_order.CommitOrder.TheSendSync as order
 use Rattle.group.proofs.queued.StoredExtent.TheSendSync as stored
 use Rattle.group.specs.contracts.queued.Queued as Queued
-use Rattle.transactions.proofs.stage.GroupStage.TheSendSync as group_stage
-use Rattle.transactions.specs.contracts.transactions.Transactions as Transactions
-use Rattle.transactions.specs.contracts.transactions.Transactions.TheInside as transactions
+use Rattle.group.proofs.stage.GroupStage.TheSendSync as group_stage
+use Rattle.group.specs.contracts.transactions.Transactions as Transactions
+use Rattle.group.specs.contracts.transactions.Transactions.TheInside as transactions
 use Rattle.archive.proofs.writer.RunWriter.TheSendSync as run_writer
 use Rattle.vacuum.proofs.ahead.Ahead.TheSendSync as ahead
 use Rattle.vacuum.proofs.archive_walk.Place.TheSendSync as place

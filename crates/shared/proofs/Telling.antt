@@ -18,7 +18,7 @@ use Rattle.group.specs.declared.answers.BeginFault.TheVariants as begin
 use Rattle.group.specs.declared.answers.Redeemed.{Redeemed}
 use Rattle.group.specs.declared.answers.Redeemed.TheVariants as redeemed
 use Rattle.timequery.specs.View.{ViewValue}
-use Rattle.transactions.specs.Calls as calls
+use Rattle.group.specs.Calls as calls
 use Rattle.store.specs.Values.{StoreValue}
 use Rattle.store.specs.Calls as stores
 use Rattle.law_refinement.specs.Laws.{RedeemsAs}

@@ -4,7 +4,7 @@ use Rattle.wire.specs.declared.slot.Body.{Body}
 use Rattle.group.specs.declared.answers.Did.{Did}
 use Rattle.group.specs.declared.answers.PumpFault.{PumpFault}
 use Rattle.group.specs.declared.answers.PumpFault.TheVariants as fault
-use Rattle.transactions.specs.Steps.{IsCommitOf, entries, is_stale}
+use Rattle.group.specs.Steps.{IsCommitOf, entries, is_stale}
 use Rattle.store.specs.Values.{StoreValue}
 use Rattle.store.specs.Pumps.{MayBeginSlot, TakesSlot, freshly}
 

@@ -5,14 +5,14 @@ use Rattle.status.specs.SlotCalls as slots
 use Rattle.status.specs.TurnState.{TurnState, LogState}
 use Rattle.group.specs.declared.answers.PumpFault.{PumpFault}
 use Rattle.group.specs.declared.answers.PumpFault.TheVariants as fault
-use Rattle.transactions.specs.Values.{is_turning}
+use Rattle.group.specs.Values.{is_turning}
 use Rattle.disk.specs.declared.area.Area.{Area}
 use Rattle.disk.specs.declared.area.Area.TheVariants as areas
 use Rattle.archive.specs.Pieces.{InWriting}
 use Rattle.vacuum.specs.Anchors.{Sourced}
 use Rattle.wire.specs.declared.slot.Run.{Run}
 use Rattle.wire.specs.declared.slot.Anchors.{Anchors}
-use Rattle.transactions.specs.Reclaims.{prepared}
+use Rattle.group.specs.Reclaims.{prepared}
 use Rattle.status.specs.Growth.{grew_at, growth_after}
 use Rattle.status.specs.GrowthState.{GrowthState}
 use Rattle.status.specs.declared.growth.Grew.{Grew}

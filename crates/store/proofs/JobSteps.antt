@@ -9,7 +9,7 @@ use Rattle.status.specs.SlotCalls.{SlotStage}
 use Rattle.status.specs.SlotCalls as slots
 use Rattle.status.specs.TurnState.{TurnState, LogState}
 use Rattle.group.specs.declared.answers.PumpFault.{PumpFault}
-use Rattle.transactions.specs.Values.{TransactionsValue}
+use Rattle.group.specs.Values.{TransactionsValue}
 use Rattle.store.specs.Values.{ArchiveValue, StoreValue}
 use Rattle.store.specs.Parts.{parts_of}
 use Rattle.disk.specs.declared.area.Area.TheVariants as areas

@@ -7,7 +7,7 @@ use Rattle.wire.specs.Numbers.{u16_bytes, u64_bytes}
 use Rattle.deltas.specs.declared.«record».Record.{Record}
 use Rattle.deltas.specs.Packing.{bodies, bodies_from}
 use Rattle.deltas.specs.Records.{spelling}
-use Rattle.transactions.specs.Submits.{free_count}
+use Rattle.group.specs.Submits.{free_count}
 use Rattle.store.specs.Values.{StoreValue}
 use Rattle.store.specs.Reclaims.{StartsReclaim, reclaim_refusal, anchors_of}
 use Rattle.store.specs.declared.job.StartFault.TheVariants as fault

@@ -6,7 +6,7 @@ use Rattle.archive.specs.Runs.{run_bytes}
 use Rattle.archive.specs.declared.run.RunEntry.{RunEntry}
 use Rattle.vacuum.specs.Archives.{records_of, run_of, unwritten}
 use Rattle.vacuum.specs.declared.archive_walk.Since.{Since}
-use Rattle.transactions.specs.Values.{spare, with_slot_lent}
+use Rattle.group.specs.Values.{spare, with_slot_lent}
 use Rattle.store.specs.Calls.{last, floors}
 use Rattle.store.specs.Values.{StoreValue}
 use Rattle.wire.specs.declared.slot.Run.{Run}

@@ -29,8 +29,8 @@ use Rattle.timequery.specs.declared.fault.QueryFault.TheVariants as query
 use Rattle.group.specs.declared.answers.Submitted.{Submitted}
 use Rattle.group.specs.declared.answers.SubmitFault.{SubmitFault}
 use Rattle.group.specs.CommitOrder as orders
-use Rattle.transactions.specs.Calls as calls
-use Rattle.transactions.specs.Submits as submits
+use Rattle.group.specs.Calls as calls
+use Rattle.group.specs.Submits as submits
 use Rattle.store.specs.Values.{StoreValue, HasRest}
 
 -- the time of the last published commit, and the floors

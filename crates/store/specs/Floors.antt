@@ -2,8 +2,8 @@
 use Rattle.std.specs.Prelude.{ℕ, ◌≡◌, ◌<◌, ◌^◌, ◌==◌, nat_le, nat_lt, not, Bool, is_some, IsSome, Option, None, Some, Result, Ok, Err, MatchOption, if◌then◌else◌}
 use Rattle.history.specs.Floors.{covered}
 use Rattle.floors.specs.Floors.{floor_at, raised_in}
-use Rattle.transactions.specs.Values.{with_slot_lent}
-use Rattle.transactions.specs.Reclaims.{oldest}
+use Rattle.group.specs.Values.{with_slot_lent}
+use Rattle.group.specs.Reclaims.{oldest}
 use Rattle.store.specs.Calls.{last, floors}
 use Rattle.store.specs.Values.{StoreValue}
 use Rattle.store.specs.Reclaims.{below, refusal_for_use}

@@ -23,9 +23,9 @@ use Rattle.status.specs.SlotCalls as slots
 use Rattle.status.specs.TurnState.{TurnState}
 use Rattle.group.specs.declared.answers.PumpFault.{PumpFault}
 use Rattle.group.specs.declared.answers.PumpFault.TheVariants as fault
-use Rattle.transactions.specs.Steps.{broken}
-use Rattle.transactions.specs.Reclaims.{prepared, reclaimed_to}
-use Rattle.transactions.specs.Values.{with_slot_used, with_more_slots, with_floors}
+use Rattle.group.specs.Steps.{broken}
+use Rattle.group.specs.Reclaims.{prepared, reclaimed_to}
+use Rattle.group.specs.Values.{with_slot_used, with_more_slots, with_floors}
 use Rattle.store.specs.Values.{ArchiveValue, StoreValue}
 use Rattle.store.specs.Pumps.{Calls}
 use Rattle.store.specs.declared.job.Job.{Job}

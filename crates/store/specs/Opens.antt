@@ -14,7 +14,7 @@ use Rattle.recovery.specs.declared.fault.OpenFault.{OpenFault}
 use Rattle.extents.specs.Times.{with_times}
 use Rattle.recovery.specs.declared.recovered.LiveChain.{LiveChain}
 use Rattle.recovery.specs.declared.recovered.Recovered.{Recovered}
-use Rattle.transactions.specs.declared.stage.GroupStage.TheVariants.{NoGroup}
+use Rattle.group.specs.declared.stage.GroupStage.TheVariants.{NoGroup}
 use Rattle.store.specs.Heads.{head_as}
 use Rattle.archive.specs.declared.run.RunEntry.{RunEntry}
 use Rattle.store.specs.Values.{ArchiveValue, StoreValue}

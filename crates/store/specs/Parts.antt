@@ -2,7 +2,7 @@
 use Rattle.std.specs.Prelude.{◌≡◌, ◌+◌, ◌<◌, ◌≤◌, ◌^◌, ℕ, Option, MatchOption}
 use Rattle.disk.specs.Calls.{DiskState}
 use Rattle.status.specs.TurnState.{TurnState, LogState}
-use Rattle.transactions.specs.Values.{TransactionsValue}
+use Rattle.group.specs.Values.{TransactionsValue}
 use Rattle.store.specs.Values.{ArchiveValue, StoreValue}
 use Rattle.store.specs.declared.job.Job.{Job}
 use Rattle.store.specs.declared.job.JobWork.{JobWork}

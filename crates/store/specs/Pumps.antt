@@ -15,11 +15,11 @@ use Rattle.group.specs.declared.answers.Did.TheVariants as did
 use Rattle.group.specs.declared.answers.PumpFault.{PumpFault}
 use Rattle.group.specs.declared.answers.PumpFault.TheVariants as fault
 use Rattle.group.specs.declared.queued.StoredExtent.{StoredExtent}
-use Rattle.transactions.specs.Values.{TransactionsValue}
-use Rattle.transactions.specs.Steps.{next_step, grouped, next_extent, wrote_extent, is_stale, freshened, at_stage, entries, IsCommitOf, published, broken}
-use Rattle.transactions.specs.declared.stage.GroupStage.TheVariants as stages
-use Rattle.transactions.specs.declared.stage.NextStep.{NextStep}
-use Rattle.transactions.specs.declared.stage.NextStep.TheVariants as step
+use Rattle.group.specs.Values.{TransactionsValue}
+use Rattle.group.specs.Steps.{next_step, grouped, next_extent, wrote_extent, is_stale, freshened, at_stage, entries, IsCommitOf, published, broken}
+use Rattle.group.specs.declared.stage.GroupStage.TheVariants as stages
+use Rattle.group.specs.declared.stage.NextStep.{NextStep}
+use Rattle.group.specs.declared.stage.NextStep.TheVariants as step
 use Rattle.store.specs.Values.{StoreValue, KeepsJob, turn_of}
 use Rattle.store.specs.declared.slot_calls.SlotCall.{SlotCall}
 use Rattle.store.specs.declared.slot_calls.SlotCall.TheVariants as calls

@@ -7,9 +7,9 @@ use Rattle.deltas.specs.Records.{spelling}
 use Rattle.vacuum.specs.Anchors.{olds_of}
 use Rattle.wire.specs.declared.slot.Anchors.{Anchors}
 use Rattle.group.specs.Taking.{AreLeastFree}
-use Rattle.transactions.specs.Values.{spare, with_slot_lent}
-use Rattle.transactions.specs.Submits.{free_count}
-use Rattle.transactions.specs.Reclaims.{oldest, with_reserved}
+use Rattle.group.specs.Values.{spare, with_slot_lent}
+use Rattle.group.specs.Submits.{free_count}
+use Rattle.group.specs.Reclaims.{oldest, with_reserved}
 use Rattle.store.specs.Values.{StoreValue}
 use Rattle.store.specs.declared.job.JobStage.TheVariants.{Writing}
 use Rattle.store.specs.declared.job.JobWork.TheVariants.{Reclaim}

@@ -4,7 +4,7 @@ use Rattle.archive.specs.declared.run.RunEntry.{RunEntry}
 use Rattle.disk.specs.Calls.{DiskState}
 use Rattle.status.specs.SlotCalls.{SlotStage, Begun, BodyWritten, BodySynced, GateWritten, Opened}
 use Rattle.status.specs.TurnState.{TurnState, LogState}
-use Rattle.transactions.specs.Values.{TransactionsValue, is_turning}
+use Rattle.group.specs.Values.{TransactionsValue, is_turning}
 use Rattle.store.specs.declared.job.Job.{Job}
 use Rattle.store.specs.declared.job.JobWork.{JobWork}
 use Rattle.store.specs.declared.job.JobWork.TheVariants.{Archive, Reclaim, Floor, Grow}

@@ -13,9 +13,8 @@ use archive::RunWriter;
 use deltas::{EXTENT_LEN, fill_extent};
 use disk::{Area, DeviceFault, Disk};
 use extents::Extent;
-use group::PumpFault;
+use group::{PumpFault, Transactions};
 use status::{Grew, Growth, PIECE_SLOTS, StatusLog};
-use transactions::Transactions;
 use vacuum::{AnchorSource, ArchiveWalk};
 use wire::{Anchors, Run};
 

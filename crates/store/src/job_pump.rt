@@ -13,11 +13,10 @@ use crate::job_slot::{begin_slot, stored, turn_job_slot};
 use crate::store::Store;
 use crate::store_archive::Archived;
 use disk::Disk;
-use group::PumpFault;
+use group::{PumpFault, Transactions};
 use status::StatusLog;
 use std::alloc::Global;
 use std::mem;
-use transactions::Transactions;
 
 impl<D: Disk> Store<D> {
     /// One step of the job that runs: it writes the next 8,192 bytes of its run, of its anchors or of its

@@ -3,7 +3,7 @@ ghost use Rattle.std.specs.Prelude.{◌≡◌, ◌<◌, false, OnOk, OnErr, ℕ,
 ghost use Rattle.status.specs.TurnState.{LogState, TurnState};
 ghost use Rattle.store.specs.Jobs.{BeginsJobSlot, TurnsJob, stored, slot_body, made_ready, work_done, TakesMemory};
 ghost use Rattle.disk.specs.Calls.{DiskState};
-ghost use Rattle.transactions.specs.Values.{KeepsSlots};
+ghost use Rattle.group.specs.Values.{KeepsSlots};
 ghost use Rattle.store.specs.Parts.{parts_of, job_did_of, IsInPlace, IsStageOf};
 ghost use Rattle.store.specs.Values.{ArchiveValue};
 ghost use Rattle.store.specs.declared.job.Job.{Job};
@@ -12,10 +12,9 @@ use crate::job::{Job, JobDid, JobStage, JobWork, Stepped};
 use crate::slot_calls::{SlotCall, SlotStep, advance_slot};
 use crate::store_archive::Archived;
 use disk::Disk;
-use group::PumpFault;
+use group::{PumpFault, Transactions};
 use status::{SlotTurn, StatusLog};
 use std::alloc::{AllocError, Global};
-use transactions::Transactions;
 use wire::Body;
 
 // Begins the slot of what the job made, and writes its body.

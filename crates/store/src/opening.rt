@@ -8,11 +8,10 @@ use crate::store::Store;
 use crate::store_archive::Archived;
 use disk::Disk;
 use extents::ChainTimes;
-use group::CommitHead;
+use group::{CommitHead, Transactions};
 use recovery::{LiveChain, OpenFault, Recovered, read_image};
 use status::StatusLog;
 use std::alloc::{AllocError, Global};
-use transactions::Transactions;
 use wire::Member;
 
 // The commits of the log as they stand in the commit order.

@@ -2,7 +2,7 @@
 ghost use Rattle.std.specs.Prelude.{◌≡◌, ◌<◌, false, is_some, IsTrue, IsSome, None};
 ghost use Rattle.store.specs.Values.{turn_of};
 ghost use Rattle.disk.specs.Areas.{AreSound};
-ghost use Rattle.transactions.specs.Steps.{due, next_extent};
+ghost use Rattle.group.specs.Steps.{due, next_extent};
 ghost use Rattle.store.specs.Pumps.{Pumps, TakesStep, SyncsHeap, MayBeginSlot, TakesSlot, TurnsSlot, store_of, did_of};
 
 use crate::giving_up::put_in_place;
@@ -11,10 +11,9 @@ use crate::job_pieces::EXTENT_BYTES;
 use crate::slot_calls::{SlotCall, SlotStep, advance_slot};
 use crate::store::Store;
 use disk::{Area, DeviceFault, Disk};
-use group::{Did, PumpFault};
+use group::{Did, NextStep, PumpFault, Transactions};
 use status::{SlotTurn, StatusLog};
 use std::mem;
-use transactions::{NextStep, Transactions};
 use wire::Body;
 
 impl<D: Disk> Store<D> {

@@ -1,14 +1,13 @@
 //! The next device call of a slot in the writing, a group's or a job's.
 ghost use Rattle.std.specs.Prelude.{◌≡◌, IfOk, IfErr};
 ghost use Rattle.status.specs.SlotCalls.{IsSlotCall};
-ghost use Rattle.transactions.specs.Steps.{broken};
+ghost use Rattle.group.specs.Steps.{broken};
 ghost use Rattle.store.specs.Pumps.{Calls};
 ghost use Rattle.store.specs.SlotCalls.{IsCalled, call_before};
 
 use disk::{DeviceFault, Disk};
-use group::PumpFault;
+use group::{PumpFault, Transactions};
 use status::{SlotTurn, Stage, StatusLog, Step};
-use transactions::Transactions;
 
 /// A device call of a slot that is to go on.
 #[derive(Clone, Copy)]

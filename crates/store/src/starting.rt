@@ -1,7 +1,7 @@
 //! The beginning of a job.
 ghost use Rattle.std.specs.Prelude.{◌≡◌, ◌<◌, ◌^◌, IfNone, IfOk, None, Some};
 ghost use Rattle.deltas.specs.Chains.{first_number};
-ghost use Rattle.transactions.specs.Reclaims.{oldest};
+ghost use Rattle.group.specs.Reclaims.{oldest};
 ghost use Rattle.store.specs.Archives.{StartsArchive, refusal_now, since_now};
 ghost use Rattle.store.specs.Reclaims.{StartsReclaim, reclaim_refusal, refusal_for_use, below};
 ghost use Rattle.store.specs.Floors.{StartsFloor, IsRelation, floor_refusal, is_wrong_profile};
@@ -15,8 +15,8 @@ use archive::RunEntry;
 use deltas::count_extents;
 use disk::Disk;
 use extents::Extent;
+use group::ReserveFault;
 use std::alloc::AllocError;
-use transactions::ReserveFault;
 use vacuum::{AnchorSource, Since, archive_run};
 use wire::Anchors;
 

@@ -7,13 +7,12 @@ use crate::job::Job;
 use crate::store_archive::Archived;
 use disk::Disk;
 use floors::Floors;
-use group::{BeginFault, Redeemed, SubmitFault, Submitted, Ticket};
+use group::{BeginFault, Redeemed, SubmitFault, Submitted, Ticket, Transactions};
 use snapshot::Txn;
 use status::{SlotTurn, StatusLog};
 use std::alloc::{AllocError, Global};
 use std::marker::Model;
 use timequery::View;
-use transactions::Transactions;
 
 /// A store over a disk of three areas. Each call but opening makes at most one write or sync of the
 /// disk. After a refused one the store is failed: it writes nothing more, and reading goes on.

@@ -1,2 +1,0 @@
-mod Sounds
-mod Walks
