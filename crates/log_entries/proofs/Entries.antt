@@ -11,6 +11,7 @@ use Rattle.log_entries.specs.Spelling.{member_bytes, archive_bytes, floor_bytes,
 use Rattle.log_entries.specs.Ranges.{IsMember, AreMembers, IsArchive, IsFloor, IsRoll, AreParts, IsBase, IsEntry}
 use Rattle.log_entries.specs.Reading.{head_at, upto_at, anchors_at}
 use Rattle.log_entries.specs.Pieces.{HasNone}
+use Rattle.log_entries.specs.Bases.{Ends}
 use Rattle.log_entries.proofs.FixedRead.{Again, archive_again, floor_again, upto_again, anchors_again}
 use Rattle.log_entries.proofs.Lists.{full_list}
 use Rattle.log_entries.proofs.Codes.{member_again, member_code, archive_code, floor_code, roll_code}
@@ -28,12 +29,6 @@ pub base_head : (b : Base) (rest : List ℕ)
     → base_bytes b ++ rest ≡ mark_bytes b.upto b.anchors ++ (flat_map roll_bytes b.rolls ++ (flat_map archive_bytes b.archives ++ (flat_map floor_bytes b.floors ++ rest)))
 unfolding base_bytes
 base_head b rest = simp append_assoc
-
--- nothing goes on with a list of the base where the next one begins
-pub record Ends (b : Base) (rest : List ℕ) : Type 0 where
-  pub rolls : HasNone roll_bytes IsRoll (flat_map archive_bytes b.archives ++ (flat_map floor_bytes b.floors ++ rest))
-  pub archives : HasNone archive_bytes IsArchive (flat_map floor_bytes b.floors ++ rest)
-  pub floors : HasNone floor_bytes IsFloor rest
 
 pub base_ends : (b : Base) → Ends b []
 base_ends b =

@@ -1,5 +1,5 @@
 -- What has a fixed length is read as it was spelled, and spelled as it was read.
-use Rattle.std.proofs.Common.{◌≡◌, ℕ, ◌+◌, ◌^◌, ◌<◌, ◌≤◌, List, [], ◌∷◌, ◌++◌, length, drop, slice_index, refl, sym, arith, append_assoc}
+use Rattle.std.proofs.Common.{◌≡◌, ℕ, ◌+◌, ◌^◌, ◌<◌, ◌≤◌, List, [], ◌∷◌, ◌++◌, length, drop, slice_index, refl, sym, ◌∙◌, ap, subst, arith, append_assoc}
 use Rattle.byteorder.specs.Endian.{little_bytes, little_number}
 use Rattle.wire.specs.Numbers.{u16_bytes, u32_bytes, u64_bytes}
 use Rattle.wire.proofs.Zeros.{AreBytes}
@@ -11,6 +11,7 @@ use Rattle.log_entries.specs.declared.entry.Roll.{Roll}
 use Rattle.log_entries.specs.declared.entry.AnchorName.{AnchorName}
 use Rattle.log_entries.specs.Spelling.{commit_bytes, archive_bytes, floor_bytes, roll_bytes, mark_bytes}
 use Rattle.log_entries.specs.Ranges.{IsArchive, IsFloor, IsRoll}
+use Rattle.log_entries.specs.Pieces.{HasNone}
 use Rattle.log_entries.specs.Reading.{head_at, archive_at, floor_at, roll_at, upto_at, anchors_at}
 use Rattle.log_entries.proofs.NumbersRead.{number_2, number_4, number_8}
 
@@ -119,3 +120,17 @@ mark_back bytes small long kind =
     let first = then_4 9 bytes _ small (omega arith) extents in
     let upto = then_8 1 bytes _ small (omega arith) first in
     front_is bytes _ 8 (omega arith) kind (simp append_assoc upto)
+
+-- ---- both, as a reader needs them
+
+-- none is spelled there where the bytes don't begin so, or what they say is out of range
+pub none_front : {X : Type 0} (at : List ℕ → X) (len kind : ℕ) (bytes_of : X → List ℕ) (Is : X → Type 0) → ((x : X) (rest : List ℕ) → Is x → Again at len kind (bytes_of x ++ rest) x rest)
+    → (bytes : List ℕ) → (len ≤ length bytes → slice_index bytes 0 ≡ kind → Is (at bytes) → ⊥) → HasNone bytes_of Is bytes
+none_front at len kind bytes_of Is again bytes other x rest is same =
+    let found = again x rest is in
+    other (subst (λ (l : List ℕ). len ≤ length l) (sym same) found.long) (ap (λ (l : List ℕ). slice_index l 0) same ∙ found.kind_is) (subst Is (sym (ap at same ∙ found.is)) is)
+
+-- what is read is spelled there
+pub is_front : {X : Type 0} (at : List ℕ → X) (len : ℕ) (bytes_of : X → List ℕ) (bytes : List ℕ) (x : X) (rest : List ℕ) → bytes ≡ bytes_of (at bytes) ++ drop len bytes → x ≡ at bytes → rest ≡ drop len bytes
+    → bytes ≡ bytes_of x ++ rest
+is_front at len bytes_of bytes x rest back is behind = back ∙ (λ i. bytes_of (sym is i) ++ sym behind i)

@@ -1,4 +1,7 @@
+pub mod Bases
 pub mod Codes
+pub mod CommitLengths
+pub mod Decoded
 pub mod Entries
 pub mod FixedRead
 pub mod Fronts

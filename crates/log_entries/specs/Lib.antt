@@ -2,6 +2,8 @@ pub mod Spelling
 pub mod Ranges
 pub mod Reading
 pub mod Pieces
+pub mod Bases
+pub mod Decoding
 pub mod Lengths
 pub mod Laws
 pub mod Writing

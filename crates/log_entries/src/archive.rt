@@ -7,7 +7,7 @@ ghost use Rattle.log_entries.specs.Reading.{archive_at};
 ghost use Rattle.log_entries.specs.Lengths.{archive_some};
 
 use crate::entry::Archive;
-use crate::piece::Piece;
+use crate::piece::{Piece, has_kind};
 use byteorder::{ByteOrder, LittleEndian};
 use std::alloc::{AllocError, Global};
 use wire::{Body, is_in_range};
@@ -48,7 +48,7 @@ impl Piece for Archive {
     ghost some = { archive_some };
 
     fn take(_alloc: Global, bytes: &[u8]) -> Result<Option<(Archive, &[u8])>, AllocError> {
-        if bytes.len() < ARCHIVED_LEN || bytes[0] != ARCHIVED {
+        if !has_kind(bytes, ARCHIVED, ARCHIVED_LEN) {
             return Ok(None);
         }
         let archive = read_archive(bytes);

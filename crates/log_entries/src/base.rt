@@ -1,15 +1,16 @@
 //! The bytes of a base.
 
-ghost use Rattle.std.specs.Prelude.{◌≡◌, ◌≢◌, ◌≤◌, ◌↔◌, [], ◌++◌, length, slice_index, IsTrue, IfOk, MatchOption};
+ghost use Rattle.std.specs.Prelude.{◌≡◌, ◌≢◌, ◌≤◌, ◌↔◌, length, slice_index, IsTrue, IfOk, MatchOption};
 ghost use Rattle.std.specs.List.{AllByRecursion};
 ghost use Rattle.log_entries.specs.declared.entry.Base.{Base};
 ghost use Rattle.log_entries.specs.Spelling.{base_bytes};
-ghost use Rattle.log_entries.specs.Ranges.{AreNone, AreSome, HasNoRuns, AreRising, AreParts, IsWhole, IsBase};
+ghost use Rattle.log_entries.specs.Ranges.{AreNone, AreSome, HasNoRuns, AreRising, IsWhole, IsBase};
+ghost use Rattle.log_entries.specs.Bases.{IsRead};
 ghost use Rattle.log_entries.specs.Reading.{upto_at, anchors_at};
 
 use crate::entry::{AnchorName, Archive, Base, RelationFloor};
 use crate::listed::Listed;
-use crate::piece::take_list;
+use crate::piece::{has_kind, take_list};
 use byteorder::{ByteOrder, LittleEndian};
 use history::LAST_TIME;
 use std::alloc::{AllocError, Global};
@@ -104,9 +105,7 @@ fn is_whole(most: u32, base: &Base) -> bool
 fn take_parts(alloc: Global, bytes: &[u8]) -> Result<(Base, &[u8]), AllocError>
     requires long { 21 ≤ length bytes.now }
     requires kind { slice_index bytes.now 0 ≡ 8 }
-    ensures parts { IfOk result (λ p. AreParts p.0) }
-    ensures bytes { IfOk result (λ p. bytes.now ≡ base_bytes p.0 ++ p.1.now) }
-    ensures only { (base : Base) → AreParts base → bytes.now ≡ base_bytes base → IfOk result (λ p. (p.0 ≡ base) × (p.1.now ≡ [])) }
+    ensures { IfOk result (λ p. IsRead bytes.now p.0 p.1.now) }
 {
     let (rolls, rest) = take_list(alloc, &bytes[BASE_LEN..])?;
     let (archives, rest) = take_list(alloc, rest)?;
@@ -126,7 +125,7 @@ pub(crate) fn take_base(alloc: Global, most: u32, bytes: &[u8]) -> Result<Option
     ensures { IfOk result (λ o. MatchOption o ((base : Base) → IsBase most base → bytes.now ≢ base_bytes base)
         (λ base. IsBase most base × (bytes.now ≡ base_bytes base))) }
 {
-    if bytes.len() < BASE_LEN || bytes[0] != BASE {
+    if !has_kind(bytes, BASE, BASE_LEN) {
         return Ok(None);
     }
     let (base, rest) = take_parts(alloc, bytes)?;

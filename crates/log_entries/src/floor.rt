@@ -7,7 +7,7 @@ ghost use Rattle.log_entries.specs.Reading.{floor_at};
 ghost use Rattle.log_entries.specs.Lengths.{floor_some};
 
 use crate::entry::RelationFloor;
-use crate::piece::Piece;
+use crate::piece::{Piece, has_kind};
 use byteorder::{ByteOrder, LittleEndian};
 use history::LAST_TIME;
 use std::alloc::{AllocError, Global};
@@ -45,7 +45,7 @@ impl Piece for RelationFloor {
     ghost some = { floor_some };
 
     fn take(_alloc: Global, bytes: &[u8]) -> Result<Option<(RelationFloor, &[u8])>, AllocError> {
-        if bytes.len() < FLOOR_LEN || bytes[0] != FLOOR {
+        if !has_kind(bytes, FLOOR, FLOOR_LEN) {
             return Ok(None);
         }
         let floor = read_floor(bytes);

@@ -12,7 +12,7 @@ ghost use Rattle.log_entries.specs.Lengths.{member_some};
 
 use crate::entry::Member;
 use crate::listed::Listed;
-use crate::piece::{Piece, take_list};
+use crate::piece::{Piece, has_kind, take_list};
 use byteorder::{ByteOrder, LittleEndian};
 use deltas::{Kinds, Record, are_rising, take_record_of};
 use history::LAST_TIME;
@@ -88,7 +88,7 @@ impl Piece for Member {
     ghost some = { member_some };
 
     fn take(alloc: Global, bytes: &[u8]) -> Result<Option<(Member, &[u8])>, AllocError> {
-        if bytes.len() < COMMIT_LEN || bytes[0] != COMMIT {
+        if !has_kind(bytes, COMMIT, COMMIT_LEN) {
             return Ok(None);
         }
         let head = read_head(bytes);

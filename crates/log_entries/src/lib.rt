@@ -3,7 +3,7 @@
 
 mod archive;
 mod base;
-mod decode;
+mod decoding;
 mod encode;
 mod entry;
 mod floor;
@@ -13,7 +13,7 @@ mod listed;
 mod piece;
 mod roll;
 
-pub use decode::decode;
+pub use decoding::decode;
 pub use encode::{commit_len, push_archive, push_base, push_commit, push_floor, push_write};
 pub use entry::{AnchorName, Archive, Base, Entry, Member, RelationFloor, Roll};
 pub use listed::Listed;

@@ -1,13 +1,13 @@
 //! What stands in a list, one behind the other.
 
-ghost use Rattle.std.specs.Prelude.{◌≡◌, ◌≢◌, ◌<◌, ◌++◌, ℕ, List, length, IfOk, MatchOption};
+ghost use Rattle.std.specs.Prelude.{◌≡◌, ◌<◌, ◌≤◌, ◌↔◌, ◌++◌, ℕ, List, length, slice_index, IsTrue, IfOk, MatchOption};
 ghost use Rattle.std.specs.List.{flat_map, AllByRecursion};
 ghost use Rattle.log_entries.specs.Pieces.{HasNone};
 
 use std::alloc::{AllocError, Global};
 
 /// What is spelled in one way alone, and read from the front of bytes.
-pub(crate) trait Piece: Sized {
+pub(crate) trait Piece: Sized + Drop {
     /// The one spelling.
     ghost bytes_of: { Self → List ℕ };
 
@@ -20,6 +20,14 @@ pub(crate) trait Piece: Sized {
 
     /// It has bytes.
     ghost some: { (x : Self) → 0 < length (bytes_of x) };
+}
+
+/// Whether there are so many bytes, the first of this kind.
+pub(crate) fn has_kind(bytes: &[u8], kind: u8, len: usize) -> bool
+    requires { 0 < len }
+    ensures { IsTrue result ↔ ((len ≤ length bytes.now) × (slice_index bytes.now 0 ≡ kind)) }
+{
+    len <= bytes.len() && bytes[0] == kind
 }
 
 /// As many as stand at the front, and what follows them.

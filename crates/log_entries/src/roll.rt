@@ -7,7 +7,7 @@ ghost use Rattle.log_entries.specs.Reading.{roll_at};
 ghost use Rattle.log_entries.specs.Lengths.{roll_some};
 
 use crate::entry::Roll;
-use crate::piece::Piece;
+use crate::piece::{Piece, has_kind};
 use byteorder::{ByteOrder, LittleEndian};
 use std::alloc::{AllocError, Global};
 use wire::LAST_PLACE;
@@ -49,7 +49,7 @@ impl Piece for Roll {
     ghost some = { roll_some };
 
     fn take(_alloc: Global, bytes: &[u8]) -> Result<Option<(Roll, &[u8])>, AllocError> {
-        if bytes.len() < ROLL_LEN || bytes[0] != ROLL {
+        if !has_kind(bytes, ROLL, ROLL_LEN) {
             return Ok(None);
         }
         let roll = read_roll(bytes);

@@ -1,0 +1,62 @@
+-- What is found in a chain is the one entry that has its bytes.
+use Rattle.std.proofs.Common.{◌≡◌, ◌≢◌, ℕ, List, Option, Some, None, slice_index, sym, ◌∙◌, ap, arith}
+use Rattle.std.specs.Prelude.{IfSome}
+use Rattle.std.specs.List.{flat_map}
+use Rattle.log_entries.specs.declared.entry.Member.{Member}
+use Rattle.log_entries.specs.declared.entry.Base.{Base}
+use Rattle.log_entries.specs.declared.entry.Entry.{Entry}
+use Rattle.log_entries.specs.declared.entry.Entry.TheVariants.{Group, Archived, Floor}
+use Rattle.log_entries.specs.declared.entry.Entry.TheVariants as entries
+use Rattle.log_entries.specs.Spelling.{member_bytes, archive_bytes, floor_bytes, base_bytes, entry_bytes}
+use Rattle.log_entries.specs.Ranges.{AreMembers, IsArchive, IsFloor, IsBase, IsEntry}
+use Rattle.log_entries.specs.Pieces.{HasNoneAlone}
+use Rattle.log_entries.specs.Decoding.{IsDecoded}
+use Rattle.log_entries.proofs.Entries.{kind_of, entry_kind, one_entry}
+
+kind_is : (most : ℕ) (bytes : List ℕ) (e : Entry) → IsEntry most e → bytes ≡ entry_bytes e → kind_of e ≡ slice_index bytes 0
+kind_is most bytes e is same = sym (entry_kind most e is) ∙ ap (λ (l : List ℕ). slice_index l 0) (sym same)
+
+-- what begins with the first byte of one kind is of that kind
+pub no_group : (most : ℕ) (bytes : List ℕ) → slice_index bytes 0 ≡ 5 → ((members : List Member) → AreMembers members → bytes ≢ flat_map member_bytes members) → HasNoneAlone entry_bytes (IsEntry most) bytes
+unfolding entry_bytes
+no_group most bytes kind none (Group members) is same = none members is same
+no_group most bytes kind none (Archived a) is same = let other = kind_is most bytes (Archived a) is same in omega (arith, other, kind)
+no_group most bytes kind none (Floor f) is same = let other = kind_is most bytes (Floor f) is same in omega (arith, other, kind)
+no_group most bytes kind none (entries.Base b) is same = let other = kind_is most bytes (entries.Base b) is same in omega (arith, other, kind)
+
+pub no_archive : (most : ℕ) (bytes : List ℕ) → slice_index bytes 0 ≡ 6 → HasNoneAlone archive_bytes IsArchive bytes → HasNoneAlone entry_bytes (IsEntry most) bytes
+unfolding entry_bytes
+no_archive most bytes kind none (Group members) is same = let other = kind_is most bytes (Group members) is same in omega (arith, other, kind)
+no_archive most bytes kind none (Archived a) is same = none a is same
+no_archive most bytes kind none (Floor f) is same = let other = kind_is most bytes (Floor f) is same in omega (arith, other, kind)
+no_archive most bytes kind none (entries.Base b) is same = let other = kind_is most bytes (entries.Base b) is same in omega (arith, other, kind)
+
+pub no_floor : (most : ℕ) (bytes : List ℕ) → slice_index bytes 0 ≡ 7 → HasNoneAlone floor_bytes IsFloor bytes → HasNoneAlone entry_bytes (IsEntry most) bytes
+unfolding entry_bytes
+no_floor most bytes kind none (Group members) is same = let other = kind_is most bytes (Group members) is same in omega (arith, other, kind)
+no_floor most bytes kind none (Archived a) is same = let other = kind_is most bytes (Archived a) is same in omega (arith, other, kind)
+no_floor most bytes kind none (Floor f) is same = none f is same
+no_floor most bytes kind none (entries.Base b) is same = let other = kind_is most bytes (entries.Base b) is same in omega (arith, other, kind)
+
+pub no_base : (most : ℕ) (bytes : List ℕ) → slice_index bytes 0 ≡ 8 → ((base : Base) → IsBase most base → bytes ≢ base_bytes base) → HasNoneAlone entry_bytes (IsEntry most) bytes
+unfolding entry_bytes
+no_base most bytes kind none (Group members) is same = let other = kind_is most bytes (Group members) is same in omega (arith, other, kind)
+no_base most bytes kind none (Archived a) is same = let other = kind_is most bytes (Archived a) is same in omega (arith, other, kind)
+no_base most bytes kind none (Floor f) is same = let other = kind_is most bytes (Floor f) is same in omega (arith, other, kind)
+no_base most bytes kind none (entries.Base b) is same = none b is same
+
+pub no_kind : (most : ℕ) (bytes : List ℕ) → slice_index bytes 0 ≢ 5 → slice_index bytes 0 ≢ 6 → slice_index bytes 0 ≢ 7 → slice_index bytes 0 ≢ 8 → HasNoneAlone entry_bytes (IsEntry most) bytes
+no_kind most bytes five six seven eight (Group members) is same = five (sym (kind_is most bytes (Group members) is same))
+no_kind most bytes five six seven eight (Archived a) is same = six (sym (kind_is most bytes (Archived a) is same))
+no_kind most bytes five six seven eight (Floor f) is same = seven (sym (kind_is most bytes (Floor f) is same))
+no_kind most bytes five six seven eight (entries.Base b) is same = eight (sym (kind_is most bytes (entries.Base b) is same))
+
+-- ---- the two clauses of a reader
+
+pub decoded_found : (most : ℕ) (bytes : List ℕ) (o : Option Entry) → IsDecoded most bytes o → IfSome o (λ e. (bytes ≡ entry_bytes e) × IsEntry most e)
+decoded_found most bytes None is = tt
+decoded_found most bytes (Some e) is = (is.1, is.0)
+
+pub decoded_only : (most : ℕ) (bytes : List ℕ) (o : Option Entry) (e : Entry) → IsDecoded most bytes o → IsEntry most e → bytes ≡ entry_bytes e → o ≡ Some e
+decoded_only most bytes None e is fits same = absurd (is e fits same)
+decoded_only most bytes (Some found) e is fits same = ap Some (one_entry most found e is.0 fits (sym is.1 ∙ same))
