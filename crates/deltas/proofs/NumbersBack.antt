@@ -40,19 +40,22 @@ back_8 bytes small long =
     ap (λ (xs : List ℕ). xs ++ drop 8 bytes) front ∙ take-append-drop 8 bytes
 
 -- a number that is read at a place, and what stands behind it
-pub then_2 : (at : ℕ) (bytes behind : List ℕ) → AreBytes bytes → at + 2 ≤ length bytes → behind ≡ drop (at + 2) bytes → u16_bytes (little_number 2 (drop at bytes)) ++ behind ≡ drop at bytes
+pub then_2 : (at : ℕ) (bytes behind : List ℕ) → AreBytes bytes → at + 2 ≤ length bytes → behind ≡ drop (at + 2) bytes
+    → u16_bytes (little_number 2 (drop at bytes)) ++ behind ≡ drop at bytes
 unfolding u16_bytes
 then_2 at bytes behind small long is =
     ap (λ (xs : List ℕ). little_bytes 2 (little_number 2 (drop at bytes)) ++ xs) (is ∙ sym (drop-drop 2 at bytes))
     ∙ back_2 (drop at bytes) (AreBytes-drop at bytes small) (omega (arith, length-drop at bytes))
 
-pub then_4 : (at : ℕ) (bytes behind : List ℕ) → AreBytes bytes → at + 4 ≤ length bytes → behind ≡ drop (at + 4) bytes → u32_bytes (little_number 4 (drop at bytes)) ++ behind ≡ drop at bytes
+pub then_4 : (at : ℕ) (bytes behind : List ℕ) → AreBytes bytes → at + 4 ≤ length bytes → behind ≡ drop (at + 4) bytes
+    → u32_bytes (little_number 4 (drop at bytes)) ++ behind ≡ drop at bytes
 unfolding u32_bytes
 then_4 at bytes behind small long is =
     ap (λ (xs : List ℕ). little_bytes 4 (little_number 4 (drop at bytes)) ++ xs) (is ∙ sym (drop-drop 4 at bytes))
     ∙ back_4 (drop at bytes) (AreBytes-drop at bytes small) (omega (arith, length-drop at bytes))
 
-pub then_8 : (at : ℕ) (bytes behind : List ℕ) → AreBytes bytes → at + 8 ≤ length bytes → behind ≡ drop (at + 8) bytes → u64_bytes (little_number 8 (drop at bytes)) ++ behind ≡ drop at bytes
+pub then_8 : (at : ℕ) (bytes behind : List ℕ) → AreBytes bytes → at + 8 ≤ length bytes → behind ≡ drop (at + 8) bytes
+    → u64_bytes (little_number 8 (drop at bytes)) ++ behind ≡ drop at bytes
 unfolding u64_bytes
 then_8 at bytes behind small long is =
     ap (λ (xs : List ℕ). little_bytes 8 (little_number 8 (drop at bytes)) ++ xs) (is ∙ sym (drop-drop 8 at bytes))

@@ -13,5 +13,6 @@ has_spelled bytes r rest is same = subst HasRecord (sym same) (record_again r re
 pub is_spelled : (bytes : List ℕ) (r : Record) (rest : List ℕ) → IsRecord r → bytes ≡ spelling r ++ rest → record_at bytes ≡ r
 is_spelled bytes r rest is same = ap record_at same ∙ (record_again r rest is).is
 
-pub spelled_back : (bytes : List ℕ) (r : Record) (rest : List ℕ) → AreBytes bytes → HasRecord bytes → r ≡ record_at bytes → rest ≡ behind_record bytes → bytes ≡ spelling r ++ rest
+pub spelled_back : (bytes : List ℕ) (r : Record) (rest : List ℕ) → AreBytes bytes → HasRecord bytes → r ≡ record_at bytes
+    → rest ≡ behind_record bytes → bytes ≡ spelling r ++ rest
 spelled_back bytes r rest small has is behind = sym (record_back bytes small has) ∙ (λ i. spelling (sym is i) ++ sym behind i)

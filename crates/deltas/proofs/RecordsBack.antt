@@ -18,7 +18,8 @@ value_back (count ∷ bytes) has =
     let back = fields_back count bytes has.fields in
     λ i. len i ∷ back i
 
-content_back : (kind : ℕ) (bytes : List ℕ) → AreBytes bytes → HasContent kind bytes → (kind_of (content_at kind bytes) ≡ kind) × (rest_of (content_at kind bytes) ++ behind_content kind bytes ≡ bytes)
+content_back : (kind : ℕ) (bytes : List ℕ) → AreBytes bytes → HasContent kind bytes
+    → (kind_of (content_at kind bytes) ≡ kind) × (rest_of (content_at kind bytes) ++ behind_content kind bytes ≡ bytes)
 unfolding mask_at from_at
 content_back zero bytes small has = absurd has
 content_back (suc zero) bytes small has = (refl, value_back bytes has)

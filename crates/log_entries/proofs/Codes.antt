@@ -14,7 +14,8 @@ use Rattle.log_entries.specs.Reading.{head_at, archive_at, floor_at, roll_at}
 use Rattle.log_entries.proofs.Lists.{IsCode, counted_list}
 use Rattle.log_entries.proofs.FixedRead.{Again, head_again, archive_again, floor_again, roll_again}
 
-again_code : {X : Type 0} (at : List ℕ → X) (len kind : ℕ) (bytes_of : X → List ℕ) (Is : X → Type 0) → ((x : X) (rest : List ℕ) → Is x → Again at len kind (bytes_of x ++ rest) x rest) → IsCode bytes_of Is
+again_code : {X : Type 0} (at : List ℕ → X) (len kind : ℕ) (bytes_of : X → List ℕ) (Is : X → Type 0)
+    → ((x : X) (rest : List ℕ) → Is x → Again at len kind (bytes_of x ++ rest) x rest) → IsCode bytes_of Is
 again_code at len kind bytes_of Is again a b r s is_a is_b same =
     let first = again a r is_a in
     let second = again b s is_b in
@@ -36,7 +37,8 @@ record_code a b r s is_a is_b same =
     (sym first.is ∙ ap record_at same ∙ second.is, sym first.behind ∙ ap behind_record same ∙ second.behind)
 
 -- records in their range, of kinds that a commit may hold
-pub all_stored : (records : List Record) → AllByRecursion IsRecord records → AllByRecursion (λ r. IsPermitted OfCommit r.content) records → AllByRecursion IsStored records
+pub all_stored : (records : List Record) → AllByRecursion IsRecord records → AllByRecursion (λ r. IsPermitted OfCommit r.content) records
+    → AllByRecursion IsStored records
 all_stored [] are permitted = tt
 all_stored (r ∷ rs) are permitted = ((are.0, permitted.0), all_stored rs are.1 permitted.1)
 
@@ -52,7 +54,8 @@ pub member_stored : (m : Member) → IsMember m → AllByRecursion IsStored m.re
 member_stored m is = all_stored m.records is.are_records.each is.are_records.permitted
 
 -- the COMMIT of a member, and what follows it
-pub member_head : (m : Member) (rest : List ℕ) → member_bytes m ++ rest ≡ commit_bytes m.label m.time (length m.records) ++ (flat_map spelling m.records ++ rest)
+pub member_head : (m : Member) (rest : List ℕ)
+    → member_bytes m ++ rest ≡ commit_bytes m.label m.time (length m.records) ++ (flat_map spelling m.records ++ rest)
 unfolding member_bytes
 member_head m rest = append_assoc (commit_bytes m.label m.time (length m.records)) (flat_map spelling m.records) rest
 

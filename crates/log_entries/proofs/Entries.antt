@@ -1,5 +1,5 @@
 -- Bytes are those of one entry alone.
-use Rattle.std.proofs.Common.{◌≡◌, ◌≢◌, ℕ, ◌<◌, List, [], ◌∷◌, ◌++◌, length, drop, slice_index, refl, sym, ◌∙◌, ap, arith, append_assoc, map}
+use Rattle.std.proofs.Common.{◌≡◌, ◌≢◌, ℕ, ◌<◌, ◌≤◌, List, [], ◌∷◌, ◌++◌, length, drop, slice_index, refl, sym, ◌∙◌, ap, subst, arith, append_assoc, map}
 use Rattle.std.specs.List.{flat_map, AllByRecursion}
 use Rattle.std.proofs.lemmas.List.{append-nil}
 use Rattle.log_entries.specs.declared.entry.Member.{Member}
@@ -19,9 +19,18 @@ use Rattle.log_entries.proofs.Fronts.{no_member, no_roll_behind, no_archive_behi
 
 -- ---- a group
 
-pub one_group : (a b : List Member) (rest : List ℕ) → AllByRecursion IsMember a → AllByRecursion IsMember b → HasNone member_bytes IsMember rest → flat_map member_bytes a ++ rest ≡ flat_map member_bytes b
+pub one_group : (a b : List Member) (rest : List ℕ) → AllByRecursion IsMember a → AllByRecursion IsMember b → HasNone member_bytes IsMember rest
+    → flat_map member_bytes a ++ rest ≡ flat_map member_bytes b
     → (a ≡ b) × (rest ≡ [])
 one_group a b rest is_a is_b none same = full_list member_bytes IsMember member_code a b rest [] is_a is_b none no_member (same ∙ sym (append-nil (flat_map member_bytes b)))
+
+pub group_read : (bytes rest : List ℕ) (found owned : List Member) → AllByRecursion IsMember found → bytes ≡ flat_map member_bytes found ++ rest → rest ≡ []
+    → (0 < length found) × (length found ≤ 1024) → owned ≡ found → AreMembers owned × (bytes ≡ flat_map member_bytes owned)
+group_read bytes rest found owned each is none size same =
+    subst (λ (l : List Member). AreMembers l × (bytes ≡ flat_map member_bytes l)) (sym same) (
+      record { some = size.0; few = size.1; each = each },
+      is ∙ ap (λ (l : List ℕ). flat_map member_bytes found ++ l) none ∙ append-nil (flat_map member_bytes found),
+    )
 
 -- ---- a base
 
@@ -91,4 +100,15 @@ one_entry most (Group ms) (Group ns) is_a is_b same = ap Group (one_group ms ns 
 one_entry most (Archived a) (Archived b) is_a is_b same = ap Archived (archive_code a b [] [] is_a is_b (alone archive_bytes a b same)).0
 one_entry most (Floor f) (Floor g) is_a is_b same = ap Floor (floor_code f g [] [] is_a is_b (alone floor_bytes f g same)).0
 one_entry most (entries.Base a) (entries.Base b) is_a is_b same = ap entries.Base (one_base a b is_a.parts is_b.parts same)
-one_entry most a b is_a is_b same = absurd (other a b (same_kind most a b is_a is_b same))
+one_entry most (Group ms) (Archived y) is_a is_b same = let k = same_kind most (Group ms) (Archived y) is_a is_b same in absurd (omega (arith, k))
+one_entry most (Group ms) (Floor g) is_a is_b same = let k = same_kind most (Group ms) (Floor g) is_a is_b same in absurd (omega (arith, k))
+one_entry most (Group ms) (entries.Base d) is_a is_b same = let k = same_kind most (Group ms) (entries.Base d) is_a is_b same in absurd (omega (arith, k))
+one_entry most (Archived x) (Group ns) is_a is_b same = let k = same_kind most (Archived x) (Group ns) is_a is_b same in absurd (omega (arith, k))
+one_entry most (Archived x) (Floor g) is_a is_b same = let k = same_kind most (Archived x) (Floor g) is_a is_b same in absurd (omega (arith, k))
+one_entry most (Archived x) (entries.Base d) is_a is_b same = let k = same_kind most (Archived x) (entries.Base d) is_a is_b same in absurd (omega (arith, k))
+one_entry most (Floor f) (Group ns) is_a is_b same = let k = same_kind most (Floor f) (Group ns) is_a is_b same in absurd (omega (arith, k))
+one_entry most (Floor f) (Archived y) is_a is_b same = let k = same_kind most (Floor f) (Archived y) is_a is_b same in absurd (omega (arith, k))
+one_entry most (Floor f) (entries.Base d) is_a is_b same = let k = same_kind most (Floor f) (entries.Base d) is_a is_b same in absurd (omega (arith, k))
+one_entry most (entries.Base c) (Group ns) is_a is_b same = let k = same_kind most (entries.Base c) (Group ns) is_a is_b same in absurd (omega (arith, k))
+one_entry most (entries.Base c) (Archived y) is_a is_b same = let k = same_kind most (entries.Base c) (Archived y) is_a is_b same in absurd (omega (arith, k))
+one_entry most (entries.Base c) (Floor g) is_a is_b same = let k = same_kind most (entries.Base c) (Floor g) is_a is_b same in absurd (omega (arith, k))

@@ -65,7 +65,8 @@ unfolding upto_at mark_bytes u32_bytes u64_bytes
 upto_again upto a rest fits =
     record { long = omega arith; kind_is = refl; is = number_8 upto (little_bytes 4 a.first ++ little_bytes 4 a.extents ++ little_bytes 4 a.records ++ rest) fits; behind = refl }
 
-pub anchors_again : (upto : ℕ) (a : AnchorName) (rest : List ℕ) → a.first < 2 ^ 32 → a.extents < 2 ^ 32 → a.records < 2 ^ 32 → Again anchors_at 21 8 (mark_bytes upto a ++ rest) a rest
+pub anchors_again : (upto : ℕ) (a : AnchorName) (rest : List ℕ) → a.first < 2 ^ 32 → a.extents < 2 ^ 32 → a.records < 2 ^ 32
+    → Again anchors_at 21 8 (mark_bytes upto a ++ rest) a rest
 unfolding anchors_at mark_bytes u32_bytes u64_bytes
 anchors_again upto a rest first_fits extents_fits records_fits =
     let first = number_4 a.first (little_bytes 4 a.extents ++ little_bytes 4 a.records ++ rest) first_fits in
@@ -112,7 +113,8 @@ roll_back bytes small long kind =
     let start = then_8 1 bytes _ small (omega arith) len in
     front_is bytes _ 9 (omega arith) kind (simp append_assoc start)
 
-pub mark_back : (bytes : List ℕ) → AreBytes bytes → 21 ≤ length bytes → slice_index bytes 0 ≡ 8 → bytes ≡ mark_bytes (upto_at bytes) (anchors_at bytes) ++ drop 21 bytes
+pub mark_back : (bytes : List ℕ) → AreBytes bytes → 21 ≤ length bytes → slice_index bytes 0 ≡ 8
+    → bytes ≡ mark_bytes (upto_at bytes) (anchors_at bytes) ++ drop 21 bytes
 unfolding upto_at anchors_at mark_bytes
 mark_back bytes small long kind =
     let records = then_4 17 bytes (drop 21 bytes) small (omega arith) refl in
@@ -124,13 +126,15 @@ mark_back bytes small long kind =
 -- ---- both, as a reader needs them
 
 -- none is spelled there where the bytes don't begin so, or what they say is out of range
-pub none_front : {X : Type 0} (at : List ℕ → X) (len kind : ℕ) (bytes_of : X → List ℕ) (Is : X → Type 0) → ((x : X) (rest : List ℕ) → Is x → Again at len kind (bytes_of x ++ rest) x rest)
+pub none_front : {X : Type 0} (at : List ℕ → X) (len kind : ℕ) (bytes_of : X → List ℕ) (Is : X → Type 0)
+    → ((x : X) (rest : List ℕ) → Is x → Again at len kind (bytes_of x ++ rest) x rest)
     → (bytes : List ℕ) → (len ≤ length bytes → slice_index bytes 0 ≡ kind → Is (at bytes) → ⊥) → HasNone bytes_of Is bytes
 none_front at len kind bytes_of Is again bytes other x rest is same =
     let found = again x rest is in
     other (subst (λ (l : List ℕ). len ≤ length l) (sym same) found.long) (ap (λ (l : List ℕ). slice_index l 0) same ∙ found.kind_is) (subst Is (sym (ap at same ∙ found.is)) is)
 
 -- what is read is spelled there
-pub is_front : {X : Type 0} (at : List ℕ → X) (len : ℕ) (bytes_of : X → List ℕ) (bytes : List ℕ) (x : X) (rest : List ℕ) → bytes ≡ bytes_of (at bytes) ++ drop len bytes → x ≡ at bytes → rest ≡ drop len bytes
+pub is_front : {X : Type 0} (at : List ℕ → X) (len : ℕ) (bytes_of : X → List ℕ) (bytes : List ℕ) (x : X) (rest : List ℕ)
+    → bytes ≡ bytes_of (at bytes) ++ drop len bytes → x ≡ at bytes → rest ≡ drop len bytes
     → bytes ≡ bytes_of x ++ rest
 is_front at len bytes_of bytes x rest back is behind = back ∙ (λ i. bytes_of (sym is i) ++ sym behind i)

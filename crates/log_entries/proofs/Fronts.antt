@@ -22,7 +22,8 @@ pub no_member : HasNone member_bytes IsMember []
 no_member x rest is same = let some = member_some x in let len = ap (λ (l : List ℕ). length l) same in omega (arith, some, len, length-append (member_bytes x) rest)
 
 -- behind the ROLLs of a base, and behind its ARCHIVEDs
-pub no_roll_behind : (archives : List Archive) (floors : List RelationFloor) → HasNone roll_bytes IsRoll (flat_map archive_bytes archives ++ flat_map floor_bytes floors)
+pub no_roll_behind : (archives : List Archive) (floors : List RelationFloor)
+    → HasNone roll_bytes IsRoll (flat_map archive_bytes archives ++ flat_map floor_bytes floors)
 unfolding archive_bytes floor_bytes
 no_roll_behind [] [] = no_roll [] (λ e. omega (arith, e))
 no_roll_behind [] (f ∷ fs) = no_roll _ (λ e. omega (arith, e))

@@ -6,4 +6,6 @@ pub mod Entries
 pub mod FixedRead
 pub mod Fronts
 pub mod Lists
+pub mod MembersRead
 pub mod NumbersRead
+pub mod Pushed

@@ -1,5 +1,8 @@
 -- What bytes say, read from left to right, whatever stands there.
-use Rattle.std.specs.Prelude.{ℕ, List, drop}
+use Rattle.std.specs.Prelude.{ℕ, ◌^◌, ◌<◌, ◌≤◌, List, length, map, drop}
+use Rattle.std.specs.List.Sorted.{IsStrictlySortedBy}
+use Rattle.history.specs.Key.{key_cmp}
+use Rattle.deltas.specs.declared.«record».Record.{Record}
 use Rattle.byteorder.specs.Endian.{little_number}
 use Rattle.log_entries.specs.declared.group.Head.{Head}
 use Rattle.log_entries.specs.declared.entry.Archive.{Archive}
@@ -10,6 +13,14 @@ use Rattle.log_entries.specs.declared.entry.AnchorName.{AnchorName}
 -- the label, the time and the number of records of a COMMIT
 unfoldable pub head_at : List ℕ → Head
 head_at bytes = record { label = little_number 8 (drop 1 bytes); time = little_number 8 (drop 9 bytes); records = little_number 2 (drop 17 bytes) }
+
+-- a COMMIT of these records, of which each is in its range
+pub record IsHeadOf (head : Head) (records : List Record) : Type 0 where
+  pub time_low : 0 < head.time
+  pub time_high : head.time < 2 ^ 63
+  pub some : 0 < length records
+  pub few : length records ≤ 1024
+  pub rising : IsStrictlySortedBy key_cmp (map (λ r. r.key) records)
 
 -- the run of an ARCHIVED
 unfoldable pub archive_at : List ℕ → Archive

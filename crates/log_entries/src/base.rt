@@ -129,7 +129,10 @@ pub(crate) fn take_base(alloc: Global, most: u32, bytes: &[u8]) -> Result<Option
         return Ok(None);
     }
     let (base, rest) = take_parts(alloc, bytes)?;
-    if !rest.is_empty() || !is_whole(most, &base) {
+    if !rest.is_empty() {
+        return Ok(None);
+    }
+    if !is_whole(most, &base) {
         return Ok(None);
     }
     Ok(Some(base))

@@ -1,32 +1,18 @@
 //! The bytes of a chain as an entry.
 
-ghost use Rattle.std.specs.Prelude.{◌≡◌, ℕ, slice_index, Some, IfOk, IfSome, MatchOption};
+ghost use Rattle.std.specs.Prelude.{◌≡◌, ℕ, slice_index, Some, IfOk, IfSome};
 ghost use Rattle.log_entries.specs.declared.entry.Entry.{Entry};
 ghost use Rattle.log_entries.specs.Spelling.{entry_bytes};
-ghost use Rattle.log_entries.specs.Pieces.{HasNoneAlone};
 ghost use Rattle.log_entries.specs.Ranges.{IsEntry};
 ghost use Rattle.log_entries.specs.Decoding.{IsDecoded};
 
 use crate::archive::ARCHIVED;
 use crate::base::{BASE, take_base};
-use crate::entry::Entry;
+use crate::entry::{Archive, Entry, RelationFloor};
 use crate::floor::FLOOR;
 use crate::group::{COMMIT, take_group};
 use crate::piece::Piece;
 use std::alloc::{AllocError, Global};
-
-// The piece that has just these bytes.
-fn take_alone<P: Piece>(alloc: Global, bytes: &[u8]) -> Result<Option<P>, AllocError>
-    ensures { IfOk result (λ o. MatchOption o (HasNoneAlone P.bytes_of P.Is bytes.now) (λ x. P.Is x × (bytes.now ≡ P.bytes_of x))) }
-{
-    let Some((piece, rest)) = P::take(alloc, bytes)? else {
-        return Ok(None);
-    };
-    if !rest.is_empty() {
-        return Ok(None);
-    }
-    Ok(Some(piece))
-}
 
 // A group, which begins with a COMMIT.
 fn decode_group(alloc: Global, bytes: &[u8]) -> Result<Option<Entry>, AllocError>
@@ -44,9 +30,12 @@ fn decode_archive(alloc: Global, bytes: &[u8]) -> Result<Option<Entry>, AllocErr
     requires { slice_index bytes.now 0 ≡ 6 }
     ensures { (most : ℕ) → IfOk result (IsDecoded most bytes.now) }
 {
-    let Some(archive) = take_alone(alloc, bytes)? else {
+    let Some((archive, rest)) = Archive::take(alloc, bytes)? else {
         return Ok(None);
     };
+    if !rest.is_empty() {
+        return Ok(None);
+    }
     Ok(Some(Entry::Archived(archive)))
 }
 
@@ -55,9 +44,12 @@ fn decode_floor(alloc: Global, bytes: &[u8]) -> Result<Option<Entry>, AllocError
     requires { slice_index bytes.now 0 ≡ 7 }
     ensures { (most : ℕ) → IfOk result (IsDecoded most bytes.now) }
 {
-    let Some(floor) = take_alone(alloc, bytes)? else {
+    let Some((floor, rest)) = RelationFloor::take(alloc, bytes)? else {
         return Ok(None);
     };
+    if !rest.is_empty() {
+        return Ok(None);
+    }
     Ok(Some(Entry::Floor(floor)))
 }
 
@@ -75,10 +67,10 @@ fn decode_base(alloc: Global, most: u32, bytes: &[u8]) -> Result<Option<Entry>, 
 fn decode_kind(alloc: Global, most: u32, bytes: &[u8]) -> Result<Option<Entry>, AllocError>
     ensures { IfOk result (IsDecoded most bytes.now) }
 {
-    let Some(kind) = bytes.first() else {
+    if bytes.is_empty() {
         return Ok(None);
-    };
-    match *kind {
+    }
+    match bytes[0] {
         COMMIT => decode_group(alloc, bytes),
         ARCHIVED => decode_archive(alloc, bytes),
         FLOOR => decode_floor(alloc, bytes),

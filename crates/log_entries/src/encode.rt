@@ -1,6 +1,6 @@
 //! Entries as bytes. Where there is no memory, each leaves what was there.
 
-ghost use Rattle.std.specs.Prelude.{◌≡◌, ◌++◌, ◌+◌, ◌*◌, ◌≤◌, [], ℕ, List, length, map, vec_len, is_ok, if◌then◌else◌, OnOk};
+ghost use Rattle.std.specs.Prelude.{◌≡◌, ◌++◌, ◌+◌, ◌*◌, ◌≤◌, [], ℕ, List, length, map, is_ok, if◌then◌else◌, OnOk};
 ghost use Rattle.std.specs.List.{flat_map};
 ghost use Rattle.deltas.specs.Records.{spelling};
 ghost use Rattle.deltas.specs.Loans.{record_of_loan};
@@ -82,15 +82,16 @@ fn mark_array(upto: u64, anchors: &AnchorName) -> [u8; BASE_LEN]
 /// follow it. These are pushed behind it.
 pub fn push_commit(out: &mut Vec<u8>, label: u64, time: u64, count: u16) -> Result<(), AllocError>
     ensures items { out.new.items ≡ (if is_ok result then out.old.items ++ commit_bytes label time count else out.old.items) }
-    ensures len { OnOk result (vec_len out.new ≡ vec_len out.old + 19) }
+    ensures len { OnOk result (length out.new.items ≡ length out.old.items + 19) }
 {
-    out.extend_from_slice(&commit_array(label, time, count))
+    out.extend_from_slice(&commit_array(label, time, count))?;
+    Ok(())
 }
 
 /// Appends the one spelling of a record.
 pub fn push_write(out: &mut Vec<u8>, one: RecordRef) -> Result<(), AllocError>
     ensures items { out.new.items ≡ (if is_ok result then out.old.items ++ spelling (record_of_loan one.entry) else out.old.items) }
-    ensures len { OnOk result (vec_len out.new ≡ vec_len out.old + length (spelling (record_of_loan one.entry))) }
+    ensures len { OnOk result (length out.new.items ≡ length out.old.items + length (spelling (record_of_loan one.entry))) }
 {
     let at = out.len();
     out.resize(at + loan_len(one), 0)?;
@@ -101,17 +102,19 @@ pub fn push_write(out: &mut Vec<u8>, one: RecordRef) -> Result<(), AllocError>
 /// Appends an ARCHIVED.
 pub fn push_archive(out: &mut Vec<u8>, archive: &Archive) -> Result<(), AllocError>
     ensures items { out.new.items ≡ (if is_ok result then out.old.items ++ archive_bytes archive.now else out.old.items) }
-    ensures len { OnOk result (vec_len out.new ≡ vec_len out.old + 35) }
+    ensures len { OnOk result (length out.new.items ≡ length out.old.items + 35) }
 {
-    out.extend_from_slice(&archive_array(archive))
+    out.extend_from_slice(&archive_array(archive))?;
+    Ok(())
 }
 
 /// Appends a FLOOR.
 pub fn push_floor(out: &mut Vec<u8>, floor: &RelationFloor) -> Result<(), AllocError>
     ensures items { out.new.items ≡ (if is_ok result then out.old.items ++ floor_bytes floor.now else out.old.items) }
-    ensures len { OnOk result (vec_len out.new ≡ vec_len out.old + 11) }
+    ensures len { OnOk result (length out.new.items ≡ length out.old.items + 11) }
 {
-    out.extend_from_slice(&floor_array(floor))
+    out.extend_from_slice(&floor_array(floor))?;
+    Ok(())
 }
 
 // What is appended as its one spelling.
@@ -126,7 +129,8 @@ impl Written for Roll {
     ghost spelled = { roll_bytes };
 
     fn push(&self, out: &mut Vec<u8>) -> Result<(), AllocError> {
-        out.extend_from_slice(&roll_array(self))
+        out.extend_from_slice(&roll_array(self))?;
+        Ok(())
     }
 }
 
@@ -166,20 +170,23 @@ fn push_parts(out: &mut Vec<u8>, base: &Base) -> Result<(), AllocError>
     out.extend_from_slice(&mark_array(base.upto, &base.anchors))?;
     push_list(out, base.rolls.as_slice())?;
     push_list(out, base.archives.as_slice())?;
-    push_list(out, base.floors.as_slice())
+    push_list(out, base.floors.as_slice())?;
+    Ok(())
 }
 
 /// Appends a base: its BASE, then ROLLs, then ARCHIVEDs, then FLOORs.
 pub fn push_base(out: &mut Vec<u8>, base: &Base) -> Result<(), AllocError>
     ensures items { out.new.items ≡ (if is_ok result then out.old.items ++ base_bytes base.now else out.old.items) }
-    ensures len { OnOk result (vec_len out.new ≡ vec_len out.old + 21 + 17 * length base.now.rolls + 35 * length base.now.archives + 11 * length base.now.floors) }
+    ensures len { OnOk result (length out.new.items ≡ length out.old.items + 21 + 17 * length base.now.rolls + 35 * length base.now.archives + 11 * length base.now.floors) }
 {
     let len = out.len();
-    let pushed = push_parts(out, base);
-    if pushed.is_err() {
-        out.truncate(len);
+    match push_parts(out, base) {
+        Ok(()) => Ok(()),
+        Err(error) => {
+            out.truncate(len);
+            Err(error)
+        }
     }
-    pushed
 }
 
 /// How many bytes a commit has with the records that are left, its COMMIT among them. It goes over

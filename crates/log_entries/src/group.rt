@@ -1,12 +1,12 @@
 //! The commits of a group at the front of bytes.
 
-ghost use Rattle.std.specs.Prelude.{◌≡◌, ◌≢◌, ◌≤◌, ◌↔◌, ◌++◌, ℕ, List, length, drop, IsTrue, IfOk, IfSome, MatchOption};
+ghost use Rattle.std.specs.Prelude.{◌≡◌, ◌≢◌, ◌<◌, ◌≤◌, ◌↔◌, ◌++◌, ℕ, List, length, drop, IsTrue, IfOk, IfSome, MatchOption};
 ghost use Rattle.deltas.specs.Records.{spelling};
 ghost use Rattle.std.specs.List.{flat_map, AllByRecursion};
 ghost use Rattle.log_entries.specs.declared.entry.Member.{Member};
 ghost use Rattle.log_entries.specs.Spelling.{member_bytes};
 ghost use Rattle.log_entries.specs.Ranges.{IsStored, IsMember, AreMembers};
-ghost use Rattle.log_entries.specs.Reading.{head_at};
+ghost use Rattle.log_entries.specs.Reading.{head_at, IsHeadOf};
 ghost use Rattle.log_entries.specs.Pieces.{HasFewer};
 ghost use Rattle.log_entries.specs.Lengths.{member_some};
 
@@ -70,8 +70,7 @@ fn read_head(bytes: &[u8]) -> Head
 
 // Whether it may be the COMMIT of these records.
 fn is_commit(head: Head, records: &[Record]) -> bool
-    requires { AllByRecursion IsStored records.now }
-    ensures { IsTrue result ↔ IsMember (record { label = head.label; time = head.time; records = records.now }) }
+    ensures { IsTrue result ↔ IsHeadOf head records.now }
 {
     1 <= head.time
         && head.time <= LAST_TIME
@@ -108,13 +107,23 @@ impl Piece for Member {
     }
 }
 
+// Whether a group may have so many commits.
+fn is_count(members: &[Member]) -> bool
+    ensures { IsTrue result ↔ ((0 < length members.now) × (length members.now ≤ 1024)) }
+{
+    !members.is_empty() && members.len() <= MOST
+}
+
 /// The commits of a group that has just these bytes.
 pub(crate) fn take_group(alloc: Global, bytes: &[u8]) -> Result<Option<Listed<Member>>, AllocError>
     ensures { IfOk result (λ o. MatchOption o ((members : List Member) → AreMembers members → bytes.now ≢ flat_map member_bytes members)
         (λ members. AreMembers members × (bytes.now ≡ flat_map member_bytes members))) }
 {
     let (members, rest) = take_list(alloc, bytes)?;
-    if !rest.is_empty() || members.is_empty() || members.len() > MOST {
+    if !rest.is_empty() {
+        return Ok(None);
+    }
+    if !is_count(members.as_slice()) {
         return Ok(None);
     }
     Ok(Some(Listed::of(members)))
