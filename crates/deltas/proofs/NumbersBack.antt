@@ -9,7 +9,8 @@ use Rattle.wire.proofs.Zeros.{AreBytes, AreBytes-take, AreBytes-drop}
 
 back_2 : (bytes : List ℕ) → AreBytes bytes → 2 ≤ length bytes → little_bytes 2 (little_number 2 bytes) ++ drop 2 bytes ≡ bytes
 back_2 bytes small long =
-    let number : little_number 2 bytes ≡ from_le_bytes w16 (take 2 bytes) = rw (get_or-take 2 bytes 0 0 (omega arith), get_or-take 2 bytes 1 0 (omega arith)) (omega arith) in
+    let number : little_number 2 bytes ≡ from_le_bytes w16 (take 2 bytes) =
+    rw (get_or-take 2 bytes 0 0 (omega arith), get_or-take 2 bytes 1 0 (omega arith)) (omega arith) in
     let front : little_bytes 2 (little_number 2 bytes) ≡ take 2 bytes =
     le_bytes_2 (take 2 bytes) (little_number 2 bytes) (omega (arith, length-take 2 bytes)) (AreBytes-take 2 bytes small) number in
     ap (λ (xs : List ℕ). xs ++ drop 2 bytes) front ∙ take-append-drop 2 bytes
@@ -17,7 +18,12 @@ back_2 bytes small long =
 back_4 : (bytes : List ℕ) → AreBytes bytes → 4 ≤ length bytes → little_bytes 4 (little_number 4 bytes) ++ drop 4 bytes ≡ bytes
 back_4 bytes small long =
     let number : little_number 4 bytes ≡ from_le_bytes w32 (take 4 bytes) =
-    rw (get_or-take 4 bytes 0 0 (omega arith), get_or-take 4 bytes 1 0 (omega arith), get_or-take 4 bytes 2 0 (omega arith), get_or-take 4 bytes 3 0 (omega arith)) (omega arith) in
+    rw (
+      get_or-take 4 bytes 0 0 (omega arith),
+      get_or-take 4 bytes 1 0 (omega arith),
+      get_or-take 4 bytes 2 0 (omega arith),
+      get_or-take 4 bytes 3 0 (omega arith),
+    ) (omega arith) in
     let front : little_bytes 4 (little_number 4 bytes) ≡ take 4 bytes =
     le_bytes_4 (take 4 bytes) (little_number 4 bytes) (omega (arith, length-take 4 bytes)) (AreBytes-take 4 bytes small) number in
     ap (λ (xs : List ℕ). xs ++ drop 4 bytes) front ∙ take-append-drop 4 bytes

@@ -48,6 +48,7 @@ record_back (kind ∷ bytes) small has =
     let number = then_8 2 bytes _ small_after (omega (arith, head)) rest.1 in
     let relation = then_2 0 bytes _ small_after (omega (arith, head)) number in
     let first = rest.0 in
-    let behind : (u16_bytes (little_number 2 bytes) ++ u64_bytes (little_number 8 (drop 2 bytes)) ++ rest_of (content_at kind (drop 10 bytes))) ++ behind_content kind (drop 10 bytes) ≡ bytes =
+    let content = rest_of (content_at kind (drop 10 bytes)) in
+    let behind : (u16_bytes (little_number 2 bytes) ++ u64_bytes (little_number 8 (drop 2 bytes)) ++ content) ++ behind_content kind (drop 10 bytes) ≡ bytes =
     simp append_assoc relation in
     λ i. first i ∷ behind i

@@ -11,7 +11,7 @@ use Rattle.log_entries.specs.declared.entry.Base.{Base}
 use Rattle.log_entries.specs.Spelling.{archive_bytes, floor_bytes, roll_bytes, mark_bytes, base_bytes}
 use Rattle.log_entries.specs.Ranges.{IsArchive, IsFloor, IsRoll, AreRising, AreParts, IsWhole, IsBase}
 use Rattle.log_entries.specs.Reading.{upto_at, anchors_at}
-use Rattle.log_entries.specs.Pieces.{HasNone}
+use Rattle.log_entries.specs.Items.{HasNone}
 use Rattle.log_entries.specs.Bases.{Ends, IsRead}
 use Rattle.log_entries.proofs.FixedRead.{mark_back, upto_again}
 use Rattle.log_entries.proofs.Entries.{base_ends, base_head, one_base_of}
@@ -23,13 +23,18 @@ pub read_base : (bytes first second rest : List ℕ) (b : Base) → AreParts b �
     → HasNone archive_bytes IsArchive second
     → HasNone floor_bytes IsFloor rest → IsRead bytes b rest
 read_base bytes first second rest b parts mark rolls archives floors no_rolls no_archives no_floors =
-    let second_is : first ≡ flat_map archive_bytes b.archives ++ (flat_map floor_bytes b.floors ++ rest) = archives ∙ ap (λ (l : List ℕ). flat_map archive_bytes b.archives ++ l) floors in
+    let second_is : first ≡ flat_map archive_bytes b.archives ++ (flat_map floor_bytes b.floors ++ rest) = archives
+    ∙ ap (λ (l : List ℕ). flat_map archive_bytes b.archives ++ l) floors in
     record {
       parts = parts;
       bytes_are = mark
           ∙ ap (λ (l : List ℕ). mark_bytes b.upto b.anchors ++ l) (rolls ∙ ap (λ (l : List ℕ). flat_map roll_bytes b.rolls ++ l) second_is)
           ∙ sym (base_head b rest);
-      ends = record { rolls = subst (HasNone roll_bytes IsRoll) second_is no_rolls; archives = subst (HasNone archive_bytes IsArchive) floors no_archives; floors = no_floors };
+      ends = record {
+        rolls = subst (HasNone roll_bytes IsRoll) second_is no_rolls;
+        archives = subst (HasNone archive_bytes IsArchive) floors no_archives;
+        floors = no_floors;
+      };
     }
 
 -- it is the one base that has these bytes
@@ -38,20 +43,33 @@ read_only bytes rest a b read parts same =
     one_base_of a b rest [] read.parts parts read.ends (base_ends b) (sym read.bytes_are ∙ same ∙ sym (append-nil (base_bytes b)))
 
 -- the same of what was read and is owned
-pub parts_read : (bytes after first second rest : List ℕ) (upto : ℕ) (anchors : AnchorName) (rolls own_rolls : List Roll) (archives own_archives : List Archive) (floors own_floors : List RelationFloor)
-    → AreBytes bytes → 21 ≤ length bytes → slice_index bytes 0 ≡ 8 → after ≡ drop 21 bytes → upto < 2 ^ 64 → anchors.first < 2 ^ 32 → anchors.extents < 2 ^ 32 → anchors.records < 2 ^ 32
+pub parts_read : (bytes after first second rest : List ℕ) (upto : ℕ) (anchors : AnchorName) (rolls own_rolls : List Roll)
+    (archives own_archives : List Archive) (floors own_floors : List RelationFloor)
+    → AreBytes bytes → 21 ≤ length bytes → slice_index bytes 0 ≡ 8 → after ≡ drop 21 bytes → upto < 2 ^ 64 → anchors.first < 2 ^ 32
+    → anchors.extents < 2 ^ 32 → anchors.records < 2 ^ 32
     → upto ≡ upto_at bytes → anchors ≡ anchors_at bytes
     → AllByRecursion IsRoll rolls → after ≡ flat_map roll_bytes rolls ++ first → HasNone roll_bytes IsRoll first → own_rolls ≡ rolls
     → AllByRecursion IsArchive archives → first ≡ flat_map archive_bytes archives ++ second → HasNone archive_bytes IsArchive second → own_archives ≡ archives
     → AllByRecursion IsFloor floors → second ≡ flat_map floor_bytes floors ++ rest → HasNone floor_bytes IsFloor rest → own_floors ≡ floors
     → IsRead bytes (record { upto = upto; anchors = anchors; rolls = own_rolls; archives = own_archives; floors = own_floors }) rest
-parts_read bytes after first second rest upto anchors rolls own_rolls archives own_archives floors own_floors small long kind after_is upto_fits first_fits extents_fits records_fits
-    upto_is anchors_are each_roll rolls_are no_rolls same_rolls each_archive archives_are no_archives same_archives each_floor floors_are no_floors same_floors =
+parts_read bytes after first second rest upto anchors rolls own_rolls archives own_archives floors own_floors small long kind after_is upto_fits first_fits
+    extents_fits records_fits
+    upto_is anchors_are each_roll rolls_are no_rolls same_rolls each_archive archives_are no_archives same_archives each_floor floors_are no_floors
+    same_floors =
     let made : List Roll → List Archive → List RelationFloor → Base = λ r a f. record { upto = upto; anchors = anchors; rolls = r; archives = a; floors = f } in
-    let mark : bytes ≡ mark_bytes upto anchors ++ drop 21 bytes = mark_back bytes small long kind ∙ (λ i. mark_bytes (sym upto_is i) (sym anchors_are i) ++ drop 21 bytes) in
+    let mark : bytes ≡ mark_bytes upto anchors ++ drop 21 bytes = mark_back bytes small long kind
+    ∙ (λ i. mark_bytes (sym upto_is i) (sym anchors_are i) ++ drop 21 bytes) in
     let read : IsRead bytes (made rolls archives floors) rest =
     read_base bytes first second rest (made rolls archives floors)
-    (record { upto = upto_fits; first = first_fits; extents = extents_fits; records = records_fits; rolls = each_roll; archives = each_archive; floors = each_floor })
+    (record {
+      upto = upto_fits;
+      first = first_fits;
+      extents = extents_fits;
+      records = records_fits;
+      rolls = each_roll;
+      archives = each_archive;
+      floors = each_floor;
+    })
     mark (sym after_is ∙ rolls_are) archives_are floors_are no_rolls no_archives no_floors in
     subst (λ (r : List Roll). IsRead bytes (made r own_archives own_floors) rest) (sym same_rolls)
     (subst (λ (a : List Archive). IsRead bytes (made rolls a own_floors) rest) (sym same_archives)
@@ -93,7 +111,8 @@ rises_from f [] rising = tt
 rises_from f (g ∷ gs) rising = (rising.0.0, rises_from g gs rising.1)
 
 pub first_rises : (floors rest : List RelationFloor) (first : RelationFloor) → floors ≡ first ∷ rest → RisesAfter first.relation rest ↔ AreRising floors
-first_rises floors rest first is = (λ rises. subst AreRising (sym is) (rising_from first rest rises), λ rising. rises_from first rest (subst AreRising is rising))
+first_rises floors rest first is =
+    (λ rises. subst AreRising (sym is) (rising_from first rest rises), λ rising. rises_from first rest (subst AreRising is rising))
 
 pub split_floors : (floors : List RelationFloor) (d : RelationFloor) → 1 ≤ length floors → floors ≡ get_or floors 0 d ∷ take (length floors - 1) (drop 1 floors)
 split_floors [] d some = absurd (omega (arith, some))

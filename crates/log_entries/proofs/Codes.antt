@@ -1,4 +1,4 @@
--- Each piece is told from the front of bytes.
+-- Each item is told from the front of bytes.
 use Rattle.std.proofs.Common.{◌≡◌, ℕ, ◌^◌, ◌<◌, ◌≤◌, List, [], ◌∷◌, ◌++◌, length, drop, refl, sym, ◌∙◌, ap, arith, append_assoc}
 use Rattle.std.specs.List.{flat_map, AllByRecursion}
 use Rattle.deltas.specs.declared.«record».Record.{Record}
@@ -63,7 +63,8 @@ pub member_again : (m : Member) (rest : List ℕ) → IsMember m
     → Again head_at 19 5 (member_bytes m ++ rest) (record { label = m.label; time = m.time; records = length m.records }) (flat_map spelling m.records ++ rest)
 member_again m rest is =
     rw member_head
-    (head_again m.label m.time (length m.records) (flat_map spelling m.records ++ rest) is.label (let high = is.time_high in omega (arith, high)) (let few = is.few in omega (arith, few)))
+    (head_again m.label m.time (length m.records) (flat_map spelling m.records ++ rest) is.label (let high = is.time_high in omega (arith, high))
+    (let few = is.few in omega (arith, few)))
 
 pub member_code : IsCode member_bytes IsMember
 member_code a b r s is_a is_b same =

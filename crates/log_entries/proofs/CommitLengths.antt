@@ -28,7 +28,12 @@ length-spelled (r ∷ rs) =
 pub length-member : (m : Member) → length (member_bytes m) ≡ commit_len (lengths_of m.records)
 unfolding member_bytes
 length-member m =
-    omega (arith, length-append (commit_bytes m.label m.time (length m.records)) (flat_map spelling m.records), length-commit m.label m.time (length m.records), length-spelled m.records)
+    omega (
+      arith,
+      length-append (commit_bytes m.label m.time (length m.records)) (flat_map spelling m.records),
+      length-commit m.label m.time (length m.records),
+      length-spelled m.records,
+    )
 
 -- so many bytes are counted, and these records are left
 pub record IsCounting (all left : List Record) (len : ℕ) : Type 0 where
@@ -48,7 +53,8 @@ one_counted all left rest len one r next behind is short so_far =
     let sum_is : sum (lengths_of left) ≡ length (spelling r) + sum (lengths_of (drop 1 left)) =
     ap (λ (l : List Record). sum (lengths_of l)) whole ∙ sum_first (length (spelling r)) (lengths_of (drop 1 left)) in
     let len_is : length left ≡ length (r ∷ drop 1 left) = ap (λ (l : List Record). length l) whole in
-    subst (λ (l : List Record). IsCounting all l (len + one)) (sym behind) (record { sums = omega (arith, sums, is, sum_is); room = omega (arith, room, short, len_is) })
+    subst (λ (l : List Record). IsCounting all l (len + one)) (sym behind)
+    (record { sums = omega (arith, sums, is, sum_is); room = omega (arith, room, short, len_is) })
 
 pub all_counted : (all left : List Record) (len : ℕ) → None ≡ slice_get left 0 → IsCounting all left len → len ≡ commit_len (lengths_of all)
 all_counted all left len end so_far =

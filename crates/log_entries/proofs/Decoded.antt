@@ -13,7 +13,7 @@ use Rattle.log_entries.specs.declared.entry.Entry.TheVariants.{Group, Archived, 
 use Rattle.log_entries.specs.declared.entry.Entry.TheVariants as entries
 use Rattle.log_entries.specs.Spelling.{member_bytes, archive_bytes, floor_bytes, base_bytes, entry_bytes}
 use Rattle.log_entries.specs.Ranges.{AreMembers, IsArchive, IsFloor, IsBase, IsEntry}
-use Rattle.log_entries.specs.Pieces.{HasNone, HasNoneAlone}
+use Rattle.log_entries.specs.Items.{HasNone, HasNoneAlone}
 use Rattle.log_entries.specs.Decoding.{IsDecoded}
 use Rattle.log_entries.proofs.Lists.{IsCode}
 use Rattle.log_entries.proofs.Codes.{archive_code, floor_code}
@@ -108,6 +108,7 @@ pub decoded_only : (most : ℕ) (bytes : List ℕ) (o : Option Entry) (e : Entry
 decoded_only most bytes None e is fits same = absurd (is e fits same)
 decoded_only most bytes (Some found) e is fits same = ap Some (one_entry most found e is.0 fits (sym is.1 ∙ same))
 
-pub decoded_ok : (most : ℕ) (bytes : List ℕ) (r : Result (Option Entry) AllocError) (e : Entry) → IfOk r (IsDecoded most bytes) → IsEntry most e → bytes ≡ entry_bytes e → IfOk r (λ o. o ≡ Some e)
+pub decoded_ok : (most : ℕ) (bytes : List ℕ) (r : Result (Option Entry) AllocError) (e : Entry) → IfOk r (IsDecoded most bytes) → IsEntry most e
+    → bytes ≡ entry_bytes e → IfOk r (λ o. o ≡ Some e)
 decoded_ok most bytes (Ok o) e is fits same = decoded_only most bytes o e is fits same
 decoded_ok most bytes (Err fault) e is fits same = tt

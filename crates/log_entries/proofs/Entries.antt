@@ -10,7 +10,7 @@ use Rattle.log_entries.specs.declared.entry.Entry.TheVariants as entries
 use Rattle.log_entries.specs.Spelling.{member_bytes, archive_bytes, floor_bytes, roll_bytes, mark_bytes, base_bytes, entry_bytes}
 use Rattle.log_entries.specs.Ranges.{IsMember, AreMembers, IsArchive, IsFloor, IsRoll, AreParts, IsBase, IsEntry}
 use Rattle.log_entries.specs.Reading.{head_at, upto_at, anchors_at}
-use Rattle.log_entries.specs.Pieces.{HasNone}
+use Rattle.log_entries.specs.Items.{HasNone}
 use Rattle.log_entries.specs.Bases.{Ends}
 use Rattle.log_entries.proofs.FixedRead.{Again, archive_again, floor_again, upto_again, anchors_again}
 use Rattle.log_entries.proofs.Lists.{full_list}
@@ -22,7 +22,8 @@ use Rattle.log_entries.proofs.Fronts.{no_member, no_roll_behind, no_archive_behi
 pub one_group : (a b : List Member) (rest : List ℕ) → AllByRecursion IsMember a → AllByRecursion IsMember b → HasNone member_bytes IsMember rest
     → flat_map member_bytes a ++ rest ≡ flat_map member_bytes b
     → (a ≡ b) × (rest ≡ [])
-one_group a b rest is_a is_b none same = full_list member_bytes IsMember member_code a b rest [] is_a is_b none no_member (same ∙ sym (append-nil (flat_map member_bytes b)))
+one_group a b rest is_a is_b none same =
+    full_list member_bytes IsMember member_code a b rest [] is_a is_b none no_member (same ∙ sym (append-nil (flat_map member_bytes b)))
 
 pub group_read : (bytes rest : List ℕ) (found owned : List Member) → AllByRecursion IsMember found → bytes ≡ flat_map member_bytes found ++ rest → rest ≡ []
     → (0 < length found) × (length found ≤ 1024) → owned ≡ found → AreMembers owned × (bytes ≡ flat_map member_bytes owned)
@@ -35,7 +36,8 @@ group_read bytes rest found owned each is none size same =
 -- ---- a base
 
 pub base_head : (b : Base) (rest : List ℕ)
-    → base_bytes b ++ rest ≡ mark_bytes b.upto b.anchors ++ (flat_map roll_bytes b.rolls ++ (flat_map archive_bytes b.archives ++ (flat_map floor_bytes b.floors ++ rest)))
+    → base_bytes b ++ rest
+    ≡ mark_bytes b.upto b.anchors ++ (flat_map roll_bytes b.rolls ++ (flat_map archive_bytes b.archives ++ (flat_map floor_bytes b.floors ++ rest)))
 unfolding base_bytes
 base_head b rest = simp append_assoc
 
@@ -53,10 +55,12 @@ one_base_of a b r s is_a is_b ends_a ends_b same =
     let second = upto_again b.upto b.anchors tail_b is_b.upto in
     let upto : a.upto ≡ b.upto = sym first.is ∙ ap upto_at heads ∙ second.is in
     let anchors : a.anchors ≡ b.anchors =
-    sym (anchors_again a.upto a.anchors tail_a is_a.first is_a.extents is_a.records).is ∙ ap anchors_at heads ∙ (anchors_again b.upto b.anchors tail_b is_b.first is_b.extents is_b.records).is in
+    sym (anchors_again a.upto a.anchors tail_a is_a.first is_a.extents is_a.records).is ∙ ap anchors_at heads
+    ∙ (anchors_again b.upto b.anchors tail_b is_b.first is_b.extents is_b.records).is in
     let tails : tail_a ≡ tail_b = sym first.behind ∙ ap (λ (l : List ℕ). drop 21 l) heads ∙ second.behind in
     let rolls = full_list roll_bytes IsRoll roll_code a.rolls b.rolls _ _ is_a.rolls is_b.rolls ends_a.rolls ends_b.rolls tails in
-    let archives = full_list archive_bytes IsArchive archive_code a.archives b.archives _ _ is_a.archives is_b.archives ends_a.archives ends_b.archives rolls.1 in
+    let archives = full_list archive_bytes IsArchive archive_code a.archives b.archives _ _ is_a.archives is_b.archives ends_a.archives ends_b.archives
+    rolls.1 in
     let floors = full_list floor_bytes IsFloor floor_code a.floors b.floors r s is_a.floors is_b.floors ends_a.floors ends_b.floors archives.1 in
     let rolls_are = rolls.0 in
     let archives_are = archives.0 in
@@ -96,7 +100,8 @@ alone bytes_of a b same = ap (λ (l : List ℕ). l ++ []) same
 
 pub one_entry : (most : ℕ) (a b : Entry) → IsEntry most a → IsEntry most b → entry_bytes a ≡ entry_bytes b → a ≡ b
 unfolding entry_bytes
-one_entry most (Group ms) (Group ns) is_a is_b same = ap Group (one_group ms ns [] is_a.each is_b.each no_member (append-nil (flat_map member_bytes ms) ∙ same)).0
+one_entry most (Group ms) (Group ns) is_a is_b same =
+    ap Group (one_group ms ns [] is_a.each is_b.each no_member (append-nil (flat_map member_bytes ms) ∙ same)).0
 one_entry most (Archived a) (Archived b) is_a is_b same = ap Archived (archive_code a b [] [] is_a is_b (alone archive_bytes a b same)).0
 one_entry most (Floor f) (Floor g) is_a is_b same = ap Floor (floor_code f g [] [] is_a is_b (alone floor_bytes f g same)).0
 one_entry most (entries.Base a) (entries.Base b) is_a is_b same = ap entries.Base (one_base a b is_a.parts is_b.parts same)

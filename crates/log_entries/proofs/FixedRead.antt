@@ -11,7 +11,7 @@ use Rattle.log_entries.specs.declared.entry.Roll.{Roll}
 use Rattle.log_entries.specs.declared.entry.AnchorName.{AnchorName}
 use Rattle.log_entries.specs.Spelling.{commit_bytes, archive_bytes, floor_bytes, roll_bytes, mark_bytes}
 use Rattle.log_entries.specs.Ranges.{IsArchive, IsFloor, IsRoll}
-use Rattle.log_entries.specs.Pieces.{HasNone}
+use Rattle.log_entries.specs.Items.{HasNone}
 use Rattle.log_entries.specs.Reading.{head_at, archive_at, floor_at, roll_at, upto_at, anchors_at}
 use Rattle.log_entries.proofs.NumbersRead.{number_2, number_4, number_8}
 
@@ -38,12 +38,18 @@ unfolding archive_at archive_bytes u16_bytes u64_bytes
 archive_again a rest is =
     let run = is.run in
     let end = run.end in
-    let upto = number_8 a.upto (little_bytes 8 a.start ++ little_bytes 8 a.len ++ little_bytes 8 a.records ++ little_bytes 2 a.runs ++ rest) (omega (arith, run.upto_high)) in
+    let upto = number_8 a.upto (little_bytes 8 a.start ++ little_bytes 8 a.len ++ little_bytes 8 a.records ++ little_bytes 2 a.runs ++ rest)
+    (omega (arith, run.upto_high)) in
     let start = number_8 a.start (little_bytes 8 a.len ++ little_bytes 8 a.records ++ little_bytes 2 a.runs ++ rest) (omega (arith, end)) in
     let len = number_8 a.len (little_bytes 8 a.records ++ little_bytes 2 a.runs ++ rest) (omega (arith, end)) in
     let records = number_8 a.records (little_bytes 2 a.runs ++ rest) (omega (arith, run.shortest, end)) in
     let runs = number_2 a.runs rest is.runs in
-    record { long = omega arith; kind_is = refl; is = λ i. record { upto = upto i; start = start i; len = len i; records = records i; runs = runs i }; behind = refl }
+    record {
+      long = omega arith;
+      kind_is = refl;
+      is = λ i. record { upto = upto i; start = start i; len = len i; records = records i; runs = runs i };
+      behind = refl;
+    }
 
 pub floor_again : (f : RelationFloor) (rest : List ℕ) → IsFloor f → Again floor_at 11 7 (floor_bytes f ++ rest) f rest
 unfolding floor_at floor_bytes u16_bytes u64_bytes
@@ -63,7 +69,12 @@ roll_again r rest is =
 pub upto_again : (upto : ℕ) (a : AnchorName) (rest : List ℕ) → upto < 2 ^ 64 → Again upto_at 21 8 (mark_bytes upto a ++ rest) upto rest
 unfolding upto_at mark_bytes u32_bytes u64_bytes
 upto_again upto a rest fits =
-    record { long = omega arith; kind_is = refl; is = number_8 upto (little_bytes 4 a.first ++ little_bytes 4 a.extents ++ little_bytes 4 a.records ++ rest) fits; behind = refl }
+    record {
+      long = omega arith;
+      kind_is = refl;
+      is = number_8 upto (little_bytes 4 a.first ++ little_bytes 4 a.extents ++ little_bytes 4 a.records ++ rest) fits;
+      behind = refl;
+    }
 
 pub anchors_again : (upto : ℕ) (a : AnchorName) (rest : List ℕ) → a.first < 2 ^ 32 → a.extents < 2 ^ 32 → a.records < 2 ^ 32
     → Again anchors_at 21 8 (mark_bytes upto a ++ rest) a rest
@@ -131,7 +142,8 @@ pub none_front : {X : Type 0} (at : List ℕ → X) (len kind : ℕ) (bytes_of :
     → (bytes : List ℕ) → (len ≤ length bytes → slice_index bytes 0 ≡ kind → Is (at bytes) → ⊥) → HasNone bytes_of Is bytes
 none_front at len kind bytes_of Is again bytes other x rest is same =
     let found = again x rest is in
-    other (subst (λ (l : List ℕ). len ≤ length l) (sym same) found.long) (ap (λ (l : List ℕ). slice_index l 0) same ∙ found.kind_is) (subst Is (sym (ap at same ∙ found.is)) is)
+    other (subst (λ (l : List ℕ). len ≤ length l) (sym same) found.long) (ap (λ (l : List ℕ). slice_index l 0) same ∙ found.kind_is)
+    (subst Is (sym (ap at same ∙ found.is)) is)
 
 -- what is read is spelled there
 pub is_front : {X : Type 0} (at : List ℕ → X) (len : ℕ) (bytes_of : X → List ℕ) (bytes : List ℕ) (x : X) (rest : List ℕ)

@@ -1,11 +1,11 @@
--- Which piece can stand at the front of bytes is told by their first byte.
+-- Which item can stand at the front of bytes is told by their first byte.
 use Rattle.std.proofs.Common.{◌≡◌, ◌≢◌, ℕ, ◌<◌, List, [], ◌∷◌, ◌++◌, length, slice_index, refl, sym, ◌∙◌, ap, arith, length-append}
 use Rattle.std.specs.List.{flat_map}
 use Rattle.log_entries.specs.declared.entry.Archive.{Archive}
 use Rattle.log_entries.specs.declared.entry.RelationFloor.{RelationFloor}
 use Rattle.log_entries.specs.Spelling.{member_bytes, archive_bytes, floor_bytes, roll_bytes}
 use Rattle.log_entries.specs.Ranges.{IsMember, IsArchive, IsFloor, IsRoll}
-use Rattle.log_entries.specs.Pieces.{HasNone}
+use Rattle.log_entries.specs.Items.{HasNone}
 use Rattle.log_entries.specs.Lengths.{member_some}
 use Rattle.log_entries.proofs.FixedRead.{archive_again, floor_again, roll_again}
 
@@ -19,7 +19,8 @@ pub no_floor : (bytes : List ℕ) → slice_index bytes 0 ≢ 7 → HasNone floo
 no_floor bytes other x rest is same = other (ap (λ (l : List ℕ). slice_index l 0) same ∙ (floor_again x rest is).kind_is)
 
 pub no_member : HasNone member_bytes IsMember []
-no_member x rest is same = let some = member_some x in let len = ap (λ (l : List ℕ). length l) same in omega (arith, some, len, length-append (member_bytes x) rest)
+no_member x rest is same = let some = member_some x in let len = ap (λ (l : List ℕ). length l) same in
+    omega (arith, some, len, length-append (member_bytes x) rest)
 
 -- behind the ROLLs of a base, and behind its ARCHIVEDs
 pub no_roll_behind : (archives : List Archive) (floors : List RelationFloor)

@@ -1,12 +1,12 @@
--- Lists of pieces that are spelled one behind the other.
+-- Lists of items that are spelled one behind the other.
 use Rattle.std.proofs.Common.{◌≡◌, ℕ, ◌<◌, List, [], ◌∷◌, ◌++◌, length, refl, sym, ◌∙◌, ap, subst, arith, append_assoc, length-append}
 use Rattle.std.specs.List.{flat_map, AllByRecursion}
 use Rattle.std.proofs.lemmas.List.{append-nil}
 use Rattle.std.proofs.lemmas.Grind.{flat_map-append}
 use Rattle.history.proofs.Filters.{AllByRecursion-append}
-use Rattle.log_entries.specs.Pieces.{HasNone}
+use Rattle.log_entries.specs.Items.{HasNone}
 
--- a piece is told from the front of bytes
+-- an item is told from the front of bytes
 abbrev pub IsCode : {X : Type 0} → (X → List ℕ) → (X → Type 0) → Type 0
 IsCode {X} bytes_of Is = (a b : X) (r s : List ℕ) → Is a → Is b → bytes_of a ++ r ≡ bytes_of b ++ s → (a ≡ b) × (r ≡ s)
 
@@ -38,8 +38,10 @@ pub full_list : {X : Type 0} (bytes_of : X → List ℕ) (Is : X → Type 0) →
     → AllByRecursion Is ys
     → HasNone bytes_of Is r → HasNone bytes_of Is s → flat_map bytes_of xs ++ r ≡ flat_map bytes_of ys ++ s → (xs ≡ ys) × (r ≡ s)
 full_list bytes_of Is code [] [] r s is_xs is_ys none_r none_s same = (refl, same)
-full_list bytes_of Is code [] (y ∷ ys) r s is_xs is_ys none_r none_s same = absurd (none_r y (flat_map bytes_of ys ++ s) is_ys.0 (same ∙ first_of_list bytes_of y ys s))
-full_list bytes_of Is code (x ∷ xs) [] r s is_xs is_ys none_r none_s same = absurd (none_s x (flat_map bytes_of xs ++ r) is_xs.0 (sym same ∙ first_of_list bytes_of x xs r))
+full_list bytes_of Is code [] (y ∷ ys) r s is_xs is_ys none_r none_s same =
+    absurd (none_r y (flat_map bytes_of ys ++ s) is_ys.0 (same ∙ first_of_list bytes_of y ys s))
+full_list bytes_of Is code (x ∷ xs) [] r s is_xs is_ys none_r none_s same =
+    absurd (none_s x (flat_map bytes_of xs ++ r) is_xs.0 (sym same ∙ first_of_list bytes_of x xs r))
 full_list bytes_of Is code (x ∷ xs) (y ∷ ys) r s is_xs is_ys none_r none_s same =
     let head = code x y (flat_map bytes_of xs ++ r) (flat_map bytes_of ys ++ s) is_xs.0 is_ys.0 (firsts bytes_of x y xs ys r s same) in
     let tail = full_list bytes_of Is code xs ys r s is_xs.1 is_ys.1 none_r none_s head.1 in
@@ -57,17 +59,18 @@ longer_list bytes_of Is code (x ∷ xs) (y ∷ ys) r s is_xs is_ys len none_r sa
     let head = code x y (flat_map bytes_of xs ++ r) (flat_map bytes_of ys ++ s) is_xs.0 is_ys.0 (firsts bytes_of x y xs ys r s same) in
     longer_list bytes_of Is code xs ys r s is_xs.1 is_ys.1 (omega (arith, len)) none_r head.1
 
--- one more piece behind those that were found
+-- one more item behind those that were found
 pub one_behind : {X : Type 0} (bytes_of : X → List ℕ) (found : List X) (x : X) (bytes rest after : List ℕ) → bytes ≡ flat_map bytes_of found ++ rest
     → rest ≡ bytes_of x ++ after
     → bytes ≡ flat_map bytes_of (found ++ x ∷ []) ++ after
 one_behind bytes_of found x bytes rest after is rest_is =
     let more : flat_map bytes_of (found ++ x ∷ []) ≡ flat_map bytes_of found ++ bytes_of x =
     flat_map-append bytes_of found (x ∷ []) ∙ ap (λ (l : List ℕ). flat_map bytes_of found ++ l) (append-nil (bytes_of x)) in
-    is ∙ ap (λ (l : List ℕ). flat_map bytes_of found ++ l) rest_is ∙ sym (append_assoc (flat_map bytes_of found) (bytes_of x) after) ∙ ap (λ (l : List ℕ). l ++ after) (sym more)
+    is ∙ ap (λ (l : List ℕ). flat_map bytes_of found ++ l) rest_is ∙ sym (append_assoc (flat_map bytes_of found) (bytes_of x) after)
+    ∙ ap (λ (l : List ℕ). l ++ after) (sym more)
 
-pub shorter : (piece rest after : List ℕ) → 0 < length piece → rest ≡ piece ++ after → length after < length rest
-shorter piece rest after some is = omega (arith, length-append piece after, ap (λ (l : List ℕ). length l) is, some)
+pub shorter : (front rest after : List ℕ) → 0 < length front → rest ≡ front ++ after → length after < length rest
+shorter front rest after some is = omega (arith, length-append front after, ap (λ (l : List ℕ). length l) is, some)
 
 -- these were found so far, and this is left of the bytes
 pub record SoFar {X : Type 0} (bytes_of : X → List ℕ) (Is : X → Type 0) (bytes : List ℕ) (found : List X) (rest : List ℕ) : Type 0 where
@@ -82,4 +85,7 @@ pub one_so_far : {X : Type 0} (bytes_of : X → List ℕ) (Is : X → Type 0) (b
     → SoFar bytes_of Is bytes found rest → SoFar bytes_of Is bytes more after
 one_so_far {X} bytes_of Is bytes rest after found more x more_is is rest_is so_far =
     subst (λ (l : List X). SoFar bytes_of Is bytes l after) (sym more_is)
-    (record { each = AllByRecursion-append Is found (x ∷ []) so_far.each (is, tt); bytes_are = one_behind bytes_of found x bytes rest after so_far.bytes_are rest_is })
+    (record {
+      each = AllByRecursion-append Is found (x ∷ []) so_far.each (is, tt);
+      bytes_are = one_behind bytes_of found x bytes rest after so_far.bytes_are rest_is;
+    })

@@ -9,7 +9,7 @@ use Rattle.log_entries.specs.declared.entry.Member.{Member}
 use Rattle.log_entries.specs.Spelling.{commit_bytes, member_bytes}
 use Rattle.log_entries.specs.Ranges.{IsStored, IsMember}
 use Rattle.log_entries.specs.Reading.{head_at, IsHeadOf}
-use Rattle.log_entries.specs.Pieces.{HasNone, HasFewer}
+use Rattle.log_entries.specs.Items.{HasNone, HasFewer}
 use Rattle.log_entries.proofs.Lists.{counted_list}
 use Rattle.log_entries.proofs.FixedRead.{head_back}
 use Rattle.log_entries.proofs.Codes.{record_code, each_record, each_permitted, member_stored, member_head, member_again}
@@ -77,8 +77,10 @@ is_spelled bytes after left head records small long kind head_is after_is read =
     ∙ ap (λ (l : List ℕ). commit_bytes head.label head.time (length records) ++ l) (sym after_is ∙ read.2)
     ∙ sym (member_head (with_records head records) left)
 
-pub member_read : (bytes after left : List ℕ) (head : Head) (records owned : List Record) → head.label < 2 ^ 64 → AreBytes bytes → 19 ≤ length bytes → slice_index bytes 0 ≡ 5 → head ≡ head_at bytes
-    → after ≡ drop 19 bytes → AllByRecursion IsStored records × (length records ≡ head.records) × (after ≡ flat_map spelling records ++ left) → IsHeadOf head records → owned ≡ records
+pub member_read : (bytes after left : List ℕ) (head : Head) (records owned : List Record) → head.label < 2 ^ 64 → AreBytes bytes → 19 ≤ length bytes
+    → slice_index bytes 0 ≡ 5 → head ≡ head_at bytes
+    → after ≡ drop 19 bytes → AllByRecursion IsStored records × (length records ≡ head.records) × (after ≡ flat_map spelling records ++ left)
+    → IsHeadOf head records → owned ≡ records
     → IsMember (with_records head owned) × (bytes ≡ member_bytes (with_records head owned) ++ left)
 member_read bytes after left head records owned label small long kind head_is after_is read is same =
     subst (λ (l : List Record). IsMember (with_records head l) × (bytes ≡ member_bytes (with_records head l) ++ left)) (sym same)

@@ -12,7 +12,7 @@ use Rattle.log_entries.specs.Lengths.{length-archive, length-floor, length-roll,
 pub longer : (old new bytes : List ℕ) (n : ℕ) → new ≡ old ++ bytes → length bytes ≡ n → length new ≡ length old + n
 longer old new bytes n is len = omega (arith, len, ap (λ (l : List ℕ). length l) is, length-append old bytes)
 
--- pieces of one length
+-- items of one length
 length-each : {X : Type 0} (bytes_of : X → List ℕ) (n : ℕ) → ((x : X) → length (bytes_of x) ≡ n) → (xs : List X) → length (flat_map bytes_of xs) ≡ n * length xs
 length-each bytes_of n each [] = omega arith
 length-each bytes_of n each (x ∷ xs) =
@@ -27,10 +27,10 @@ length-base b =
     let rolls : List ℕ = flat_map roll_bytes b.rolls in
     let archives : List ℕ = flat_map archive_bytes b.archives in
     let floors : List ℕ = flat_map floor_bytes b.floors in
-    let whole : length (base_bytes b) ≡ length (mark_bytes b.upto b.anchors ++ (rolls ++ (archives ++ floors))) = refl in
+    let parts : base_bytes b ≡ mark_bytes b.upto b.anchors ++ (rolls ++ (archives ++ floors)) = simp append_assoc in
     omega (
       arith,
-      whole,
+      ap (λ (l : List ℕ). length l) parts,
       length-append (mark_bytes b.upto b.anchors) (rolls ++ (archives ++ floors)),
       length-append rolls (archives ++ floors),
       length-append archives floors,
@@ -41,7 +41,8 @@ length-base b =
     )
 
 -- the parts of a base, one behind the other
-pub pushed_base : (b : Base) (old mark one two three four : List ℕ) (rolls : List Roll) (archives : List Archive) (floors : List RelationFloor) → mark ≡ mark_bytes b.upto b.anchors
+pub pushed_base : (b : Base) (old mark one two three four : List ℕ) (rolls : List Roll) (archives : List Archive) (floors : List RelationFloor)
+    → mark ≡ mark_bytes b.upto b.anchors
     → rolls ≡ b.rolls → archives ≡ b.archives → floors ≡ b.floors → one ≡ old ++ mark → two ≡ one ++ flat_map roll_bytes rolls
     → three ≡ two ++ flat_map archive_bytes archives → four ≡ three ++ flat_map floor_bytes floors → four ≡ old ++ base_bytes b
 unfolding base_bytes
@@ -54,7 +55,8 @@ pushed_base b old mark one two three four rolls archives floors mark_is rolls_ar
     third ∙ ap (λ (l : List ℕ). l ++ flat_map archive_bytes b.archives) (second ∙ ap (λ (l : List ℕ). l ++ flat_map roll_bytes b.rolls) first) in
     fourth ∙ ap (λ (l : List ℕ). l ++ flat_map floor_bytes b.floors) so_far ∙ simp append_assoc
 
-pub length_pushed : (b : Base) (old new : List ℕ) → new ≡ old ++ base_bytes b → length new ≡ length old + 21 + 17 * length b.rolls + 35 * length b.archives + 11 * length b.floors
+pub length_pushed : (b : Base) (old new : List ℕ) → new ≡ old ++ base_bytes b
+    → length new ≡ length old + 21 + 17 * length b.rolls + 35 * length b.archives + 11 * length b.floors
 length_pushed b old new is = omega (arith, length-base b, ap (λ (l : List ℕ). length l) is, length-append old (base_bytes b))
 
 -- what is behind what is behind old bytes is behind them

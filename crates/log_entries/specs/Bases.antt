@@ -4,7 +4,7 @@ use Rattle.std.specs.List.{flat_map}
 use Rattle.log_entries.specs.declared.entry.Base.{Base}
 use Rattle.log_entries.specs.Spelling.{archive_bytes, floor_bytes, roll_bytes, base_bytes}
 use Rattle.log_entries.specs.Ranges.{IsArchive, IsFloor, IsRoll, AreParts}
-use Rattle.log_entries.specs.Pieces.{HasNone}
+use Rattle.log_entries.specs.Items.{HasNone}
 
 -- none of its lists goes on where the next one begins, nor the last one behind it
 pub record Ends (b : Base) (rest : List ℕ) : Type 0 where

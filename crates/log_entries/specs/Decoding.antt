@@ -3,7 +3,7 @@ use Rattle.std.specs.Prelude.{◌≡◌, ℕ, List, Option, MatchOption}
 use Rattle.log_entries.specs.declared.entry.Entry.{Entry}
 use Rattle.log_entries.specs.Spelling.{entry_bytes}
 use Rattle.log_entries.specs.Ranges.{IsEntry}
-use Rattle.log_entries.specs.Pieces.{HasNoneAlone}
+use Rattle.log_entries.specs.Items.{HasNoneAlone}
 
 -- an entry that has just these bytes, or none where none has
 abbrev pub IsDecoded : ℕ → List ℕ → Option Entry → Type 0

@@ -44,4 +44,8 @@ roll_some r = omega (arith, length-roll r)
 
 pub member_some : (m : Member) → 0 < length (member_bytes m)
 unfolding member_bytes
-member_some m = omega (arith, length-append (commit_bytes m.label m.time (length m.records)) (flat_map spelling m.records), length-commit m.label m.time (length m.records))
+member_some m = omega (
+  arith,
+  length-append (commit_bytes m.label m.time (length m.records)) (flat_map spelling m.records),
+  length-commit m.label m.time (length m.records),
+)

@@ -1,7 +1,7 @@
 pub mod Spelling
 pub mod Ranges
 pub mod Reading
-pub mod Pieces
+pub mod Items
 pub mod Bases
 pub mod Decoding
 pub mod Lengths

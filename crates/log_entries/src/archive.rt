@@ -7,7 +7,7 @@ ghost use Rattle.log_entries.specs.Reading.{archive_at};
 ghost use Rattle.log_entries.specs.Lengths.{archive_some};
 
 use crate::entry::Archive;
-use crate::piece::{Piece, has_kind};
+use crate::item::{Item, has_kind};
 use byteorder::{ByteOrder, LittleEndian};
 use std::alloc::{AllocError, Global};
 use wire::{Body, is_in_range};
@@ -40,7 +40,7 @@ fn is_archive(archive: &Archive) -> bool
     is_in_range(3, &Body::Archived(archive.run()))
 }
 
-impl Piece for Archive {
+impl Item for Archive {
     ghost bytes_of = { archive_bytes };
 
     ghost Is = { IsArchive };

@@ -9,8 +9,8 @@ ghost use Rattle.log_entries.specs.Bases.{IsRead};
 ghost use Rattle.log_entries.specs.Reading.{upto_at, anchors_at};
 
 use crate::entry::{AnchorName, Archive, Base, RelationFloor};
+use crate::item::{has_kind, take_list};
 use crate::listed::Listed;
-use crate::piece::{has_kind, take_list};
 use byteorder::{ByteOrder, LittleEndian};
 use history::LAST_TIME;
 use std::alloc::{AllocError, Global};

@@ -11,7 +11,7 @@ use crate::base::{BASE, take_base};
 use crate::entry::{Archive, Entry, RelationFloor};
 use crate::floor::FLOOR;
 use crate::group::{COMMIT, take_group};
-use crate::piece::Piece;
+use crate::item::Item;
 use std::alloc::{AllocError, Global};
 
 // A group, which begins with a COMMIT.

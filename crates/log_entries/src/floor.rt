@@ -7,7 +7,7 @@ ghost use Rattle.log_entries.specs.Reading.{floor_at};
 ghost use Rattle.log_entries.specs.Lengths.{floor_some};
 
 use crate::entry::RelationFloor;
-use crate::piece::{Piece, has_kind};
+use crate::item::{Item, has_kind};
 use byteorder::{ByteOrder, LittleEndian};
 use history::LAST_TIME;
 use std::alloc::{AllocError, Global};
@@ -37,7 +37,7 @@ fn is_floor(floor: &RelationFloor) -> bool
     1 <= floor.floor && floor.floor <= LAST_TIME
 }
 
-impl Piece for RelationFloor {
+impl Item for RelationFloor {
     ghost bytes_of = { floor_bytes };
 
     ghost Is = { IsFloor };

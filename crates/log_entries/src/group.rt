@@ -7,12 +7,12 @@ ghost use Rattle.log_entries.specs.declared.entry.Member.{Member};
 ghost use Rattle.log_entries.specs.Spelling.{member_bytes};
 ghost use Rattle.log_entries.specs.Ranges.{IsStored, IsMember, AreMembers};
 ghost use Rattle.log_entries.specs.Reading.{head_at, IsHeadOf};
-ghost use Rattle.log_entries.specs.Pieces.{HasFewer};
+ghost use Rattle.log_entries.specs.Items.{HasFewer};
 ghost use Rattle.log_entries.specs.Lengths.{member_some};
 
 use crate::entry::Member;
+use crate::item::{Item, has_kind, take_list};
 use crate::listed::Listed;
-use crate::piece::{Piece, has_kind, take_list};
 use byteorder::{ByteOrder, LittleEndian};
 use deltas::{Kinds, Record, are_rising, take_record_of};
 use history::LAST_TIME;
@@ -79,7 +79,7 @@ fn is_commit(head: Head, records: &[Record]) -> bool
         && are_rising(records)
 }
 
-impl Piece for Member {
+impl Item for Member {
     ghost bytes_of = { member_bytes };
 
     ghost Is = { IsMember };

@@ -8,9 +8,9 @@ mod encode;
 mod entry;
 mod floor;
 mod group;
+mod item;
 pub mod laws;
 mod listed;
-mod piece;
 mod roll;
 
 pub use decoding::decode;

@@ -7,7 +7,7 @@ ghost use Rattle.log_entries.specs.Reading.{roll_at};
 ghost use Rattle.log_entries.specs.Lengths.{roll_some};
 
 use crate::entry::Roll;
-use crate::piece::{Piece, has_kind};
+use crate::item::{Item, has_kind};
 use byteorder::{ByteOrder, LittleEndian};
 use std::alloc::{AllocError, Global};
 use wire::LAST_PLACE;
@@ -41,7 +41,7 @@ fn is_roll(roll: &Roll) -> bool
         && roll.start <= LAST_PLACE - roll.len
 }
 
-impl Piece for Roll {
+impl Item for Roll {
     ghost bytes_of = { roll_bytes };
 
     ghost Is = { IsRoll };

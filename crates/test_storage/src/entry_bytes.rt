@@ -1,10 +1,10 @@
 //! What chains of the endless profile's log hold, byte for byte, changed and cut.
 use crate::worked_bytes::KEY;
-use deltas::{ContentRef, RecordRef};
+use deltas::{Content, ContentRef, Record, RecordList, RecordRef};
 use history::Key;
 use log_entries::{
-    AnchorName, Archive, Base, Entry, Listed, Member, RelationFloor, Roll, decode, laws,
-    push_archive, push_base, push_commit, push_floor, push_write,
+    AnchorName, Archive, Base, Entry, Listed, Member, RelationFloor, Roll, commit_len, decode,
+    laws, push_archive, push_base, push_commit, push_floor, push_write,
 };
 use std::alloc::{AllocError, Global};
 use wire::{Value, ValueFault};
@@ -94,11 +94,24 @@ const ONE: Commit = Commit {
 const ONE_BYTES: &[u8] =
     b"\x05\x09\0\0\0\0\0\0\0\x64\0\0\0\0\0\0\0\x01\0\x01\x01\0\x07\0\0\0\0\0\0\0\x01\x01a";
 
+/// How many bytes a commit of this one value has, as they are counted.
+fn counted(alloc: Global, fields: &[&[u8]]) -> Option<usize> {
+    let Ok(value) = Value::new(alloc, fields) else {
+        return None;
+    };
+    let records = [Record {
+        key: KEY,
+        content: Content::Anchor(value),
+    }];
+    Some(commit_len(&mut RecordList::new(&records)))
+}
+
 #[test]
 fn one_commit_is_spelled(rt: HostRuntime) {
     laws::one_entry();
     laws::commit_len();
     assert!(rt; is_spelled(rt.alloc(), &[ONE], ONE_BYTES));
+    assert!(rt; counted(rt.alloc(), &[b"a"]) == Some(33));
 }
 
 /// The commits of a group: labels from 0 on, times from 100 on, each of one value.

@@ -14,4 +14,5 @@ returns-then-not-is_empty c = λ most.
 
 pub returns : goal.returns
 returns c = λ most.
-    archive_alone most c.args.bytes.now c.in-Some.rest.now c.in-Some.archive (rw c.in-Some.is at c.in_ok-archive.ensures) (nil_from_length c.in-Some.rest.now (grind (arith, nat_tests)))
+    archive_alone most c.args.bytes.now c.in-Some.rest.now c.in-Some.archive (rw c.in-Some.is at c.in_ok-archive.ensures)
+    (nil_from_length c.in-Some.rest.now (grind (arith, nat_tests)))

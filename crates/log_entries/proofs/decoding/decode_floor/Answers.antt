@@ -14,4 +14,5 @@ returns-then-not-is_empty c = λ most.
 
 pub returns : goal.returns
 returns c = λ most.
-    floor_alone most c.args.bytes.now c.in-Some.rest.now c.in-Some.floor (rw c.in-Some.is at c.in_ok-floor.ensures) (nil_from_length c.in-Some.rest.now (grind (arith, nat_tests)))
+    floor_alone most c.args.bytes.now c.in-Some.rest.now c.in-Some.floor (rw c.in-Some.is at c.in_ok-floor.ensures)
+    (nil_from_length c.in-Some.rest.now (grind (arith, nat_tests)))

@@ -26,7 +26,8 @@ returns-in_default c = λ records rest is len same.
     let none = rw c.in_default.is at c.in_ok-record.ensures in
     let count = so_far.1 in
     let fewer : length c.loop.found.items < length records = omega (arith, count, len, c.loop-test.true) in
-    longer_list spelling IsStored record_code c.loop.found.items records _ rest so_far.0.each is fewer (λ r after is_r. none r after is_r.0 is_r.1) (sym so_far.0.bytes_are ∙ same)
+    longer_list spelling IsStored record_code c.loop.found.items records _ rest so_far.0.each is fewer (λ r after is_r. none r after is_r.0 is_r.1)
+    (sym so_far.0.bytes_are ∙ same)
 
 pub returns : goal.returns
 returns c =

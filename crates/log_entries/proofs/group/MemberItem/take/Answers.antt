@@ -4,7 +4,7 @@ use Rattle.wire.proofs.FieldsRead.{whole_rest}
 use Rattle.wire.proofs.Zeros.{AreBytes}
 use Rattle.log_entries.specs.Reading.{IsHeadOf}
 use Rattle.log_entries.proofs.MembersRead.{none_begins, none_behind, none_other, member_read}
-use Rattle.log_entries.proofs.group.MemberPiece.take.Goals as goal
+use Rattle.log_entries.proofs.group.MemberItem.take.Goals as goal
 
 pub returns-then-not-has_kind : goal.returns-then-not-has_kind
 returns-then-not-has_kind c = none_begins c.args.bytes.now (λ long kind. false≢true (c.if-not-has_kind.ensures.1 (long, kind)))

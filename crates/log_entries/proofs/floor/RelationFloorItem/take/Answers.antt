@@ -5,7 +5,7 @@ use Rattle.log_entries.specs.Spelling.{floor_bytes}
 use Rattle.log_entries.specs.Ranges.{IsFloor}
 use Rattle.log_entries.specs.Reading.{floor_at}
 use Rattle.log_entries.proofs.FixedRead.{floor_again, floor_back, none_front, is_front}
-use Rattle.log_entries.proofs.floor.RelationFloorPiece.take.Goals as goal
+use Rattle.log_entries.proofs.floor.RelationFloorItem.take.Goals as goal
 
 pub returns-then-not-has_kind : goal.returns-then-not-has_kind
 returns-then-not-has_kind c =

@@ -2,12 +2,12 @@
 
 ghost use Rattle.std.specs.Prelude.{◌≡◌, ◌<◌, ◌≤◌, ◌↔◌, ◌++◌, ℕ, List, length, slice_index, IsTrue, IfOk, MatchOption};
 ghost use Rattle.std.specs.List.{flat_map, AllByRecursion};
-ghost use Rattle.log_entries.specs.Pieces.{HasNone};
+ghost use Rattle.log_entries.specs.Items.{HasNone};
 
 use std::alloc::{AllocError, Global};
 
 /// What is spelled in one way alone, and read from the front of bytes.
-pub(crate) trait Piece: Sized + Drop {
+pub(crate) trait Item: Sized + Drop {
     /// The one spelling.
     ghost bytes_of: { Self → List ℕ };
 
@@ -31,18 +31,15 @@ pub(crate) fn has_kind(bytes: &[u8], kind: u8, len: usize) -> bool
 }
 
 /// As many as stand at the front, and what follows them.
-pub(crate) fn take_list<P: Piece>(
-    alloc: Global,
-    bytes: &[u8],
-) -> Result<(Vec<P>, &[u8]), AllocError>
-    ensures each { IfOk result (λ p. AllByRecursion P.Is p.0.items) }
-    ensures bytes { IfOk result (λ p. bytes.now ≡ flat_map P.bytes_of p.0.items ++ p.1.now) }
-    ensures all { IfOk result (λ p. HasNone P.bytes_of P.Is p.1.now) }
+pub(crate) fn take_list<T: Item>(alloc: Global, bytes: &[u8]) -> Result<(Vec<T>, &[u8]), AllocError>
+    ensures each { IfOk result (λ p. AllByRecursion T.Is p.0.items) }
+    ensures bytes { IfOk result (λ p. bytes.now ≡ flat_map T.bytes_of p.0.items ++ p.1.now) }
+    ensures all { IfOk result (λ p. HasNone T.bytes_of T.Is p.1.now) }
 {
     let mut found = Vec::new(alloc);
     let mut rest = bytes;
-    while let Some((piece, after)) = P::take(alloc, rest)? {
-        found.push(piece)?;
+    while let Some((item, after)) = T::take(alloc, rest)? {
+        found.push(item)?;
         rest = after;
     }
     Ok((found, rest))

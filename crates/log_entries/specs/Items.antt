@@ -1,8 +1,8 @@
--- Pieces of bytes, each with one spelling.
+-- Items of bytes, each with one spelling.
 use Rattle.std.specs.Prelude.{◌≡◌, ◌≢◌, ℕ, List, ◌++◌, length}
 use Rattle.std.specs.List.{flat_map, AllByRecursion}
 
--- no piece is spelled at the front of these bytes
+-- no item is spelled at the front of these bytes
 abbrev pub HasNone : {X : Type 0} → (X → List ℕ) → (X → Type 0) → List ℕ → Type 0
 HasNone {X} bytes_of Is bytes = (x : X) (rest : List ℕ) → Is x → bytes ≢ bytes_of x ++ rest
 

@@ -5,7 +5,7 @@ use Rattle.log_entries.specs.Spelling.{roll_bytes}
 use Rattle.log_entries.specs.Ranges.{IsRoll}
 use Rattle.log_entries.specs.Reading.{roll_at}
 use Rattle.log_entries.proofs.FixedRead.{roll_again, roll_back, none_front, is_front}
-use Rattle.log_entries.proofs.roll.RollPiece.take.Goals as goal
+use Rattle.log_entries.proofs.roll.RollItem.take.Goals as goal
 
 pub returns-then-not-has_kind : goal.returns-then-not-has_kind
 returns-then-not-has_kind c =
