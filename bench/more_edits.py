@@ -1,19 +1,19 @@
 #!/usr/bin/env python3
 """Tries the edits that the gate leaves out, crates/NAME/more-edits/*.edit, over the libraries that `rt ci` or `rt lib` left in crates/*/out:
-the prover must refuse each of them too.
+the prover must refuse each of them too. Where there are none, and no --minutes, rt lib builds them.
 
 usage: bench/more_edits.py [--minutes N [--began SECONDS] [--proofs FILE]] [--write] [NAME ..]      (no name: all crates)
 
 bench/edits_tried.tsv tells when each edit was last tried and refused, and by which text. First come the edits of which it tells nothing, or whose
 crate or own text has changed since then; after them those that were tried the longest ago. --write puts what is refused into that table.
 
-Each crate is proved once as it is (its seed), and its edits are tried over what that proof left, as many at a time as RT_JOBS says. Nothing in the
-repository is changed but that table.
+Each crate is proved once as it is (its seed), and its edits are tried over what that proof left, as many at a time as RT_JOBS says. Over libraries
+of rt lib, and with no --minutes, a seed begins with what rt check kept. Nothing in the repository is changed but that table.
 
 With no --minutes all edits are tried. With --minutes none is begun after so many minutes of the clock, and no seed that would leave no time for
 edits. On a machine that is slower than the reference machine (bench/gate_cost.py) it is less: --proofs is the file in which that program wrote what
-each proof took. --began is when the whole run began, in seconds since 1970: it is to end within 120 minutes of that, and where the machine is slow
-within 165, with fewer edits or none.
+each proof took. --began is when the whole run began, in seconds since 1970: it is to end within 120 minutes of that, and within 165 where the
+machine is slow, with fewer edits or none.
 
 The status is 1 where an edit is proved, does not apply or compile any more, or is refused only because a proof names what it takes away; and where
 nothing could be tried. An edit whose check was cut off counts as not tried.
@@ -42,8 +42,9 @@ import gate_cost
 ROOT = pathlib.Path(os.path.realpath(__file__)).parents[1]
 TABLE = ROOT / "bench/edits_tried.tsv"
 COLUMNS = ("crate", "edit", "tried", "sum", "refused by")
-# Minutes of the clock that a run with the gate may take: on a machine as fast as the reference machine, and on any.
-WHOLE_RUN, WHOLE_RUN_AT_MOST = 120, 165
+# Minutes of the clock that a run with the gate may take, with some for what its neighbours do to a machine as fast as the reference machine; for
+# each time that a machine is slower than that; and on any machine.
+WHOLE_RUN, WHOLE_RUN_BY_SLOWNESS, WHOLE_RUN_AT_MOST = 120, 100, 165
 # Minutes before the end of that in which nothing new begins.
 TO_END = 4
 # Where nothing else tells it: the seconds that a proof takes for each kilobyte of src/ on the reference machine, no more than a few crates need.
@@ -149,13 +150,19 @@ class Clock:
 
     def __init__(self, minutes, began, slowness):
         now = time.time()
-        self.whole = min(WHOLE_RUN * max(slowness, 1), WHOLE_RUN_AT_MOST)
+        self.whole = min(max(WHOLE_RUN, WHOLE_RUN_BY_SLOWNESS * slowness), WHOLE_RUN_AT_MOST)
         self.took = (now - began) / 60 if began else 0
         self.minutes = minutes
         if minutes is not None:
             self.minutes = max(0, min(minutes / max(slowness, 1), self.whole - self.took - TO_END if began else minutes))
         self.last_begin = now + 60 * self.minutes if minutes is not None else float("inf")
         self.end = began + 60 * self.whole if began else self.last_begin + 60 * 10
+
+    def told(self, slowness):
+        """How many minutes there are, and why."""
+        whole = f", and the run has taken {self.took:.0f} of its {self.whole:.0f} minutes" if self.took else ""
+        much = f"{self.minutes:.0f} minutes for them" if self.minutes >= 1 else "no time is left for them"
+        return f"more edits: {much}; a proof takes {slowness:.2f} of what it takes on the reference machine{whole}"
 
     def has_time_for(self, seconds):
         return time.time() + seconds < self.last_begin
@@ -164,8 +171,8 @@ class Clock:
 class Lanes:
     """The turns of the crates, and the threads that take their seeds and edits."""
 
-    def __init__(self, rt, turns, clock, proofs, slowness):
-        self.rt, self.turns, self.clock, self.proofs, self.slowness = rt, turns, clock, proofs, slowness
+    def __init__(self, rt, turns, clock, proofs, slowness, over_kept):
+        self.rt, self.turns, self.clock, self.proofs, self.slowness, self.over_kept = rt, turns, clock, proofs, slowness, over_kept
         self.changed, self.is_stopped, self.seedless = threading.Condition(), False, []
 
     def seed_estimate(self, turn):
@@ -225,7 +232,7 @@ class Lanes:
             if self.rt.left_on_disk(tempfile.gettempdir()) < DISK_FOR_A_SEED:
                 self.seedless.append(f"{turn.crate.name}: the disk has less than {DISK_FOR_A_SEED} MB left")
             else:
-                seed = self.rt.seeded(turn.crate, ["--jobs", "1"])
+                seed = self.rt.seeded(turn.crate, ["--jobs", "1"], self.rt.work_for(turn.crate) if self.over_kept else None)
                 if seed is None and not self.is_stopped:
                     self.seedless.append(f"{turn.crate.name}: it is not proved over the libraries in crates/*/out, or its check was killed")
         finally:
@@ -249,7 +256,8 @@ class Lanes:
             shutil.rmtree(over, ignore_errors=True)
             with self.changed:
                 turn.edit_seconds += time.time() - began
-                turn.tried.append((edit, kind, text))
+                # (of one that the end of the time cut off rt would say that memory was short)
+                turn.tried.append((edit, kind, "" if self.is_stopped and kind == self.rt.UNSURE else text))
                 turn.running -= 1
 
     def end(self, turn):
@@ -311,20 +319,21 @@ def built_of(crate):
     return "of the gate" if newest <= os.stat(crate.rlib).st_mtime else "old"
 
 
-def libraries_lack(crates, may_build):
-    """Looks whether the libraries below the crates are there and of one kind, builds them where that may be, and says what is wrong, if anything is."""
+def libraries(crates, may_build):
+    """Looks whether the libraries below the crates are there and of one kind, and builds them where that may be. Returns whether they are those of rt
+    lib, and what is wrong, if anything is."""
     below = list({it.name: it for crate in crates for it in crate.below()}.values())
     kinds = {it.name: built_of(it) for it in below}
     found = set(kinds.values())
     if len(found) <= 1 and not found & {"none", "old"}:
-        return None
+        return "of the gate" not in found, None
     if not may_build or "of the gate" in found:
         told = "; ".join(f"{kind}: {' '.join(it for it in kinds if kinds[it] == kind)}" for kind in sorted(found))
-        return f"the libraries in crates/*/out are not those of one run of the gate; run it in a fresh clone ({told})"
+        return False, f"the libraries in crates/*/out are not those of one run of the gate; run it in a fresh clone ({told})"
     for it in below:
         if not it.is_built() and subprocess.run(["rt", "lib"], cwd=it.folder).returncode:
-            return f"rt lib does not build {it.name}"
-    return None
+            return True, f"rt lib does not build {it.name}"
+    return True, None
 
 
 def slowness_of(proofs, rt, crates):
@@ -339,6 +348,11 @@ def slowness_of(proofs, rt, crates):
         return 1.0
     after = resource.getrusage(resource.RUSAGE_CHILDREN)
     return (after.ru_utime + after.ru_stime - before.ru_utime - before.ru_stime) / gate_cost.UNIT[first]
+
+
+def told_of(text):
+    """What rt says of an edit, which it takes for one of the gate."""
+    return text.replace("must-fail", "more-edits", 1)
 
 
 class Results:
@@ -360,11 +374,11 @@ class Results:
                 self.rows[crate, edit.name] = Row(crate, edit.name, today, edit.sum, why)
             elif kind == self.rt.UNSURE:
                 self.counts["cut off"] += 1
-                print("".join(f"{line}\n" for line in text.split("\n")[:1] if line), end="")
+                print("".join(f"{told_of(line)}\n" for line in text.split("\n")[:1] if line), end="")
             else:
                 self.failed.append(f"{crate}/{edit.name}")
                 self.rows.pop((crate, edit.name), None)
-                print(text)
+                print(told_of(text))
         if turn.tried:
             count = sum(self.is_refused(kind, text) for _, kind, text in turn.tried)
             mean = turn.edit_seconds / len(turn.tried)
@@ -417,7 +431,7 @@ def main(words):
             print(f"no edits in more-edits of: {' '.join(unknown)}; there are some of: {' '.join(it.crate.name for it in turns)}", file=sys.stderr)
             return 2
         turns = [it for it in turns if not given.names or it.crate.name in given.names]
-        lack = libraries_lack([it.crate for it in turns], given.minutes is None)
+        are_own, lack = libraries([it.crate for it in turns], given.minutes is None)
         if lack:
             print(f"more edits: none tried: {lack}", file=sys.stderr)
             return 1
@@ -425,8 +439,8 @@ def main(words):
         slowness = slowness_of(proofs, rt, crates) if given.minutes is not None else 1.0
         clock = Clock(given.minutes, given.began, slowness)
         if given.minutes is not None:
-            print(f"more edits: {clock.minutes:.0f} minutes for them; a proof takes {slowness:.2f} of what it takes on the reference machine" + (f", and the run has taken {clock.took:.0f} of its {clock.whole:.0f} minutes" if given.began else ""), flush=True)
-        lanes = Lanes(rt, turns, clock, proofs, slowness)
+            print(clock.told(slowness), flush=True)
+        lanes = Lanes(rt, turns, clock, proofs, slowness, are_own and given.minutes is None)
         lanes.turns = turns = ordered(turns, lanes.seed_estimate)
         results = Results(rt, rows, given.write)
         lanes.run(lanes_here(rt), results.take)
