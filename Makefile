@@ -82,8 +82,8 @@ rates: build
 	bench/rates.py $(PROGRAM) $(if $(FOLDER),--folder $(FOLDER))
 	if command -v valgrind >/dev/null; then bench/rates.py $(PROGRAM) --instructions && bench/growths.py $(PROGRAM); fi
 
-# Every example of the documents, its answers compared, the small store of docs/FORMAT.md byte by byte, and that each example of a page
-# crates/NAME/CALLING.md is a test.
+# Every example of the documents, its answers compared; the small store of docs/FORMAT.md byte by byte; that each example of a page
+# crates/NAME/CALLING.md is a test; and that README and docs/USING.md are no longer than they may be.
 examples: build
 	bench/using_test.py $(PROGRAM) README.md docs/USING.md
 	bench/format_test.py $(PROGRAM) docs/FORMAT.md

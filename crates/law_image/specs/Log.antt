@@ -57,7 +57,9 @@ AreRisingAfter time (head ∷ heads) = (time < head.time) × (head.time < 2 ^ 63
 abbrev pub IsScopeOf : ℕ → Option ℕ → Type 0
 IsScopeOf profile scope = MatchBool (profile == 3) (IsSome scope) (IsNone scope)
 
--- the slot may come after these
+-- The slot may come after these.
+-- Times of commits rise. An archive goes past the archive mark, not past the last commit. A reclaim goes up to the archive mark, past the
+-- reclaim mark. A floor is above each floor that it covers, not past the last commit.
 abbrev pub MayCome : ℕ → List Slot → Slot → Type 0
 MayCome profile before (Commits heads) = (0 < length heads) × (length heads ≤ 16) × AreRisingAfter (last_time before) heads
 MayCome profile before (Archived upto) = (archive_mark before < upto) × (upto ≤ last_time before)
