@@ -16,7 +16,7 @@ each proof took. --began is when the whole run began, in seconds since 1970: it 
 machine is slow, with fewer edits or none.
 
 The status is 1 where an edit is proved, does not apply or compile any more, or is refused only because a proof names what it takes away; and where
-nothing could be tried. An edit whose check was cut off counts as not tried.
+nothing could be tried. An edit whose check was killed or cut off has no verdict, and is left to be tried.
 """
 import argparse
 import collections
@@ -173,7 +173,7 @@ class Lanes:
 
     def __init__(self, rt, turns, clock, proofs, slowness, over_kept):
         self.rt, self.turns, self.clock, self.proofs, self.slowness, self.over_kept = rt, turns, clock, proofs, slowness, over_kept
-        self.changed, self.is_stopped, self.seedless = threading.Condition(), False, []
+        self.changed, self.is_stopped, self.was_cut, self.seedless = threading.Condition(), False, False, []
 
     def seed_estimate(self, turn):
         """The seconds that the crate's proof takes here, about."""
@@ -290,7 +290,7 @@ class Lanes:
                         told.add(turn.crate.name)
                         at_end(turn)
         finally:
-            self.is_stopped = True
+            self.is_stopped, self.was_cut = True, any(it.is_alive() for it in threads)
             while any(it.is_alive() for it in threads):
                 end_checks()
                 time.sleep(0.2)
@@ -373,7 +373,7 @@ class Results:
                 why = " ".join(text.partition(": refused, as it must be")[2].removeprefix(":").split()) or "-"
                 self.rows[crate, edit.name] = Row(crate, edit.name, today, edit.sum, why)
             elif kind == self.rt.UNSURE:
-                self.counts["cut off"] += 1
+                self.counts["no verdict"] += 1
                 print("".join(f"{told_of(line)}\n" for line in text.split("\n")[:1] if line), end="")
             else:
                 self.failed.append(f"{crate}/{edit.name}")
@@ -391,7 +391,7 @@ class Results:
         left = [edit for turn in turns for edit in turn.edits]
         left += [edit for turn in turns for edit, kind, _ in turn.tried if kind == self.rt.UNSURE]
         new, oldest = sum(it.is_new for it in left), min((it.last_tried for it in left if not it.is_new), default="")
-        print(f"more edits: {self.counts['refused']} of {sum(it.count for it in turns)} tried and refused in {(time.time() - began) / 60:.0f} minutes" + (f", {self.counts['cut off']} cut off" if self.counts["cut off"] else "") + f"; left: {new} that are new or whose crate has changed since they were tried, and {len(left) - new} others" + (f", the oldest tried on {oldest}" if oldest else ""))
+        print(f"more edits: {self.counts['refused']} of {sum(it.count for it in turns)} tried and refused in {(time.time() - began) / 60:.0f} minutes" + (f", {self.counts['no verdict']} with no verdict" if self.counts["no verdict"] else "") + f"; left: {new} that are new or whose crate has changed since they were tried, and {len(left) - new} others" + (f", the oldest tried on {oldest}" if oldest else ""))
         if self.failed:
             print(f"more edits: NOT REFUSED AS THEY MUST BE: {' '.join(self.failed)}")
 
@@ -447,7 +447,8 @@ def main(words):
         results.sum_up(turns, began)
         for it in lanes.seedless:
             print(f"more edits: {it}", file=sys.stderr)
-        return 1 if results.failed or lanes.seedless else 0
+        has_none = results.counts["no verdict"] and not results.counts["refused"] and not lanes.was_cut
+        return 1 if results.failed or lanes.seedless or has_none else 0
 
 
 if __name__ == "__main__":
