@@ -331,8 +331,12 @@ def libraries(crates, may_build):
         told = "; ".join(f"{kind}: {' '.join(it for it in kinds if kinds[it] == kind)}" for kind in sorted(found))
         return False, f"the libraries in crates/*/out are not those of one run of the gate; run it in a fresh clone ({told})"
     for it in below:
-        if not it.is_built() and subprocess.run(["rt", "lib"], cwd=it.folder).returncode:
-            return True, f"rt lib does not build {it.name}"
+        if it.is_built():
+            continue
+        print(f"rt lib builds {it.name}", flush=True)
+        ran = subprocess.run(["rt", "lib"], cwd=it.folder, stdout=subprocess.PIPE, stderr=subprocess.STDOUT, text=True, errors="replace")
+        if ran.returncode:
+            return True, f"rt lib does not build {it.name}:\n{ran.stdout[-2000:]}"
     return True, None
 
 
