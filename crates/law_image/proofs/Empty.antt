@@ -3,12 +3,13 @@ use Rattle.std.proofs.Common.{ℕ, [], refl, arith}
 use Rattle.std.specs.List.Sorted.{IsStrictlySortedBy}
 use Rattle.law_image.specs.Plans.{empty_reading}
 use Rattle.law_image.specs.StandsFor.{IsHeader, StandsFor}
+use Rattle.law_image.proofs.Forms.{of-slots, slots-profile}
 
 pub empty-stands_for : (profile slots pieces : ℕ) → IsHeader profile slots pieces → StandsFor (empty_reading profile slots pieces) [] (λ relation. 0)
 unfolding IsStrictlySortedBy
 empty-stands_for profile slots pieces header = record {
   opens = record {
-    reads = record { header = header; log = tt; fits = omega arith; members = refl; chains = tt; stored = tt; anchors = tt; anchor_times = tt; runs = tt };
+    reads = record { form = of-slots (empty_reading profile slots pieces) (slots-profile profile slots pieces header) (record { header = header; log = tt; fits = omega arith; runs = tt }); members = refl; chains = tt; stored = tt; anchors = tt; anchor_times = tt };
     floors_given = λ relation. refl;
     history = tt;
     commits = refl;

@@ -12,8 +12,9 @@ use Rattle.history.specs.Floors.{Raising, covers, raised}
 use Rattle.history.specs.Machine.{Machine, MayRaise}
 use Rattle.law_image.specs.Log.{heads_of, archive_mark, reclaim_mark, floor_of, IsScopeOf, MayCome}
 use Rattle.law_image.specs.Facts.{heap_versions, archived_versions}
-use Rattle.law_image.specs.StandsFor.{StandsFor, IsAnchorUpto, AreRunsOf, archived_upto, reclaimed_upto}
-use Rattle.law_image.specs.Plans.{with_floor}
+use Rattle.law_image.specs.StandsFor.{StandsFor, IsAnchorUpto, AreRunsOf, IsSlotLog, archived_upto, reclaimed_upto}
+use Rattle.law_image.specs.Plans.{HasSlots, HasRoom, with_floor}
+use Rattle.law_image.proofs.Forms.{in-slots, of-slots, room-in_slots}
 use Rattle.law_image.proofs.Logs.{heads_of-append, archive_mark-append, reclaim_mark-append, floors-append, log-more, runs-more}
 use Rattle.history.proofs.Views.{filter-later}
 use Rattle.law_image.proofs.Standing.{last-is}
@@ -32,7 +33,13 @@ raise-may_come reading m r stands may scope = (
 )
 
 module _ (reading : Reading) (h : History Value) (floors : ℕ → ℕ) (stands : StandsFor reading h floors)
-    (scope : Option ℕ) (floor : ℕ) (may : MayCome reading.profile reading.log (Floor scope floor)) (room : length reading.log < slot_count reading) where
+    (scope : Option ℕ) (floor : ℕ) (may : MayCome reading.profile reading.log (Floor scope floor)) (slots : HasSlots reading) (has_room : HasRoom reading) where
+  is : IsSlotLog reading
+  is = in-slots reading slots stands.opens.reads.form
+
+  room : length reading.log < slot_count reading
+  room = room-in_slots reading slots has_room
+
   same_archived : archive_mark (reading.log ++ Floor scope floor ∷ []) ≡ archive_mark reading.log
   same_archived = archive_mark-append 0 reading.log (Floor scope floor ∷ [])
 
@@ -57,9 +64,12 @@ module _ (reading : Reading) (h : History Value) (floors : ℕ → ℕ) (stands 
   floor-stands_for = record {
     opens = record {
       reads = record {
-        header = stands.opens.reads.header;
-        log = log-more reading.profile [] reading.log (Floor scope floor) stands.opens.reads.log may;
-        fits = omega (arith, length-append reading.log (Floor scope floor ∷ []), room);
+        form = of-slots (with_floor reading scope floor) slots (record {
+            header = (is).header;
+            log = log-more reading.profile [] reading.log (Floor scope floor) (is).log may;
+            fits = omega (arith, length-append reading.log (Floor scope floor ∷ []), room);
+            runs = subst (AreRunsOf [] (reading.log ++ Floor scope floor ∷ [])) (append-nil reading.runs) (runs-more floor_of [] reading.log (Floor scope floor ∷ []) reading.runs [] (is).runs tt);
+        });
         members = stands.opens.reads.members
             ∙ ap (λ l. filter (λ (head : Head). nat_lt (reclaim_mark reading.log) head.time) l) (sym same_heads)
             ∙ ap (λ (r : ℕ). filter (λ (head : Head). nat_lt r head.time) (heads_of (reading.log ++ Floor scope floor ∷ []))) (sym same_reclaimed);
@@ -67,7 +77,6 @@ module _ (reading : Reading) (h : History Value) (floors : ℕ → ℕ) (stands 
         stored = stands.opens.reads.stored;
         anchors = stands.opens.reads.anchors;
         anchor_times = subst (λ r. AllByRecursion (IsAnchorUpto r) reading.anchors) (sym same_reclaimed) stands.opens.reads.anchor_times;
-        runs = subst (AreRunsOf [] (reading.log ++ Floor scope floor ∷ [])) (append-nil reading.runs) (runs-more [] reading.log (Floor scope floor ∷ []) reading.runs [] stands.opens.reads.runs tt);
       };
       floors_given = λ relation.
           ap (λ (f : ℕ → ℕ). f relation) (floors-append (λ q. 0) reading.log (Floor scope floor ∷ []))

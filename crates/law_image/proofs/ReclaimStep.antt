@@ -17,8 +17,10 @@ use Rattle.law_image.specs.Values.{Value}
 use Rattle.law_image.specs.Reading.{Head, Reclaimed, Member, OldRecord, Reading, slot_count}
 use Rattle.law_image.specs.Log.{heads_of, archive_mark, reclaim_mark}
 use Rattle.law_image.specs.Facts.{old_writes, latest, heap_commits, heap_facts, heap_versions}
-use Rattle.law_image.specs.StandsFor.{StandsFor, IsChain, IsAnchorUpto, AreRunsOf, archived_upto, reclaimed_upto}
-use Rattle.law_image.specs.Plans.{IsReclaimPlan, with_anchors}
+use Rattle.law_image.specs.Log.{floor_of}
+use Rattle.law_image.specs.StandsFor.{StandsFor, IsChain, IsAnchorUpto, AreRunsOf, IsSlotLog, archived_upto, reclaimed_upto}
+use Rattle.law_image.specs.Plans.{HasSlots, HasRoom, IsReclaimPlan, with_anchors}
+use Rattle.law_image.proofs.Forms.{in-slots, of-slots, room-in_slots}
 use Rattle.law_image.proofs.Logs.{heads_of-append, archive_mark-append, reclaim_mark-append, floors-append, log-more, runs-more}
 use Rattle.law_image.proofs.FactsOf.{commits_from-after, AreStored-after, old_writes-past, old_writes-latest, latest-standing}
 use Rattle.history.proofs.Views.{filter-later}
@@ -29,7 +31,13 @@ later_lt early late n le h = grind (arith, nat_tests)
 
 module _ (reading : Reading) (h : History Value) (floors : ℕ → ℕ) (stands : StandsFor reading h floors)
     (olds : List OldRecord) (plan : IsReclaimPlan reading olds)
-    (advances : reclaimed_upto reading < archived_upto reading) (room : length reading.log < slot_count reading) where
+    (advances : reclaimed_upto reading < archived_upto reading) (slots : HasSlots reading) (has_room : HasRoom reading) where
+  is : IsSlotLog reading
+  is = in-slots reading slots stands.opens.reads.form
+
+  room : length reading.log < slot_count reading
+  room = room-in_slots reading slots has_room
+
   new_reclaimed : reclaim_mark (reading.log ++ Reclaimed (archived_upto reading) ∷ []) ≡ archived_upto reading
   new_reclaimed = reclaim_mark-append 0 reading.log (Reclaimed (archived_upto reading) ∷ [])
 
@@ -78,9 +86,12 @@ module _ (reading : Reading) (h : History Value) (floors : ℕ → ℕ) (stands 
       record {
         opens = record {
           reads = record {
-            header = stands.opens.reads.header;
-            log = log-more reading.profile [] reading.log (Reclaimed a) stands.opens.reads.log (refl, advances);
-            fits = omega (arith, length-append reading.log (Reclaimed a ∷ []), room);
+            form = of-slots (with_anchors reading olds) slots (record {
+                header = (is).header;
+                log = log-more reading.profile [] reading.log (Reclaimed a) (is).log (refl, advances);
+                fits = omega (arith, length-append reading.log (Reclaimed a ∷ []), room);
+                runs = subst (AreRunsOf [] (reading.log ++ Reclaimed a ∷ [])) (append-nil reading.runs) (runs-more floor_of [] reading.log (Reclaimed a ∷ []) reading.runs [] (is).runs tt);
+            });
             members =
                 sym (filter-map (λ (m : Member). nat_lt a m.head.time) (λ (head : Head). nat_lt a head.time) (λ (m : Member). m.head) reading.members (λ m. refl))
                 ∙ ap (filter (λ (head : Head). nat_lt a head.time)) stands.opens.reads.members
@@ -92,7 +103,6 @@ module _ (reading : Reading) (h : History Value) (floors : ℕ → ℕ) (stands 
                 (recent-rise reading h floors stands) planned_value stands.opens.reads.stored;
             anchors = plan.rising;
             anchor_times = subst (λ m. AllByRecursion (IsAnchorUpto m) olds) (sym new_reclaimed) plan.in_range;
-            runs = subst (AreRunsOf [] (reading.log ++ Reclaimed a ∷ [])) (append-nil reading.runs) (runs-more [] reading.log (Reclaimed a ∷ []) reading.runs [] stands.opens.reads.runs tt);
           };
           floors_given = λ relation. ap (λ (f : ℕ → ℕ). f relation) (floors-append (λ q. 0) reading.log (Reclaimed a ∷ [])) ∙ stands.opens.floors_given relation;
           history = stands.opens.history;
