@@ -75,7 +75,7 @@ last_later t [] up lt = (omega arith, lt)
 last_later t (head ∷ heads) up lt = let rest = last_later head.time heads up.2 up.1 in (omega (arith, rest.0, up.0), rest.1)
 
 -- the last time of a log with a slot that names no commit
-same_last : (log : List Slot) (slot : Slot) → heads_of (slot ∷ []) ≡ [] → last_time (log ++ slot ∷ []) ≡ last_time log
+pub same_last : (log : List Slot) (slot : Slot) → heads_of (slot ∷ []) ≡ [] → last_time (log ++ slot ∷ []) ≡ last_time log
 same_last log slot none = ap (last_time_after 0) (heads_of-append log (slot ∷ []) ∙ ap (λ l. heads_of log ++ l) none ∙ append-nil (heads_of log))
 
 raised-below : (scope : Option ℕ) (floor last : ℕ) (floors : ℕ → ℕ) (relation : ℕ) → floor ≤ last → floors relation ≤ last → raised scope floor floors relation ≤ last
