@@ -17,7 +17,7 @@ use Rattle.history.proofs.Histories.{writes_of-rising}
 use Rattle.law_image.specs.Values.{Value}
 use Rattle.law_image.specs.Reading.{Head, Slot, Commits, Archived, Member, OldRecord, ArchiveRecord, Reading}
 use Rattle.law_image.specs.Log.{heads_of, last_time_after, last_time, archive_mark, reclaim_mark, floor_of, told_time, is_in_heap, AreRisingAfter, MayComeInHeap}
-use Rattle.law_image.specs.Facts.{heap_versions, archived_versions, run_versions}
+use Rattle.law_image.specs.Facts.{old_writes, heap_commits, heap_versions, archived_versions, run_versions}
 use Rattle.law_image.specs.StandsFor.{StandsFor, IsHeapOf, IsHeapLog, IsAnchorUpto, IsRun, AreRunsBy, no_floors, archived_upto, reclaimed_upto}
 use Rattle.law_image.specs.Plans.{IsReclaimPlan, with_group}
 use Rattle.law_image.specs.HeapPlans.{marks_of, first_runs, IsMergePlan, with_merged, IsBased, with_base}
@@ -26,7 +26,10 @@ use Rattle.law_image.proofs.Forms.{in-heap, of-heap}
 use Rattle.law_image.proofs.HeapRuns.{AreStacked, stack-of, of-stack, stack-take, stack-more, marks-append, last_mark, last_mark-is, first-marks, first-rules, TellAlike}
 use Rattle.law_image.proofs.ArchiveStep.{joined}
 use Rattle.law_image.proofs.ReclaimStep.{reclaimed-stands_for}
-use Rattle.law_image.proofs.Standing.{marked, rises, last-is}
+use Rattle.law_image.proofs.Standing.{marked, rises, last-is, archived-range, last-range, recent-rise}
+use Rattle.law_image.proofs.FactsOf.{old_writes-rising, old_writes-standing}
+use Rattle.law_image.proofs.PlansStay.{standing-stays}
+use Rattle.history.specs.Time.{IsRisingAfter}
 
 -- ---- an archive
 
@@ -169,3 +172,23 @@ group-beside reading olds after group all =
     ∙ sym (filter-append (λ (m : Member). nat_lt (archived_upto reading) m.head.time) reading.members group)
     ∙ ap (λ (n : ℕ). filter (λ (m : Member). nat_lt n m.head.time) (reading.members ++ group)) (sym mark) in
     ap (λ (ms : List Member). record reading { log = after ++ Commits (map (λ m. m.head) group) ∷ []; members = ms; anchors = olds }) members
+
+-- ---- the anchors that stand
+
+pub anchors-plan : (reading : Reading) (h : History Value) (floors : ℕ → ℕ) → StandsFor reading h floors → archived_upto reading ≡ reclaimed_upto reading → IsReclaimPlan reading reading.anchors
+anchors-plan reading h floors stands same =
+    let r = reclaimed_upto reading in
+    let range : r < 2 ^ 63 = omega (arith, stands.homes.marks, archived-range reading h floors stands, last-range reading h floors stands) in
+    let up = recent-rise reading h floors stands in
+    record {
+      each = λ key.
+          let olds = old_writes reading.anchors key in
+          let more = writes_of (heap_commits reading) key in
+          let low : IsRisingAfter 0 olds = subst (IsRisingAfter 0) (append-nil olds) (old_writes-rising r reading.anchors key [] range stands.opens.reads.anchors stands.opens.reads.anchor_times tt) in
+          sym (
+          ap (λ (m : ℕ). map as_write (filter (stands_at m) (heap_versions reading key))) same
+          ∙ standing-stays 0 r olds more range low (writes_of-rising r (heap_commits reading) key up)
+          ∙ old_writes-standing r reading.anchors key range stands.opens.reads.anchors stands.opens.reads.anchor_times);
+      rising = stands.opens.reads.anchors;
+      in_range = subst (λ (m : ℕ). AllByRecursion (IsAnchorUpto m) reading.anchors) (sym same) stands.opens.reads.anchor_times;
+    }
