@@ -43,3 +43,7 @@ slots-profile profile slots pieces header = let most = header.highest in grind (
 -- a group of the first three profiles has no more commits than one of any
 pub most-least : (profile : ℕ) → 16 ≤ most_members profile
 most-least profile = elim (is_in_heap profile) as (λ b. 16 ≤ cond b 1024 16) [ true ↦ omega arith | false ↦ omega arith ]
+
+-- where the log has a slot that is left there is room
+pub has-room : (reading : Reading) → length reading.log < slot_count reading → HasRoom reading
+has-room reading lt = elim (is_in_heap reading.profile) as (λ b. MatchBool b (Unit {0}) (length reading.log < slot_count reading)) [ true ↦ tt | false ↦ lt ]
