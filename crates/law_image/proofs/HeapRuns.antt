@@ -96,7 +96,7 @@ pub record TellAlike (log less : List Slot) : Type 0 where
   pub floors : (relation : ℕ) → floor_of less relation ≡ floor_of log relation
   pub lower : archive_mark less ≤ archive_mark log
 
-alike-told : (log less : List Slot) → TellAlike log less → told_time less ≡ told_time log
+pub alike-told : (log less : List Slot) → TellAlike log less → told_time less ≡ told_time log
 alike-told log less alike = let l : last_time less ≡ last_time log = ap (last_time_after 0) alike.heads in rw (l, alike.reclaimed) refl
 
 alike-none : TellAlike [] []
@@ -115,7 +115,7 @@ kept-one before less slot slots first may rest = (
   (subst (λ (l : List Slot). TellAlike ((before ++ slot ∷ []) ++ slots) l) (append_assoc less (slot ∷ []) first) rest.1),
 )
 
-floors-alike : (f g : ℕ → ℕ) (slot : Slot) (relation : ℕ) → f relation ≡ g relation → floors_after f (slot ∷ []) relation ≡ floors_after g (slot ∷ []) relation
+pub floors-alike : (f g : ℕ → ℕ) (slot : Slot) (relation : ℕ) → f relation ≡ g relation → floors_after f (slot ∷ []) relation ≡ floors_after g (slot ∷ []) relation
 floors-alike f g (Commits heads) relation same = same
 floors-alike f g (Archived upto) relation same = same
 floors-alike f g (Reclaimed upto) relation same = same

@@ -275,15 +275,15 @@ module _ (header : Header) (m : Machine Value) (layout : Layout) (reading : Read
   reading-room : HasRoom reading
   reading-room = has-room reading (omega (arith, room, laid.heap.slots_are, laid.heap.pieces_are, ap (λ l. length l) laid.heap.log_is, length-map (λ (s : Slot). status_slot s.body) layout.slots))
 
-  slots : HasSlots reading
-  slots = ap is_in_heap laid.heap.profile_is ∙ built-slots header.profile profile_built
+  in-slot_log : HasSlots reading
+  in-slot_log = ap is_in_heap laid.heap.profile_is ∙ built-slots header.profile profile_built
 
   stands-by : (q : Product) → MayBeNext layout reading m.published q → StandsFor (read_with reading q) m.published (floors_with q m.floors)
   stands-by (OfRun run) may =
-      archive-stands_for reading m.published m.floors stands run.entry.upto run.records may.plan (may.later, omega (arith, may.by_last, last-is reading m.published m.floors stands)) slots reading-room
-  stands-by (OfAnchors a) may = reclaim-stands_for reading m.published m.floors stands a.olds may.plan may.later slots reading-room
+      archive-stands_for reading m.published m.floors stands run.entry.upto run.records may.plan (may.later, omega (arith, may.by_last, last-is reading m.published m.floors stands)) in-slot_log reading-room
+  stands-by (OfAnchors a) may = reclaim-stands_for reading m.published m.floors stands a.olds may.plan may.later in-slot_log reading-room
   stands-by (OfFloor scope floor) may =
-      floor-stands_for reading m.published m.floors stands scope floor (scope_is reading.profile scope may.scope_is, omega (arith, may.by_last, last-is reading m.published m.floors stands), may.rises) slots reading-room
+      floor-stands_for reading m.published m.floors stands scope floor (scope_is reading.profile scope may.scope_is, omega (arith, may.by_last, last-is reading m.published m.floors stands), may.rises) in-slot_log reading-room
 
   pub stands-after : StandsFor reading-after m.published (floors_with p m.floors)
   stands-after = stands-by p next
