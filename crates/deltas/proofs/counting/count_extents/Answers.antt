@@ -1,8 +1,8 @@
 use Rattle.std.proofs.Common.{◌≡◌, Some, None, slice_get}
 use Rattle.deltas.specs.Loans.{record_of_loan}
 use Rattle.deltas.proofs.FilledChains.{none_counted, next_begun, next_added, all_counted}
-use Rattle.deltas.proofs.filled_chain.count_extents.Goals as goal
-use Rattle.deltas.proofs.filled_chain.count_extents.Goals.{then-used-len-gt-BODY_LEN, else-used-len-gt-BODY_LEN}
+use Rattle.deltas.proofs.counting.count_extents.Goals as goal
+use Rattle.deltas.proofs.counting.count_extents.Goals.{then-used-len-gt-BODY_LEN, else-used-len-gt-BODY_LEN}
 
 pub loop-record-init : goal.loop-record-init
 loop-record-init g c = none_counted (g.S.RecordSource.left c.args.source.now)
