@@ -451,7 +451,7 @@ def main(words):
             print(f"more edits: none tried: {lack}", file=sys.stderr)
             return 1
         proofs = json.loads(pathlib.Path(given.proofs).read_text(encoding="utf-8")) if given.proofs else {}
-        slowness = slowness_of(proofs, rt, crates) if given.minutes is not None else 1.0
+        slowness = slowness_of(proofs, rt, crates) if given.minutes else 1.0
         clock = Clock(given.minutes, given.began, slowness)
         if given.minutes is not None:
             print(clock.told(slowness), flush=True)
