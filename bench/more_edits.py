@@ -267,17 +267,16 @@ class Lanes:
 
     def end(self, turn):
         """Sees that the crate is still proved over its seed, so that what was refused was refused for the edit, and removes the seed."""
+        is_sound = False
         try:
-            is_same = self.rt.listing(f"{turn.seed}/seed") == turn.files
-            is_sound = is_same and sources_of(turn.crate) == turn.sources
-            if turn.tried and is_sound:
-                is_sound = not self.rt.checked(turn.crate, {}, ["--jobs", "1"], f"{turn.seed}/seed").returncode
+            is_same = self.rt.listing(f"{turn.seed}/seed") == turn.files and sources_of(turn.crate) == turn.sources
+            is_sound = is_same and not (turn.tried and self.rt.checked(turn.crate, {}, ["--jobs", "1"], f"{turn.seed}/seed").returncode)
+        finally:
             if not is_sound:
                 refused = (self.rt.REFUSED, self.rt.AT_LIMIT)
                 turn.tried = [(edit, self.rt.UNSURE, "") if kind in refused else (edit, kind, text) for edit, kind, text in turn.tried]
                 if not self.is_stopped:
                     self.seedless.append(f"{turn.crate.name}: it is not proved again over what its proof left, or its files were changed meanwhile")
-        finally:
             shutil.rmtree(turn.seed, ignore_errors=True)
             turn.state = "over"
 
