@@ -2,7 +2,9 @@
 """Tries the edits that the gate leaves out, crates/NAME/more-edits/*.edit, over the libraries that `rt ci` or `rt lib` left in crates/*/out:
 the prover must refuse each of them too. Where there are none, and no --minutes, rt lib builds them.
 
-usage: bench/more_edits.py [--minutes N [--began SECONDS] [--proofs FILE]] [--write] [NAME ..]      (no name: all crates)
+usage: bench/more_edits.py [--minutes N [--began SECONDS] [--proofs FILE]] [--new] [--write] [NAME ..]
+
+A NAME is a crate or CRATE/EDIT; with none all are meant. --new leaves out those that the table below tells to be refused as they are now.
 
 bench/edits_tried.tsv tells when each edit was last tried and refused, and by which text. First come the edits of which it tells nothing, or whose
 crate or own text has changed since then; after them those that were tried the longest ago. --write puts what is refused into that table.
@@ -129,7 +131,7 @@ class Edit:
 class Turn:
     """One crate's edits, those to be tried first at the front: waiting, then its seed is made, then they are tried, then it is over."""
 
-    def __init__(self, crate, rows):
+    def __init__(self, crate, rows, names=(), only_new=False):
         self.crate, self.sources = crate, sources_of(crate)
         self.edits, self.state, self.seed, self.files, self.running = [], "waiting", None, {}, 0
         # (edit, kind, text) of each that was tried over the seed
@@ -137,6 +139,9 @@ class Turn:
         for path in sorted(pathlib.Path(crate.folder, "more-edits").glob("*.edit")):
             found = hashlib.sha256(self.sources + path.read_bytes()).hexdigest()[:12]
             self.edits.append(Edit(path, found, rows.get((crate.name, path.stem))))
+        if names and crate.name not in names:
+            self.edits = [it for it in self.edits if f"{crate.name}/{it.name}" in names]
+        self.edits = [it for it in self.edits if it.is_new or not only_new]
         self.edits.sort(key=lambda it: (not it.is_new, it.last_tried, it.name))
         self.count = len(self.edits)
 
@@ -411,11 +416,18 @@ def ordered(turns, estimate):
     return sorted(turns, key=lambda it: (not it.has_new, it.edits[0].last_tried if not it.has_new else "", estimate(it)))
 
 
+def unknown_of(names, crates):
+    """The names that are no crate with edits, and no edit."""
+    edits = {f"{it.name}/{edit.stem}" for it in crates for edit in pathlib.Path(it.folder, "more-edits").glob("*.edit")}
+    return [it for it in names if it not in edits and it not in {edit.partition("/")[0] for edit in edits}]
+
+
 def parsed(words):
     parser = argparse.ArgumentParser(description=__doc__, formatter_class=argparse.RawDescriptionHelpFormatter)
     parser.add_argument("--minutes", type=float)
     parser.add_argument("--began", type=float)
     parser.add_argument("--proofs")
+    parser.add_argument("--new", action="store_true")
     parser.add_argument("--write", action="store_true")
     parser.add_argument("names", nargs="*")
     return parser.parse_args(words)
@@ -429,18 +441,17 @@ def main(words):
         tempfile.tempdir = room
         rt, crates = kit()
         rows = read_table()
-        turns = [turn for turn in (Turn(it, rows) for it in crates) if turn.edits]
-        unknown = [it for it in given.names if it not in [turn.crate.name for turn in turns]]
+        turns = [turn for turn in (Turn(it, rows, given.names, given.new) for it in crates) if turn.edits]
+        unknown = unknown_of(given.names, crates)
         if unknown:
-            print(f"no edits in more-edits of: {' '.join(unknown)}; there are some of: {' '.join(it.crate.name for it in turns)}", file=sys.stderr)
+            print(f"no such edits in more-edits: {' '.join(unknown)}", file=sys.stderr)
             return 2
-        turns = [it for it in turns if not given.names or it.crate.name in given.names]
         are_own, lack = libraries([it.crate for it in turns], given.minutes is None)
         if lack:
             print(f"more edits: none tried: {lack}", file=sys.stderr)
             return 1
         proofs = json.loads(pathlib.Path(given.proofs).read_text(encoding="utf-8")) if given.proofs else {}
-        slowness = slowness_of(proofs, rt, crates) if given.minutes is not None else 1.0
+        slowness = slowness_of(proofs, rt, crates) if given.minutes else 1.0
         clock = Clock(given.minutes, given.began, slowness)
         if given.minutes is not None:
             print(clock.told(slowness), flush=True)
