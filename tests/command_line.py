@@ -2,13 +2,13 @@
 """The words of the command line as a shell sees them: help on standard output with status 0, what is no command on
 standard error with status 2, and a time that is none refused with status 1.
 
-    bench/command_line.py PROGRAM
+    tests/command_line.py PROGRAM
 """
 import os
 import sys
 import tempfile
 
-from program import run
+from trial import run
 
 COMMANDS = ("format", "run", "at", "between", "dump")
 LIMITS = ("16 to 65536", "65536 extents of 8 KiB", "1 to 1024 keys", "1 to 16 fields of 0 to 255 bytes",

@@ -2,7 +2,7 @@
 """The calls that the program makes of the system, as `strace` sees them: which file each write goes
 to, that each is synced, and that answers are written a piece at a time and not a byte.
 
-    bench/system_calls.py PROGRAM
+    tests/system_calls.py PROGRAM
 """
 import os
 import re
@@ -10,7 +10,7 @@ import subprocess
 import sys
 import tempfile
 
-from program import run
+from trial import run
 
 CALL = re.compile(r"^(?:\d+ +)?(\w+)\((?:AT_FDCWD[^,]*, )?(?:\"([^\"]*)\"|\d+<([^>]*)>)(.*)$")
 TRACED = "openat,open,creat,pwrite64,pwritev,ftruncate,fallocate,fsync,fdatasync,write,read,flock"

@@ -1,7 +1,7 @@
 #!/usr/bin/env python3
 """Counts the growths of memory that a view and a transaction ask for, at 16 keys and at 1,024.
 
-    bench/growths.py PROGRAM
+    tests/growths.py PROGRAM
 
 PROGRAM is the built program. A line `at` takes a view, asks it and ends it; `begin` and `abort` are a
 transaction. Of a thousand of each `valgrind` counts the calls of malloc, beside those of a hundred, in a

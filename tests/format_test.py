@@ -1,7 +1,7 @@
 #!/usr/bin/env python3
 """Makes the small store that docs/FORMAT.md shows, and compares it with the page byte by byte.
 
-bench/format_test.py PROGRAM [PAGE]
+tests/format_test.py PROGRAM [PAGE]
 """
 
 import pathlib

@@ -2,13 +2,13 @@
 """Two processes and one store: who comes second is refused, nothing is touched, and a process that is
 killed gives the store up. A folder without a store stays as it is.
 
-    bench/two_processes.py PROGRAM
+    tests/two_processes.py PROGRAM
 """
 import os
 import sys
 import tempfile
 
-from program import Fed, run
+from trial import Fed, run
 
 
 def content(folder):

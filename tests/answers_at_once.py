@@ -2,7 +2,7 @@
 """The program answers each line at once, though it gathers what it writes: over pipes that are held
 open, and in a terminal.
 
-    bench/answers_at_once.py PROGRAM
+    tests/answers_at_once.py PROGRAM
 """
 import os
 import pty
@@ -11,7 +11,7 @@ import tempfile
 import termios
 import tty
 
-from program import Fed, run
+from trial import Fed, run
 
 DIALOGUE = [
     ("begin t", "snapshot 0"),
