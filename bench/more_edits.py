@@ -166,8 +166,9 @@ class Clock:
     def told(self, slowness):
         """How many minutes there are, and why."""
         whole = f", and the run has taken {self.took:.0f} of its {self.whole:.0f} minutes" if self.took else ""
-        much = f"{self.minutes:.0f} minutes for them" if self.minutes >= 1 else "no time is left for them"
-        return f"more edits: {much}; a proof takes {slowness:.2f} of what it takes on the reference machine{whole}"
+        if self.minutes < 1:
+            return f"more edits: no time is left for them{whole}"
+        return f"more edits: {self.minutes:.0f} minutes for them; a proof takes {slowness:.2f} of what it takes on the reference machine{whole}"
 
     def has_time_for(self, seconds):
         return time.time() + seconds < self.last_begin
