@@ -23,6 +23,8 @@ mod heap_records;
 #[cfg(test)]
 mod images;
 #[cfg(test)]
+mod linked_extents;
+#[cfg(test)]
 mod list_walk;
 #[cfg(test)]
 mod long_runs;
