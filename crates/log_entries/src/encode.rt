@@ -1,7 +1,6 @@
-//! Entries as bytes. Where there is no memory, each leaves what was there; there is, where there is room for what is
-//! appended.
+//! Entries as bytes. Where there is no memory, each leaves what was there.
 
-ghost use Rattle.std.specs.Prelude.{◌≡◌, ◌++◌, ◌+◌, ◌*◌, ◌<◌, ◌≤◌, [], ℕ, List, length, map, vec_len, vec_capacity, is_ok, if◌then◌else◌, OnOk, OnErr};
+ghost use Rattle.std.specs.Prelude.{◌≡◌, ◌++◌, ◌+◌, ◌*◌, ◌≤◌, [], ℕ, List, length, map, is_ok, if◌then◌else◌, OnOk};
 ghost use Rattle.std.specs.List.{flat_map};
 ghost use Rattle.deltas.specs.Records.{spelling};
 ghost use Rattle.deltas.specs.Loans.{record_of_loan};
@@ -83,8 +82,7 @@ fn mark_array(upto: u64, anchors: &AnchorName) -> [u8; BASE_LEN]
 /// follow it. These are pushed behind it.
 pub fn push_commit(out: &mut Vec<u8>, label: u64, time: u64, count: u16) -> Result<(), AllocError>
     ensures items { out.new.items ≡ (if is_ok result then out.old.items ++ commit_bytes label time count else out.old.items) }
-    ensures len { OnOk result (vec_len out.new ≡ vec_len out.old + 19) }
-    ensures full { OnErr result (vec_capacity out.old < vec_len out.old + 19) }
+    ensures len { OnOk result (length out.new.items ≡ length out.old.items + 19) }
 {
     out.extend_from_slice(&commit_array(label, time, count))?;
     Ok(())
@@ -93,8 +91,7 @@ pub fn push_commit(out: &mut Vec<u8>, label: u64, time: u64, count: u16) -> Resu
 /// Appends the one spelling of a record.
 pub fn push_write(out: &mut Vec<u8>, one: RecordRef) -> Result<(), AllocError>
     ensures items { out.new.items ≡ (if is_ok result then out.old.items ++ spelling (record_of_loan one.entry) else out.old.items) }
-    ensures len { OnOk result (vec_len out.new ≡ vec_len out.old + length (spelling (record_of_loan one.entry))) }
-    ensures full { OnErr result (vec_capacity out.old < vec_len out.old + length (spelling (record_of_loan one.entry))) }
+    ensures len { OnOk result (length out.new.items ≡ length out.old.items + length (spelling (record_of_loan one.entry))) }
 {
     let at = out.len();
     out.resize(at + loan_len(one), 0)?;
@@ -105,8 +102,7 @@ pub fn push_write(out: &mut Vec<u8>, one: RecordRef) -> Result<(), AllocError>
 /// Appends an ARCHIVED.
 pub fn push_archive(out: &mut Vec<u8>, archive: &Archive) -> Result<(), AllocError>
     ensures items { out.new.items ≡ (if is_ok result then out.old.items ++ archive_bytes archive.now else out.old.items) }
-    ensures len { OnOk result (vec_len out.new ≡ vec_len out.old + 35) }
-    ensures full { OnErr result (vec_capacity out.old < vec_len out.old + 35) }
+    ensures len { OnOk result (length out.new.items ≡ length out.old.items + 35) }
 {
     out.extend_from_slice(&archive_array(archive))?;
     Ok(())
@@ -115,8 +111,7 @@ pub fn push_archive(out: &mut Vec<u8>, archive: &Archive) -> Result<(), AllocErr
 /// Appends a FLOOR.
 pub fn push_floor(out: &mut Vec<u8>, floor: &RelationFloor) -> Result<(), AllocError>
     ensures items { out.new.items ≡ (if is_ok result then out.old.items ++ floor_bytes floor.now else out.old.items) }
-    ensures len { OnOk result (vec_len out.new ≡ vec_len out.old + 11) }
-    ensures full { OnErr result (vec_capacity out.old < vec_len out.old + 11) }
+    ensures len { OnOk result (length out.new.items ≡ length out.old.items + 11) }
 {
     out.extend_from_slice(&floor_array(floor))?;
     Ok(())
