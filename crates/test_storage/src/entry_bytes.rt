@@ -168,9 +168,9 @@ const LAST_OF_17: &[u8] =
 /// Whether these are the bytes of 17 commits of 33 bytes each.
 fn are_17(bytes: &[u8]) -> bool {
     bytes.len() == 561
-        && bytes[..33] == *FIRST_OF_17
-        && bytes[33..66] == *SECOND_OF_17
-        && bytes[528..] == *LAST_OF_17
+        && &bytes[..33] == FIRST_OF_17
+        && &bytes[33..66] == SECOND_OF_17
+        && &bytes[528..] == LAST_OF_17
 }
 
 /// Whether 17 commits are spelled one behind the other.
@@ -201,11 +201,11 @@ const LONG: Commit = Commit {
 const LONG_FRONT: &[u8] =
     b"\x05\x01\0\0\0\0\0\0\0\x64\0\0\0\0\0\0\0\x02\0\x01\x01\0\x01\0\0\0\0\0\0\0\x10\xffxxxx";
 
+const SECOND_KEY: &[u8] = b"\x01\x01\0\x02\0\0\0\0\0\0\0";
+
 /// Whether these are the bytes of two values of 16 fields of 255 bytes: 4,108 each behind their COMMIT.
 fn are_long(bytes: &[u8]) -> bool {
-    bytes.len() == 8235
-        && bytes.starts_with(LONG_FRONT)
-        && bytes[4127..4138] == *b"\x01\x01\0\x02\0\0\0\0\0\0\0"
+    bytes.len() == 8235 && bytes.starts_with(LONG_FRONT) && &bytes[4127..4138] == SECOND_KEY
 }
 
 /// Whether a commit of these is spelled so.
