@@ -5,7 +5,7 @@ PROGRAM = crates/timestore/out/timestore
 BENCH = crates/bench/out/bench
 # The most processor minutes that the gate may take, on the reference machine of bench/gate_cost.py. A machine that takes longer for the crates that
 # tell its speed is given as much longer for the gate.
-BUDGET = 140
+BUDGET = 200
 
 .PHONY: demo test more-edits build try examples bench trials torture torture-short soak hostile try-refused planted rates lib install library-test library-bench
 

@@ -2,7 +2,7 @@
 """Tries the edits that the gate leaves out, crates/NAME/more-edits/*.edit, over the libraries that `rt ci` or `rt lib` left in crates/*/out:
 the prover must refuse each of them too. Where there are none, and no --minutes, rt lib builds them.
 
-usage: bench/more_edits.py [--minutes N [--began SECONDS] [--proofs FILE]] [--new] [--write] [NAME ..]
+usage: bench/more_edits.py [--minutes N [--began SECONDS] [--proofs FILE]] [--new] [--first-tells] [--write] [NAME ..]
 
 A NAME is a crate or CRATE/EDIT; with none all are meant. --new leaves out those that the table below tells to be refused as they are now.
 
@@ -18,7 +18,7 @@ each proof took. --began is when the whole run began, in seconds since 1970: it 
 machine is slow, with fewer edits or none.
 
 The status is 1 where an edit is proved, does not apply or compile any more, or is refused only because a proof names what it takes away; and where
-nothing could be tried. An edit whose check was killed or cut off has no verdict, and is left to be tried.
+nothing could be tried. With --first-tells an edit of which the table tells nothing is only told then. An edit whose check was killed or cut off has no verdict, and is left to be tried.
 """
 import argparse
 import collections
@@ -166,8 +166,9 @@ class Clock:
     def told(self, slowness):
         """How many minutes there are, and why."""
         whole = f", and the run has taken {self.took:.0f} of its {self.whole:.0f} minutes" if self.took else ""
-        much = f"{self.minutes:.0f} minutes for them" if self.minutes >= 1 else "no time is left for them"
-        return f"more edits: {much}; a proof takes {slowness:.2f} of what it takes on the reference machine{whole}"
+        if self.minutes < 1:
+            return f"more edits: no time is left for them{whole}"
+        return f"more edits: {self.minutes:.0f} minutes for them; a proof takes {slowness:.2f} of what it takes on the reference machine{whole}"
 
     def has_time_for(self, seconds):
         return time.time() + seconds < self.last_begin
@@ -267,17 +268,16 @@ class Lanes:
 
     def end(self, turn):
         """Sees that the crate is still proved over its seed, so that what was refused was refused for the edit, and removes the seed."""
+        is_sound = False
         try:
-            is_same = self.rt.listing(f"{turn.seed}/seed") == turn.files
-            is_sound = is_same and sources_of(turn.crate) == turn.sources
-            if turn.tried and is_sound:
-                is_sound = not self.rt.checked(turn.crate, {}, ["--jobs", "1"], f"{turn.seed}/seed").returncode
+            is_same = self.rt.listing(f"{turn.seed}/seed") == turn.files and sources_of(turn.crate) == turn.sources
+            is_sound = is_same and not (turn.tried and self.rt.checked(turn.crate, {}, ["--jobs", "1"], f"{turn.seed}/seed").returncode)
+        finally:
             if not is_sound:
                 refused = (self.rt.REFUSED, self.rt.AT_LIMIT)
                 turn.tried = [(edit, self.rt.UNSURE, "") if kind in refused else (edit, kind, text) for edit, kind, text in turn.tried]
                 if not self.is_stopped:
                     self.seedless.append(f"{turn.crate.name}: it is not proved again over what its proof left, or its files were changed meanwhile")
-        finally:
             shutil.rmtree(turn.seed, ignore_errors=True)
             turn.state = "over"
 
@@ -367,8 +367,9 @@ def told_of(text):
 class Results:
     """What the edits of all crates came to, told as each crate ends."""
 
-    def __init__(self, rt, rows, writes):
-        self.rt, self.rows, self.writes, self.counts, self.failed = rt, rows, writes, collections.Counter(), []
+    def __init__(self, rt, rows, writes, first_tells):
+        self.rt, self.rows, self.writes, self.first_tells = rt, rows, writes, first_tells
+        self.counts, self.failed, self.to_mend = collections.Counter(), [], []
 
     def is_refused(self, kind, text):
         return kind in (self.rt.REFUSED, self.rt.AT_LIMIT) and BY_NAMES_ALONE not in text
@@ -385,7 +386,8 @@ class Results:
                 self.counts["no verdict"] += 1
                 print("".join(f"{told_of(line)}\n" for line in text.split("\n")[:1] if line), end="")
             else:
-                self.failed.append(f"{crate}/{edit.name}")
+                lacks_row = self.first_tells and edit.row is None
+                (self.to_mend if lacks_row else self.failed).append(f"{crate}/{edit.name}")
                 self.rows.pop((crate, edit.name), None)
                 print(told_of(text))
         if turn.tried:
@@ -401,6 +403,8 @@ class Results:
         left += [edit for turn in turns for edit, kind, _ in turn.tried if kind == self.rt.UNSURE]
         new, oldest = sum(it.is_new for it in left), min((it.last_tried for it in left if not it.is_new), default="")
         print(f"more edits: {self.counts['refused']} of {sum(it.count for it in turns)} tried and refused in {(time.time() - began) / 60:.0f} minutes" + (f", {self.counts['no verdict']} with no verdict" if self.counts["no verdict"] else "") + f"; left: {new} that are new or whose crate has changed since they were tried, and {len(left) - new} others" + (f", the oldest tried on {oldest}" if oldest else ""))
+        if self.to_mend:
+            print(f"more edits: to be mended, tried for the first time: {' '.join(self.to_mend)}")
         if self.failed:
             print(f"more edits: NOT REFUSED AS THEY MUST BE: {' '.join(self.failed)}")
 
@@ -428,6 +432,7 @@ def parsed(words):
     parser.add_argument("--began", type=float)
     parser.add_argument("--proofs")
     parser.add_argument("--new", action="store_true")
+    parser.add_argument("--first-tells", action="store_true")
     parser.add_argument("--write", action="store_true")
     parser.add_argument("names", nargs="*")
     return parser.parse_args(words)
@@ -457,7 +462,7 @@ def main(words):
             print(clock.told(slowness), flush=True)
         lanes = Lanes(rt, turns, clock, proofs, slowness, are_own and given.minutes is None)
         lanes.turns = turns = ordered(turns, lanes.seed_estimate)
-        results = Results(rt, rows, given.write)
+        results = Results(rt, rows, given.write, given.first_tells)
         lanes.run(lanes_here(rt), results.take)
         results.sum_up(turns, began)
         for it in lanes.seedless:
