@@ -1,6 +1,6 @@
 -- The way of a group to the disk, told of histories.
-use Rattle.std.proofs.Common.{◌≡◌, ℕ, ◌+◌, ◌≤◌, zero, suc, true, List, [], ◌∷◌, ◌++◌, length, map, take, drop, refl, sym, ap, subst, ◌∙◌, arith, Result, Ok}
-use Rattle.std.proofs.Common.{◌⊎◌, inl, inr, ⊎_elim}
+use Rattle.std.proofs.Common.{◌≡◌, ℕ, ◌+◌, suc, true, List, [], ◌∷◌, ◌++◌, length, map, take, drop, refl, sym, ap, subst, ◌∙◌, arith, Result}
+use Rattle.std.proofs.Common.{inl, inr, ⊎_elim}
 use Rattle.std.specs.Prelude.{flat_map}
 use Rattle.std.specs.List.{AllByRecursion}
 use Rattle.history.proofs.Filters.{AllByRecursion-append}
@@ -8,8 +8,7 @@ use Rattle.history.specs.Histories.{History}
 use Rattle.disk.specs.declared.area.Area.TheVariants.{Heap}
 use Rattle.disk.specs.declared.area.DeviceFault.{DeviceFault}
 use Rattle.disk.specs.Areas.{AreaState, Areas, Image, AreSound, LeavesImage, MayLeave}
-use Rattle.disk.specs.Calls.{Writes, Syncs}
-use Rattle.disk.specs.Parts.{HoldsPart, KeepsPart}
+use Rattle.disk.specs.Parts.{KeepsPart}
 use Rattle.disk.proofs.Stops.{left_by_write, left_by_sync}
 use Rattle.law_image.specs.Values.{Value}
 use Rattle.law_image.specs.Reading.{Reading}
@@ -23,14 +22,15 @@ use Rattle.log_extents.specs.Extents.{LinkedExtent, linked_bytes}
 use Rattle.log_extents.specs.Chains.{first_or, chain_of}
 use Rattle.log_entries.specs.Spelling.{entry_bytes}
 use Rattle.log_entries.specs.declared.entry.Member.{Member}
-use Rattle.law_log_layout.specs.Turns.{Part, HoldsAll, KeepsAll, open_gate, gate_part, KeepsClosed, Turn, IsFree, HoldsOld, HoldsNew, Stage, Writing, Syncing}
-use Rattle.law_log_layout.specs.Turns.{Opening, Settling, Done, IsCallOf, stage_after, IsAt, IsDone, MayBe, MayBecome}
-use Rattle.law_log_layout.specs.HeapLog.{PlacedChain, PlacedRoll, HeapLog, extent_part, extents_of, heap_parts, name_bytes, HoldsRoll, HoldsLog, HeapStandsFor}
+use Rattle.law_log_layout.specs.Turns.{KeepsAll, HoldsOld, HoldsNew}
+use Rattle.law_log_layout.specs.Turns.{IsAt, IsDone, MayBe, MayBecome}
+use Rattle.law_log_layout.specs.HeapLog.{PlacedRoll, HeapLog, extent_part, extents_of, heap_parts, name_bytes, HoldsRoll, HeapStandsFor}
 use Rattle.law_log_layout.specs.HeapLog.{IsLogOf, member_told, written_parts, with_chain, turn_of, placed_group, MayJoin}
-use Rattle.law_log_layout.specs.Laws.{KeepsArchive, KeepsLog, IsGroupWay, stage_after_all}
+use Rattle.law_log_layout.specs.Laws.{KeepsArchive, IsGroupWay, stage_after_all}
 use Rattle.law_log_layout.proofs.Goes.{goes}
 use Rattle.law_log_layout.proofs.Joining.{joined-part, opened-bytes, parts-more, chain-free, chain-joined}
 use Rattle.law_log_layout.proofs.GroupJoins.{room, group-is_log}
+use Rattle.log_writer.specs.Turns.{open_gate, Done, IsCallOf, Opening, Part, Settling, Stage, Syncing, Turn, Writing}
 
 may-be : (stage : Stage) (A B C D : Type 0) → (A → C) → (B → D) → MayBe stage A B → MayBe stage C D
 may-be (Writing done rest) A B C D f g is = f is

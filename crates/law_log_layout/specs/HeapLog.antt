@@ -1,7 +1,6 @@
 -- The log in the heap where it lies, and what an image that has it reads as.
-use Rattle.std.specs.Prelude.{ℕ, ◌≡◌, ◌≢◌, ◌<◌, ◌≤◌, ◌-◌, ◌+◌, List, [], ◌∷◌, ◌++◌, length, map, take, drop, flat_map, Contains, ◌↔◌}
+use Rattle.std.specs.Prelude.{ℕ, ◌≡◌, ◌<◌, ◌-◌, ◌+◌, List, [], ◌∷◌, ◌++◌, length, map, take, drop, flat_map, Contains, ◌↔◌}
 use Rattle.std.specs.List.{AllByRecursion}
-use Rattle.std.specs.List.Sorted.{IsStrictlySortedBy}
 use Rattle.wire.specs.Numbers.{u64_bytes}
 use Rattle.wire.specs.declared.slot.Run.{Run}
 use Rattle.history.specs.Histories.{History}
@@ -13,10 +12,9 @@ use Rattle.law_image.specs.StandsFor.{StandsFor}
 use Rattle.law_log.specs.Chains.{LogChain, OfBase, OfGroup, OfRun, OfFloor, KeepsChainRules, reading_of}
 use Rattle.law_log.specs.Chains as logs
 use Rattle.deltas.specs.Extents.{extent_start}
-use Rattle.deltas.specs.Records.{spelling, heap_record, old_record_of}
+use Rattle.deltas.specs.Records.{heap_record}
 use Rattle.law_layout.specs.Records.{old_bytes, IsOldRecord}
 use Rattle.law_layout.specs.Runs.{StoredRun, IsStoredRun, HoldsRun}
-use Rattle.disk.specs.Areas.{Image}
 use Rattle.disk.specs.Parts.{HoldsPart}
 use Rattle.log_extents.specs.Extents.{LinkedExtent, linked_bytes}
 use Rattle.log_extents.specs.Chains.{count_of, first_or, chain_of, IsNumberOf, AreDistinct}
@@ -30,7 +28,8 @@ use Rattle.log_entries.specs.declared.entry.Entry.TheVariants.{Group, Archived, 
 use Rattle.log_entries.specs.declared.entry.Entry.TheVariants as entries
 use Rattle.log_entries.specs.Spelling.{entry_bytes}
 use Rattle.log_entries.specs.Ranges.{IsEntry, run_of}
-use Rattle.law_log_layout.specs.Turns.{Part, HoldsAll, open_gate, IsClosed, Turn}
+use Rattle.law_log_layout.specs.Turns.{HoldsAll, IsClosed}
+use Rattle.log_writer.specs.Turns.{open_gate, Part, Turn}
 
 -- ---- what lies where
 

@@ -16,8 +16,9 @@ use Rattle.disk.specs.Areas.{AreaState, Areas, Image, AreSound, LeavesImage, May
 use Rattle.disk.specs.declared.area.DeviceFault.{DeviceFault}
 use Rattle.law_log_layout.specs.Roots.{NamesRoot, other, IsHeaderApart}
 use Rattle.law_log_layout.specs.Roots as roots
-use Rattle.law_log_layout.specs.Turns.{Part, KeepsAll, KeepsClosed, Turn, IsFree, HoldsOld, HoldsNew, Stage, Writing, Done, IsCallOf, stage_after, IsAt, MayBe}
+use Rattle.law_log_layout.specs.Turns.{KeepsAll, KeepsClosed, IsFree, HoldsOld, HoldsNew, IsAt, MayBe}
 use Rattle.law_log_layout.specs.Turns.{MayBecome}
+use Rattle.log_writer.specs.Turns.{stage_after, Done, IsCallOf, Part, Stage, Turn, Writing}
 
 -- What holds of a chain at a stage: what a stop may leave of the heap holds the old log, or from the gate's write on either, or at the end the new one.
 pub record IsChainWay (live : List Part) (t : Turn) (stage : Stage) (areas : Areas) : Type 0 where

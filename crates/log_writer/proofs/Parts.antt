@@ -1,6 +1,6 @@
 -- The parts of a chain, one after the other.
-use Rattle.std.proofs.Common.{◌≡◌, ⊎_elim, get_or, replicate, length-append, ℕ, ◌+◌, ◌-◌, ◌*◌, ◌<◌, ◌≤◌, min, zero, suc, List, [], ◌∷◌, ◌++◌, map, length, take, drop, refl, sym, ap, ◌∙◌, arith}
-use Rattle.std.proofs.lemmas.List.{drop-drop, take-take, take_all, length-drop, length-take, length-replicate, append-nil}
+use Rattle.std.proofs.Common.{◌≡◌, ⊎_elim, get_or, replicate, length-append, ℕ, ◌+◌, ◌-◌, ◌*◌, ◌<◌, ◌≤◌, min, zero, suc, List, [], ◌∷◌, map, length, take, drop, refl, sym, ap, ◌∙◌, arith}
+use Rattle.std.proofs.lemmas.List.{drop-drop, take-take, take_all, length-drop, length-take, length-replicate}
 use Rattle.std.proofs.lemmas.Bool.Decides.{nat_tests}
 use Rattle.std.proofs.lemmas.Bool.{cases_lt}
 use Rattle.std.proofs.Math.Seq.{drop-cons}
@@ -67,9 +67,9 @@ parts-from (suc k) link (m ∷ ms) content n ns is =
     let place : 8168 + 8168 * k ≡ 8168 * suc k = omega arith in (
       map extent_part (chain_to 0 0 0 ns (drop 8168 (drop (8168 * suc k) content))),
       drop-map extent_part k (chain_to 0 0 0 ms (drop 8168 content))
-      ∙ ap (map extent_part) (chain-drop k 0 ms (drop 8168 content))
-      ∙ ap (λ (numbers : List ℕ). map extent_part (chain_to 0 0 0 numbers (drop (8168 * k) (drop 8168 content)))) is
-      ∙ ap (λ (rest : List ℕ). map extent_part (chain_to 0 0 0 (n ∷ ns) rest)) (drop-drop (8168 * k) 8168 content ∙ ap (λ (i : ℕ). drop i content) place),
+          ∙ ap (map extent_part) (chain-drop k 0 ms (drop 8168 content))
+          ∙ ap (λ (numbers : List ℕ). map extent_part (chain_to 0 0 0 numbers (drop (8168 * k) (drop 8168 content)))) is
+          ∙ ap (λ (rest : List ℕ). map extent_part (chain_to 0 0 0 (n ∷ ns) rest)) (drop-drop (8168 * k) 8168 content ∙ ap (λ (i : ℕ). drop i content) place),
     )
 
 -- ---- one write

@@ -53,3 +53,15 @@ did turns.Syncing = wrote.Synced
 did turns.Opening = wrote.Gate
 did turns.Settling = wrote.Settled
 did turns.Done = wrote.Settled
+
+-- a call is still to be made
+abbrev pub IsOnItsWay : Stage → Type 0
+IsOnItsWay (turns.Writing done rest) = Unit {0}
+IsOnItsWay turns.Syncing = Unit {0}
+IsOnItsWay turns.Opening = Unit {0}
+IsOnItsWay turns.Settling = Unit {0}
+IsOnItsWay turns.Done = ⊥
+
+-- the chain at another stage
+abbrev pub with_stage : WriterState → Stage → WriterState
+with_stage w stage = record w { stage = stage }

@@ -125,7 +125,13 @@ impl ChainWriter {
     {
         let mut image = [0; EXTENT_LEN];
         let number = self.numbers[0];
-        fill_extent(self.link, number, self.number_behind(0), self.body(0), &mut image);
+        fill_extent(
+            self.link,
+            number,
+            self.number_behind(0),
+            self.body(0),
+            &mut image,
+        );
         disk.write_at(Area::Heap, extent_place(number) + 1, &image[1..])
     }
 
@@ -138,7 +144,13 @@ impl ChainWriter {
     {
         let mut image = [0; EXTENT_LEN];
         let number = self.numbers[index];
-        fill_extent(0, number, self.number_behind(index), self.body(index), &mut image);
+        fill_extent(
+            0,
+            number,
+            self.number_behind(index),
+            self.body(index),
+            &mut image,
+        );
         disk.write_at(Area::Heap, extent_place(number), &image)
     }
 }
@@ -149,4 +161,89 @@ fn extent_place(number: u32) -> u64
     ensures { result ≡ extent_start number }
 {
     EXTENT_LEN as u64 * u64::from(number - 1)
+}
+
+impl ChainWriter {
+    ghost use Rattle.std.specs.Prelude.{◌≡◌, ◌<◌, ◌≤◌, ◌+◌, ◌∷◌, [], ℕ, List, drop, length, IsTrue, IfOk, IfErr};
+    ghost use Rattle.deltas.specs.Extents.{extent_start};
+    ghost use Rattle.disk.specs.Calls.{Counts, Writes};
+    ghost use Rattle.disk.specs.declared.area.Area.TheVariants.{Heap};
+    ghost use Rattle.status.specs.SlotCalls.{answer_of};
+    ghost use Rattle.log_writer.specs.Turns.{Part, IsCallOf, stage_after};
+    ghost use Rattle.log_writer.specs.Writer.{turn, did, stage_of, IsStepOf, IsOnItsWay, with_stage};
+
+    // Writes the extent of this index.
+    fn write_extent<D: Disk>(&self, index: usize, disk: &mut D) -> Result<(), DeviceFault>
+        requires { index < length self.now.numbers }
+        ensures call { (p : Part) (rest : List Part) → drop index (turn self.now).parts ≡ p ∷ rest → IsTrue D.tells → Writes Heap p.place p.bytes result (D.state disk.old).areas (D.state disk.new).areas }
+        ensures counts { Counts result (D.state disk.old) (D.state disk.new) }
+    {
+        if index == 0 {
+            self.write_head(disk)
+        } else {
+            self.write_other(index, disk)
+        }
+    }
+
+    // Writes a gate of this extent.
+    fn write_gate<D: Disk>(number: u32, gate: u8, disk: &mut D) -> Result<(), DeviceFault>
+        requires { 0 < number }
+        ensures call { IsTrue D.tells → Writes Heap (extent_start number) (gate ∷ []) result (D.state disk.old).areas (D.state disk.new).areas }
+        ensures counts { Counts result (D.state disk.old) (D.state disk.new) }
+    {
+        disk.write_at(Area::Heap, extent_place(number), &[gate])
+    }
+}
+
+impl ChainWriter {
+    ghost use Rattle.std.specs.Prelude.{◌≡◌, length, IsTrue, IfOk, IfErr};
+    ghost use Rattle.disk.specs.Calls.{Counts};
+    ghost use Rattle.status.specs.SlotCalls.{answer_of};
+    ghost use Rattle.log_writer.specs.Turns.{IsCallOf, stage_after};
+    ghost use Rattle.log_writer.specs.Writer.{turn, did, stage_of, IsStepOf, IsOnItsWay, with_stage};
+
+    // The next device call of the chain, and where it leads.
+    fn make_call<D: Disk>(&self, disk: &mut D) -> Result<(Step, Wrote), DeviceFault>
+        requires { IsOnItsWay self.now.stage }
+        ensures call { IsTrue D.tells → IsCallOf (turn self.now) self.now.stage (answer_of result) (D.state disk.old).areas (D.state disk.new).areas }
+        ensures counts { Counts result (D.state disk.old) (D.state disk.new) }
+        ensures leads { IfOk result (λ r. (stage_of (turn self.now).parts r.0 ≡ stage_after self.now.stage) × (r.1 ≡ did self.now.stage) × IsStepOf (length self.now.numbers) r.0) }
+    {
+        match self.step {
+            Step::Writing(written) if written < self.numbers.len() => {
+                self.write_extent(written, disk)?;
+                Ok((Step::Writing(written + 1), Wrote::Extent))
+            }
+            Step::Writing(_) => {
+                ChainWriter::write_gate(self.link, 0, disk)?;
+                Ok((Step::Syncing, Wrote::ClosedGate))
+            }
+            Step::Syncing => {
+                disk.sync(Area::Heap)?;
+                Ok((Step::Opening, Wrote::Synced))
+            }
+            Step::Opening => {
+                ChainWriter::write_gate(self.numbers[0], OPEN_GATE, disk)?;
+                Ok((Step::Settling, Wrote::Gate))
+            }
+            Step::Settling => {
+                disk.sync(Area::Heap)?;
+                Ok((Step::Done, Wrote::Settled))
+            }
+            Step::Done => unreachable!(),
+        }
+    }
+
+    /// The next device call of the chain. A refused one changes nothing here.
+    pub fn advance<D: Disk>(&mut self, disk: &mut D) -> Result<Wrote, DeviceFault>
+        requires { IsOnItsWay self.old.stage }
+        ensures call { IsTrue D.tells → IsCallOf (turn self.old) self.old.stage (answer_of result) (D.state disk.old).areas (D.state disk.new).areas }
+        ensures counts { Counts result (D.state disk.old) (D.state disk.new) }
+        ensures ok { IfOk result (λ what. (what ≡ did self.old.stage) × (self.new ≡ with_stage self.old (stage_after self.old.stage))) }
+        ensures err { IfErr result (λ why. self.new ≡ self.old) }
+    {
+        let (step, what) = self.make_call(disk)?;
+        self.step = step;
+        Ok(what)
+    }
 }

@@ -1,4 +1,4 @@
-use Rattle.std.proofs.Common.{◌≡◌, ◌*◌, ◌+◌, ℕ, List, length, drop, ap, ◌∙◌, arith, subst, get_or}
+use Rattle.std.proofs.Common.{◌≡◌, ◌*◌, ℕ, List, length, drop, ap, ◌∙◌, arith, subst, get_or}
 use Rattle.std.proofs.lemmas.List.{length-take}
 use Rattle.disk.specs.Calls.{Writes}
 use Rattle.disk.specs.declared.area.Area.TheVariants.{Heap}
