@@ -208,7 +208,7 @@ fn is_worked<D: Disk>(alloc: Global, store: &mut Store<D>, step: &Step) -> bool 
 }
 
 /// Whether queries are answered as the step says.
-fn is_shown<D: Disk>(store: &mut Store<D>, held: &Held, step: &Step) -> bool {
+fn is_shown<D: Disk>(alloc: Global, store: &mut Store<D>, held: &Held, step: &Step) -> bool {
     match *step {
         Step::At(which, key, time, want) => is_at(store, held.view(which), key, time, want),
         Step::Recent(which, time, want) => is_recent(held.view(which), time, want),
@@ -218,7 +218,7 @@ fn is_shown<D: Disk>(store: &mut Store<D>, held: &Held, step: &Step) -> bool {
         Step::ScanBetween(which, a, b, want) => {
             is_scan_between(store, held.view(which), a, b, want)
         }
-        _ => false,
+        _ => is_worked(alloc, store, step),
     }
 }
 
@@ -234,12 +234,6 @@ pub fn is_answered<D: Disk>(
         Step::Abort => abort(store, held.take_reader()),
         Step::View(which) => view(store, held, which),
         Step::End(which) => end(store, held.put_view(which, None)),
-        Step::At(..)
-        | Step::Recent(..)
-        | Step::Between(..)
-        | Step::NoneAt(..)
-        | Step::ScanAt(..)
-        | Step::ScanBetween(..) => is_shown(store, held, step),
-        _ => is_worked(alloc, store, step),
+        _ => is_shown(alloc, store, held, step),
     }
 }

@@ -269,6 +269,7 @@ const MANY_RUNS: &[Step] = &[
 put t 1 7 61 | ok
 submit t # 0 | queued
 flush | idle
+redeem t | done +
 archive + | started
 finish | idle
 ",

@@ -352,8 +352,10 @@ fn asked(alloc: Global, front: &Front, is_later: bool) -> Result<String, AllocEr
     } else {
         (SHOWN, front.last)
     };
-    text.push_str(numbered(alloc, shown, last)?.as_str())?;
-    text.push_str(numbered(alloc, front.commits, last)?.as_str())?;
+    let shown = numbered(alloc, shown, last)?;
+    let commits = numbered(alloc, front.commits, last)?;
+    text.push_str(shown.as_str())?;
+    text.push_str(commits.as_str())?;
     Ok(text)
 }
 
@@ -401,7 +403,7 @@ fn left_open((synced, written): (usize, usize), fill: u8) -> usize {
 }
 
 /// What each filling leaves of a second stop shows all of the last commit or nothing of it.
-fn shows_left_again(machine: &mut Machine, front: &Front, gates: (usize, usize)) -> bool {
+fn shows_left_again(machine: &Machine, front: &Front, gates: (usize, usize)) -> bool {
     for fill in fills(machine) {
         let is_later = left_open(gates, *fill) == front.gates;
         let shown = match machine.left((*fill, 0)) {
@@ -436,7 +438,7 @@ fn goes_again(machine: &Machine, front: &Front, dialogue: &Dialogue, call: u64) 
         Came::Unopened => true,
         Came::Failed => {
             let gates = gates_at_stop(&again, dialogue);
-            shows_left_again(&mut again, front, gates)
+            shows_left_again(&again, front, gates)
         }
         Came::Whole => is_whole_again(&mut again, front),
         Came::Wrong => false,
