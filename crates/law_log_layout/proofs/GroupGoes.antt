@@ -159,8 +159,10 @@ group-goes most root l reading h next floors numbers link members stage areas is
     let heap : is_in_heap reading.profile ≡ true = ap (λ (r : Reading). is_in_heap r.profile) is.reading_is in
     entry-goes most root l (placed_group numbers link members) l.runs reading (with_group reading (map member_told members)) h (h ++ next) floors floors stage
     areas is stands joins (group-is_log most root l reading h next floors numbers link members is stands group joins)
-    (group-stands_for reading h floors stands (map member_told members) next group (room reading heap)) sound archive (record { rolls = archive.rolls;
-        runs = archive.runs }) at
+    (group-stands_for reading h floors stands (map member_told members) next group (room reading heap)) sound archive (record {
+      rolls = archive.rolls;
+      runs = archive.runs;
+    }) at
 
 -- ---- how many calls it takes
 

@@ -29,7 +29,7 @@ chained-more : (root next : ℕ) (chains : List PlacedChain) (c : PlacedChain) �
 chained-more root next [] c chained head = (head ∙ sym chained, refl)
 chained-more root next (d ∷ chains) c chained head = (chained.0, chained-more d.link next chains c chained.1 head)
 
-runs-split : (before : List Run) (chains more : List PlacedChain) → runs_from before (chains ++ more) ≡ runs_from (runs_from before chains) more
+pub runs-split : (before : List Run) (chains more : List PlacedChain) → runs_from before (chains ++ more) ≡ runs_from (runs_from before chains) more
 runs-split before [] more = refl
 runs-split before (c ∷ chains) more = runs-split (runs_behind before c.entry) chains more
 

@@ -6,3 +6,4 @@ pub mod Joining
 pub mod GroupJoins
 pub mod GroupGoes
 pub mod ReclaimGoes
+pub mod BaseJoins
