@@ -8,3 +8,4 @@ pub mod GroupGoes
 pub mod ReclaimGoes
 pub mod BaseJoins
 pub mod EntryJoins
+pub mod BaseGoes

@@ -48,7 +48,7 @@ same-others turned root Settling result areas next image sound call left = let l
 same-others turned root Done result areas next image sound call left = absurd call
 
 -- what a stop may leave of heap and archive stands for what the log tells
-log-stands : (most root : ℕ) (l : HeapLog) (reading : Reading) (h : History Value) (floors : ℕ → ℕ) (areas : Areas) (heap archive : List ℕ)
+pub log-stands : (most root : ℕ) (l : HeapLog) (reading : Reading) (h : History Value) (floors : ℕ → ℕ) (areas : Areas) (heap archive : List ℕ)
     → IsLogOf most root l reading → StandsFor reading h floors → KeepsLog l areas.heap → KeepsArchive l areas.archive
     → MayLeave areas.heap heap → MayLeave areas.archive archive → HeapStandsFor most root heap archive h floors
 log-stands most root l reading h floors areas heap archive is stands log runs heap_left archive_left = record {

@@ -1,6 +1,6 @@
 //! Laws of the log that lies in the heap, as bytes.
 ghost use Rattle.law_log_layout.specs.Laws.{ChainGoes, EntryGoes, GroupEnds, GroupGoes, ReclaimGoes, RootGoes};
-ghost use Rattle.law_log_layout.specs.Reclaims.{BaseIsLog};
+ghost use Rattle.law_log_layout.specs.Reclaims.{BaseGoes, BaseIsLog, BaseRests};
 ghost use Rattle.law_log_layout.specs.Entries.{FloorIsLog, RunIsLog};
 
 /// A chain's way behind the log, at every moment: a stop leaves the log without it, or, from the write
@@ -44,4 +44,11 @@ pub fn base_is_log()
 pub fn entry_is_log()
     ensures floor { FloorIsLog }
     ensures run { RunIsLog }
+{}
+
+/// The writing of a base and its anchors, at every moment: what a stop leaves stands for the history, and
+/// once all is synced the log that the base begins is at rest.
+pub fn base_goes()
+    ensures goes { BaseGoes }
+    ensures rests { BaseRests }
 {}
