@@ -1,5 +1,5 @@
 -- The beginning of a floor.
-use Rattle.std.proofs.Common.{◌≡◌, ℕ, ◌+◌, ◌≤◌, Bool, List, [], ◌∷◌, ◌++◌, Some, None, Option, Result, Ok, Err, MatchOption, refl, sym, ap, subst, arith}
+use Rattle.std.proofs.Common.{◌≡◌, inr, ℕ, ◌+◌, ◌≤◌, Bool, List, [], ◌∷◌, ◌++◌, Some, None, Option, Result, Ok, Err, MatchOption, refl, sym, ap, subst, arith}
 use Rattle.history.specs.Steps as steps
 use Rattle.history.specs.Machine.{Machine}
 use Rattle.law_image.specs.Values.{Value}
@@ -18,7 +18,7 @@ use Rattle.run.specs.declared.held.Held.{Held}
 use Rattle.run.specs.declared.held.Held.TheVariants as held
 use Rattle.run.specs.Places.{Free, ArePlaces}
 use Rattle.run.specs.Worlds.{World, moved, same}
-use Rattle.run.specs.Runs.{Goes, Follows, Raises}
+use Rattle.run.specs.Runs.{Goes, Leads, Follows, Raises}
 use Rattle.run.proofs.Runs.{no-step}
 use Rattle.run.proofs.Places.{reads-move, reads-plain, push_nothing, move, goes_on-same, stays}
 use Rattle.run.proofs.Pumping.{pump-keeps}
@@ -62,8 +62,8 @@ leads-by tells v' w scope floor (Err start.HeapFull) is = absurd is
 leads-by tells v' w scope floor (Err start.NoMemory) is = record { after = w.machine; published = refl; says = (is.0, refl); follows = no-step w.machine; stands = is.1 }
 leads-by tells v' w scope floor (Err start.NotGrowable) is = absurd is
 
-pub floor-goes : (tells : Bool) (v v' : StoreValue) (xs : List Held) (scope : Option ℕ) (floor : ℕ) (r : Result (Unit {0}) StartFault) → StartsFloor v scope floor r v' → Goes tells v xs (call.Floor scope floor) (answer.Floor r) v' (xs ++ held.Nothing ∷ [])
-floor-goes tells v v' xs scope floor r starts w is =
+floor-leads : (tells : Bool) (v v' : StoreValue) (xs : List Held) (scope : Option ℕ) (floor : ℕ) (r : Result (Unit {0}) StartFault) → StartsFloor v scope floor r v' → Leads tells v xs (call.Floor scope floor) (answer.Floor r) v' (xs ++ held.Nothing ∷ [])
+floor-leads tells v v' xs scope floor r starts w is =
     let leads = leads-by tells v' w scope floor r (floor-start-stands tells v v' scope floor r w.machine is.stands starts) in
     let places : ArePlaces v'.transactions w.machine.published (xs ++ held.Nothing ∷ []) (w.places ++ Free ∷ []) =
     push_nothing v'.transactions w.machine.published xs w.places
@@ -78,3 +78,6 @@ floor-goes tells v v' xs scope floor r starts w is =
         views = reads-plain tells v' xs w.places held.Nothing Free is.places.many tt (reads-move tells v v' xs w.places (floor-start-goes tells v v' scope floor r w.machine is.stands starts) is.views);
       },
     )
+
+pub floor-goes : (tells : Bool) (v v' : StoreValue) (xs : List Held) (scope : Option ℕ) (floor : ℕ) (r : Result (Unit {0}) StartFault) → StartsFloor v scope floor r v' → Goes tells v xs (call.Floor scope floor) (answer.Floor r) v' (xs ++ held.Nothing ∷ [])
+floor-goes tells v v' xs scope floor r starts = record { makes = inr (r, starts, refl, refl); leads = floor-leads tells v v' xs scope floor r starts }
