@@ -1,7 +1,7 @@
 -- A store that is opened again.
 use Rattle.std.proofs.Common.{◌≡◌, ◌⊎◌, inl, inr, ℕ, ◌+◌, Bool, IsTrue, List, [], ◌∷◌, ap, sym, subst, ◌∙◌, arith}
 use Rattle.std.specs.List.{AllByRecursion}
-use Rattle.disk.specs.Areas.{Areas, AreSound, LeavesImage, LeavesNoMore, image_of}
+use Rattle.disk.specs.Areas.{Areas, Image, AreSound, LeavesImage, LeavesNoMore, image_of}
 use Rattle.disk.specs.Calls.{DiskState}
 use Rattle.disk.proofs.Stops.{LeavesImage-read}
 use Rattle.history.specs.Histories.{History}

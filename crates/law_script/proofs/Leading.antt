@@ -42,7 +42,7 @@ pub settled : (tells : Bool) (v : StoreValue) (xs : List Held) (end : Moment) (n
     → IsScriptMoment tells (record { state = new; machine = end.world.machine; done = end.done })
 settled tells v xs end new at same among = record {
   store = refl;
-  held = refl;
+  places = refl;
   world = subst (λ (s : StoreValue). IsWorld tells s (held_of new) (record { machine = end.world.machine; places = map place_of (held_of new) })) (sym same) (record {
     stands = at.world.stands;
     places = renumbered v.transactions end.world.machine.published xs end.world.places (held_of new) (held-no_view new.opened new.tickets) among at.world.places;

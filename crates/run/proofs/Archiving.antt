@@ -315,10 +315,10 @@ pumped-leads tells v v' xs r sound pumps w is =
 -- ---- as the store's own clauses say
 
 pub start-goes : (tells : Bool) (v v' : StoreValue) (xs : List Held) (upto : ℕ) (r : Result (Unit {0}) StartFault) → StartsArchive v upto r v' → Goes tells v xs (call.Archive upto) (answer.Archive r) v' (xs ++ held.Nothing ∷ [])
-start-goes tells v v' xs upto r starts = record { makes = inr (r, starts, refl, refl); leads = start-leads tells v v' xs upto r starts }
+start-goes tells v v' xs upto r starts = record { makes = inr (r, starts, (refl, refl)); leads = start-leads tells v v' xs upto r starts }
 
 pub reclaim-goes : (tells : Bool) (v v' : StoreValue) (xs : List Held) (r : Result (Unit {0}) StartFault) → StartsReclaim v r v' → Goes tells v xs call.Reclaim (answer.Reclaim r) v' (xs ++ held.Nothing ∷ [])
-reclaim-goes tells v v' xs r starts = record { makes = inr (r, starts, refl, refl); leads = reclaim-leads tells v v' xs r starts }
+reclaim-goes tells v v' xs r starts = record { makes = inr (r, starts, (refl, refl)); leads = reclaim-leads tells v v' xs r starts }
 
 pub pumped-goes : (tells : Bool) (v v' : StoreValue) (xs : List Held) (r : Result JobDid PumpFault) → (IsTrue tells → AreSound v'.disk.areas) → PumpsJob tells v r v' → Goes tells v xs call.JobPump (answer.JobPump r) v' (xs ++ held.Nothing ∷ [])
-pumped-goes tells v v' xs r sound pumps = record { makes = inr (r, pumps, refl, refl); leads = pumped-leads tells v v' xs r sound pumps }
+pumped-goes tells v v' xs r sound pumps = record { makes = inr (r, pumps, (refl, refl)); leads = pumped-leads tells v v' xs r sound pumps }

@@ -66,4 +66,4 @@ grow-leads tells v v' xs r starts w is = (
 )
 
 pub grow-goes : (tells : Bool) (v v' : StoreValue) (xs : List Held) (r : Result (Unit {0}) StartFault) → StartsGrowth v r v' → Goes tells v xs call.Grow (answer.Grow r) v' (xs ++ held.Nothing ∷ [])
-grow-goes tells v v' xs r starts = record { makes = inr (r, starts, refl, refl); leads = grow-leads tells v v' xs r starts }
+grow-goes tells v v' xs r starts = record { makes = inr (r, starts, (refl, refl)); leads = grow-leads tells v v' xs r starts }

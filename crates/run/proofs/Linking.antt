@@ -27,12 +27,12 @@ pub links : (tells : Bool) (v v' : StoreValue) (xs ys : List Held) (c : Call) (a
 links tells v v' xs ys c a at is goes few =
     let did = goes.leads at.world is.world in
     let after : Moment = record { store = v'; held = ys; world = did.0; done = with_answer a at.done } in
-    let is-after : IsAtMoment tells v' ys after = record { store = refl; held = refl; world = did.3; published = call-acknowledges tells at.world c a did.0 at.done did.1 did.2 is.published } in
+    let is-after : IsAtMoment tells v' ys after = record { store = refl; places = refl; world = did.3; published = call-acknowledges tells at.world c a did.0 at.done did.1 did.2 is.published } in
     let old = moment-leaves tells v xs at is in
     let new = moment-leaves tells v' ys after is-after in (
       after,
       record {
-        makes = subst (λ (s : StoreValue). Makes tells s at.held c a v' ys) (sym is.store) (subst (λ (held : List Held). Makes tells v held c a v' ys) (sym is.held) goes.makes);
+        makes = subst (λ (s : StoreValue). Makes tells s at.held c a v' ys) (sym is.store) (subst (λ (held : List Held). Makes tells v held c a v' ys) (sym is.places) goes.makes);
         stands = did.3;
         does = did.1;
         follows = did.2;
@@ -52,7 +52,7 @@ chain-push tells (x ∷ xs) [] start mid c a end chain link = absurd chain
 
 -- before the first call
 pub first-is : (tells : Bool) (v : StoreValue) (m : Machine Value) → Stands tells v m → IsAtMoment tells v [] (first_moment v m)
-first-is tells v m stands = record { store = refl; held = refl; world = started-world tells v m stands; published = tt }
+first-is tells v m stands = record { store = refl; places = refl; world = started-world tells v m stands; published = tt }
 
 pub promise : Promise
 promise tells disk mark v new header h floors calls said held told sound is opens keeps =

@@ -114,4 +114,4 @@ pump-leads tells v v' xs r sound pumps w is =
     )
 
 pub pump-goes : (tells : Bool) (v v' : StoreValue) (xs : List Held) (r : Result Did PumpFault) → (IsTrue tells → AreSound v'.disk.areas) → Pumps tells v r v' → Goes tells v xs call.Pump (answer.Pump r) v' (xs ++ held.Nothing ∷ [])
-pump-goes tells v v' xs r sound pumps = record { makes = inr (r, pumps, refl, refl); leads = pump-leads tells v v' xs r sound pumps }
+pump-goes tells v v' xs r sound pumps = record { makes = inr (r, pumps, (refl, refl)); leads = pump-leads tells v v' xs r sound pumps }

@@ -74,11 +74,11 @@ scan-leads tells v xs i relation t r here says w is =
 
 pub get-goes : (tells : Bool) (v : StoreValue) (xs : List Held) (i : ℕ) (key : Key) (t : TxnValue) (r : Result (Option Value) AllocError) → slice_get xs i ≡ Some (held.Transaction t) → IfOk r (λ value. value ≡ seen_by t key)
     → Goes tells v xs (call.Get i key) (answer.Get r) v (xs ++ held.Nothing ∷ [])
-get-goes tells v xs i key t r here says = record { makes = inr (r, t, here, says, refl, refl, refl); leads = get-leads tells v xs i key t r here says }
+get-goes tells v xs i key t r here says = record { makes = inr (r, (t, here, says, refl, (refl, refl))); leads = get-leads tells v xs i key t r here says }
 
 pub scan-goes : (tells : Bool) (v : StoreValue) (xs : List Held) (i relation : ℕ) (t : TxnValue) (r : Result (Vec (ℕ × Value) Global) AllocError) → slice_get xs i ≡ Some (held.Transaction t) → IfOk r (λ found. IsScan (seen_by t) relation found.items)
     → Goes tells v xs (call.Scan i relation) (answer.Scan r) v (xs ++ held.Nothing ∷ [])
-scan-goes tells v xs i relation t r here says = record { makes = inr (r, t, here, says, refl, refl, refl); leads = scan-leads tells v xs i relation t r here says }
+scan-goes tells v xs i relation t r here says = record { makes = inr (r, (t, here, says, refl, (refl, refl))); leads = scan-leads tells v xs i relation t r here says }
 
 -- ---- put and delete
 
@@ -159,10 +159,10 @@ pub put-goes : (tells : Bool) (v : StoreValue) (xs : List Held) (i : ℕ) (key :
     → (r ≡ Err fault.BadValue) ↔ ((¬ IsFullFor t.writes key) × (¬ HasSizes (map (λ (field : Bor (List ℕ)). field.now) fields.now))) → OnErr r (t' ≡ t)
     → Goes tells v xs (call.Put i key fields) (answer.Put r) v (slice_set xs i (held.Transaction t') ++ held.Nothing ∷ [])
 put-goes tells v xs i key fields t t' r here ok missing too_many bad err =
-    record { makes = inr (r, t, t', here, (ok, err), refl, refl, refl); leads = put-leads tells v xs i key fields t t' r here ok missing too_many bad err }
+    record { makes = inr (r, (t, t', here, (ok, err), refl, (refl, refl))); leads = put-leads tells v xs i key fields t t' r here ok missing too_many bad err }
 
 pub delete-goes : (tells : Bool) (v : StoreValue) (xs : List Held) (i : ℕ) (key : Key) (t t' : TxnValue) (r : Result (Unit {0}) TxnFault) → slice_get xs i ≡ Some (held.Transaction t)
     → OnOk r (t' ≡ with_delete t key) → (r ≡ Err fault.Missing) ↔ (seen_by t key ≡ None) → (r ≡ Err fault.TooManyKeys) ↔ (IsSome (seen_by t key) × IsFullFor t.writes key) → r ≢ Err fault.BadValue → OnErr r (t' ≡ t)
     → Goes tells v xs (call.Delete i key) (answer.Delete r) v (slice_set xs i (held.Transaction t') ++ held.Nothing ∷ [])
 delete-goes tells v xs i key t t' r here ok missing too_many bad err =
-    record { makes = inr (r, t, t', here, (ok, err), refl, refl, refl); leads = delete-leads tells v xs i key t t' r here ok missing too_many bad err }
+    record { makes = inr (r, (t, t', here, (ok, err), refl, (refl, refl))); leads = delete-leads tells v xs i key t t' r here ok missing too_many bad err }

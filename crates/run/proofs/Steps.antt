@@ -67,7 +67,7 @@ names-none tells v xs call.JobPump lacks w is = lacks
 -- a call that names nothing
 pub unknown-goes : (tells : Bool) (v : StoreValue) (xs new : List Held) (c : Call) → new ≡ xs → LacksNamed c xs → Goes tells v xs c answer.Unknown v (new ++ held.Nothing ∷ [])
 unknown-goes tells v xs new c is lacks = record {
-  makes = inl (lacks, refl, refl, ap (λ (l : List Held). l ++ held.Nothing ∷ []) is);
+  makes = inl (lacks, refl, (refl, ap (λ (l : List Held). l ++ held.Nothing ∷ []) is));
   leads = λ w world.
       (same w, (names-none tells v xs c lacks w world, refl), no-step w.machine, subst (λ (l : List Held). IsWorld tells v (l ++ held.Nothing ∷ []) (same w)) (sym is) (same-world tells v xs w world));
 }
@@ -123,7 +123,7 @@ begin-leads tells v v' xs (Err begin.Failed) begins w is =
     (same w, (did.0, refl), no-step w.machine, record { stands = did.1; places = subst (λ (t : TransactionsValue). ArePlaces t w.machine.published (xs ++ held.Nothing ∷ []) (w.places ++ Free ∷ [])) (sym begins.transactions.1) (push_nothing v.transactions w.machine.published xs w.places is.places); views = reads-plain tells v' xs w.places held.Nothing Free is.places.many tt (reads-move tells v v' xs w.places (rest-goes tells v v' begins.rest (ap (λ (t : TransactionsValue). t.mark) begins.transactions.1)) is.views) })
 
 pub begin-goes : (tells : Bool) (v v' : StoreValue) (xs : List Held) (r : Result TxnValue BeginFault) → stores.Begins v r v' → Goes tells v xs call.Begin (begin_answer r).0 v' (xs ++ (begin_answer r).1 ∷ [])
-begin-goes tells v v' xs r begins = record { makes = inr (r, begins, refl, refl); leads = begin-leads tells v v' xs r begins }
+begin-goes tells v v' xs r begins = record { makes = inr (r, begins, (refl, refl)); leads = begin-leads tells v v' xs r begins }
 
 -- ---- the store's own transaction
 
@@ -202,4 +202,4 @@ abort-leads tells v v' xs i t here are aborts w is =
 
 pub abort-goes : (tells : Bool) (v v' : StoreValue) (xs : List Held) (i : ℕ) (t : TxnValue) → slice_get xs i ≡ Some (held.Transaction t) → AreTxnWrites t.state t.snapshot t.writes → stores.Aborts v t v'
     → Goes tells v xs (call.Abort i) answer.Abort v' (slice_set xs i held.Nothing ++ held.Nothing ∷ [])
-abort-goes tells v v' xs i t here are aborts = record { makes = inr (t, here, aborts, refl, refl); leads = abort-leads tells v v' xs i t here are aborts }
+abort-goes tells v v' xs i t here are aborts = record { makes = inr (t, here, aborts, (refl, refl)); leads = abort-leads tells v v' xs i t here are aborts }

@@ -134,4 +134,4 @@ submit-leads tells v v' xs i t label now r here are range submits w is =
 
 pub submit-goes : (tells : Bool) (v v' : StoreValue) (xs : List Held) (i : ℕ) (t : TxnValue) (label now : ℕ) (r : Result Submitted SubmitFault) → slice_get xs i ≡ Some (held.Transaction t) → AreTxnWrites t.state t.snapshot t.writes → label < 2 ^ 64
     → stores.Submits v t label now r v' → Goes tells v xs (call.Submit i label now) (submit_answer r).0 v' (slice_set xs i held.Nothing ++ (submit_answer r).1 ∷ [])
-submit-goes tells v v' xs i t label now r here are range submits = record { makes = inr (t, r, here, submits, refl, refl); leads = submit-leads tells v v' xs i t label now r here are range submits }
+submit-goes tells v v' xs i t label now r here are range submits = record { makes = inr (t, r, here, submits, (refl, refl)); leads = submit-leads tells v v' xs i t label now r here are range submits }

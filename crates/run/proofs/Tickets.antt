@@ -96,7 +96,7 @@ give_up-leads tells v xs i k here w is = (
 
 pub redeem-goes : (tells : Bool) (v v' : StoreValue) (xs : List Held) (i : ℕ) (k : TicketValue) (r : Redeemed) → slice_get xs i ≡ Some (held.Ticket k) → stores.Redeems v k r v'
     → Goes tells v xs (call.Redeem i) (redeem_answer r).0 v' (slice_set xs i (redeem_answer r).1 ++ held.Nothing ∷ [])
-redeem-goes tells v v' xs i k r here redeems = record { makes = inr (k, r, here, redeems, refl, refl); leads = redeem-leads tells v v' xs i k r here redeems }
+redeem-goes tells v v' xs i k r here redeems = record { makes = inr (k, r, here, redeems, (refl, refl)); leads = redeem-leads tells v v' xs i k r here redeems }
 
 pub give_up-goes : (tells : Bool) (v : StoreValue) (xs : List Held) (i : ℕ) (k : TicketValue) → slice_get xs i ≡ Some (held.Ticket k) → Goes tells v xs (call.GiveUp i) answer.GiveUp v (slice_set xs i held.Nothing ++ held.Nothing ∷ [])
-give_up-goes tells v xs i k here = record { makes = inr (k, here, refl, refl, refl); leads = give_up-leads tells v xs i k here }
+give_up-goes tells v xs i k here = record { makes = inr (k, here, refl, (refl, refl)); leads = give_up-leads tells v xs i k here }

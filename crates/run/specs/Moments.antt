@@ -66,6 +66,6 @@ HasCommitAt h time = (c : Commit Value) × Contains h c × (c.time ≡ time)
 -- A store and the places of its callers are at this moment: they stand for its world, and every acknowledged commit is published.
 pub record IsAtMoment (tells : Bool) (v : StoreValue) (held : List Held) (at : Moment) : Type 0 where
   pub store : at.store ≡ v
-  pub held : at.held ≡ held
+  pub places : at.held ≡ held
   pub world : IsWorld tells v held at.world
   pub published : AllByRecursion (HasCommitAt at.world.machine.published) at.done
