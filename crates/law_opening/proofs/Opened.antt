@@ -329,7 +329,8 @@ open-stands tells old mark v header h floors opens told sound image =
 -- ---- the header
 
 -- a store that is opened on such an image has its header
-pub open-header : (tells : Bool) (old : DiskState) (mark : ℕ) (v : StoreValue) (header : Header) (h : History Value) (floors : ℕ → ℕ) → Opens tells old mark v → IsTrue tells → IsImageOf header (image_of old.areas) h floors → IsOfHeader v header
+pub open-header : (tells : Bool) (old : DiskState) (mark : ℕ) (v : StoreValue) (header : Header) (h : History Value) (floors : ℕ → ℕ) → Opens tells old mark v
+    → IsTrue tells → IsImageOf header (image_of old.areas) h floors → IsOfHeader v header
 open-header tells old mark v header h floors opens told image =
     let read = opens.read told in
     let opening = stands_opening header (image_of old.areas) image.layout image.reading h floors image.laid image.held image.stands image.profile_built image.built in

@@ -36,15 +36,19 @@ open-refuses tells old new why header h floors refuses told image =
 -- ---- closing
 
 -- a header that a stop leaves of a store is the store's, with the piece in the making or without
-pub left-by : (v : StoreValue) (m : Machine Value) (on : standing.LeavesFronts v m) (found : Header) → IsHeaderLeft on.header (may_have_grown (growth_of v.job)) found → IsHeaderLeftBy v found
+pub left-by : (v : StoreValue) (m : Machine Value) (on : standing.LeavesFronts v m) (found : Header)
+    → IsHeaderLeft on.header (may_have_grown (growth_of v.job)) found → IsHeaderLeftBy v found
 left-by v m on found left = (on.header, record { profile = on.profile; slots = on.slots; pieces = on.pieces }, left)
 
 -- what is left has such a header, and stands for a front
-leaves-by : (v : StoreValue) (m : Machine Value) → standing.LeavesFronts v m → (image : Image) → LeavesImage v.disk.areas image → (header : Header) × IsHeaderLeftBy v header × OnFront (IsImageOf header image) m
+leaves-by : (v : StoreValue) (m : Machine Value) → standing.LeavesFronts v m → (image : Image) → LeavesImage v.disk.areas image
+    → (header : Header) × IsHeaderLeftBy v header × OnFront (IsImageOf header image) m
 leaves-by v m on image left = let l = on.leaves image left in (l.found, left-by v m on l.found l.is_found, l.front)
 
-pub close-leaves : (tells : Bool) (v : StoreValue) (m : Machine Value) (disk : DiskState) → Stands tells v m → IsTrue tells → disk ≡ v.disk → LeavesFronts v disk.areas m
-close-leaves tells v m disk stands told same = λ image left. leaves-by v m (stands.disk told) image (subst (λ (d : DiskState). LeavesImage d.areas image) same left)
+pub close-leaves : (tells : Bool) (v : StoreValue) (m : Machine Value) (disk : DiskState) → Stands tells v m → IsTrue tells → disk ≡ v.disk
+    → LeavesFronts v disk.areas m
+close-leaves tells v m disk stands told same =
+    λ image left. leaves-by v m (stands.disk told) image (subst (λ (d : DiskState). LeavesImage d.areas image) same left)
 
 pub closed-left : (v : StoreValue) (disk : DiskState) → disk ≡ v.disk → AreSound disk.areas → LeavesImage v.disk.areas (image_of disk.areas)
 closed-left v disk same sound = subst (λ (d : DiskState). LeavesImage d.areas (image_of disk.areas)) same (LeavesImage-read disk.areas sound)
@@ -60,7 +64,8 @@ reopen-stands tells v m disk mark again stands told opens =
     l.front
 
 pub reopen-slots : (tells : Bool) (v : StoreValue) (m : Machine Value) (disk : DiskState) (mark : ℕ) (again : StoreValue)
-    → Stands tells v m → IsTrue tells → OpensAgain tells v disk mark again → (again.log.slots ≡ v.log.slots) ⊎ (IsTrue (may_have_grown (growth_of v.job)) × (again.log.slots ≡ v.log.slots + 256))
+    → Stands tells v m → IsTrue tells → OpensAgain tells v disk mark again
+    → (again.log.slots ≡ v.log.slots) ⊎ (IsTrue (may_have_grown (growth_of v.job)) × (again.log.slots ≡ v.log.slots + 256))
 reopen-slots tells v m disk mark again stands told opens =
     let on = stands.disk told in
     let l = on.leaves (image_of disk.areas) opens.left in
@@ -88,11 +93,13 @@ leaves-fronts tells v m middle new stands told first next =
     (record { each = λ image left. first.each image (next.each image left) }, λ image left. leaves-by v m (stands.disk told) image (first.each image (next.each image left)))
 
 pub opening-stops : (tells : Bool) (v : StoreValue) (m : Machine Value) (disk new : DiskState) (why : OpenFault)
-    → Stands tells v m → IsTrue tells → LeavesNoMore v.disk.areas disk.areas → OpenRefuses tells disk why new → LeavesNoMore v.disk.areas new.areas × LeavesFronts v new.areas m
+    → Stands tells v m → IsTrue tells → LeavesNoMore v.disk.areas disk.areas → OpenRefuses tells disk why new
+    → LeavesNoMore v.disk.areas new.areas × LeavesFronts v new.areas m
 opening-stops tells v m disk new why stands told first refuses = leaves-fronts tells v m disk.areas new.areas stands told first (refuses.left told)
 
 pub second-stops : (tells : Bool) (v : StoreValue) (m : Machine Value) (disk : DiskState) (mark : ℕ) (again : StoreValue)
-    → Stands tells v m → IsTrue tells → LeavesNoMore v.disk.areas disk.areas → Opens tells disk mark again → LeavesNoMore v.disk.areas again.disk.areas × LeavesFronts v again.disk.areas m
+    → Stands tells v m → IsTrue tells → LeavesNoMore v.disk.areas disk.areas → Opens tells disk mark again
+    → LeavesNoMore v.disk.areas again.disk.areas × LeavesFronts v again.disk.areas m
 second-stops tells v m disk mark again stands told first opens = leaves-fronts tells v m disk.areas again.disk.areas stands told first (opens.left told)
 
 pub opening-moments : (tells : Bool) (v : StoreValue) (m : Machine Value) (disk new : DiskState) → Stands tells v m → IsTrue tells → LeavesNoMore v.disk.areas disk.areas → (settles : Settles tells disk new)

@@ -92,7 +92,9 @@ pub record RecoversHeader (tells : Bool) (image : Image) (header : Header) : Typ
 
 -- an image that stands for a history has the header by which it does
 abbrev pub ImageHasHeader : Type 0
-ImageHasHeader = (tells : Bool) (header : Header) (image : Image) (h : History Value) (floors : ℕ → ℕ) → IsTrue tells → IsImageOf header image h floors → RecoversHeader tells image header
+ImageHasHeader =
+    (tells : Bool) (header : Header) (image : Image) (h : History Value) (floors : ℕ → ℕ) → IsTrue tells → IsImageOf header image h floors
+    → RecoversHeader tells image header
 
 -- ---- closing, and opening again
 
@@ -102,7 +104,8 @@ LeavesFronts v areas m = (image : Image) → LeavesImage areas image → (header
 
 -- so it is of the disk that closing hands back
 abbrev pub CloseLeaves : Type 0
-CloseLeaves = (tells : Bool) (v : StoreValue) (m : Machine Value) (disk : DiskState) → Stands tells v m → IsTrue tells → disk ≡ v.disk → LeavesFronts v disk.areas m
+CloseLeaves =
+    (tells : Bool) (v : StoreValue) (m : Machine Value) (disk : DiskState) → Stands tells v m → IsTrue tells → disk ≡ v.disk → LeavesFronts v disk.areas m
 
 -- A store is opened again: the disk holds what a stop may have left of it.
 pub record OpensAgain (tells : Bool) (v : StoreValue) (disk : DiskState) (mark : ℕ) (again : StoreValue) : Type 0 where
@@ -118,7 +121,8 @@ ReopenStands = (tells : Bool) (v : StoreValue) (m : Machine Value) (disk : DiskS
 -- It has the slots that there were or, once the gate of a piece might be open, 256 more.
 abbrev pub ReopenHasSlots : Type 0
 ReopenHasSlots = (tells : Bool) (v : StoreValue) (m : Machine Value) (disk : DiskState) (mark : ℕ) (again : StoreValue)
-    → Stands tells v m → IsTrue tells → OpensAgain tells v disk mark again → (again.log.slots ≡ v.log.slots) ⊎ (IsTrue (may_have_grown (growth_of v.job)) × (again.log.slots ≡ v.log.slots + 256))
+    → Stands tells v m → IsTrue tells → OpensAgain tells v disk mark again
+    → (again.log.slots ≡ v.log.slots) ⊎ (IsTrue (may_have_grown (growth_of v.job)) × (again.log.slots ≡ v.log.slots + 256))
 
 -- Where that is refused, the device or memory gave out, and the disk still holds what the stop left.
 abbrev pub ReopenRefuses : Type 0
@@ -128,12 +132,14 @@ ReopenRefuses = (tells : Bool) (v : StoreValue) (m : Machine Value) (disk new : 
 -- A stop while the store is opened again: where opening was refused, at whichever of its calls, it leaves nothing that it might not have left before, so a front of the commit order as that did.
 abbrev pub OpeningStops : Type 0
 OpeningStops = (tells : Bool) (v : StoreValue) (m : Machine Value) (disk new : DiskState) (why : OpenFault)
-    → Stands tells v m → IsTrue tells → LeavesNoMore v.disk.areas disk.areas → OpenRefuses tells disk why new → LeavesNoMore v.disk.areas new.areas × LeavesFronts v new.areas m
+    → Stands tells v m → IsTrue tells → LeavesNoMore v.disk.areas disk.areas → OpenRefuses tells disk why new
+    → LeavesNoMore v.disk.areas new.areas × LeavesFronts v new.areas m
 
 -- A second stop, once it was opened again: so it is of the opened store.
 abbrev pub SecondStops : Type 0
 SecondStops = (tells : Bool) (v : StoreValue) (m : Machine Value) (disk : DiskState) (mark : ℕ) (again : StoreValue)
-    → Stands tells v m → IsTrue tells → LeavesNoMore v.disk.areas disk.areas → Opens tells disk mark again → LeavesNoMore v.disk.areas again.disk.areas × LeavesFronts v again.disk.areas m
+    → Stands tells v m → IsTrue tells → LeavesNoMore v.disk.areas disk.areas → Opens tells disk mark again
+    → LeavesNoMore v.disk.areas again.disk.areas × LeavesFronts v again.disk.areas m
 
 -- At every moment while it is opened again, and whether that is refused or not, a stop leaves nothing that the first might not have left, so a front of the commit order too.
 abbrev pub OpeningMoments : Type 0
@@ -148,7 +154,8 @@ ClosedIsLeft = (v : StoreValue) (disk : DiskState) → disk ≡ v.disk → AreSo
 
 -- what a view answers from memory alone, as its own clause says
 abbrev pub AnswersRecent : ViewValue → Key → ℕ → Result (Option Value) QueryFault → Type 0
-AnswersRecent view key time answer = MatchResult answer (λ found. (view.reclaimed ≤ time) × AnswersAt view key.relation time found (value_at (writes_of view.state key) time)) (RefusesRecent view key.relation time)
+AnswersRecent view key time answer =
+    MatchResult answer (λ found. (view.reclaimed ≤ time) × AnswersAt view key.relation time found (value_at (writes_of view.state key) time)) (RefusesRecent view key.relation time)
 
 -- Every view that is taken of the store now is answered by this history, also when it is asked later, as long as the store goes on.
 pub record AnswersBy (tells : Bool) (v : StoreValue) (h : History Value) (floors : ℕ → ℕ) : Type 0 where
@@ -156,7 +163,8 @@ pub record AnswersBy (tells : Bool) (v : StoreValue) (h : History Value) (floors
       → IsViewOf v view → Stands tells asked later → GoesOn tells v asked → AnswersAtView tells asked view key time answer new → SaysAt (IsSure tells view.reclaimed time) (at_answer h floors key time) answer
   pub scan_at : (view : ViewValue) (asked new : StoreValue) (later : Machine Value) (relation time : ℕ) (answer : Result (Vec (ℕ × Value) Global) QueryFault)
       → IsViewOf v view → Stands tells asked later → GoesOn tells v asked → AnswersScanAt tells asked view relation time answer new → SaysScanAt (IsSure tells view.reclaimed time) h floors relation time answer
-  pub recent : (view : ViewValue) (key : Key) (time : ℕ) (answer : Result (Option Value) QueryFault) → IsViewOf v view → AnswersRecent view key time answer → SaysRecent view time (at_answer h floors key time) answer
+  pub recent : (view : ViewValue) (key : Key) (time : ℕ) (answer : Result (Option Value) QueryFault) → IsViewOf v view → AnswersRecent view key time answer
+      → SaysRecent view time (at_answer h floors key time) answer
   pub between : (view : ViewValue) (asked new : StoreValue) (later : Machine Value) (key : Key) (a b : ℕ) (answer : Result (Vec (Version Value) Global) QueryFault)
       → IsViewOf v view → Stands tells asked later → GoesOn tells v asked → AnswersRows tells asked view key a b answer new → SaysBetween (IsSure tells view.reclaimed a) h floors key a b answer
   pub scan_between : (view : ViewValue) (asked new : StoreValue) (later : Machine Value) (relation a b : ℕ) (answer : Result (Vec (ℕ × Version Value) Global) QueryFault)

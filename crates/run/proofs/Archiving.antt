@@ -97,7 +97,8 @@ start-says tells v v' w upto r stands starts =
     by-tests false on false false false late true is = says (Err start.StatusFull) is.0 refl
     by-tests false on false false false late false is = begins on late r is
 
-start-leads : (tells : Bool) (v v' : StoreValue) (xs : List Held) (upto : ℕ) (r : Result (Unit {0}) StartFault) → StartsArchive v upto r v' → Leads tells v xs (call.Archive upto) (answer.Archive r) v' (xs ++ held.Nothing ∷ [])
+start-leads : (tells : Bool) (v v' : StoreValue) (xs : List Held) (upto : ℕ) (r : Result (Unit {0}) StartFault) → StartsArchive v upto r v'
+    → Leads tells v xs (call.Archive upto) (answer.Archive r) v' (xs ++ held.Nothing ∷ [])
 start-leads tells v v' xs upto r starts w is = (
   same w,
   start-says tells v v' w upto r is.stands starts,
@@ -216,7 +217,8 @@ reclaim-says tells v v' w r stands starts = by-tests v.transactions.failed refl 
     by-tests false on false true is = says (Err start.NothingToDo) is.0 refl
     by-tests false on false false is = by-use on (below (oldest v.transactions) v.archived) refl is
 
-reclaim-leads : (tells : Bool) (v v' : StoreValue) (xs : List Held) (r : Result (Unit {0}) StartFault) → StartsReclaim v r v' → Leads tells v xs call.Reclaim (answer.Reclaim r) v' (xs ++ held.Nothing ∷ [])
+reclaim-leads : (tells : Bool) (v v' : StoreValue) (xs : List Held) (r : Result (Unit {0}) StartFault) → StartsReclaim v r v'
+    → Leads tells v xs call.Reclaim (answer.Reclaim r) v' (xs ++ held.Nothing ∷ [])
 reclaim-leads tells v v' xs r starts w is = (
   same w,
   reclaim-says tells v v' w r is.stands starts,
@@ -286,7 +288,8 @@ pumped-few tells old new r pumps = by-failure old.transactions.failed pumps
 
 -- ---- the call
 
-pumped-leads : (tells : Bool) (v v' : StoreValue) (xs : List Held) (r : Result JobDid PumpFault) → (IsTrue tells → AreSound v'.disk.areas) → PumpsJob tells v r v' → Leads tells v xs call.JobPump (answer.JobPump r) v' (xs ++ held.Nothing ∷ [])
+pumped-leads : (tells : Bool) (v v' : StoreValue) (xs : List Held) (r : Result JobDid PumpFault) → (IsTrue tells → AreSound v'.disk.areas)
+    → PumpsJob tells v r v' → Leads tells v xs call.JobPump (answer.JobPump r) v' (xs ++ held.Nothing ∷ [])
 pumped-leads tells v v' xs r sound pumps w is =
     by-failure w.machine.failed refl (pumped-refused r) (job-pump-stands tells v v' r w.machine is.stands sound pumps)
   where
@@ -314,11 +317,14 @@ pumped-leads tells v v' xs r sound pumps w is =
 
 -- ---- as the store's own clauses say
 
-pub start-goes : (tells : Bool) (v v' : StoreValue) (xs : List Held) (upto : ℕ) (r : Result (Unit {0}) StartFault) → StartsArchive v upto r v' → Goes tells v xs (call.Archive upto) (answer.Archive r) v' (xs ++ held.Nothing ∷ [])
+pub start-goes : (tells : Bool) (v v' : StoreValue) (xs : List Held) (upto : ℕ) (r : Result (Unit {0}) StartFault) → StartsArchive v upto r v'
+    → Goes tells v xs (call.Archive upto) (answer.Archive r) v' (xs ++ held.Nothing ∷ [])
 start-goes tells v v' xs upto r starts = record { makes = inr (r, starts, (refl, refl)); leads = start-leads tells v v' xs upto r starts }
 
-pub reclaim-goes : (tells : Bool) (v v' : StoreValue) (xs : List Held) (r : Result (Unit {0}) StartFault) → StartsReclaim v r v' → Goes tells v xs call.Reclaim (answer.Reclaim r) v' (xs ++ held.Nothing ∷ [])
+pub reclaim-goes : (tells : Bool) (v v' : StoreValue) (xs : List Held) (r : Result (Unit {0}) StartFault) → StartsReclaim v r v'
+    → Goes tells v xs call.Reclaim (answer.Reclaim r) v' (xs ++ held.Nothing ∷ [])
 reclaim-goes tells v v' xs r starts = record { makes = inr (r, starts, (refl, refl)); leads = reclaim-leads tells v v' xs r starts }
 
-pub pumped-goes : (tells : Bool) (v v' : StoreValue) (xs : List Held) (r : Result JobDid PumpFault) → (IsTrue tells → AreSound v'.disk.areas) → PumpsJob tells v r v' → Goes tells v xs call.JobPump (answer.JobPump r) v' (xs ++ held.Nothing ∷ [])
+pub pumped-goes : (tells : Bool) (v v' : StoreValue) (xs : List Held) (r : Result JobDid PumpFault) → (IsTrue tells → AreSound v'.disk.areas)
+    → PumpsJob tells v r v' → Goes tells v xs call.JobPump (answer.JobPump r) v' (xs ++ held.Nothing ∷ [])
 pumped-goes tells v v' xs r sound pumps = record { makes = inr (r, pumps, (refl, refl)); leads = pumped-leads tells v v' xs r sound pumps }

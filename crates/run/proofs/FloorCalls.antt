@@ -42,7 +42,8 @@ record StartsTo (tells : Bool) (v' : StoreValue) (w : World) (scope : Option ℕ
   follows : Follows w.machine after
   stands : Stands tells v' after
 
-starts-to : (tells : Bool) (v' : StoreValue) (w : World) (scope : Option ℕ) (floor : ℕ) (r : Result (Unit {0}) StartFault) → StartsOn tells w.machine (raising_to scope floor) r v' → StartsTo tells v' w scope floor r
+starts-to : (tells : Bool) (v' : StoreValue) (w : World) (scope : Option ℕ) (floor : ℕ) (r : Result (Unit {0}) StartFault)
+    → StartsOn tells w.machine (raising_to scope floor) r v' → StartsTo tells v' w scope floor r
 starts-to tells v' w scope floor (Ok done) is = record {
   after = steps.floor_started w.machine (raising_to scope floor);
   published = refl;
@@ -50,19 +51,27 @@ starts-to tells v' w scope floor (Ok done) is = record {
   follows = (steps.FloorStarted (raising_to scope floor) ∷ [], (steps.floor_started w.machine (raising_to scope floor), is.0, refl));
   stands = is.1;
 }
-starts-to tells v' w scope floor (Err start.NothingToDo) is = record { after = w.machine; published = refl; says = (is.0, refl); follows = no-step w.machine; stands = is.1 }
-starts-to tells v' w scope floor (Err (start.NotYet time)) is = record { after = w.machine; published = refl; says = (is.0, refl); follows = no-step w.machine; stands = is.1 }
-starts-to tells v' w scope floor (Err (start.InUse snapshot)) is = record { after = w.machine; published = refl; says = (is.0, refl); follows = no-step w.machine; stands = is.1 }
-starts-to tells v' w scope floor (Err start.Failed) is = record { after = w.machine; published = refl; says = (is.0, refl); follows = no-step w.machine; stands = is.1 }
-starts-to tells v' w scope floor (Err start.WrongProfile) is = record { after = w.machine; published = refl; says = refl; follows = no-step w.machine; stands = is }
+starts-to tells v' w scope floor (Err start.NothingToDo) is =
+    record { after = w.machine; published = refl; says = (is.0, refl); follows = no-step w.machine; stands = is.1 }
+starts-to tells v' w scope floor (Err (start.NotYet time)) is =
+    record { after = w.machine; published = refl; says = (is.0, refl); follows = no-step w.machine; stands = is.1 }
+starts-to tells v' w scope floor (Err (start.InUse snapshot)) is =
+    record { after = w.machine; published = refl; says = (is.0, refl); follows = no-step w.machine; stands = is.1 }
+starts-to tells v' w scope floor (Err start.Failed) is =
+    record { after = w.machine; published = refl; says = (is.0, refl); follows = no-step w.machine; stands = is.1 }
+starts-to tells v' w scope floor (Err start.WrongProfile) is =
+    record { after = w.machine; published = refl; says = refl; follows = no-step w.machine; stands = is }
 starts-to tells v' w scope floor (Err start.JobBusy) is = record { after = w.machine; published = refl; says = refl; follows = no-step w.machine; stands = is }
-starts-to tells v' w scope floor (Err start.StatusFull) is = record { after = w.machine; published = refl; says = refl; follows = no-step w.machine; stands = is }
+starts-to tells v' w scope floor (Err start.StatusFull) is =
+    record { after = w.machine; published = refl; says = refl; follows = no-step w.machine; stands = is }
 starts-to tells v' w scope floor (Err start.ArchiveFull) is = absurd is
 starts-to tells v' w scope floor (Err start.HeapFull) is = absurd is
-starts-to tells v' w scope floor (Err start.NoMemory) is = record { after = w.machine; published = refl; says = (is.0, refl); follows = no-step w.machine; stands = is.1 }
+starts-to tells v' w scope floor (Err start.NoMemory) is =
+    record { after = w.machine; published = refl; says = (is.0, refl); follows = no-step w.machine; stands = is.1 }
 starts-to tells v' w scope floor (Err start.NotGrowable) is = absurd is
 
-floor-leads : (tells : Bool) (v v' : StoreValue) (xs : List Held) (scope : Option ℕ) (floor : ℕ) (r : Result (Unit {0}) StartFault) → StartsFloor v scope floor r v' → Leads tells v xs (call.Floor scope floor) (answer.Floor r) v' (xs ++ held.Nothing ∷ [])
+floor-leads : (tells : Bool) (v v' : StoreValue) (xs : List Held) (scope : Option ℕ) (floor : ℕ) (r : Result (Unit {0}) StartFault)
+    → StartsFloor v scope floor r v' → Leads tells v xs (call.Floor scope floor) (answer.Floor r) v' (xs ++ held.Nothing ∷ [])
 floor-leads tells v v' xs scope floor r starts w is =
     let leads = starts-to tells v' w scope floor r (floor-start-stands tells v v' scope floor r w.machine is.stands starts) in
     let places : ArePlaces v'.transactions w.machine.published (xs ++ held.Nothing ∷ []) (w.places ++ Free ∷ []) =
@@ -79,5 +88,6 @@ floor-leads tells v v' xs scope floor r starts w is =
       },
     )
 
-pub floor-goes : (tells : Bool) (v v' : StoreValue) (xs : List Held) (scope : Option ℕ) (floor : ℕ) (r : Result (Unit {0}) StartFault) → StartsFloor v scope floor r v' → Goes tells v xs (call.Floor scope floor) (answer.Floor r) v' (xs ++ held.Nothing ∷ [])
+pub floor-goes : (tells : Bool) (v v' : StoreValue) (xs : List Held) (scope : Option ℕ) (floor : ℕ) (r : Result (Unit {0}) StartFault)
+    → StartsFloor v scope floor r v' → Goes tells v xs (call.Floor scope floor) (answer.Floor r) v' (xs ++ held.Nothing ∷ [])
 floor-goes tells v v' xs scope floor r starts = record { makes = inr (r, starts, (refl, refl)); leads = floor-leads tells v v' xs scope floor r starts }

@@ -51,7 +51,8 @@ grow-says tells v v' w r stands starts = by-tests v.transactions.failed refl (is
     by-tests false on true is = says (Err start.JobBusy) is.0 refl
     by-tests false on false is = by-piece on (next_piece v.log) is
 
-grow-leads : (tells : Bool) (v v' : StoreValue) (xs : List Held) (r : Result (Unit {0}) StartFault) → StartsGrowth v r v' → Leads tells v xs call.Grow (answer.Grow r) v' (xs ++ held.Nothing ∷ [])
+grow-leads : (tells : Bool) (v v' : StoreValue) (xs : List Held) (r : Result (Unit {0}) StartFault) → StartsGrowth v r v'
+    → Leads tells v xs call.Grow (answer.Grow r) v' (xs ++ held.Nothing ∷ [])
 grow-leads tells v v' xs r starts w is = (
   same w,
   grow-says tells v v' w r is.stands starts,
@@ -65,5 +66,6 @@ grow-leads tells v v' xs r starts w is = (
   },
 )
 
-pub grow-goes : (tells : Bool) (v v' : StoreValue) (xs : List Held) (r : Result (Unit {0}) StartFault) → StartsGrowth v r v' → Goes tells v xs call.Grow (answer.Grow r) v' (xs ++ held.Nothing ∷ [])
+pub grow-goes : (tells : Bool) (v v' : StoreValue) (xs : List Held) (r : Result (Unit {0}) StartFault) → StartsGrowth v r v'
+    → Goes tells v xs call.Grow (answer.Grow r) v' (xs ++ held.Nothing ∷ [])
 grow-goes tells v v' xs r starts = record { makes = inr (r, starts, (refl, refl)); leads = grow-leads tells v v' xs r starts }

@@ -22,7 +22,8 @@ between tells before after old new told image (inl left) = inl (old told image l
 between tells before after old new told image (inr left) = inr (new told image left)
 
 -- the next moment of a store, of which a call is made
-pub links : (tells : Bool) (v v' : StoreValue) (xs ys : List Held) (c : Call) (a : Answer) (at : Moment) → IsAtMoment tells v xs at → Goes tells v xs c a v' ys → v'.disk.made ≤ v.disk.made + 1
+pub links : (tells : Bool) (v v' : StoreValue) (xs ys : List Held) (c : Call) (a : Answer) (at : Moment) → IsAtMoment tells v xs at
+    → Goes tells v xs c a v' ys → v'.disk.made ≤ v.disk.made + 1
     → (after : Moment) × Link tells c a at after × IsAtMoment tells v' ys after
 links tells v v' xs ys c a at is goes few =
     let did = goes.leads at.world is.world in

@@ -369,7 +369,8 @@ asks_scan_between-same tells w relation a b (Running snapshot writes) said next 
 asks_scan_between-same tells w relation a b (Waits t) said next does = absurd does
 asks_scan_between-same tells w relation a b (Views h floors reclaimed) said next does = does.1
 
-pub asks_recent-same : (w : World) (key : Key) (time : ℕ) (p : Place) (said : Result (Option Value) QueryFault) (next : World) → AsksRecent w key time p said next → next ≡ same w
+pub asks_recent-same : (w : World) (key : Key) (time : ℕ) (p : Place) (said : Result (Option Value) QueryFault) (next : World)
+    → AsksRecent w key time p said next → next ≡ same w
 asks_recent-same w key time Free said next does = absurd does
 asks_recent-same w key time (Running snapshot writes) said next does = absurd does
 asks_recent-same w key time (Waits t) said next does = absurd does
@@ -408,7 +409,8 @@ passes tells w (call.At i key time) (answer.At said) next does = same-passes w (
 passes tells w (call.ScanAt i relation time) (answer.ScanAt said) next does = same-passes w (call.ScanAt i relation time) (answer.ScanAt said) next (asks_scan-same tells w relation time (place_at w.places i) said next does)
 passes tells w (call.Between i key a b) (answer.Between said) next does = same-passes w (call.Between i key a b) (answer.Between said) next (asks_between-same tells w key a b (place_at w.places i) said next does)
 passes tells w (call.ScanBetween i relation a b) (answer.ScanBetween said) next does = same-passes w (call.ScanBetween i relation a b) (answer.ScanBetween said) next (asks_scan_between-same tells w relation a b (place_at w.places i) said next does)
-passes tells w (call.Recent i key time) (answer.Recent said) next does = same-passes w (call.Recent i key time) (answer.Recent said) next (asks_recent-same w key time (place_at w.places i) said next does)
+passes tells w (call.Recent i key time) (answer.Recent said) next does =
+    same-passes w (call.Recent i key time) (answer.Recent said) next (asks_recent-same w key time (place_at w.places i) said next does)
 passes tells w (call.End i) answer.End next does = spent-passes w i (call.End i) answer.End next (closes-spent w i (place_at w.places i) next does)
 passes tells w (call.TimesOf label) (answer.TimesOf said) next does = same-passes w (call.TimesOf label) (answer.TimesOf said) next does.1
 passes tells w (call.Archive upto) (answer.Archive said) next does = same-passes w (call.Archive upto) (answer.Archive said) next (archive-same w upto said next does)

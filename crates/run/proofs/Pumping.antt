@@ -87,7 +87,8 @@ pump-keeps v v' (held.Transaction t) leaves = (leaves.mark, ap (λ (o : List (Op
 pump-keeps v v' (held.Ticket t) leaves = (leaves.mark, λ waits. subst (λ (heads : List CommitHead). is_awaited t.time heads ≡ true) (sym leaves.heads) waits)
 pump-keeps v v' (held.View t) leaves = leaves.mark
 
-pump-leads : (tells : Bool) (v v' : StoreValue) (xs : List Held) (r : Result Did PumpFault) → (IsTrue tells → AreSound v'.disk.areas) → Pumps tells v r v' → Leads tells v xs call.Pump (answer.Pump r) v' (xs ++ held.Nothing ∷ [])
+pump-leads : (tells : Bool) (v v' : StoreValue) (xs : List Held) (r : Result Did PumpFault) → (IsTrue tells → AreSound v'.disk.areas) → Pumps tells v r v'
+    → Leads tells v xs call.Pump (answer.Pump r) v' (xs ++ held.Nothing ∷ [])
 pump-leads tells v v' xs r sound pumps w is =
     by-failure w.machine.failed refl (pump-refused r) (pump-stands tells v v' r w.machine is.stands sound pumps)
   where
@@ -113,5 +114,6 @@ pump-leads tells v v' xs r sound pumps w is =
       record { stands = did.2; places = places did.0.published (run-goes_on w.machine did.0 (begins_in w.machine ++ ends_in w.machine.gate r) did.2.machine did.1); views = read },
     )
 
-pub pump-goes : (tells : Bool) (v v' : StoreValue) (xs : List Held) (r : Result Did PumpFault) → (IsTrue tells → AreSound v'.disk.areas) → Pumps tells v r v' → Goes tells v xs call.Pump (answer.Pump r) v' (xs ++ held.Nothing ∷ [])
+pub pump-goes : (tells : Bool) (v v' : StoreValue) (xs : List Held) (r : Result Did PumpFault) → (IsTrue tells → AreSound v'.disk.areas) → Pumps tells v r v'
+    → Goes tells v xs call.Pump (answer.Pump r) v' (xs ++ held.Nothing ∷ [])
 pump-goes tells v v' xs r sound pumps = record { makes = inr (r, pumps, (refl, refl)); leads = pump-leads tells v v' xs r sound pumps }

@@ -51,7 +51,8 @@ sees v h t key own = ap (λ (o : Option Value). unwrap_or (write_in t.writes key
 
 -- ---- get and scan
 
-get-leads : (tells : Bool) (v : StoreValue) (xs : List Held) (i : ℕ) (key : Key) (t : TxnValue) (r : Result (Option Value) AllocError) → slice_get xs i ≡ Some (held.Transaction t) → IfOk r (λ value. value ≡ seen_by t key)
+get-leads : (tells : Bool) (v : StoreValue) (xs : List Held) (i : ℕ) (key : Key) (t : TxnValue) (r : Result (Option Value) AllocError)
+    → slice_get xs i ≡ Some (held.Transaction t) → IfOk r (λ value. value ≡ seen_by t key)
     → Leads tells v xs (call.Get i key) (answer.Get r) v (xs ++ held.Nothing ∷ [])
 get-leads tells v xs i key t r here says w is =
     let h = w.machine.published in
@@ -63,7 +64,8 @@ get-leads tells v xs i key t r here says w is =
     by-result (Ok value) says is = says ∙ is
     by-result (Err why) says is = tt
 
-scan-leads : (tells : Bool) (v : StoreValue) (xs : List Held) (i relation : ℕ) (t : TxnValue) (r : Result (Vec (ℕ × Value) Global) AllocError) → slice_get xs i ≡ Some (held.Transaction t) → IfOk r (λ found. IsScan (seen_by t) relation found.items)
+scan-leads : (tells : Bool) (v : StoreValue) (xs : List Held) (i relation : ℕ) (t : TxnValue) (r : Result (Vec (ℕ × Value) Global) AllocError)
+    → slice_get xs i ≡ Some (held.Transaction t) → IfOk r (λ found. IsScan (seen_by t) relation found.items)
     → Leads tells v xs (call.Scan i relation) (answer.Scan r) v (xs ++ held.Nothing ∷ [])
 scan-leads tells v xs i relation t r here says w is =
     let h = w.machine.published in
@@ -72,13 +74,16 @@ scan-leads tells v xs i relation t r here says w is =
     let reads : Path (Key → Option Value) (seen_by t) (seen h t.snapshot t.writes) = λ k key. sees v.transactions h t key own k in
     (same w, at_transaction (λ (p : Place). Scans w relation p r (same w)) v.transactions h t (place_at w.places i) shows (subst (λ (f : Key → Option Value). IfOk r (λ found. IsScan f relation found.items)) reads says, refl), no-step w.machine, same-world tells v xs w is)
 
-pub get-goes : (tells : Bool) (v : StoreValue) (xs : List Held) (i : ℕ) (key : Key) (t : TxnValue) (r : Result (Option Value) AllocError) → slice_get xs i ≡ Some (held.Transaction t) → IfOk r (λ value. value ≡ seen_by t key)
+pub get-goes : (tells : Bool) (v : StoreValue) (xs : List Held) (i : ℕ) (key : Key) (t : TxnValue) (r : Result (Option Value) AllocError)
+    → slice_get xs i ≡ Some (held.Transaction t) → IfOk r (λ value. value ≡ seen_by t key)
     → Goes tells v xs (call.Get i key) (answer.Get r) v (xs ++ held.Nothing ∷ [])
 get-goes tells v xs i key t r here says = record { makes = inr (r, (t, here, says, refl, (refl, refl))); leads = get-leads tells v xs i key t r here says }
 
-pub scan-goes : (tells : Bool) (v : StoreValue) (xs : List Held) (i relation : ℕ) (t : TxnValue) (r : Result (Vec (ℕ × Value) Global) AllocError) → slice_get xs i ≡ Some (held.Transaction t) → IfOk r (λ found. IsScan (seen_by t) relation found.items)
+pub scan-goes : (tells : Bool) (v : StoreValue) (xs : List Held) (i relation : ℕ) (t : TxnValue) (r : Result (Vec (ℕ × Value) Global) AllocError)
+    → slice_get xs i ≡ Some (held.Transaction t) → IfOk r (λ found. IsScan (seen_by t) relation found.items)
     → Goes tells v xs (call.Scan i relation) (answer.Scan r) v (xs ++ held.Nothing ∷ [])
-scan-goes tells v xs i relation t r here says = record { makes = inr (r, (t, here, says, refl, (refl, refl))); leads = scan-leads tells v xs i relation t r here says }
+scan-goes tells v xs i relation t r here says =
+    record { makes = inr (r, (t, here, says, refl, (refl, refl))); leads = scan-leads tells v xs i relation t r here says }
 
 -- ---- put and delete
 
@@ -95,8 +100,10 @@ rewritten-places v h xs ps i t ws here are =
     alike (held.Ticket u) clash = clash
     alike (held.View u) clash = clash
 
-rewrite-leads : (tells : Bool) (v : StoreValue) (xs : List Held) (i : ℕ) (t t' : TxnValue) (ws : List (KeyWrite Value)) (c : Call) (a : Answer) → slice_get xs i ≡ Some (held.Transaction t) → t' ≡ record t { writes = ws }
-    → ((w : World) → IsWorld tells v xs w → Does tells w c a (same (put w i (Running t.snapshot ws)))) → Leads tells v xs c a v (slice_set xs i (held.Transaction t') ++ held.Nothing ∷ [])
+rewrite-leads : (tells : Bool) (v : StoreValue) (xs : List Held) (i : ℕ) (t t' : TxnValue) (ws : List (KeyWrite Value)) (c : Call) (a : Answer)
+    → slice_get xs i ≡ Some (held.Transaction t) → t' ≡ record t { writes = ws }
+    → ((w : World) → IsWorld tells v xs w → Does tells w c a (same (put w i (Running t.snapshot ws))))
+    → Leads tells v xs c a v (slice_set xs i (held.Transaction t') ++ held.Nothing ∷ [])
 rewrite-leads tells v xs i t t' ws c a here is does w world = (
   same (put w i (Running t.snapshot ws)),
   does w world,
@@ -131,7 +138,8 @@ put-leads tells v xs i key fields t t' r here ok missing too_many bad err = by-r
     by-result (Err why) ok missing too_many bad err =
         rewrite-leads tells v xs i t t' t.writes (call.Put i key fields) (answer.Put (Err why)) here err (at-place (Err why) t.writes (record { ok = tt; missing = missing; too_many = too_many; bad = bad; err = refl }))
 
-delete-leads : (tells : Bool) (v : StoreValue) (xs : List Held) (i : ℕ) (key : Key) (t t' : TxnValue) (r : Result (Unit {0}) TxnFault) → slice_get xs i ≡ Some (held.Transaction t)
+delete-leads : (tells : Bool) (v : StoreValue) (xs : List Held) (i : ℕ) (key : Key) (t t' : TxnValue) (r : Result (Unit {0}) TxnFault)
+    → slice_get xs i ≡ Some (held.Transaction t)
     → OnOk r (t' ≡ with_delete t key) → (r ≡ Err fault.Missing) ↔ (seen_by t key ≡ None) → (r ≡ Err fault.TooManyKeys) ↔ (IsSome (seen_by t key) × IsFullFor t.writes key) → r ≢ Err fault.BadValue → OnErr r (t' ≡ t)
     → Leads tells v xs (call.Delete i key) (answer.Delete r) v (slice_set xs i (held.Transaction t') ++ held.Nothing ∷ [])
 delete-leads tells v xs i key t t' r here ok missing too_many bad err = by-result r ok missing too_many bad err
@@ -155,14 +163,17 @@ delete-leads tells v xs i key t t' r here ok missing too_many bad err = by-resul
 -- ---- as the transaction's own clauses say
 
 pub put-goes : (tells : Bool) (v : StoreValue) (xs : List Held) (i : ℕ) (key : Key) (fields : Bor (List (Bor (List ℕ)))) (t t' : TxnValue) (r : Result (Unit {0}) TxnFault) → slice_get xs i ≡ Some (held.Transaction t)
-    → OnOk r (t' ≡ with_put t key (map (λ (field : Bor (List ℕ)). field.now) fields.now)) → r ≢ Err fault.Missing → (r ≡ Err fault.TooManyKeys) ↔ IsFullFor t.writes key
+    → OnOk r (t' ≡ with_put t key (map (λ (field : Bor (List ℕ)). field.now) fields.now)) → r ≢ Err fault.Missing
+    → (r ≡ Err fault.TooManyKeys) ↔ IsFullFor t.writes key
     → (r ≡ Err fault.BadValue) ↔ ((¬ IsFullFor t.writes key) × (¬ HasSizes (map (λ (field : Bor (List ℕ)). field.now) fields.now))) → OnErr r (t' ≡ t)
     → Goes tells v xs (call.Put i key fields) (answer.Put r) v (slice_set xs i (held.Transaction t') ++ held.Nothing ∷ [])
 put-goes tells v xs i key fields t t' r here ok missing too_many bad err =
     record { makes = inr (r, (t, t', here, (ok, err), refl, (refl, refl))); leads = put-leads tells v xs i key fields t t' r here ok missing too_many bad err }
 
-pub delete-goes : (tells : Bool) (v : StoreValue) (xs : List Held) (i : ℕ) (key : Key) (t t' : TxnValue) (r : Result (Unit {0}) TxnFault) → slice_get xs i ≡ Some (held.Transaction t)
-    → OnOk r (t' ≡ with_delete t key) → (r ≡ Err fault.Missing) ↔ (seen_by t key ≡ None) → (r ≡ Err fault.TooManyKeys) ↔ (IsSome (seen_by t key) × IsFullFor t.writes key) → r ≢ Err fault.BadValue → OnErr r (t' ≡ t)
+pub delete-goes : (tells : Bool) (v : StoreValue) (xs : List Held) (i : ℕ) (key : Key) (t t' : TxnValue) (r : Result (Unit {0}) TxnFault)
+    → slice_get xs i ≡ Some (held.Transaction t)
+    → OnOk r (t' ≡ with_delete t key) → (r ≡ Err fault.Missing) ↔ (seen_by t key ≡ None)
+    → (r ≡ Err fault.TooManyKeys) ↔ (IsSome (seen_by t key) × IsFullFor t.writes key) → r ≢ Err fault.BadValue → OnErr r (t' ≡ t)
     → Goes tells v xs (call.Delete i key) (answer.Delete r) v (slice_set xs i (held.Transaction t') ++ held.Nothing ∷ [])
 delete-goes tells v xs i key t t' r here ok missing too_many bad err =
     record { makes = inr (r, (t, t', here, (ok, err), refl, (refl, refl))); leads = delete-leads tells v xs i key t t' r here ok missing too_many bad err }

@@ -65,7 +65,8 @@ names-none tells v xs call.Grow lacks w is = lacks
 names-none tells v xs call.JobPump lacks w is = lacks
 
 -- a call that names nothing
-pub unknown-goes : (tells : Bool) (v : StoreValue) (xs new : List Held) (c : Call) → new ≡ xs → LacksNamed c xs → Goes tells v xs c answer.Unknown v (new ++ held.Nothing ∷ [])
+pub unknown-goes : (tells : Bool) (v : StoreValue) (xs new : List Held) (c : Call) → new ≡ xs → LacksNamed c xs
+    → Goes tells v xs c answer.Unknown v (new ++ held.Nothing ∷ [])
 unknown-goes tells v xs new c is lacks = record {
   makes = inl (lacks, refl, (refl, ap (λ (l : List Held). l ++ held.Nothing ∷ []) is));
   leads = λ w world.
@@ -93,7 +94,8 @@ fresh-apart v h txn (held.Transaction u) p fresh shows clash =
 fresh-apart v h txn (held.Ticket u) p fresh shows clash = clash
 fresh-apart v h txn (held.View u) p fresh shows clash = clash
 
-begin-leads : (tells : Bool) (v v' : StoreValue) (xs : List Held) (r : Result TxnValue BeginFault) → stores.Begins v r v' → Leads tells v xs call.Begin (begin_answer r).0 v' (xs ++ (begin_answer r).1 ∷ [])
+begin-leads : (tells : Bool) (v v' : StoreValue) (xs : List Held) (r : Result TxnValue BeginFault) → stores.Begins v r v'
+    → Leads tells v xs call.Begin (begin_answer r).0 v' (xs ++ (begin_answer r).1 ∷ [])
 begin-leads tells v v' xs (Ok txn) begins w is =
     let m = w.machine in
     let h = m.published in
@@ -122,7 +124,8 @@ begin-leads tells v v' xs (Err begin.Failed) begins w is =
     let did = begin-stands tells v v' (Err begin.Failed) w.machine is.stands begins in
     (same w, (did.0, refl), no-step w.machine, record { stands = did.1; places = subst (λ (t : TransactionsValue). ArePlaces t w.machine.published (xs ++ held.Nothing ∷ []) (w.places ++ Free ∷ [])) (sym begins.transactions.1) (push_nothing v.transactions w.machine.published xs w.places is.places); views = reads-plain tells v' xs w.places held.Nothing Free is.places.many tt (reads-move tells v v' xs w.places (rest-goes tells v v' begins.rest (ap (λ (t : TransactionsValue). t.mark) begins.transactions.1)) is.views) })
 
-pub begin-goes : (tells : Bool) (v v' : StoreValue) (xs : List Held) (r : Result TxnValue BeginFault) → stores.Begins v r v' → Goes tells v xs call.Begin (begin_answer r).0 v' (xs ++ (begin_answer r).1 ∷ [])
+pub begin-goes : (tells : Bool) (v v' : StoreValue) (xs : List Held) (r : Result TxnValue BeginFault) → stores.Begins v r v'
+    → Goes tells v xs call.Begin (begin_answer r).0 v' (xs ++ (begin_answer r).1 ∷ [])
 begin-goes tells v v' xs r begins = record { makes = inr (r, begins, (refl, refl)); leads = begin-leads tells v v' xs r begins }
 
 -- ---- the store's own transaction
@@ -170,7 +173,8 @@ over-places v h h' xs ps i t here goes are =
 
 -- ---- abort
 
-abort-leads : (tells : Bool) (v v' : StoreValue) (xs : List Held) (i : ℕ) (t : TxnValue) → slice_get xs i ≡ Some (held.Transaction t) → AreTxnWrites t.state t.snapshot t.writes → stores.Aborts v t v'
+abort-leads : (tells : Bool) (v v' : StoreValue) (xs : List Held) (i : ℕ) (t : TxnValue) → slice_get xs i ≡ Some (held.Transaction t)
+    → AreTxnWrites t.state t.snapshot t.writes → stores.Aborts v t v'
     → Leads tells v xs (call.Abort i) answer.Abort v' (slice_set xs i held.Nothing ++ held.Nothing ∷ [])
 abort-leads tells v v' xs i t here are aborts w is =
     let m = w.machine in
@@ -200,6 +204,7 @@ abort-leads tells v v' xs i t here are aborts w is =
     by-over true mine did = did
     by-over false mine did = absurd cc
 
-pub abort-goes : (tells : Bool) (v v' : StoreValue) (xs : List Held) (i : ℕ) (t : TxnValue) → slice_get xs i ≡ Some (held.Transaction t) → AreTxnWrites t.state t.snapshot t.writes → stores.Aborts v t v'
+pub abort-goes : (tells : Bool) (v v' : StoreValue) (xs : List Held) (i : ℕ) (t : TxnValue) → slice_get xs i ≡ Some (held.Transaction t)
+    → AreTxnWrites t.state t.snapshot t.writes → stores.Aborts v t v'
     → Goes tells v xs (call.Abort i) answer.Abort v' (slice_set xs i held.Nothing ++ held.Nothing ∷ [])
 abort-goes tells v v' xs i t here are aborts = record { makes = inr (t, here, aborts, (refl, refl)); leads = abort-leads tells v v' xs i t here are aborts }

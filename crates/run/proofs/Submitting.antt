@@ -58,8 +58,10 @@ later-apart v h ticket (held.Ticket u) p rising later shows clash =
     absurd (omega (arith, early, later, clash))
 later-apart v h ticket (held.View u) p rising later shows clash = clash
 
-submit-leads : (tells : Bool) (v v' : StoreValue) (xs : List Held) (i : ℕ) (t : TxnValue) (label now : ℕ) (r : Result Submitted SubmitFault) → slice_get xs i ≡ Some (held.Transaction t) → AreTxnWrites t.state t.snapshot t.writes → label < 2 ^ 64
-    → stores.Submits v t label now r v' → Leads tells v xs (call.Submit i label now) (submit_answer r).0 v' (slice_set xs i held.Nothing ++ (submit_answer r).1 ∷ [])
+submit-leads : (tells : Bool) (v v' : StoreValue) (xs : List Held) (i : ℕ) (t : TxnValue) (label now : ℕ) (r : Result Submitted SubmitFault)
+    → slice_get xs i ≡ Some (held.Transaction t) → AreTxnWrites t.state t.snapshot t.writes → label < 2 ^ 64
+    → stores.Submits v t label now r v'
+    → Leads tells v xs (call.Submit i label now) (submit_answer r).0 v' (slice_set xs i held.Nothing ++ (submit_answer r).1 ∷ [])
 submit-leads tells v v' xs i t label now r here are range submits w is =
     let m = w.machine in
     let shows = is.places.each i (held.Transaction t) here in
@@ -132,6 +134,9 @@ submit-leads tells v v' xs i t label now r here are range submits w is =
     by-result (Err refused.Failed) left after step stands shows places = nothing (Err refused.Failed) (steps.Refused (submission_of t label now) steps.Failed) after step stands shows places left (refl, refl)
     by-result (Err refused.Stranger) left after step stands shows places = absurd left
 
-pub submit-goes : (tells : Bool) (v v' : StoreValue) (xs : List Held) (i : ℕ) (t : TxnValue) (label now : ℕ) (r : Result Submitted SubmitFault) → slice_get xs i ≡ Some (held.Transaction t) → AreTxnWrites t.state t.snapshot t.writes → label < 2 ^ 64
-    → stores.Submits v t label now r v' → Goes tells v xs (call.Submit i label now) (submit_answer r).0 v' (slice_set xs i held.Nothing ++ (submit_answer r).1 ∷ [])
-submit-goes tells v v' xs i t label now r here are range submits = record { makes = inr (t, r, here, submits, (refl, refl)); leads = submit-leads tells v v' xs i t label now r here are range submits }
+pub submit-goes : (tells : Bool) (v v' : StoreValue) (xs : List Held) (i : ℕ) (t : TxnValue) (label now : ℕ) (r : Result Submitted SubmitFault)
+    → slice_get xs i ≡ Some (held.Transaction t) → AreTxnWrites t.state t.snapshot t.writes → label < 2 ^ 64
+    → stores.Submits v t label now r v'
+    → Goes tells v xs (call.Submit i label now) (submit_answer r).0 v' (slice_set xs i held.Nothing ++ (submit_answer r).1 ∷ [])
+submit-goes tells v v' xs i t label now r here are range submits =
+    record { makes = inr (t, r, here, submits, (refl, refl)); leads = submit-leads tells v v' xs i t label now r here are range submits }

@@ -34,7 +34,8 @@ redeemed-keeps v k (held.Transaction t) apart = (refl, refl)
 redeemed-keeps v k (held.Ticket t) apart = (refl, λ waits. awaited-redeemed v.heads t.time k.time (λ same. apart (sym same)) waits)
 redeemed-keeps v k (held.View t) apart = refl
 
-redeem-leads : (tells : Bool) (v v' : StoreValue) (xs : List Held) (i : ℕ) (k : TicketValue) (r : Redeemed) → slice_get xs i ≡ Some (held.Ticket k) → stores.Redeems v k r v'
+redeem-leads : (tells : Bool) (v v' : StoreValue) (xs : List Held) (i : ℕ) (k : TicketValue) (r : Redeemed) → slice_get xs i ≡ Some (held.Ticket k)
+    → stores.Redeems v k r v'
     → Leads tells v xs (call.Redeem i) (redeem_answer r).0 v' (slice_set xs i (redeem_answer r).1 ++ held.Nothing ∷ [])
 redeem-leads tells v v' xs i k r here redeems w is =
     let h = w.machine.published in
@@ -86,7 +87,8 @@ redeem-leads tells v v' xs i k r here redeems w is =
         let own = own_ticket v.transactions w.machine.published k (place_at w.places i) shows in
         absurd (left.1 own.mark own.awaited)
 
-give_up-leads : (tells : Bool) (v : StoreValue) (xs : List Held) (i : ℕ) (k : TicketValue) → slice_get xs i ≡ Some (held.Ticket k) → Leads tells v xs (call.GiveUp i) answer.GiveUp v (slice_set xs i held.Nothing ++ held.Nothing ∷ [])
+give_up-leads : (tells : Bool) (v : StoreValue) (xs : List Held) (i : ℕ) (k : TicketValue) → slice_get xs i ≡ Some (held.Ticket k)
+    → Leads tells v xs (call.GiveUp i) answer.GiveUp v (slice_set xs i held.Nothing ++ held.Nothing ∷ [])
 give_up-leads tells v xs i k here w is = (
   spent w i,
   at_ticket (λ (p : Place). GivesUp w i p (spent w i)) v.transactions w.machine.published k (place_at w.places i) (is.places.each i (held.Ticket k) here) refl,
@@ -94,9 +96,11 @@ give_up-leads tells v xs i k here w is = (
   record { stands = is.stands; places = push_nothing v.transactions w.machine.published (slice_set xs i held.Nothing) (slice_set w.places i Free) (free v.transactions w.machine.published xs w.places i (held.Ticket k) is.places here); views = reads-plain tells v (slice_set xs i held.Nothing) (slice_set w.places i Free) held.Nothing Free (free v.transactions w.machine.published xs w.places i (held.Ticket k) is.places here).many tt (reads-set tells v xs w.places i held.Nothing Free tt is.views) },
 )
 
-pub redeem-goes : (tells : Bool) (v v' : StoreValue) (xs : List Held) (i : ℕ) (k : TicketValue) (r : Redeemed) → slice_get xs i ≡ Some (held.Ticket k) → stores.Redeems v k r v'
+pub redeem-goes : (tells : Bool) (v v' : StoreValue) (xs : List Held) (i : ℕ) (k : TicketValue) (r : Redeemed) → slice_get xs i ≡ Some (held.Ticket k)
+    → stores.Redeems v k r v'
     → Goes tells v xs (call.Redeem i) (redeem_answer r).0 v' (slice_set xs i (redeem_answer r).1 ++ held.Nothing ∷ [])
 redeem-goes tells v v' xs i k r here redeems = record { makes = inr (k, r, here, redeems, (refl, refl)); leads = redeem-leads tells v v' xs i k r here redeems }
 
-pub give_up-goes : (tells : Bool) (v : StoreValue) (xs : List Held) (i : ℕ) (k : TicketValue) → slice_get xs i ≡ Some (held.Ticket k) → Goes tells v xs (call.GiveUp i) answer.GiveUp v (slice_set xs i held.Nothing ++ held.Nothing ∷ [])
+pub give_up-goes : (tells : Bool) (v : StoreValue) (xs : List Held) (i : ℕ) (k : TicketValue) → slice_get xs i ≡ Some (held.Ticket k)
+    → Goes tells v xs (call.GiveUp i) answer.GiveUp v (slice_set xs i held.Nothing ++ held.Nothing ∷ [])
 give_up-goes tells v xs i k here = record { makes = inr (k, here, refl, (refl, refl)); leads = give_up-leads tells v xs i k here }

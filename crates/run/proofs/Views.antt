@@ -54,7 +54,8 @@ held-no_view (Some (held.Transaction u)) is = tt
 held-no_view (Some (held.Ticket k)) is = tt
 held-no_view (Some (held.View k)) is = absurd cc
 
-view-leads : (tells : Bool) (v : StoreValue) (xs : List Held) (r : Result ViewValue AllocError) → IfOk r (stores.IsViewOf v) → Leads tells v xs call.View (view_answer r).0 v (xs ++ (view_answer r).1 ∷ [])
+view-leads : (tells : Bool) (v : StoreValue) (xs : List Held) (r : Result ViewValue AllocError) → IfOk r (stores.IsViewOf v)
+    → Leads tells v xs call.View (view_answer r).0 v (xs ++ (view_answer r).1 ∷ [])
 view-leads tells v xs (Ok view) of w is =
     let h = w.machine.published in
     let stands = view-of-history tells v view w.machine is.stands of in
@@ -116,7 +117,8 @@ asked-few tells v v' view from Refuses Recent OfHistory Exact answer says = by-o
     by-own true finds = let is = ap (λ (x : StoreValue). x.disk.made) finds.asks.new_is ∙ after-made answer v.disk in omega arith
     by-own false strange = let is = ap (λ (x : StoreValue). x.disk.made) strange.1 in omega arith
 
-at-leads : (tells : Bool) (v v' : StoreValue) (xs : List Held) (i : ℕ) (key : Key) (time : ℕ) (view : ViewValue) (r : Result (Option Value) QueryFault) → slice_get xs i ≡ Some (held.View view) → stores.AnswersAtView tells v view key time r v'
+at-leads : (tells : Bool) (v v' : StoreValue) (xs : List Held) (i : ℕ) (key : Key) (time : ℕ) (view : ViewValue) (r : Result (Option Value) QueryFault)
+    → slice_get xs i ≡ Some (held.View view) → stores.AnswersAtView tells v view key time r v'
     → Leads tells v xs (call.At i key time) (answer.At r) v' (xs ++ held.Nothing ∷ [])
 at-leads tells v v' xs i key time view r here says w is = (
   same w,
@@ -163,7 +165,8 @@ recent-copied view key time (Ok o) says = says
 recent-copied view key time (Err why) says = says
 
 -- what a view answers from memory alone, with one more holder of what is found
-recent-says : (view : ViewValue) (h : History Value) (floors : ℕ → ℕ) (key : Key) (time : ℕ) (found r : Result (Option Value) QueryFault) → ViewStands view h floors → AnswersRecent view key time found → IsShared found r
+recent-says : (view : ViewValue) (h : History Value) (floors : ℕ → ℕ) (key : Key) (time : ℕ) (found r : Result (Option Value) QueryFault)
+    → ViewStands view h floors → AnswersRecent view key time found → IsShared found r
     → SaysRecent view.reclaimed time (answers.at_answer h floors key time) r
 recent-says view h floors key time found r stands says shared = by-found found says shared (recent-answered view h floors key time found stands says)
   where
@@ -183,7 +186,8 @@ recent-says view h floors key time found r stands says shared = by-found found s
     by-found (Err (query.Damaged start)) says shared told = absurd told
     by-found (Err query.Stranger) says shared told = absurd told
 
-recent-leads : (tells : Bool) (v : StoreValue) (xs : List Held) (i : ℕ) (key : Key) (time : ℕ) (view : ViewValue) (found r : Result (Option Value) QueryFault) → slice_get xs i ≡ Some (held.View view) → AnswersRecent view key time found → IsShared found r
+recent-leads : (tells : Bool) (v : StoreValue) (xs : List Held) (i : ℕ) (key : Key) (time : ℕ) (view : ViewValue) (found r : Result (Option Value) QueryFault)
+    → slice_get xs i ≡ Some (held.View view) → AnswersRecent view key time found → IsShared found r
     → Leads tells v xs (call.Recent i key time) (answer.Recent r) v (xs ++ held.Nothing ∷ [])
 recent-leads tells v xs i key time view found r here says shared w is = (
   same w,
@@ -193,7 +197,8 @@ recent-leads tells v xs i key time view found r here says shared w is = (
   same-world tells v xs w is,
 )
 
-end-leads : (tells : Bool) (v v' : StoreValue) (xs : List Held) (i : ℕ) (view : ViewValue) → slice_get xs i ≡ Some (held.View view) → v' ≡ v → Leads tells v xs (call.End i) answer.End v' (slice_set xs i held.Nothing ++ held.Nothing ∷ [])
+end-leads : (tells : Bool) (v v' : StoreValue) (xs : List Held) (i : ℕ) (view : ViewValue) → slice_get xs i ≡ Some (held.View view) → v' ≡ v
+    → Leads tells v xs (call.End i) answer.End v' (slice_set xs i held.Nothing ++ held.Nothing ∷ [])
 end-leads tells v v' xs i view here unchanged w is =
     let freed = free v.transactions w.machine.published xs w.places i (held.View view) is.places here in (
       spent w i,
@@ -206,37 +211,48 @@ end-leads tells v v' xs i view here unchanged w is =
       }),
     )
 
-times-leads : (tells : Bool) (v : StoreValue) (xs : List Held) (label : ℕ) (r : Result (Vec ℕ Global) AllocError) → IfOk r (λ times. stores.IsTimesOf v label times.items) → Leads tells v xs (call.TimesOf label) (answer.TimesOf r) v (xs ++ held.Nothing ∷ [])
-times-leads tells v xs label (Ok times) of w is = (same w, (of ∙ times-of_label v.transactions w.machine label is.stands.memory, refl), no-step w.machine, same-world tells v xs w is)
+times-leads : (tells : Bool) (v : StoreValue) (xs : List Held) (label : ℕ) (r : Result (Vec ℕ Global) AllocError)
+    → IfOk r (λ times. stores.IsTimesOf v label times.items) → Leads tells v xs (call.TimesOf label) (answer.TimesOf r) v (xs ++ held.Nothing ∷ [])
+times-leads tells v xs label (Ok times) of w is =
+    (same w, (of ∙ times-of_label v.transactions w.machine label is.stands.memory, refl), no-step w.machine, same-world tells v xs w is)
 times-leads tells v xs label (Err why) of w is = (same w, (tt, refl), no-step w.machine, same-world tells v xs w is)
 
 -- ---- as the store's own clauses say
 
-pub view-goes : (tells : Bool) (v : StoreValue) (xs : List Held) (r : Result ViewValue AllocError) → IfOk r (stores.IsViewOf v) → Goes tells v xs call.View (view_answer r).0 v (xs ++ (view_answer r).1 ∷ [])
+pub view-goes : (tells : Bool) (v : StoreValue) (xs : List Held) (r : Result ViewValue AllocError) → IfOk r (stores.IsViewOf v)
+    → Goes tells v xs call.View (view_answer r).0 v (xs ++ (view_answer r).1 ∷ [])
 view-goes tells v xs r of = record { makes = inr (r, of, refl, (refl, refl)); leads = view-leads tells v xs r of }
 
-pub at-goes : (tells : Bool) (v v' : StoreValue) (xs : List Held) (i : ℕ) (key : Key) (time : ℕ) (view : ViewValue) (r : Result (Option Value) QueryFault) → slice_get xs i ≡ Some (held.View view) → stores.AnswersAtView tells v view key time r v'
+pub at-goes : (tells : Bool) (v v' : StoreValue) (xs : List Held) (i : ℕ) (key : Key) (time : ℕ) (view : ViewValue) (r : Result (Option Value) QueryFault)
+    → slice_get xs i ≡ Some (held.View view) → stores.AnswersAtView tells v view key time r v'
     → Goes tells v xs (call.At i key time) (answer.At r) v' (xs ++ held.Nothing ∷ [])
-at-goes tells v v' xs i key time view r here says = record { makes = inr (r, (view, here, says, (refl, refl))); leads = at-leads tells v v' xs i key time view r here says }
+at-goes tells v v' xs i key time view r here says =
+    record { makes = inr (r, (view, here, says, (refl, refl))); leads = at-leads tells v v' xs i key time view r here says }
 
 pub scan_at-goes : (tells : Bool) (v v' : StoreValue) (xs : List Held) (i : ℕ) (relation time : ℕ) (view : ViewValue) (r : Result (Vec (ℕ × Value) Global) QueryFault) → slice_get xs i ≡ Some (held.View view) → stores.AnswersScanAt tells v view relation time r v'
     → Goes tells v xs (call.ScanAt i relation time) (answer.ScanAt r) v' (xs ++ held.Nothing ∷ [])
-scan_at-goes tells v v' xs i relation time view r here says = record { makes = inr (r, (view, here, says, (refl, refl))); leads = scan_at-leads tells v v' xs i relation time view r here says }
+scan_at-goes tells v v' xs i relation time view r here says =
+    record { makes = inr (r, (view, here, says, (refl, refl))); leads = scan_at-leads tells v v' xs i relation time view r here says }
 
 pub between-goes : (tells : Bool) (v v' : StoreValue) (xs : List Held) (i : ℕ) (key : Key) (a b : ℕ) (view : ViewValue) (r : Result (Vec (Version Value) Global) QueryFault) → slice_get xs i ≡ Some (held.View view) → stores.AnswersRows tells v view key a b r v'
     → Goes tells v xs (call.Between i key a b) (answer.Between r) v' (xs ++ held.Nothing ∷ [])
-between-goes tells v v' xs i key a b view r here says = record { makes = inr (r, (view, here, says, (refl, refl))); leads = between-leads tells v v' xs i key a b view r here says }
+between-goes tells v v' xs i key a b view r here says =
+    record { makes = inr (r, (view, here, says, (refl, refl))); leads = between-leads tells v v' xs i key a b view r here says }
 
 pub scan_between-goes : (tells : Bool) (v v' : StoreValue) (xs : List Held) (i : ℕ) (relation a b : ℕ) (view : ViewValue) (r : Result (Vec (ℕ × Version Value) Global) QueryFault) → slice_get xs i ≡ Some (held.View view) → stores.AnswersScanRows tells v view relation a b r v'
     → Goes tells v xs (call.ScanBetween i relation a b) (answer.ScanBetween r) v' (xs ++ held.Nothing ∷ [])
-scan_between-goes tells v v' xs i relation a b view r here says = record { makes = inr (r, (view, here, says, (refl, refl))); leads = scan_between-leads tells v v' xs i relation a b view r here says }
+scan_between-goes tells v v' xs i relation a b view r here says =
+    record { makes = inr (r, (view, here, says, (refl, refl))); leads = scan_between-leads tells v v' xs i relation a b view r here says }
 
 pub recent-goes : (tells : Bool) (v : StoreValue) (xs : List Held) (i : ℕ) (key : Key) (time : ℕ) (view : ViewValue) (found r : Result (Option Value) QueryFault) → slice_get xs i ≡ Some (held.View view) → AnswersRecent view key time found → IsShared found r
     → Goes tells v xs (call.Recent i key time) (answer.Recent r) v (xs ++ held.Nothing ∷ [])
-recent-goes tells v xs i key time view found r here says shared = record { makes = inr (r, (view, here, ((found, says, shared), refl), (refl, refl))); leads = recent-leads tells v xs i key time view found r here says shared }
+recent-goes tells v xs i key time view found r here says shared =
+    record { makes = inr (r, (view, here, ((found, says, shared), refl), (refl, refl))); leads = recent-leads tells v xs i key time view found r here says shared }
 
-pub end-goes : (tells : Bool) (v v' : StoreValue) (xs : List Held) (i : ℕ) (view : ViewValue) → slice_get xs i ≡ Some (held.View view) → v' ≡ v → Goes tells v xs (call.End i) answer.End v' (slice_set xs i held.Nothing ++ held.Nothing ∷ [])
-end-goes tells v v' xs i view here unchanged = record { makes = inr (view, here, unchanged, (refl, refl)); leads = end-leads tells v v' xs i view here unchanged }
+pub end-goes : (tells : Bool) (v v' : StoreValue) (xs : List Held) (i : ℕ) (view : ViewValue) → slice_get xs i ≡ Some (held.View view) → v' ≡ v
+    → Goes tells v xs (call.End i) answer.End v' (slice_set xs i held.Nothing ++ held.Nothing ∷ [])
+end-goes tells v v' xs i view here unchanged =
+    record { makes = inr (view, here, unchanged, (refl, refl)); leads = end-leads tells v v' xs i view here unchanged }
 
 pub times-goes : (tells : Bool) (v : StoreValue) (xs : List Held) (label : ℕ) (r : Result (Vec ℕ Global) AllocError) → IfOk r (λ times. stores.IsTimesOf v label times.items) → Goes tells v xs (call.TimesOf label) (answer.TimesOf r) v (xs ++ held.Nothing ∷ [])
 times-goes tells v xs label r of = record { makes = inr (r, of, refl, (refl, refl)); leads = times-leads tells v xs label r of }

@@ -146,5 +146,7 @@ ViewAnswersByItsMoment = (tells : Bool) (t : Trace tells) (i k : ℕ) (key : Key
 
 -- So it does from memory alone: an earlier time than that needs the disk.
 abbrev pub RecentAnswersByItsMoment : Type 0
-RecentAnswersByItsMoment = (tells : Bool) (t : Trace tells) (i k : ℕ) (key : Key) (time : ℕ) (said : Result (Option Value) QueryFault) → IsCall t k (call.Recent (place_of t i) key time) (answer.Recent said)
+RecentAnswersByItsMoment =
+    (tells : Bool) (t : Trace tells) (i k : ℕ) (key : Key) (time : ℕ) (said : Result (Option Value) QueryFault)
+    → IsCall t k (call.Recent (place_of t i) key time) (answer.Recent said)
     → (i < k) × IsCall t i call.View (answer.View (Ok tt)) × ((reclaimed : ℕ) × (reclaimed ≤ last (machine_at t i).published) × SaysRecent reclaimed time (at_answer (machine_at t i).published (machine_at t i).floors key time) said)

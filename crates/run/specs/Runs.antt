@@ -330,7 +330,8 @@ Follows m after = (events : List (Event Value)) × steps.Run IsValue m events af
 
 -- from each world of the store and the places the call leads by this answer to one of theirs after it
 abbrev pub Leads : Bool → StoreValue → List Held → Call → Answer → StoreValue → List Held → Type 0
-Leads tells old before c a new after = (w : World) → IsWorld tells old before w → (next : World) × Does tells w c a next × Follows w.machine next.machine × IsWorld tells new after next
+Leads tells old before c a new after =
+    (w : World) → IsWorld tells old before w → (next : World) × Does tells w c a next × Follows w.machine next.machine × IsWorld tells new after next
 
 -- The call is made of the store and the places as the store's own clauses say, and so it leads from each of their worlds to one of theirs after it.
 pub record Goes (tells : Bool) (old : StoreValue) (before : List Held) (c : Call) (a : Answer) (new : StoreValue) (after : List Held) : Type 0 where

@@ -217,7 +217,8 @@ growth-keeps tells old new output told sound (inr (inr did)) = λ header h floor
 
 -- ---- format
 
-making-keeps : (tells : Bool) (old new : DiskState) (slots : ℕ) (output : Output) → IsTrue tells → Makes tells old slots output new → MakingKeeps tells old slots new
+making-keeps : (tells : Bool) (old new : DiskState) (slots : ℕ) (output : Output) → IsTrue tells → Makes tells old slots output new
+    → MakingKeeps tells old slots new
 making-keeps tells old new slots output told (inl made) =
     inl (record {
       kept = λ image left. kept-as tells (new_header 3 slots) image [] (λ relation. 0) told (formatted-leaves slots old.areas new.areas image (made.formatted told) left);
@@ -228,10 +229,13 @@ making-keeps tells old new slots output told (inr refused) = inr (refused.0, ref
 -- ---- one question
 
 -- a value that the write sets say is replied
-value-says : (Sure : Type 0) → Sure → (said : Result (Option Value) QueryRefusal) (answer : Result (Option Value) QueryFault) → SaysAt Sure said answer → OrGaveOut (IsValueReply said) (session.found answer)
+value-says : (Sure : Type 0) → Sure → (said : Result (Option Value) QueryRefusal) (answer : Result (Option Value) QueryFault) → SaysAt Sure said answer
+    → OrGaveOut (IsValueReply said) (session.found answer)
 value-says Sure sure said (Ok value) says = inl (subst (λ (o : Result (Option Value) QueryRefusal). IsValueReply o (reply.Found value)) (sym (says sure)) refl)
-value-says Sure sure said (Err (query.BeforeKept floor)) says = inl (subst (λ (o : Result (Option Value) QueryRefusal). IsValueReply o (session.found (Err (query.BeforeKept floor)))) (sym says) refl)
-value-says Sure sure said (Err (query.NotYet last)) says = inl (subst (λ (o : Result (Option Value) QueryRefusal). IsValueReply o (session.found (Err (query.NotYet last)))) (sym says) refl)
+value-says Sure sure said (Err (query.BeforeKept floor)) says =
+    inl (subst (λ (o : Result (Option Value) QueryRefusal). IsValueReply o (session.found (Err (query.BeforeKept floor)))) (sym says) refl)
+value-says Sure sure said (Err (query.NotYet last)) says =
+    inl (subst (λ (o : Result (Option Value) QueryRefusal). IsValueReply o (session.found (Err (query.NotYet last)))) (sym says) refl)
 value-says Sure sure said (Err query.NoMemory) says = inr (inl refl)
 value-says Sure sure said (Err query.Device) says = inr (inr refl)
 value-says Sure sure said (Err query.EmptyInterval) says = absurd says
@@ -241,11 +245,16 @@ value-says Sure sure said (Err query.Stranger) says = absurd says
 
 -- so are the rows
 rows-says : (Sure : Type 0) → Sure → (said : Result (List (Version Value)) QueryRefusal) (answer : Result (Vec (Version Value) Global) QueryFault)
-    → Says Sure (λ (rows : Vec (Version Value) Global). rows.items) (λ (o : Result (List (Version Value)) QueryRefusal). said ≡ o) answer → OrGaveOut (IsRowsReply said) (session.rows_found answer)
-rows-says Sure sure said (Ok found) says = inl (subst (λ (o : Result (List (Version Value)) QueryRefusal). IsRowsReply o (reply.Rows found)) (sym (says sure)) (found, refl, refl))
-rows-says Sure sure said (Err (query.BeforeKept floor)) says = inl (subst (λ (o : Result (List (Version Value)) QueryRefusal). IsRowsReply o (session.rows_found (Err (query.BeforeKept floor)))) (sym says) refl)
-rows-says Sure sure said (Err (query.NotYet last)) says = inl (subst (λ (o : Result (List (Version Value)) QueryRefusal). IsRowsReply o (session.rows_found (Err (query.NotYet last)))) (sym says) refl)
-rows-says Sure sure said (Err query.EmptyInterval) says = inl (subst (λ (o : Result (List (Version Value)) QueryRefusal). IsRowsReply o (session.rows_found (Err query.EmptyInterval))) (sym says) refl)
+    → Says Sure (λ (rows : Vec (Version Value) Global). rows.items) (λ (o : Result (List (Version Value)) QueryRefusal). said ≡ o) answer
+    → OrGaveOut (IsRowsReply said) (session.rows_found answer)
+rows-says Sure sure said (Ok found) says =
+    inl (subst (λ (o : Result (List (Version Value)) QueryRefusal). IsRowsReply o (reply.Rows found)) (sym (says sure)) (found, refl, refl))
+rows-says Sure sure said (Err (query.BeforeKept floor)) says =
+    inl (subst (λ (o : Result (List (Version Value)) QueryRefusal). IsRowsReply o (session.rows_found (Err (query.BeforeKept floor)))) (sym says) refl)
+rows-says Sure sure said (Err (query.NotYet last)) says =
+    inl (subst (λ (o : Result (List (Version Value)) QueryRefusal). IsRowsReply o (session.rows_found (Err (query.NotYet last)))) (sym says) refl)
+rows-says Sure sure said (Err query.EmptyInterval) says =
+    inl (subst (λ (o : Result (List (Version Value)) QueryRefusal). IsRowsReply o (session.rows_found (Err query.EmptyInterval))) (sym says) refl)
 rows-says Sure sure said (Err query.NoMemory) says = inr (inl refl)
 rows-says Sure sure said (Err query.Device) says = inr (inr refl)
 rows-says Sure sure said (Err (query.Damaged start)) says = absurd (says.0 sure)
@@ -262,8 +271,10 @@ between-led tells key a b m is r new step =
     let to = between-line tells m is key a b r new step.0 step.1 in
     record { after = to.after; is_state = to.is_state; leads = record { step = subst (λ (s : State). Step tells m.state (line.Between key a b) r s) (sym to.is_state) step; keeps = to.keeps }; is = to.is }
 
-at-says : (tells : Bool) (store new : StoreValue) (h : History Value) (floors : ℕ → ℕ) (key : Key) (time : ℕ) (r : Reply) → IsTrue tells → Stands tells store (machine.opened h floors) → AtStep tells store key time r new → OrGaveOut (IsValueReply (at_answer h floors key time)) r
-at-says tells store new h floors key time r told stands step = subst (OrGaveOut (IsValueReply (at_answer h floors key time))) (sym step.2) (by-taken step.1.0 step.1.1)
+at-says : (tells : Bool) (store new : StoreValue) (h : History Value) (floors : ℕ → ℕ) (key : Key) (time : ℕ) (r : Reply) → IsTrue tells
+    → Stands tells store (machine.opened h floors) → AtStep tells store key time r new → OrGaveOut (IsValueReply (at_answer h floors key time)) r
+at-says tells store new h floors key time r told stands step =
+    subst (OrGaveOut (IsValueReply (at_answer h floors key time))) (sym step.2) (by-taken step.1.0 step.1.1)
   where
     by-taken : (o : Option ViewValue) → MatchOption o ((step.0 ≡ Err query.NoMemory) × (new ≡ store)) (λ view. stores.IsViewOf store view × stores.AnswersAtView tells store view key time step.0 new)
         → OrGaveOut (IsValueReply (at_answer h floors key time)) (session.found step.0)
@@ -272,9 +283,11 @@ at-says tells store new h floors key time r told stands step = subst (OrGaveOut 
         let of = view-of-history tells store view (machine.opened h floors) stands asks.0 in
         value-says (IsSure tells view.reclaimed time) (inl told) (at_answer h floors key time) step.0 (at-answered tells store new (machine.opened h floors) view h floors key time step.0 stands of.0 of.1 asks.1)
 
-between-says : (tells : Bool) (store new : StoreValue) (h : History Value) (floors : ℕ → ℕ) (key : Key) (a b : ℕ) (r : Reply) → IsTrue tells → Stands tells store (machine.opened h floors) → BetweenStep tells store key a b r new
+between-says : (tells : Bool) (store new : StoreValue) (h : History Value) (floors : ℕ → ℕ) (key : Key) (a b : ℕ) (r : Reply) → IsTrue tells
+    → Stands tells store (machine.opened h floors) → BetweenStep tells store key a b r new
     → OrGaveOut (IsRowsReply (between_answer h floors key a b)) r
-between-says tells store new h floors key a b r told stands step = subst (OrGaveOut (IsRowsReply (between_answer h floors key a b))) (sym step.2) (by-taken step.1.0 step.1.1)
+between-says tells store new h floors key a b r told stands step =
+    subst (OrGaveOut (IsRowsReply (between_answer h floors key a b))) (sym step.2) (by-taken step.1.0 step.1.1)
   where
     by-taken : (o : Option ViewValue) → MatchOption o ((step.0 ≡ Err query.NoMemory) × (new ≡ store)) (λ view. stores.IsViewOf store view × stores.AnswersRows tells store view key a b step.0 new)
         → OrGaveOut (IsRowsReply (between_answer h floors key a b)) (session.rows_found step.0)
@@ -284,7 +297,8 @@ between-says tells store new h floors key a b r told stands step = subst (OrGave
         rows-says (IsSure tells view.reclaimed a) (inl told) (between_answer h floors key a b) step.0 (between-answered tells store new (machine.opened h floors) view h floors key a b step.0 stands of.0 of.1 asks.1)
 
 -- a question is asked of a store that stands for the image's history
-asking-keeps : (tells : Bool) (old new : DiskState) (asks : Line) (Is : History Value → (ℕ → ℕ) → Reply → Type 0) (output : Output) → IsTrue tells → AreSound old.areas → Led tells asks
+asking-keeps : (tells : Bool) (old new : DiskState) (asks : Line) (Is : History Value → (ℕ → ℕ) → Reply → Type 0) (output : Output) → IsTrue tells
+    → AreSound old.areas → Led tells asks
     → ((store : StoreValue) (h : History Value) (floors : ℕ → ℕ) (r : Reply) (asked : State) → Stands tells store (machine.opened h floors) → Step tells (fresh store) asks r asked → OrGaveOut (Is h floors) r)
     → Asks tells old asks output new → AskingKeeps tells old asks Is output new
 asking-keeps tells old new asks Is output told sound led says (inl refused) =
@@ -306,7 +320,8 @@ asking-keeps tells old new asks Is output told sound led says (inr (inr did)) = 
       }),
     )
 
-at-keeps : (tells : Bool) (old new : DiskState) (key : Key) (time : Option ℕ) (output : Output) → IsTrue tells → AreSound old.areas → MatchOption time (RefusesTime old output new) (λ t. Asks tells old (line.At key t) output new)
+at-keeps : (tells : Bool) (old new : DiskState) (key : Key) (time : Option ℕ) (output : Output) → IsTrue tells → AreSound old.areas
+    → MatchOption time (RefusesTime old output new) (λ t. Asks tells old (line.At key t) output new)
     → MatchOption time (new ≡ old) (λ t. AskingKeeps tells old (line.At key t) (λ h floors. IsValueReply (at_answer h floors key t)) output new)
 at-keeps tells old new key None output told sound refused = refused.0
 at-keeps tells old new key (Some t) output told sound asks =
