@@ -1,0 +1,8 @@
+//! Laws of the log that lies in the heap, as bytes.
+ghost use Rattle.law_log_layout.specs.Laws.{ChainGoes};
+
+/// A chain's way behind the log, at every moment: a stop leaves the log without it, or, from the write
+/// of its gate on, with it or without; and once that is synced with it.
+pub fn chain_goes()
+    ensures { ChainGoes }
+{}
