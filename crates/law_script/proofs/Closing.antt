@@ -111,8 +111,7 @@ pub record OpensTo (tells : Bool) (before : ScriptMoment) (state : State) : Type
   pub is : IsScriptMoment tells after
 
 opened-moment : (tells : Bool) (v : StoreValue) (h : History Value) (floors : ℕ → ℕ) (done : List ℕ) → Stands tells v (opened h floors) → AllByRecursion (HasCommitAt h) done → IsScriptMoment tells (record { state = fresh v; machine = opened h floors; done = done })
-opened-moment tells v h floors done stands published =
-    record { store = refl; places = refl; world = started-world tells v (opened h floors) stands; published = published }
+opened-moment tells v h floors done stands has = record { store = refl; places = refl; world = started-world tells v (opened h floors) stands; published = has }
 
 pub first-script : (tells : Bool) (v : StoreValue) (h : History Value) (floors : ℕ → ℕ) → Stands tells v (opened h floors) → IsScriptMoment tells (record { state = fresh v; machine = opened h floors; done = [] })
 first-script tells v h floors stands = opened-moment tells v h floors [] stands tt
