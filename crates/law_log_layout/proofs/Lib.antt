@@ -1,2 +1,3 @@
 pub mod Parts
 pub mod Goes
+pub mod RootGoes
