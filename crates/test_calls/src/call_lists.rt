@@ -3,7 +3,7 @@ use crate::list_answers::{Want, is_answer};
 use crate::list_calls::{Ask, Rows, answers_to, call_of, calls_of, first_wrong, is_spent, opened};
 use disk::MemDisk;
 use group::{Did, PumpFault};
-use run::{Call, Held, RedeemOutcome, close, give_back, run_on, step};
+use run::{Call, Held, RedeemOutcome, close, give_back, run, run_on, step};
 use std::alloc::{AllocError, Global};
 use std::test::Fail;
 use store::{JobDid, StartFault, Store};
@@ -244,6 +244,16 @@ fn lists_of_calls_are_answered(rt: HostRuntime) -> Result<(), Fail> {
     for list in LISTS {
         assert_eq!(rt; outcome_of(rt.alloc(), list)?, (None, list.3), "{}", list.0);
     }
+    Ok(())
+}
+
+#[test]
+fn a_list_gives_back_what_is_left_over(rt: HostRuntime) -> Result<(), Fail> {
+    let calls = calls_of(rt.alloc(), LEFT_OVER)?;
+    let mut store = opened(rt.alloc())?;
+    let outcome = run(rt.alloc(), &mut store, &calls);
+    let _disk = close(store);
+    assert!(rt; first_wrong(&outcome?, LEFT_OVER).is_none());
     Ok(())
 }
 
