@@ -11,6 +11,8 @@ mod calling_page;
 #[cfg(test)]
 mod disks;
 #[cfg(test)]
+mod entry_bytes;
+#[cfg(test)]
 mod extent_numbers;
 #[cfg(test)]
 mod floored_images;

@@ -1,0 +1,11 @@
+pub mod Parts
+pub mod Goes
+pub mod RootGoes
+pub mod Places
+pub mod Joining
+pub mod GroupJoins
+pub mod GroupGoes
+pub mod ReclaimGoes
+pub mod BaseJoins
+pub mod EntryJoins
+pub mod BaseGoes
