@@ -1,6 +1,5 @@
 -- Chains whose images begin alike.
 use Rattle.std.proofs.Common.{◌≡◌, ◌≢◌, ℕ, suc, ◌+◌, ◌*◌, ◌^◌, ◌<◌, ◌≤◌, List, [], ◌∷◌, ◌++◌, length, map, take, drop, refl, sym, ◌∙◌, ap, arith}
-use Rattle.std.specs.List.{flat_map}
 use Rattle.std.proofs.lemmas.List.{length-take, drop-drop}
 use Rattle.std.proofs.Math.Seq.{take-add}
 use Rattle.log_extents.specs.Extents.{LinkedExtent, linked_bytes}

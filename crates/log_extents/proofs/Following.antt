@@ -4,9 +4,9 @@ use Rattle.std.specs.List.{AllByRecursion}
 use Rattle.std.proofs.lemmas.List.{append-nil, map-append, nil_from_length, length-take, length-drop, take_all, take-append-le, drop-append-le, take-append-drop}
 use Rattle.log_extents.specs.declared.chain_reader.ChainKind.{ChainKind}
 use Rattle.log_extents.specs.declared.chain_reader.ChainKind.TheVariants.{Log, Anchors}
-use Rattle.log_extents.specs.Extents.{LinkedExtent, linked_bytes, IsLinked}
-use Rattle.log_extents.specs.Chains.{count_of, first_or, chain_to, IsNumberOf, IsNew, AreDistinct}
-use Rattle.log_extents.specs.Taking.{gate_of, IsLinkOf, IsChainFrom, ChainState, state_of, head_of, images_of, IsLinkAfter, IsTaking, IsPlaced, GoesOn, Fits, link_after, behind, EachChain, BeginsWith, CanBeWhole, IsMore, IsIt, IsWhole, told_by, Takes}
+use Rattle.log_extents.specs.Extents.{LinkedExtent, linked_bytes}
+use Rattle.log_extents.specs.Chains.{first_or, chain_to, IsNumberOf, IsNew, AreDistinct}
+use Rattle.log_extents.specs.Taking.{gate_of, IsLinkOf, IsChainFrom, ChainState, state_of, head_of, images_of, IsLinkAfter, IsTaking, IsPlaced, Fits, link_after, behind, EachChain, BeginsWith, CanBeWhole, IsIt, told_by, Takes}
 use Rattle.log_extents.proofs.Bytes.{small_linked, same_extent}
 use Rattle.log_extents.proofs.Numbers.{cons_some, small_numbers, first_most, no_first, all_push, distinct_push, first_push, all_behind, new_behind}
 use Rattle.log_extents.proofs.Agreeing.{at_front, at_front-none, agree}

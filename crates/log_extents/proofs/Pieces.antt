@@ -1,8 +1,7 @@
 -- The pieces of a content.
-use Rattle.std.proofs.Common.{◌≡◌, ℕ, zero, suc, ◌+◌, ◌*◌, ◌/◌, ◌≤◌, List, [], ◌∷◌, ◌++◌, length, map, take, drop, refl, sym, ◌∙◌, ap, arith}
+use Rattle.std.proofs.Common.{◌≡◌, ℕ, zero, suc, ◌*◌, ◌≤◌, List, [], ◌∷◌, ◌++◌, length, map, take, drop, refl, sym, ◌∙◌, ap, arith}
 use Rattle.std.specs.List.{flat_map}
 use Rattle.std.proofs.lemmas.List.{nil_from_length, length-drop, take-append-drop}
-use Rattle.log_extents.specs.Extents.{LinkedExtent}
 use Rattle.log_extents.specs.Chains.{count_of, pieces_by, pieces, chain_to}
 
 abbrev pub flat : List (List ℕ) → List ℕ

@@ -1,5 +1,5 @@
 -- The chain of extents that a content is written as.
-use Rattle.std.specs.Prelude.{◌≡◌, ◌≢◌, ℕ, zero, suc, ◌+◌, ◌/◌, ◌<◌, ◌≤◌, List, [], ◌∷◌, length, take, drop, map}
+use Rattle.std.specs.Prelude.{◌≡◌, ◌≢◌, ℕ, zero, suc, ◌+◌, ◌/◌, ◌<◌, ◌≤◌, max, List, [], ◌∷◌, length, take, drop, map}
 use Rattle.std.specs.List.{AllByRecursion}
 use Rattle.log_extents.specs.Extents.{LinkedExtent, linked_bytes}
 
@@ -38,6 +38,16 @@ IsNumberOf most number = (0 < number) × (number ≤ most)
 -- this number is not among these
 abbrev pub IsNew : ℕ → List ℕ → Type 0
 IsNew number numbers = AllByRecursion (λ n. n ≢ number) numbers
+
+-- the numbers behind the first are at most this
+abbrev pub AreOthersUpto : ℕ → List ℕ → Type 0
+AreOthersUpto most [] = Unit {0}
+AreOthersUpto most (n ∷ ns) = AllByRecursion (λ m. m ≤ most) ns
+
+-- a number that they are upto, behind one number more
+abbrev pub greatest_after : List ℕ → ℕ → ℕ → ℕ
+greatest_after [] greatest own = 0
+greatest_after (n ∷ ns) greatest own = max greatest own
 
 -- no number is twice among these
 abbrev pub AreDistinct : List ℕ → Type 0

@@ -1,5 +1,5 @@
 -- What holds of extents and of chains.
-use Rattle.std.specs.Prelude.{◌≡◌, ◌≤◌, ◌<◌, ◌^◌, ℕ, ◌+◌, List, ◌++◌, length, map}
+use Rattle.std.specs.Prelude.{◌≡◌, ◌≤◌, ◌<◌, ◌^◌, ℕ, ◌+◌, List, length, map}
 use Rattle.std.specs.List.{flat_map}
 use Rattle.log_extents.specs.Extents.{LinkedExtent, linked_bytes, IsLinked}
 use Rattle.log_extents.specs.Chains.{count_of, pieces, chain_of, IsChainOf}

@@ -1,5 +1,5 @@
 -- What the bytes of a header say.
-use Rattle.std.proofs.Common.{◌≡◌, ℕ, ◌+◌, ◌*◌, ◌^◌, ◌/◌, ◌%◌, ◌<◌, ◌≤◌, Bool, true, false, List, [], ◌∷◌, ◌++◌, length, take, drop, replicate, refl, sym, ◌∙◌, ap, subst, arith}
+use Rattle.std.proofs.Common.{◌≡◌, ℕ, ◌+◌, ◌*◌, ◌^◌, ◌/◌, ◌%◌, ◌<◌, Bool, true, false, List, [], ◌∷◌, ◌++◌, length, take, drop, replicate, refl, sym, ◌∙◌, ap, arith}
 use Rattle.std.specs.Prelude.{slice_index}
 use borrow.Rule.Slice.PartMut.{put_mid, mid_of, post_of}
 use Rattle.std.proofs.lemmas.List.{append-nil, nil_from_length, drop_at, drop-replicate, length-take, length-drop, length-replicate, take_all}
@@ -8,7 +8,7 @@ use Rattle.byteorder.specs.Numbers.{little_from-bytes}
 use Rattle.wire.specs.Numbers.{u32_bytes}
 use Rattle.status.specs.Header.{header_front}
 use Rattle.log_roots.specs.declared.roots.Roots.{Roots}
-use Rattle.log_roots.specs.Roots.{root_of, other_place, is_open, turn_gate, IsRoots, roots_bytes, HasRoots, roots_at}
+use Rattle.log_roots.specs.Roots.{other_place, is_open, turn_gate, IsRoots, roots_bytes, HasRoots, roots_at}
 use Rattle.log_roots.specs.Laws.{with_other, with_turn, put_at}
 
 number_4 : (n : ℕ) (rest : List ℕ) → n < 2 ^ 32 → little_number 4 (little_bytes 4 n ++ rest) ≡ n

@@ -137,7 +137,7 @@ fn is_read(alloc: Global, chain: &OneExtent) -> bool {
     matches!(reader.take(&image), Ok(Taken::Whole))
         && reader.numbers() == [chain.number].as_slice()
         && reader.link() == chain.link
-        && *reader.into_content().as_slice() == *chain.body
+        && reader.into_content().as_slice() == chain.body
 }
 
 #[test]
@@ -225,7 +225,7 @@ fn both_taken(
     let one = reader.take(first).ok()?;
     let two = reader.take(second).ok()?;
     let numbered = reader.numbers() == [1, 2].as_slice() && reader.link() == 3;
-    let same = numbered && *reader.into_content().as_slice() == *content;
+    let same = numbered && reader.into_content().as_slice() == content;
     Some((one, two, same))
 }
 

@@ -9,7 +9,7 @@ use Rattle.log_roots.proofs.decoding.decode.Goals as goal
 pub returns-then-is_said-clause-found : goal.returns-then-is_said-clause-found
 returns-then-is_said-clause-found c = record {
   gate = slice_index c.args.bytes.now 16;
-  gate_fits = ?;
+  gate_fits = c.fits-bytes 16;
   turned = c.read_roots-roots.ensures.turned;
   in_range = (c.is_said-is_said.ensures.0 c.if-is_said.true).0;
   bytes_are = (c.is_said-is_said.ensures.0 c.if-is_said.true).1;
