@@ -134,12 +134,12 @@ KeepsState old new = (new.state ≡ old.state) × (new.before ≡ old.before)
 
 -- the step's device call stands out, if it has one, and what was published before it is kept; that it is due is told
 abbrev pub StandsOut : Step → Published → Engine → Code → Info → Engine → Type 0
-StandsOut step published old said info new = AreSound new.store.disk.areas × (new.store ≡ old.store) × (new.places ≡ old.places) × (said ≡ code.Ok) × (info ≡ told_due (call_of step))
+StandsOut step published old said info new = (new.store ≡ old.store) × (new.places ≡ old.places) × (said ≡ code.Ok) × (info ≡ told_due (call_of step))
     × MatchOption (call_of step) (KeepsState old new) (λ due. (new.state ≡ Asks step) × (new.before ≡ Some published))
 
 -- a step was refused: where its device call was, which is counted, the store goes on no more
 abbrev pub IsRefused : PumpFault → ℕ → Published → Engine → Code → Engine → Type 0
-IsRefused why made published old said new = AreSound new.store.disk.areas × (new.store ≡ old.store) × (new.places ≡ old.places) × (said ≡ pump_code why)
+IsRefused why made published old said new = (new.store ≡ old.store) × (new.places ≡ old.places) × (said ≡ pump_code why)
     × MatchBool (old.store.disk.made == made) (KeepsState old new) ((new.state ≡ Failed) × (new.before ≡ Some published))
 
 -- what was published when the store was so is kept

@@ -246,7 +246,6 @@ impl Engine {
     pub(crate) fn stand_out(&mut self, step: Step, published: Published, info: &mut Info) -> Code
         ensures { StandsOut step published self.old result info.new self.new }
     {
-        let _areas = self.store.disk();
         match step.call() {
             None => {
                 *info = Info { a: 0, b: 0 };
@@ -266,7 +265,6 @@ impl Engine {
     pub(crate) fn refuse_step(&mut self, fault: PumpFault, made: u64, published: Published) -> Code
         ensures { IsRefused fault made published self.old result self.new }
     {
-        let _areas = self.store.disk();
         if self.calls() == made {
             published.spend();
         } else {
