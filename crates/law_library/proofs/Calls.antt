@@ -1,6 +1,7 @@
 -- The calls that make no device call.
 use Rattle.std.proofs.Common.{◌≡◌, ℕ, ◌==◌, ◌&&◌, ◌++◌, Bool, true, false, List, [], ◌∷◌, length, Option, Some, None, Result, Ok, Err, MatchBool, MatchOption, refl, sym, ◌∙◌, ap, subst, inl, inr, ◌⊎◌, ◌<◌, ◌^◌}
 use Rattle.std.specs.Prelude.{slice_get, slice_set, if◌then◌else◌}
+use Rattle.disk.specs.Calls.{DiskState}
 use Rattle.history.specs.declared.key.Key.{Key}
 use Rattle.history.specs.declared.key.KeyWrite.{KeyWrite}
 use Rattle.law_image.specs.Values.{Value}
@@ -31,6 +32,7 @@ use Rattle.run.specs.Places.{Running}
 use Rattle.run.specs.Runs.{Goes}
 use Rattle.run.specs.Worlds.{World, IsWorld}
 use Rattle.run.specs.Worlds as worlds
+use Rattle.std.proofs.lemmas.Bool.{false≢true}
 use Rattle.run.proofs.Archiving.{start-goes, reclaim-goes}
 use Rattle.run.proofs.FloorCalls.{floor-goes}
 use Rattle.run.proofs.GrowCalls.{grow-goes}
@@ -99,7 +101,7 @@ module _ (e : Event) (m : HostMoment) (new : Host) (is : IsHostMoment m) (areas 
   -- ---- places
 
   keeps-disk : KeepsStore old after → SameDisk old after
-  keeps-disk keeps = record { disk = ap (λ (v : StoreValue). v.disk) keeps.0; state = keeps.1; before = keeps.2 }
+  keeps-disk keeps = record { areas = ap (λ (v : StoreValue). v.disk.areas) keeps.0; state = keeps.1; before = keeps.2 }
 
   -- what is held is the same
   same-held : KeepsStore old after → ((n : ℕ) → named after.places n ≡ named old.places n) → HostLink e m new
@@ -128,9 +130,9 @@ module _ (e : Event) (m : HostMoment) (new : Host) (is : IsHostMoment m) (areas 
     where
       by-answer : (o : Result TxnValue BeginFault) → (after.state ≡ old.state) → (after.before ≡ old.before) → stores.Begins old.store o after.store → TellsBegin o old.places said info after.places → HostLink e m new
       by-answer (Ok txn) state before begins tells =
-          gives info.a (Transaction txn) (held.Transaction txn) call.Begin (answer.Begin (Ok tt)) refl tells.2 (begin-goes true old.store after.store xs (Ok txn) begins) (record { disk = begins.rest.disk; state = state; before = before })
+          gives info.a (Transaction txn) (held.Transaction txn) call.Begin (answer.Begin (Ok tt)) refl tells.2 (begin-goes true old.store after.store xs (Ok txn) begins) (record { areas = ap (λ (d : DiskState). d.areas) begins.rest.disk; state = state; before = before })
       by-answer (Err why) state before begins tells =
-          gives-none call.Begin (answer.Begin (Err why)) tells.1.names (begin-goes true old.store after.store xs (Err why) begins) (record { disk = begins.rest.disk; state = state; before = before })
+          gives-none call.Begin (answer.Begin (Err why)) tells.1.names (begin-goes true old.store after.store xs (Err why) begins) (record { areas = ap (λ (d : DiskState). d.areas) begins.rest.disk; state = state; before = before })
 
       by-way : TakesTransaction old said info after → HostLink e m new
       by-way (inl out) = same-held out.1.1 out.1.2.names
@@ -180,7 +182,7 @@ module _ (e : Event) (m : HostMoment) (new : Host) (is : IsHostMoment m) (areas 
   aborted n t mid some taken are places state before aborts =
       let named_is = numbers.as-transaction (named old.places n) t some in
       spends n (held.Transaction t) (call.Abort (place n)) answer.Abort named_is (subst (λ (p : Places). IsTaken n old.places p) (sym places) taken)
-      (abort-goes true old.store after.store xs (place n) t (is.numbers.same n (held.Transaction t) named_is) are aborts) (record { disk = aborts.rest.disk; state = state; before = before })
+      (abort-goes true old.store after.store xs (place n) t (is.numbers.same n (held.Transaction t) named_is) are aborts) (record { areas = ap (λ (d : DiskState). d.areas) aborts.rest.disk; state = state; before = before })
 
   pub aborts : (n : ℕ) (said : Code) → AbortsEngine n old said after → HostLink e m new
   aborts n said done = of-number (transaction_under old n) said _ done (λ t some does.
@@ -214,7 +216,7 @@ module _ (e : Event) (m : HostMoment) (new : Host) (is : IsHostMoment m) (areas 
           ((o : Result Submitted SubmitFault) × stores.Submits old.store t label now o after.store × TellsSubmit o mid said info after.places) → HostLink e m new
       by-failed t mid some taken are state before true gives_up = aborted n t mid some taken are gives_up.1 state before gives_up.2
       by-failed t mid some taken are state before false acts =
-          by-answer t mid acts.0 (numbers.as-transaction (named old.places n) t some) taken are (record { disk = acts.1.rest.disk; state = state; before = before }) acts.1 acts.2
+          by-answer t mid acts.0 (numbers.as-transaction (named old.places n) t some) taken are (record { areas = ap (λ (d : DiskState). d.areas) acts.1.rest.disk; state = state; before = before }) acts.1 acts.2
 
   -- ---- tickets and views that are given up
 
@@ -261,7 +263,7 @@ module _ (e : Event) (m : HostMoment) (new : Host) (is : IsHostMoment m) (areas 
       → ((v v' : StoreValue) (r : Result (Unit {0}) StartFault) → Starts v r v' → (v'.disk ≡ v.disk) × Goes true v xs c (a r) v' (xs ++ held.Nothing ∷ [])) → StartsEngine Starts old said info after → HostLink e m new
   starts c a Starts said info goes done = while-settled said _ done (λ settled does.
       let did = goes old.store after.store does.1.0 does.1.1 in
-      gives-none c (a does.1.0) (λ n. ap (λ (p : Places). named p n) does.0.0) did.1 (record { disk = did.0; state = does.0.1; before = does.0.2 }))
+      gives-none c (a does.1.0) (λ n. ap (λ (p : Places). named p n) does.0.0) did.1 (record { areas = ap (λ (d : DiskState). d.areas) did.0; state = does.0.1; before = does.0.2 }))
 
   archive-disk : (v v' : StoreValue) (upto : ℕ) (r : Result (Unit {0}) StartFault) → StartsArchive v upto r v' → v'.disk ≡ v.disk
   archive-disk v v' upto r starts = by-refusal (refusal_now v upto) r starts

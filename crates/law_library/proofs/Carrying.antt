@@ -1,8 +1,7 @@
 -- A moment of a host goes on where the store's disk stays as it is.
 use Rattle.std.proofs.Common.{◌≡◌, ℕ, ◌++◌, true, List, Option, Some, None, MatchOption, refl, sym, ◌∙◌, ap, subst}
 use Rattle.std.proofs.lemmas.List.{append_assoc}
-use Rattle.disk.specs.Areas.{Areas, Image, LeavesImage}
-use Rattle.disk.specs.Calls.{DiskState}
+use Rattle.disk.specs.Areas.{Areas, AreSound, Image, LeavesImage}
 use Rattle.disk.specs.Within.{LeavesWithin}
 use Rattle.history.specs.Histories.{History, last}
 use Rattle.history.proofs.Runs.{run-shows}
@@ -32,7 +31,7 @@ moved_to m e w = record { host = record { engine = e; areas = m.host.areas }; at
 
 -- the disk, and how the engine stands, are as they were
 pub record SameDisk (old new : Engine) : Type 0 where
-  pub disk : new.store.disk ≡ old.store.disk
+  pub areas : new.store.disk.areas ≡ old.store.disk.areas
   pub state : new.state ≡ old.state
   pub before : new.before ≡ old.before
 
@@ -50,19 +49,21 @@ was-carried m e w b was follows before =
     }
 
 stage-carried : (s : EngineState) (m : HostMoment) (e : Engine) (w : World) → SameDisk m.host.engine e → Follows m.at.world.machine w.machine → IsAtStage s m → IsAtStage s (moved_to m e w)
-stage-carried Settled m e w same follows st = record { none = st.none; areas = st.areas ∙ ap (λ (d : DiskState). d.areas) (sym same.disk) }
+stage-carried Settled m e w same follows st = record { none = st.none; areas = st.areas ∙ sym same.areas; sound = st.sound }
 stage-carried (Asks step) m e w same follows st = record {
   before = st.before;
   was = was-carried m e w st.before st.was follows same.before;
   areas = st.areas;
   call = st.call;
-  due = ap (λ (s : EngineState). due_call (due_in s) e.store.disk.areas) same.state ∙ ap (λ (d : DiskState). due_call (due_in m.host.engine.state) d.areas) same.disk ∙ st.due;
-  leads = ap (λ (d : DiskState). d.areas) same.disk ∙ st.leads;
+  due = ap (λ (s : EngineState). due_call (due_in s) e.store.disk.areas) same.state ∙ ap (λ (a : Areas). due_call (due_in m.host.engine.state) a) same.areas ∙ st.due;
+  leads = same.areas ∙ st.leads;
+  sound = st.sound;
+  sound_after = subst AreSound (sym same.areas) st.sound_after;
 }
 stage-carried Failed m e w same follows st = record {
   before = st.before;
   was = was-carried m e w st.before st.was follows same.before;
-  left = λ image l. subst (λ (d : DiskState). LeavesWithin st.before.store.disk.areas d.areas image) (sym same.disk) (st.left image l);
+  left = λ image l. subst (λ (a : Areas). LeavesWithin st.before.store.disk.areas a image) (sym same.areas) (st.left image l);
 }
 
 -- the host is at the moment after a call that leaves the disk alone
@@ -110,5 +111,5 @@ pub by-world : (e : Event) (m : HostMoment) (new : Host) → IsHostMoment m → 
     → KeepsStore m.host.engine new.engine → new.areas ≡ m.host.areas → with_event e m.at.done ≡ m.at.done → HostLink e m new
 by-world e m new is ys place w machine world holds keeps areas silent =
     let follows : Follows m.at.world.machine w.machine = subst (λ n. Follows m.at.world.machine n) (sym machine) (no-step m.at.world.machine) in
-    let same : SameDisk m.host.engine new.engine = record { disk = ap (λ (v : StoreValue). v.disk) keeps.0; state = keeps.1; before = keeps.2 } in
+    let same : SameDisk m.host.engine new.engine = record { areas = ap (λ (v : StoreValue). v.disk.areas) keeps.0; state = keeps.1; before = keeps.2 } in
     to-moment e m new w areas silent follows (carried m is new.engine ys place w same follows (subst (λ (v : StoreValue). IsWorld true v ys w) (sym keeps.0) world) holds)

@@ -1,6 +1,8 @@
-pub mod Numbers
-pub mod Carrying
-pub mod Calls
-pub mod Steps
-pub mod Stops
-pub mod Events
+mod Numbers
+mod Carrying
+mod Calls
+mod Refusing
+mod Stops
+mod Steps
+mod Redeeming
+mod Events

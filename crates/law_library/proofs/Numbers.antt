@@ -1,11 +1,10 @@
 -- What numbers name, and the places of a list of calls.
-use Rattle.std.proofs.Common.{◌≡◌, ◌≢◌, ◌<◌, ◌==◌, ℕ, suc, true, false, List, [], ◌∷◌, ◌++◌, length, Option, Some, None, refl, sym, ◌∙◌, ap, subst, inl, inr, arith}
+use Rattle.std.proofs.Common.{◌≡◌, ◌≢◌, ◌<◌, ◌==◌, ℕ, zero, suc, true, false, List, [], ◌∷◌, ◌++◌, length, Option, Some, None, refl, sym, ◌∙◌, ap, subst, inl, inr, arith}
 use Rattle.std.specs.Prelude.{slice_get, slice_set, if◌then◌else◌}
 use Rattle.std.proofs.lemmas.Bool.{cases_eq, eq-eqb, ne_eqb}
 use Rattle.run.specs.declared.held.Held.{Held}
 use Rattle.run.specs.declared.held.Held.TheVariants as held
 use Rattle.run.proofs.Lists.{get-within, get-set_same}
-use Rattle.law_script.proofs.Among.{get-end, get-front}
 use Rattle.snapshot.specs.Txn.{TxnValue}
 use Rattle.group.specs.Tickets.{TicketValue}
 use Rattle.timequery.specs.View.{ViewValue}
@@ -17,10 +16,19 @@ use Rattle.law_library.specs.Moments.{Holds, held_as}
 
 get-other : (xs : List Held) (i j : ℕ) (x z : Held) → j ≢ i → slice_get xs j ≡ Some x → slice_get (slice_set xs i z) j ≡ Some x
 get-other [] i j x z apart at = absurd cc
-get-other (y ∷ ys) 0 0 x z apart at = absurd (apart refl)
-get-other (y ∷ ys) 0 (suc j) x z apart at = at
-get-other (y ∷ ys) (suc i) 0 x z apart at = at
+get-other (y ∷ ys) zero zero x z apart at = absurd (apart refl)
+get-other (y ∷ ys) zero (suc j) x z apart at = at
+get-other (y ∷ ys) (suc i) zero x z apart at = at
 get-other (y ∷ ys) (suc i) (suc j) x z apart at = get-other ys i j x z (λ e. apart (ap suc e)) at
+
+get-end : (xs : List Held) (t : Held) → slice_get (xs ++ t ∷ []) (length xs) ≡ Some t
+get-end [] t = refl
+get-end (x ∷ xs) t = get-end xs t
+
+get-front : (xs : List Held) (i : ℕ) (x t : Held) → slice_get xs i ≡ Some x → slice_get (xs ++ t ∷ []) i ≡ Some x
+get-front [] i x t at = absurd cc
+get-front (y ∷ ys) zero x t at = at
+get-front (y ∷ ys) (suc i) x t at = get-front ys i x t at
 
 -- one more place changes nothing
 pub pushed : (places : Places) (xs : List Held) (at : ℕ → ℕ) (w : Held) → Holds places xs at → Holds places (xs ++ w ∷ []) at

@@ -1,6 +1,6 @@
 -- The moments between the events of a host.
 use Rattle.std.specs.Prelude.{ℕ, ◌≡◌, ◌⊎◌, ◌++◌, true, List, slice_get, Option, None, Some, MatchOption}
-use Rattle.disk.specs.Areas.{Areas, Image, LeavesImage}
+use Rattle.disk.specs.Areas.{AreSound, Image, LeavesImage}
 use Rattle.disk.specs.Within.{LeavesWithin}
 use Rattle.history.specs.Histories.{History, last}
 use Rattle.law_image.specs.Values.{Value}
@@ -73,6 +73,7 @@ pub record WasBefore (m : HostMoment) (before : Moment) : Type 0 where
 pub record IsSettled (m : HostMoment) : Type 0 where
   pub none : m.before ≡ None
   pub areas : m.host.areas ≡ m.host.engine.store.disk.areas
+  pub sound : AreSound m.host.areas
 
 -- a device call is due, which leads from the host's areas to the store's
 pub record IsDue (m : HostMoment) : Type 0 where
@@ -82,6 +83,8 @@ pub record IsDue (m : HostMoment) : Type 0 where
   pub call : HostCall
   pub due : due_call (due_in m.host.engine.state) m.host.engine.store.disk.areas ≡ Some call
   pub leads : m.host.engine.store.disk.areas ≡ made call m.host.areas
+  pub sound : AreSound m.host.areas
+  pub sound_after : AreSound m.host.engine.store.disk.areas
 
 -- one was refused: a stop leaves what it might have left within it
 pub record HasFailed (m : HostMoment) : Type 0 where
