@@ -10,7 +10,7 @@ class Session:
         self.process = subprocess.Popen([program, "run", folder], stdin=subprocess.PIPE, stdout=subprocess.PIPE, text=True)
 
     def ask(self, line):
-        """Feeds a line and waits for its answer: the one line, or the list of rows before `rows N`."""
+        """Writes a line and waits for its answer: one line, or the list of rows before `rows N`."""
         print(line, file=self.process.stdin, flush=True)
         rows = []
         while answer := self.process.stdout.readline().rstrip("\n"):
@@ -24,7 +24,7 @@ class Session:
         raise EOFError(f"{line}: the program has ended")
 
     def put(self, label, relation, record, *texts):
-        """Commits one value and gives its time: when this returns, the commit outlasts a stop."""
+        """Commits one value and returns its time. The commit then survives any crash."""
         self.ask("begin t")
         self.ask(f"put t {relation} {record} " + " ".join(text.encode().hex() or "-" for text in texts))
         self.ask(f"submit t {label} {int(time.time() * 1e6)}")

@@ -20,6 +20,7 @@ OnOpened P m (Due change) = ⊥
 OnOpened P m (MayBeOpen OfGroup) = P (with_group m) m.floors
 OnOpened P m (MayBeOpen OfFloor) = OnRaised P m m.raising
 
--- P holds of a front: of the published history with the floors, or of what stands where the gate that may be open is
+-- P holds of a front: of the published history with the floors, or of what stands where the gate that may be open is.
+-- Part of a group is no front, nor is a commit that no group has. A front always has all that is published, so all that is acknowledged.
 abbrev pub OnFront : {V : Type 0} → (History V → (ℕ → ℕ) → Type 0) → Machine V → Type 0
 OnFront P m = P m.published m.floors ⊎ OnOpened P m m.gate

@@ -98,6 +98,7 @@ IsInTheMaking m OfGroup = 0 < m.group
 IsInTheMaking m OfFloor = IsSome m.raising
 
 -- The machine may go from old to new by this event. Where it has failed, transactions are still given up.
+-- A refused call changes nothing, but a refused submit ends its transaction.
 abbrev pub Step : {V : Type 0} → (V → Type 0) → Machine V → Event V → Machine V → Type 0
 Step IsValue old (Began snapshot) new = (old.failed ≡ false) × (snapshot ≡ last old.published) × (new ≡ begun old)
 Step IsValue old (BeginRefused why) new = IsBeginRefusal old why × (new ≡ old)

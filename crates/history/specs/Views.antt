@@ -20,7 +20,8 @@ pub record View (V : Type 0) : Type 0 where
   pub heap : Key → List (Version V)
   pub archive : Key → List (Version V)
 
--- it stands for a history with its floors
+-- It stands for a history with its floors.
+-- Then its answers are those of the history, from the reclaim mark on by the heap alone (the law view_answers).
 pub record IsViewOf {V : Type 0} (view : View V) (h : History V) : Type 0 where
   pub newest_is : view.newest ≡ last h
   pub homes : AreAtHome h view.floors view.archived view.reclaimed view.heap view.archive

@@ -15,10 +15,11 @@ use Rattle.history.proofs.Appending.{ends_by-then-after}
 use Rattle.history.proofs.Histories.{writes_of-rising}
 use Rattle.law_image.specs.Values.{Value}
 use Rattle.law_image.specs.Reading.{Head, Archived, ArchiveRecord, Reading, slot_count}
-use Rattle.law_image.specs.Log.{heads_of, archive_mark, reclaim_mark, MayCome}
+use Rattle.law_image.specs.Log.{heads_of, archive_mark, reclaim_mark, floor_of, MayCome}
 use Rattle.law_image.specs.Facts.{heap_versions, archived_versions, run_versions}
-use Rattle.law_image.specs.StandsFor.{StandsFor, IsAnchorUpto, archived_upto, reclaimed_upto}
-use Rattle.law_image.specs.Plans.{IsArchivePlan, with_run}
+use Rattle.law_image.specs.StandsFor.{StandsFor, IsAnchorUpto, IsSlotLog, archived_upto, reclaimed_upto}
+use Rattle.law_image.specs.Plans.{HasSlots, HasRoom, IsArchivePlan, with_run}
+use Rattle.law_image.proofs.Forms.{in-slots, of-slots, room-in_slots}
 use Rattle.law_image.proofs.Logs.{heads_of-append, archive_mark-append, reclaim_mark-append, floors-append, log-more, runs-more}
 use Rattle.history.proofs.Views.{filter-later}
 use Rattle.law_image.proofs.Standing.{rises}
@@ -55,7 +56,13 @@ joined f r a upto s hv vs ra au apart same =
 
 module _ (reading : Reading) (h : History Value) (floors : ℕ → ℕ) (stands : StandsFor reading h floors)
     (upto : ℕ) (run : List ArchiveRecord) (plan : IsArchivePlan reading upto run)
-    (may : MayCome reading.profile reading.log (Archived upto)) (room : length reading.log < slot_count reading) where
+    (may : MayCome reading.profile reading.log (Archived upto)) (slots : HasSlots reading) (has_room : HasRoom reading) where
+  is : IsSlotLog reading
+  is = in-slots reading slots stands.opens.reads.form
+
+  room : length reading.log < slot_count reading
+  room = room-in_slots reading slots has_room
+
   new_archived : archive_mark (reading.log ++ Archived upto ∷ []) ≡ upto
   new_archived = archive_mark-append 0 reading.log (Archived upto ∷ [])
 
@@ -69,9 +76,12 @@ module _ (reading : Reading) (h : History Value) (floors : ℕ → ℕ) (stands 
   archive-stands_for = record {
     opens = record {
       reads = record {
-        header = stands.opens.reads.header;
-        log = log-more reading.profile [] reading.log (Archived upto) stands.opens.reads.log may;
-        fits = omega (arith, length-append reading.log (Archived upto ∷ []), room);
+        form = of-slots (with_run reading upto run) slots (record {
+            header = (is).header;
+            log = log-more reading.profile [] reading.log (Archived upto) (is).log may;
+            fits = omega (arith, length-append reading.log (Archived upto ∷ []), room);
+            runs = runs-more floor_of [] reading.log (Archived upto ∷ []) reading.runs (run ∷ []) (is).runs (plan.is_run, tt);
+        });
         members = stands.opens.reads.members
             ∙ ap (λ l. filter (λ (head : Head). nat_lt (reclaim_mark reading.log) head.time) l) (sym same_heads)
             ∙ ap (λ (r : ℕ). filter (λ (head : Head). nat_lt r head.time) (heads_of (reading.log ++ Archived upto ∷ []))) (sym same_reclaimed);
@@ -79,7 +89,6 @@ module _ (reading : Reading) (h : History Value) (floors : ℕ → ℕ) (stands 
         stored = stands.opens.reads.stored;
         anchors = stands.opens.reads.anchors;
         anchor_times = subst (λ r. AllByRecursion (IsAnchorUpto r) reading.anchors) (sym same_reclaimed) stands.opens.reads.anchor_times;
-        runs = runs-more [] reading.log (Archived upto ∷ []) reading.runs (run ∷ []) stands.opens.reads.runs (plan.is_run, tt);
       };
       floors_given = λ relation. ap (λ (f : ℕ → ℕ). f relation) (floors-append (λ q. 0) reading.log (Archived upto ∷ [])) ∙ stands.opens.floors_given relation;
       history = stands.opens.history;

@@ -15,7 +15,7 @@ use Rattle.history.specs.declared.time.TimedWrite.{TimedWrite}
 use Rattle.history.specs.declared.time.Version.{Version}
 use Rattle.history.specs.Key.{key_cmp, same_key, write_in}
 use Rattle.history.specs.Time.{IsRisingAfter, value_after, writes_after}
-use Rattle.history.specs.Versions.{stands_at, standing_at, as_write, FollowOneAnotherFrom}
+use Rattle.history.specs.Versions.{versions, stands_at, standing_at, as_write, FollowOneAnotherFrom}
 use Rattle.history.specs.Histories.{Commit, History, writes_of, HasRisingTimes, commits_after}
 use Rattle.history.proofs.Orders.{is_lt, not_lt, is_le}
 use Rattle.history.proofs.Values.{rising_earlier, filter-standing, value_after-later}
@@ -137,6 +137,29 @@ old_writes-rising mark (o ∷ olds) key later lt sorted within up =
     all (same_key o.key key) refl
 
 -- none of the anchors is later than their mark
+-- an anchor alone stands at the mark
+one-standing : (mark : ℕ) (o : OldRecord) → mark < 2 ^ 63 → o.from ≤ mark → map as_write (filter (stands_at mark) (versions (record { time = o.from; write = Some o.value } ∷ []))) ≡ record { time = o.from; write = Some o.value } ∷ []
+one-standing mark o lt le =
+    let from : nat_le o.from mark ≡ true = is_le le in
+    let to : nat_lt mark (2 ^ 63) ≡ true = is_lt lt in
+    rw (from, to) refl
+
+-- the anchors stand at their mark
+pub old_writes-standing : (mark : ℕ) (olds : List OldRecord) (key : Key) → mark < 2 ^ 63
+    → IsStrictlySortedBy key_cmp (map (λ old. old.key) olds) → AllByRecursion (IsAnchorUpto mark) olds → map as_write (filter (stands_at mark) (versions (old_writes olds key))) ≡ old_writes olds key
+unfolding IsStrictlySortedBy
+old_writes-standing mark [] key lt sorted within = refl
+old_writes-standing mark (o ∷ olds) key lt sorted within =
+    let rest = old_writes-standing mark olds key lt sorted.1 within.1 in
+    let Goal : Bool → Type 0 = λ b. same_key o.key key ≡ b
+        → map as_write (filter (stands_at mark) (versions (cons_option (cond b (Some (record { time = o.from; write = Some o.value })) None) (old_writes olds key)))) ≡ cons_option (cond b (Some (record { time = o.from; write = Some o.value })) None) (old_writes olds key) in
+    let all : (b : Bool) → Goal b =
+    λ b. elim b as Goal [
+      | true ↦ λ e. rw (old_writes-beyond o olds key e sorted.0) (one-standing mark o lt within.0.1)
+      | false ↦ λ e. rest
+    ] in
+    all (same_key o.key key) refl
+
 pub old_writes-past : (mark later : ℕ) (olds : List OldRecord) (key : Key) → mark ≤ later → AllByRecursion (IsAnchorUpto mark) olds → writes_after later (old_writes olds key) ≡ []
 old_writes-past mark later [] key le within = refl
 old_writes-past mark later (o ∷ olds) key le within =

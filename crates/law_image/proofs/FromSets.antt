@@ -16,7 +16,8 @@ use Rattle.law_image.specs.Reading.{Reading}
 use Rattle.law_image.specs.Log.{floor_of}
 use Rattle.law_image.specs.Facts.{heap_commits, heap_facts, heap_versions, archived_versions}
 use Rattle.law_image.specs.StandsFor.{OpensAs, KeepsAsSets, archived_upto, reclaimed_upto}
-use Rattle.law_image.proofs.Logs.{AreMarked, marked-all, marked-none}
+use Rattle.law_image.proofs.Logs.{AreMarked}
+use Rattle.law_image.proofs.Forms.{marked-form}
 use Rattle.law_image.proofs.FactsOf.{old_writes-rising}
 use Rattle.law_image.proofs.Standing.{rising-commits_after}
 use Rattle.law_image.proofs.RunsRise.{rising-by_filter, apart-rising, runs-rising}
@@ -29,7 +30,7 @@ by_of t n h = grind (arith, nat_tests)
 
 module _ (reading : Reading) (h : History Value) (floors : ℕ → ℕ) (opens : OpensAs reading h floors) (keeps : KeepsAsSets reading h floors) (key : Key) where
   marked : AreMarked reading.log
-  marked = marked-all reading.profile [] reading.log marked-none opens.reads.log
+  marked = marked-form reading opens.reads.form
 
   facts-up : IsRisingAfter 0 (heap_facts reading key)
   facts-up =
@@ -76,7 +77,7 @@ module _ (reading : Reading) (h : History Value) (floors : ℕ → ℕ) (opens :
       let av = archived_versions reading key in
       let vs = versions_of h key in
       same_rising (λ (v : Version Value). v.to) _ _ (filter (ends_after f) av) (filter (ends_after f) (filter (ends_by a) vs))
-      (rising-by_filter (λ (v : Version Value). v.to) (ends_after f) 0 av (runs-rising reading.profile [] reading.log reading.runs key opens.reads.log opens.reads.runs))
+      (rising-by_filter (λ (v : Version Value). v.to) (ends_after f) 0 av (runs-rising reading key opens.reads.form))
       (rising-by_filter (λ (v : Version Value). v.to) (ends_after f) (first_time (writes_of h key)) (filter (ends_by a) vs) (rising-by_filter (λ (v : Version Value). v.to) (ends_by a) (first_time (writes_of h key)) vs history-rises))
       (λ v has.
       let found = filter-Contains (ends_after f) av v has in

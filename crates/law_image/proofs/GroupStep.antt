@@ -1,6 +1,6 @@
 -- An image with a group's slot stands for the history with the group's commits.
-use Rattle.std.proofs.Common.{◌≡◌, ℕ, ◌<◌, ◌≤◌, ◌^◌, nat_lt, true, List, [], ◌∷◌, ◌++◌, map, length, Option, None, refl, ap, sym, subst, ◌∙◌, arith, length-append, append_assoc, suc}
-use Rattle.std.specs.Prelude.{filter}
+use Rattle.std.proofs.Common.{◌≡◌, ℕ, ◌<◌, ◌≤◌, ◌^◌, nat_lt, Bool, true, false, cond, List, [], ◌∷◌, ◌++◌, map, length, Option, None, refl, ap, sym, subst, ◌∙◌, arith, length-append, append_assoc, suc}
+use Rattle.std.specs.Prelude.{filter, MatchBool}
 use Rattle.std.specs.List.{AllByRecursion}
 use Rattle.std.proofs.lemmas.List.{append-nil, map-append}
 use Rattle.std.proofs.lemmas.List.Elements.{filter-append}
@@ -17,13 +17,14 @@ use Rattle.history.proofs.Appending.{ends_after-append, ends_by-append, filter_e
 use Rattle.history.proofs.Histories.{writes_of-append, writes_of-rising, rising-from_following, commits_after-all, may_follow-append}
 use Rattle.law_image.specs.Values.{Value, IsValue}
 use Rattle.law_image.specs.Reading.{Head, Commits, Member, Reading}
-use Rattle.law_image.specs.Log.{heads_of, last_time, archive_mark, reclaim_mark, floor_of, AreRisingAfter}
+use Rattle.law_image.specs.Log.{heads_of, last_time_after, last_time, told_time, archive_mark, reclaim_mark, floor_of, is_in_heap, AreRisingAfter, MayComeInHeap}
 use Rattle.law_image.specs.Facts.{commits_from, old_writes, latest, heap_commits, heap_facts, AreStored}
-use Rattle.law_image.specs.StandsFor.{StandsFor, Reads, IsChain, IsAnchorUpto, AreRunsOf, head_of, reclaimed_upto, archived_upto}
-use Rattle.law_image.specs.Plans.{with_group, HasRoom, IsGroupOf}
-use Rattle.law_image.proofs.Logs.{heads_of-append, archive_mark-append, reclaim_mark-append, floors-append, log-more, runs-more}
+use Rattle.law_image.specs.StandsFor.{StandsFor, Reads, IsChain, IsAnchorUpto, AreRunsOf, AreRunsBy, no_floors, IsSlotLog, IsHeapLog, head_of, reclaimed_upto, archived_upto}
+use Rattle.law_image.specs.Plans.{with_group, HasRoom, IsGroupOf, most_members}
+use Rattle.law_image.proofs.Logs.{heads_of-append, last_time_after-append, archive_mark-append, reclaim_mark-append, floors-append, log-more, all-more, runs-more, last_of-later, told-is_last}
+use Rattle.law_image.proofs.Forms.{in-slots, in-heap, room-in_slots}
 use Rattle.law_image.proofs.FactsOf.{heads-commits_from, commits_from-append, AreStored-append}
-use Rattle.law_image.proofs.Standing.{rises, last-is, floor-range, archived-range, last-range, recent-rise, facts-rise, heads-rising}
+use Rattle.law_image.proofs.Standing.{marked, rises, last-is, floor-range, archived-range, last-range, recent-rise, facts-rise, heads-rising}
 
 later-heads : (mark t : ℕ) (heads : List Head) → mark ≤ t → AreRisingAfter t heads → filter (λ head. nat_lt mark head.time) heads ≡ heads
 later-heads mark t [] le up = refl
@@ -98,12 +99,45 @@ module _ (reading : Reading) (h : History Value) (floors : ℕ → ℕ) (stands 
   pub later : (key : Key) → IsRisingAfter (last h) (writes_of next key)
   later key = writes_of-rising (last h) next key next-rise
 
+  -- the log with the group's slot, or with its chain in the heap
+  group-in_slots : is_in_heap reading.profile ≡ false → IsSlotLog (with_group reading group)
+  group-in_slots slots =
+      let is = in-slots reading slots stands.opens.reads.form in
+      let sixteen : most_members reading.profile ≡ 16 = ap (λ (b : Bool). cond b 1024 16) slots in
+      record {
+        header = is.header;
+        log = log-more reading.profile [] reading.log (Commits (map (λ m. m.head) group)) is.log
+            (omega (arith, joins.some, length-map (λ (m : Member). m.head) group), omega (arith, joins.few, sixteen, length-map (λ (m : Member). m.head) group), group-rise);
+        fits = omega (arith, length-append reading.log (Commits (map (λ m. m.head) group) ∷ []), room-in_slots reading slots room);
+        runs = subst (AreRunsOf [] (reading.log ++ Commits (map (λ m. m.head) group) ∷ [])) (append-nil reading.runs)
+            (runs-more floor_of [] reading.log (Commits (map (λ m. m.head) group) ∷ []) reading.runs [] is.runs tt);
+      }
+
+  group-in_heap : is_in_heap reading.profile ≡ true → IsHeapLog (with_group reading group)
+  group-in_heap in_heap =
+      let is = in-heap reading in_heap stands.opens.reads.form in
+      let same : told_time reading.log ≡ last_time reading.log = told-is_last (last_time reading.log) (reclaim_mark reading.log) (is.log).published in
+      let some : 0 < length (map (λ (m : Member). m.head) group) = omega (arith, joins.some, length-map (λ (m : Member). m.head) group) in
+      let later = last_of-later (last_time reading.log) (last_time reading.log) (map (λ m. m.head) group) (omega arith) (marked reading h floors stands).last some group-rise in
+      let at : last_time (with_group reading group).log ≡ last_time_after (last_time reading.log) (map (λ m. m.head) group) = ap (last_time_after 0) more_heads ∙ last_time_after-append 0 (heads_of reading.log) (map (λ m. m.head) group) in
+      record {
+        header = is.header;
+        log = record {
+          each = all-more MayComeInHeap [] reading.log (Commits (map (λ m. m.head) group)) (is.log).each
+              (some, subst (λ (t : ℕ). AreRisingAfter t (map (λ m. m.head) group)) (sym same) group-rise);
+          archived = omega (arith, same_archived, same_reclaimed, (is.log).archived);
+          published = omega (arith, same_reclaimed, at, later.0, (is.log).published);
+        };
+        runs = subst (AreRunsBy no_floors [] (reading.log ++ Commits (map (λ m. m.head) group) ∷ [])) (append-nil reading.runs)
+            (runs-more no_floors [] reading.log (Commits (map (λ m. m.head) group) ∷ []) reading.runs [] is.runs tt);
+      }
+
+  group-form : (b : Bool) → is_in_heap reading.profile ≡ b → MatchBool b (IsHeapLog (with_group reading group)) (IsSlotLog (with_group reading group))
+  group-form b = elim b as (λ b. is_in_heap reading.profile ≡ b → MatchBool b (IsHeapLog (with_group reading group)) (IsSlotLog (with_group reading group))) [ true ↦ group-in_heap | false ↦ group-in_slots ]
+
   group-reads : Reads (with_group reading group)
   group-reads = record {
-    header = stands.opens.reads.header;
-    log = log-more reading.profile [] reading.log (Commits (map (λ m. m.head) group)) stands.opens.reads.log
-        (omega (arith, joins.some, length-map (λ (m : Member). m.head) group), omega (arith, joins.few, length-map (λ (m : Member). m.head) group), group-rise);
-    fits = omega (arith, length-append reading.log (Commits (map (λ m. m.head) group) ∷ []), room);
+    form = group-form (is_in_heap reading.profile) refl;
     members =
         map-append (λ (m : Member). m.head) reading.members group
         ∙ ap (λ l. l ++ map (λ m. m.head) group) stands.opens.reads.members
@@ -118,8 +152,6 @@ module _ (reading : Reading) (h : History Value) (floors : ℕ → ℕ) (stands 
         (fun_ext (λ key. value_after-append None (old_writes reading.anchors key) (writes_of (heap_commits reading) key) (2 ^ 63))) joins.stored);
     anchors = stands.opens.reads.anchors;
     anchor_times = subst (λ r. AllByRecursion (IsAnchorUpto r) reading.anchors) (sym same_reclaimed) stands.opens.reads.anchor_times;
-    runs = subst (AreRunsOf [] (reading.log ++ Commits (map (λ m. m.head) group) ∷ [])) (append-nil reading.runs)
-        (runs-more [] reading.log (Commits (map (λ m. m.head) group) ∷ []) reading.runs [] stands.opens.reads.runs tt);
   }
 
   pub group-stands_for : StandsFor (with_group reading group) (h ++ next) floors

@@ -41,7 +41,7 @@ as-writes-ended time [] = refl
 as-writes-ended time (v ∷ vs) = ap (λ l. as_write v ∷ l) (as-writes-ended time vs)
 
 -- what stands at a mark is written the same, whatever is written after the mark
-standing-stays : {V : Type 0} (s mark : ℕ) (ws more : List (TimedWrite V)) → mark < 2 ^ 63 → IsRisingAfter s ws → IsRisingAfter mark more
+pub standing-stays : {V : Type 0} (s mark : ℕ) (ws more : List (TimedWrite V)) → mark < 2 ^ 63 → IsRisingAfter s ws → IsRisingAfter mark more
     → map as_write (filter (stands_at mark) (versions (ws ++ more))) ≡ map as_write (filter (stands_at mark) (versions ws))
 standing-stays s mark ws more lt up up' =
     let n = first_time more in

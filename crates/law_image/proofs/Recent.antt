@@ -17,7 +17,7 @@ use Rattle.law_image.specs.Values.{Value, IsValue}
 use Rattle.law_image.specs.Reading.{Gone, Reading}
 use Rattle.law_image.specs.Facts.{written, stored, write_of, commit_read, commits_from, IsStored, AreStored, latest, old_writes, heap_commits, heap_facts}
 use Rattle.law_image.specs.StandsFor.{StandsFor, IsChain, reclaimed_upto}
-use Rattle.law_image.specs.Plans.{stored_record, stored_member, stored_members, IsGroupOf}
+use Rattle.law_image.specs.Plans.{stored_record, stored_member, stored_members, IsGroupOf, most_members}
 use Rattle.law_image.proofs.FactsOf.{old_writes-latest}
 use Rattle.law_image.proofs.Kept.{at-recent}
 use Rattle.law_image.proofs.Deltas.{written-stored}
@@ -162,7 +162,7 @@ module _ (reading : Reading) (h : History Value) (floors : ℕ → ℕ) (stands 
       ∙ settled (old (2 ^ 63)) r l (2 ^ 63) (heap_commits reading) key (recent-rise reading h floors stands) recent (omega (arith, recent, below))
       ∙ sym (split (2 ^ 63))
 
-  pub stored-is_group : (next : History Value) → MayAllFollow IsValue h next → 0 < length next → length next ≤ 16 → IsGroupOf reading h next (stored_members (λ key. latest (heap_facts reading key)) next)
+  pub stored-is_group : (next : History Value) → MayAllFollow IsValue h next → 0 < length next → length next ≤ most_members reading.profile → IsGroupOf reading h next (stored_members (λ key. latest (heap_facts reading key)) next)
   stored-is_group next may some few =
       let before : Key → Option Value = λ key. latest (heap_facts reading key) in
       let all = members-stored h next before (rises reading h floors stands) may latest-is in

@@ -1,6 +1,6 @@
 -- The versions of a key in the runs of a log, one after another, rise by the times at which they end.
 use Rattle.std.proofs.Common.{◌≡◌, ℕ, ◌<◌, ◌≤◌, Bool, true, false, cond, List, [], ◌∷◌, ◌++◌, Some, None, refl, ap, sym, subst, ◌∙◌, arith, ⊎_elim}
-use Rattle.std.specs.Prelude.{filter, flat_map}
+use Rattle.std.specs.Prelude.{filter, flat_map, MatchBool}
 use Rattle.std.specs.List.{AllByRecursion, cons_option}
 use Rattle.std.specs.declared.cmp.Ordering.TheVariants.{Less}
 use Rattle.std.proofs.lemmas.Bool.Decides.{nat_tests}
@@ -10,11 +10,12 @@ use Rattle.history.specs.Key.{key_cmp, same_key}
 use Rattle.history.specs.Versions.{FollowOneAnotherFrom}
 use Rattle.history.proofs.Members.{IsRisingBy}
 use Rattle.law_image.specs.Values.{Value}
-use Rattle.law_image.specs.Reading.{Slot, Commits, Archived, Reclaimed, Floor, ArchiveRecord}
-use Rattle.law_image.specs.Log.{archive_mark, floor_of, MayAllCome}
+use Rattle.law_image.specs.Reading.{Slot, Commits, Archived, Reclaimed, Floor, ArchiveRecord, Reading}
+use Rattle.law_image.specs.Log.{archive_mark, floor_of, AllCome, MayCome, MayComeInHeap, is_in_heap}
 use Rattle.law_image.specs.Facts.{run_versions}
-use Rattle.law_image.specs.StandsFor.{IsArchived, AreInOrder, AreRunsOf}
+use Rattle.law_image.specs.StandsFor.{IsArchived, AreInOrder, AreRunsBy, no_floors, IsSlotLog, IsHeapLog}
 use Rattle.law_image.proofs.Logs.{archive_mark-append}
+use Rattle.law_image.proofs.Forms.{of-either}
 
 pub rising-by_earlier : {X : Type 0} (f : X → ℕ) (n m : ℕ) (xs : List X) → n ≤ m → IsRisingBy f m xs → IsRisingBy f n xs
 rising-by_earlier f n m [] le up = tt
@@ -88,19 +89,29 @@ run-by mark floors upto key (r ∷ rest) each =
       | false ↦ run-by mark floors upto key rest each.1
     ]
 
-pub runs-rising : (profile : ℕ) (before log : List Slot) (runs : List (List ArchiveRecord)) (key : Key) → MayAllCome profile before log → AreRunsOf before log runs
-    → IsRisingBy (λ v. v.to) (archive_mark before) (flat_map (run_versions key) runs)
-runs-rising profile before [] [] key may are = tt
-runs-rising profile before [] (run ∷ runs) key may are = absurd are
-runs-rising profile before (Commits heads ∷ slots) runs key may are =
-    subst (λ n. IsRisingBy (λ (v : Version Value). v.to) n (flat_map (run_versions key) runs)) (archive_mark-append 0 before (Commits heads ∷ [])) (runs-rising profile (before ++ Commits heads ∷ []) slots runs key may.1 are)
-runs-rising profile before (Archived upto ∷ slots) [] key may are = tt
-runs-rising profile before (Archived upto ∷ slots) (run ∷ runs) key may are =
-    rising-by_append (λ (v : Version Value). v.to) (archive_mark before) upto (run_versions key run) (flat_map (run_versions key) runs) (omega (arith, may.0.0))
-    (run-rising (archive_mark before) (floor_of before) upto key run (are.0).in_order (are.0).each)
-    (run-by (archive_mark before) (floor_of before) upto key run (are.0).each)
-    (subst (λ n. IsRisingBy (λ (v : Version Value). v.to) n (flat_map (run_versions key) runs)) (archive_mark-append 0 before (Archived upto ∷ [])) (runs-rising profile (before ++ Archived upto ∷ []) slots runs key may.1 are.1))
-runs-rising profile before (Reclaimed upto ∷ slots) runs key may are =
-    subst (λ n. IsRisingBy (λ (v : Version Value). v.to) n (flat_map (run_versions key) runs)) (archive_mark-append 0 before (Reclaimed upto ∷ [])) (runs-rising profile (before ++ Reclaimed upto ∷ []) slots runs key may.1 are)
-runs-rising profile before (Floor scope floor ∷ slots) runs key may are =
-    subst (λ n. IsRisingBy (λ (v : Version Value). v.to) n (flat_map (run_versions key) runs)) (archive_mark-append 0 before (Floor scope floor ∷ [])) (runs-rising profile (before ++ Floor scope floor ∷ []) slots runs key may.1 are)
+-- the marks of the runs rise where each slot may come after those before it
+module _ (May : List Slot → Slot → Type 0) (floors : List Slot → ℕ → ℕ) (marks_rise : (before : List Slot) (upto : ℕ) → May before (Archived upto) → archive_mark before ≤ upto) (key : Key) where
+  pub runs-rise : (before log : List Slot) (runs : List (List ArchiveRecord)) → AllCome May before log → AreRunsBy floors before log runs
+      → IsRisingBy (λ v. v.to) (archive_mark before) (flat_map (run_versions key) runs)
+  runs-rise before [] [] may are = tt
+  runs-rise before [] (run ∷ runs) may are = absurd are
+  runs-rise before (Commits heads ∷ slots) runs may are =
+      subst (λ n. IsRisingBy (λ (v : Version Value). v.to) n (flat_map (run_versions key) runs)) (archive_mark-append 0 before (Commits heads ∷ [])) (runs-rise (before ++ Commits heads ∷ []) slots runs may.1 are)
+  runs-rise before (Archived upto ∷ slots) [] may are = tt
+  runs-rise before (Archived upto ∷ slots) (run ∷ runs) may are =
+      rising-by_append (λ (v : Version Value). v.to) (archive_mark before) upto (run_versions key run) (flat_map (run_versions key) runs) (marks_rise before upto may.0)
+      (run-rising (archive_mark before) (floors before) upto key run (are.0).in_order (are.0).each)
+      (run-by (archive_mark before) (floors before) upto key run (are.0).each)
+      (subst (λ n. IsRisingBy (λ (v : Version Value). v.to) n (flat_map (run_versions key) runs)) (archive_mark-append 0 before (Archived upto ∷ [])) (runs-rise (before ++ Archived upto ∷ []) slots runs may.1 are.1))
+  runs-rise before (Reclaimed upto ∷ slots) runs may are =
+      subst (λ n. IsRisingBy (λ (v : Version Value). v.to) n (flat_map (run_versions key) runs)) (archive_mark-append 0 before (Reclaimed upto ∷ [])) (runs-rise (before ++ Reclaimed upto ∷ []) slots runs may.1 are)
+  runs-rise before (Floor scope floor ∷ slots) runs may are =
+      subst (λ n. IsRisingBy (λ (v : Version Value). v.to) n (flat_map (run_versions key) runs)) (archive_mark-append 0 before (Floor scope floor ∷ [])) (runs-rise (before ++ Floor scope floor ∷ []) slots runs may.1 are)
+
+-- so it is of an image that reads, whatever the form of its log
+pub runs-rising : (reading : Reading) (key : Key) → MatchBool (is_in_heap reading.profile) (IsHeapLog reading) (IsSlotLog reading) → IsRisingBy (λ v. v.to) 0 (flat_map (run_versions key) reading.runs)
+runs-rising reading key form =
+    of-either (is_in_heap reading.profile) (IsHeapLog reading) (IsSlotLog reading) (IsRisingBy (λ (v : Version Value). v.to) 0 (flat_map (run_versions key) reading.runs))
+    (λ is. runs-rise MayComeInHeap no_floors (λ before upto may. omega (arith, may.0)) key [] reading.log reading.runs (is.log).each is.runs)
+    (λ is. runs-rise (MayCome reading.profile) floor_of (λ before upto may. omega (arith, may.0)) key [] reading.log reading.runs is.log is.runs)
+    form

@@ -54,7 +54,8 @@ changed_of (old ∷ olds) (new ∷ news) = if bytes_eq old new then changed_of o
 abbrev pub stored_over : Value → Value → Content
 stored_over old new = if (length old == length new) && nat_lt (delta_bytes (changed_of old new)) (anchor_bytes new) then Delta (mask_of old new) (changed_of old new) else Anchor new
 
--- the one record that a write is stored as
+-- The one record that a write is stored as.
+-- What is stored is read back (the law stored_is_read).
 abbrev pub stored : Option Value → Option Value → Content
 stored before None = Gone
 stored None (Some new) = Anchor new

@@ -52,7 +52,8 @@ archive_record key v = record { key = key; version = v }
 abbrev pub archive_records : (Key → List (Version Value)) → List Key → List ArchiveRecord
 archive_records versions keys = flat_map (λ key. map (archive_record key) (versions key)) keys
 
--- the records of the run that an archive up to this time makes
+-- The records of the run that an archive up to this time makes.
+-- It is a plan of every image that stands for a history (the law plans_are), also once groups are published (the law plans_stay).
 abbrev pub archive_plan : Reading → ℕ → List ArchiveRecord
 archive_plan reading upto = archive_records (to_archive reading upto) (heap_keys reading)
 
@@ -70,7 +71,8 @@ old_record key v = record { key = key; from = v.from; value = v.value }
 abbrev pub old_records : (Key → List (Version Value)) → List Key → List OldRecord
 old_records versions keys = flat_map (λ key. map (old_record key) (versions key)) keys
 
--- the records of the anchor chain that a reclaim makes
+-- The records of the anchor chain that a reclaim makes.
+-- It is a plan in the same sense (the laws plans_are and plans_stay).
 abbrev pub reclaim_plan : Reading → List OldRecord
 reclaim_plan reading = old_records (to_keep reading) (heap_keys reading)
 

@@ -18,6 +18,7 @@ use Rattle.law_image.specs.StandsFor.{StandsFor}
 use Rattle.law_image.specs.Plans.{with_group, HasRoom}
 use Rattle.law_image.proofs.Logs.{reclaim_mark-append}
 use Rattle.law_image.proofs.Standing.{last-is}
+use Rattle.law_image.proofs.Forms.{has-room}
 use Rattle.law_image.proofs.GroupStep.{group-stands_for, group-rise, reclaimed-range, length-map}
 use Rattle.law_layout.specs.Extents.{IsExtent, AreDistinct}
 use Rattle.law_layout.specs.Layouts.{StoredMember, IsStoredMember, Layout, extents_of, live, entries_in, entries_of, later_than, anchors_in, anchors_after, no_anchors, IsLayoutOf, IsAnchorChain}
@@ -81,7 +82,7 @@ module _ (header : Header) (layout : Layout) (reading : Reading) (h next : Histo
   entries = map (λ s. s.entry) group.members
 
   pub has_room : HasRoom reading
-  has_room = omega (arith, joins.room, laid.heap.slots_are, ap (λ l. length l) laid.heap.log_is, length-map (λ (s : Slot). slot_of s.body) layout.slots)
+  has_room = has-room reading (omega (arith, joins.room, laid.heap.slots_are, ap (λ l. length l) laid.heap.log_is, length-map (λ (s : Slot). slot_of s.body) layout.slots))
 
   pub stands_more : StandsFor (with_group reading (members_of group)) (h ++ next) floors
   stands_more = group-stands_for reading h floors stands (members_of group) next joins.is_group has_room

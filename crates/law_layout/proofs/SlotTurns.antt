@@ -43,7 +43,7 @@ read_again file at bytes =
     let long : at + length bytes - at ≡ length bytes = omega arith in
     sym (ap (λ n. take n (drop at (overlaid file at bytes))) long) ∙ slice_range-overlaid_same file at bytes
 
-read_first : (file : List ℕ) (at byte : ℕ) → slice_index (overlaid file at (byte ∷ [])) at ≡ byte
+pub read_first : (file : List ℕ) (at byte : ℕ) → slice_index (overlaid file at (byte ∷ [])) at ≡ byte
 read_first file at byte =
     let new : List ℕ = overlaid file at (byte ∷ []) in
     let place : at + 0 ≡ at = omega arith in

@@ -57,6 +57,7 @@ abbrev pub EndsWithin : ℕ → Run → Type 0
 EndsWithin archive_len run = run.start + run.len ≤ archive_len
 
 -- The image opens: no check fails, and what is read is this. It says nothing of gates behind the log, and nothing of the runs' records.
+-- An image opens as one reading (the law opens_once); one that stands for a history opens (the law image_opens).
 pub record Opens (header : Header) (image : Image) (layout : Layout) (reading : Reading) : Type 0 where
   pub log : HoldsLog header image.status layout.slots
   pub lays_out : LaysOutHeap header layout reading

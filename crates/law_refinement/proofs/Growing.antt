@@ -1,5 +1,7 @@
 -- A store in which a piece of slots is being made stands for what it stands for without that.
 use Rattle.std.proofs.Common.{◌≡◌, ◌≢◌, ◌⊎◌, ◌||◌, ℕ, ◌+◌, ◌<◌, Bool, false, IsTrue, is_some, List, Option, None, Some, MatchOption, refl, sym, ap, subst, ◌∙◌, inl, inr, arith}
+use Rattle.law_image.specs.Log.{is_in_heap}
+use Rattle.law_refinement.proofs.Jobs.{built-slots}
 use Rattle.std.specs.Prelude.{slice_index}
 use Rattle.std.proofs.lemmas.Bool.{cases_eq}
 use Rattle.std.proofs.lemmas.List.{get_or-take}
@@ -83,6 +85,7 @@ module _ (header : Header) (image : Image) (calm : List ℕ) (may : MayGrow head
     held = open_holds header is.layout image calm may is.held beside zeros is_open;
     stands = piece-stands_for is.reading h floors is.stands
         (λ first. absurd (omega (arith, first, is.laid.heap.profile_is, may.pieces)))
+        (ap is_in_heap is.laid.heap.profile_is ∙ built-slots header.profile is.profile_built)
         (omega (arith, may.room, is.laid.heap.slots_are, is.laid.heap.pieces_are));
     profile_built = is.profile_built;
     built = is.built;

@@ -340,7 +340,7 @@ module _ (tells : Bool) (growth : GrowthState) (old new : StoreValue) (answer : 
       } in
       let works-now : (told : IsTrue tells) → Works (grown (s.still.disk told).header) made m = λ told.
       let grows = last-grows last told ok in
-      grown-works (s.still.disk told).header growth old new m s.calm (s.beside told).may ((s.still.disk told).works works) grows.0 (s.beside told).sound grows.1 (sound told) (alone told) (room-for told) in
+      grown-works (s.still.disk told).header growth old new m s.calm (s.beside told).may (s.still.disk told).profile_built ((s.still.disk told).works works) grows.0 (s.beside told).sound grows.1 (sound told) (alone told) (room-for told) in
       let still : StandsStill tells made m = record {
         memory = inside.memory;
         machine = inside.machine;

@@ -1,5 +1,8 @@
 -- What the calls of a piece of slots leave of a group that stands on the calm area, and what stands once the piece is open.
-use Rattle.std.proofs.Common.{◌≡◌, ℕ, ◌+◌, ◌<◌, ◌≤◌, List, [], ◌∷◌, ◌++◌, length, Option, None, Some, refl, sym, subst, inr, arith}
+use Rattle.std.proofs.Common.{IsTrue, ap, ◌∙◌, ◌≡◌, ℕ, ◌+◌, ◌<◌, ◌≤◌, List, [], ◌∷◌, ◌++◌, length, Option, None, Some, refl, sym, subst, inr, arith}
+use Rattle.status.specs.Rules.{is_built}
+use Rattle.law_image.specs.Log.{is_in_heap}
+use Rattle.law_refinement.proofs.Jobs.{built-slots}
 use Rattle.disk.specs.Areas.{AreaState, Areas, IsSound, AreSound, synced}
 use Rattle.disk.specs.Parts.{IsSettled}
 use Rattle.disk.proofs.Stops.{MayLeave-synced}
@@ -119,10 +122,10 @@ more-order v count few order = order-beside v v.opened (v.slots + count) v.used 
 -- ---- the disk with a piece more
 
 -- the store's disk, where no job runs on it, has the same log with one piece more
-pub grown-works : (header : Header) (growth : GrowthState) (old new : StoreValue) (m : Machine Value) (calm : AreaState) → MayGrow header → (w : Works header (without_growth old calm) m)
+pub grown-works : (header : Header) (growth : GrowthState) (old new : StoreValue) (m : Machine Value) (calm : AreaState) → MayGrow header → IsTrue (is_built header.profile 1) → (w : Works header (without_growth old calm) m)
     → IsGrowing header PieceWritten (synced calm) new.disk.areas.status → IsSound calm → IsSettled new.disk.areas.status → AreSound new.disk.areas → new.disk.areas ≡ record old.disk.areas { status = new.disk.areas.status }
     → RoomFor header w.log.layout old.transactions.stage → Works (grown header) (grown_store growth old new) m
-grown-works header growth old new m calm may w growing sound settled real alone room =
+grown-works header growth old new m calm may profile_built w growing sound settled real alone room =
     let base : Areas = record old.disk.areas { status = calm } in
     let at : IsAtStage header w.log.layout (group_of w.log.layout old.transactions m) old.transactions.queue old.transactions.stage old.turn (record old.disk.areas { status = calm }) =
     subst (λ (a : AreaState). IsAtStage header w.log.layout (group_of w.log.layout old.transactions m) old.transactions.queue old.transactions.stage old.turn (record old.disk.areas { status = a })) (sym w.group.rests) w.group.at in
@@ -135,6 +138,7 @@ grown-works header growth old new m calm may w growing sound settled real alone 
         laid = piece_laid header w.log.layout w.log.reading w.log.laid;
         stands = piece-stands_for w.log.reading m.published m.floors w.log.stands
             (λ first. absurd (omega (arith, first, w.log.laid.heap.profile_is, may.pieces)))
+            (ap is_in_heap w.log.laid.heap.profile_is ∙ built-slots header.profile profile_built)
             (omega (arith, may.room, w.log.laid.heap.slots_are, w.log.laid.heap.pieces_are));
         built = w.log.built;
         used = w.log.used;

@@ -1,5 +1,5 @@
 -- What a job makes, beside a group.
-use Rattle.std.proofs.Common.{◌≡◌, ◌≢◌, ℕ, zero, suc, ◌<◌, ◌≤◌, nat_lt, Bool, true, false, cond, List, [], ◌∷◌, ◌++◌, length, take, filter, Option, None, Some, Result, Ok, refl, arith, ap, sym, subst, inl, inr}
+use Rattle.std.proofs.Common.{◌∙◌, ◌≡◌, ◌≢◌, ℕ, zero, suc, ◌<◌, ◌≤◌, nat_lt, Bool, true, false, cond, List, [], ◌∷◌, ◌++◌, length, take, filter, Option, None, Some, Result, Ok, refl, arith, ap, sym, subst, inl, inr}
 use Rattle.std.specs.Prelude.{IsTrue}
 use Rattle.std.specs.List.{AllByRecursion}
 use Rattle.std.proofs.lemmas.List.Concat.{flat_map-cons}
@@ -17,6 +17,10 @@ use Rattle.law_image.proofs.ReclaimStep.{reclaim-stands_for}
 use Rattle.law_image.proofs.FloorStep.{floor-stands_for}
 use Rattle.law_image.proofs.GroupStep.{length-map}
 use Rattle.law_image.proofs.Standing.{last-is}
+use Rattle.law_image.proofs.Forms.{has-room}
+use Rattle.law_image.specs.Log.{is_in_heap}
+use Rattle.law_image.specs.Plans.{HasSlots}
+use Rattle.std.proofs.lemmas.Bool.Decides.{nat_tests}
 use Rattle.disk.specs.declared.area.Area.TheVariants.{Status, Heap, Archive}
 use Rattle.disk.specs.declared.area.DeviceFault.{DeviceFault}
 use Rattle.disk.specs.Areas.{AreaState, Areas, Image, AreSound, IsSound, LeavesImage, written}
@@ -215,6 +219,10 @@ job-moves header layout layout' reading reading' h h' reserved (Some j) areas no
     by-stage job.Stored none at = at
     by-stage (job.Turning t) none at = absurd cc
 
+-- a profile that is built is one of slots
+pub built-slots : (profile : ℕ) → IsTrue (is_built profile 1) → is_in_heap profile ≡ false
+built-slots profile built = grind (arith, nat_tests, built)
+
 -- ---- the slot of what a job makes
 
 -- the floors once it stands in the log
@@ -265,14 +273,17 @@ module _ (header : Header) (m : Machine Value) (layout : Layout) (reading : Read
   laid-after = laid-by p next free
 
   reading-room : HasRoom reading
-  reading-room = omega (arith, room, laid.heap.slots_are, laid.heap.pieces_are, ap (λ l. length l) laid.heap.log_is, length-map (λ (s : Slot). status_slot s.body) layout.slots)
+  reading-room = has-room reading (omega (arith, room, laid.heap.slots_are, laid.heap.pieces_are, ap (λ l. length l) laid.heap.log_is, length-map (λ (s : Slot). status_slot s.body) layout.slots))
+
+  in-slot_log : HasSlots reading
+  in-slot_log = ap is_in_heap laid.heap.profile_is ∙ built-slots header.profile profile_built
 
   stands-by : (q : Product) → MayBeNext layout reading m.published q → StandsFor (read_with reading q) m.published (floors_with q m.floors)
   stands-by (OfRun run) may =
-      archive-stands_for reading m.published m.floors stands run.entry.upto run.records may.plan (may.later, omega (arith, may.by_last, last-is reading m.published m.floors stands)) reading-room
-  stands-by (OfAnchors a) may = reclaim-stands_for reading m.published m.floors stands a.olds may.plan may.later reading-room
+      archive-stands_for reading m.published m.floors stands run.entry.upto run.records may.plan (may.later, omega (arith, may.by_last, last-is reading m.published m.floors stands)) in-slot_log reading-room
+  stands-by (OfAnchors a) may = reclaim-stands_for reading m.published m.floors stands a.olds may.plan may.later in-slot_log reading-room
   stands-by (OfFloor scope floor) may =
-      floor-stands_for reading m.published m.floors stands scope floor (scope_is reading.profile scope may.scope_is, omega (arith, may.by_last, last-is reading m.published m.floors stands), may.rises) reading-room
+      floor-stands_for reading m.published m.floors stands scope floor (scope_is reading.profile scope may.scope_is, omega (arith, may.by_last, last-is reading m.published m.floors stands), may.rises) in-slot_log reading-room
 
   pub stands-after : StandsFor reading-after m.published (floors_with p m.floors)
   stands-after = stands-by p next

@@ -21,6 +21,7 @@ use Rattle.law_image.specs.Facts.{latest, heap_facts}
 use Rattle.law_image.specs.Plans.{stored_members, IsGroupOf, with_group}
 use Rattle.law_image.specs.StandsFor.{StandsFor}
 use Rattle.law_image.proofs.Recent.{latest-is, stored-is_group}
+use Rattle.law_image.proofs.Forms.{most-least}
 use Rattle.extents.specs.declared.usage.Usage.{Usage}
 use Rattle.extents.specs.declared.usage.Usage.TheVariants.{Out, Kept}
 use Rattle.extents.specs.Usages as usages
@@ -188,7 +189,7 @@ module _ (store : StoreValue) (m : Machine Value) (c : Working store m) (some : 
   is_group =
       subst (λ (ms : List Member). IsGroupOf reading m.published next ms)
       (ap (λ (f : Key → Option Value). stored_members f next) values ∙ sym (members-are v.reclaimed v.versions m.published taken next waits may))
-      (stored-is_group reading m.published m.floors c.works.log.stands next may (omega (arith, many, some)) (omega (arith, many, c.inside.order.group_few)))
+      (stored-is_group reading m.published m.floors c.works.log.stands next may (omega (arith, many, some)) (omega (arith, many, c.inside.order.group_few, most-least reading.profile)))
 
   pub numbers : map (λ (e : Extent). e.number) (extents_of group.members) ≡ flat_map numbers_of taken
   numbers = extents-numbered m.published taken next each

@@ -170,6 +170,7 @@ pub record GrowsBeside (header : Header) (growth : GrowthState) (calm : AreaStat
   pub left : (content : List ℕ) → MayLeave v.disk.areas.status content → LeftBeside header (IsTrue (may_be_open growth.stage)) calm content
 
 -- A piece is being made behind the log's slots, and without that the store stands for the machine on a calm status area.
+-- What a stop leaves has the slots that there are or, once the piece's gate may be open, 256 more.
 pub record StandsGrowing (tells : Bool) (growth : GrowthState) (v : StoreValue) (m : Machine Value) : Type 0 where
   pub job : v.job ≡ Some (growing growth)
   pub slots : growth.slots ≡ v.log.slots
@@ -206,6 +207,7 @@ pub record LeavesFronts (v : StoreValue) (m : Machine Value) : Type 0 where
 -- ---- in all
 
 -- The store stands for the machine, whether it grows or not. The rest follows from the last field.
+-- Each call is a step of the machine with its answer, and the store stands for the state after it: the laws of src/lib.rt.
 pub record Stands (tells : Bool) (v : StoreValue) (m : Machine Value) : Type 0 where
   pub memory : StandsInMemory v.transactions m
   pub machine : IsMachine IsValue m

@@ -70,6 +70,7 @@ IsHeaderFault status Device = Unit {0}
 IsHeaderFault status NoMemory = Unit {0}
 
 -- Why an image is not read, by the first check that fails: no header stands in front, or a slot is the first that may not stand in its place, or a chain is not right, or a run ends past the archive.
+-- An image that opens has no fault, and any other has one alone (the law opens_or_fails).
 abbrev pub IsImageFault : Image → OpenFault → Type 0
 IsImageFault image NotAStore = (header : Header) → ¬ ReadsHeader image.status header
 IsImageFault image (Damaged Status n) = FailsStatusAt image.status n
