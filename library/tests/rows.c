@@ -314,6 +314,30 @@ static void test_reopened(ts_file *file) {
     CHECK(TS_OK, ts_end(h, view.a));
 }
 
+/* What a step did is told once its device call was made, and not before. */
+static void test_told(ts_file *file) {
+    static const uint64_t steps[] = {TS_WROTE, TS_SYNCED, TS_BODY_WRITTEN, TS_BODY_SYNCED, TS_GATE_WRITTEN, TS_PUBLISHED};
+    ts *h = ts_file_store(file);
+    ts_info info;
+    ts_device call;
+    uint8_t bytes[TS_WRITE_MOST];
+    uint64_t ticket = submit_text(h, 9, "told", 11, 0);
+    for (size_t n = 0; n < sizeof steps / sizeof *steps; n++) {
+        CHECK(TS_OK, ts_pump(h, &info));
+        HOLDS(info.a == TS_CALL_DUE && info.b == 0);
+        CHECK(TS_PENDING, ts_redeem(h, ticket, &info));
+        CHECK(TS_OK, ts_call(h, &call, bytes, sizeof bytes));
+        HOLDS(call.kind == (n % 2 ? TS_SYNC : TS_WRITE) && call.area == (n < 2 ? TS_HEAP : TS_STATUS));
+        HOLDS(n % 2 == 0 || (call.at == 0 && call.len == 0));
+        CHECK(TS_PENDING, ts_file_pump(file, &info));
+        HOLDS(info.a == steps[n] && info.b == (steps[n] == TS_PUBLISHED));
+        CHECK(TS_NONE, ts_call(h, &call, bytes, sizeof bytes));
+    }
+    CHECK(TS_OK, ts_pump(h, &info));
+    HOLDS(info.a == TS_IDLE && info.b == 0);
+    CHECK(TS_OK, ts_redeem(h, ticket, &info));
+}
+
 /* Each number of one store names nothing in another. */
 static void test_two_stores(ts_file *file, const char *folder) {
     ts *h = ts_file_store(file);
@@ -450,6 +474,7 @@ int main(int argc, char **argv) {
     CHECK(TS_LOCKED, ts_file_open(argv[1], &second, &info));
     test_tour(file);
     test_pending(file);
+    test_told(file);
     test_two_stores(file, argv[1]);
     test_numbers(ts_file_store(file));
     test_places(ts_file_store(file));
