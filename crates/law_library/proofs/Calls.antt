@@ -109,7 +109,7 @@ module _ (e : Event) (m : HostMoment) (new : Host) (is : IsHostMoment m) (areas 
 
   -- a call of a list, whose value is kept under a new number
   gives : (number : ℕ) (x : engine.Held) (h : Held) (c : Call) (a : Answer) → held_as x ≡ Some h → IsKept x number old.places after.places → Goes true old.store xs c a after.store (xs ++ h ∷ []) → SameDisk old after → HostLink e m new
-  gives number x h c a as kept goes same = by-call e m new is xs (xs ++ h ∷ []) is.is (numbers.placed number (length xs) place) c a goes (numbers.kept number x h old.places after.places xs place as kept is.numbers) same areas silent
+  gives number x h c a is_as kept goes same = by-call e m new is xs (xs ++ h ∷ []) is.is (numbers.placed number (length xs) place) c a goes (numbers.kept number x h old.places after.places xs place is_as kept is.numbers) same areas silent
 
   -- a call of a list that gives nothing
   gives-none : (c : Call) (a : Answer) → ((n : ℕ) → named after.places n ≡ named old.places n) → Goes true old.store xs c a after.store (xs ++ held.Nothing ∷ []) → SameDisk old after → HostLink e m new

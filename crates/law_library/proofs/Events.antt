@@ -98,7 +98,7 @@ opens status heap archive mark info e header h floors s hp a image opened_so =
     let ordered : IsOrdered o.recovered.chains = subst (λ (w : StoreValue). IsOrdered w.transactions.versions) o.new_is o.ordered in
     let still : StandsStill true (record opened_so.0 { disk = disk }) (opened h floors) =
     subst (λ (w : StoreValue). StandsStill true (record w { disk = disk }) (opened h floors)) (sym o.new_is)
-        (opened-stands old mark disk o.recovered opened_so.0.archive header h floors (o.read refl) o.unread image (o.settled refl) ordered sound true) in
+    (opened-stands old mark disk o.recovered opened_so.0.archive header h floors (o.read refl) o.unread image (o.settled refl) ordered sound true) in
     let stands : Stands true e.store (opened h floors) = subst (λ (v : StoreValue). Stands true v (opened h floors)) (sym opened_so.2) (as-still true _ (opened h floors) still) in
     let m : HostMoment = record { host = record { engine = e; areas = settled_on bytes }; at = first_moment e.store (opened h floors); before = None } in
     let areas : settled_on bytes ≡ e.store.disk.areas = sym (o.settled refl) ∙ sym (ap (λ (v : StoreValue). v.disk.areas) opened_so.2) in (

@@ -91,13 +91,13 @@ module _ (n i : ℕ) (x : engine.Held) (h : Held) (old new : Places) (xs ys : Li
   put-once : (m k : ℕ) (y z : Held) → held_as (named new m) ≡ Some y → held_as (named new k) ≡ Some z → placed n i at m ≡ placed n i at k → m ≡ k
   put-once m k y z em ek e = elim (cases_eq m n) [
     | inl same ↦ elim (cases_eq k n) [
-        | inl too ↦ same ∙ sym too
-        | inr other ↦ absurd ((apart k z (was k z other ek)).1 (sym (placed-other n i at k other) ∙ sym e ∙ placed-it n i at m same))
-      ]
+      | inl too ↦ same ∙ sym too
+      | inr other ↦ absurd ((apart k z (was k z other ek)).1 (sym (placed-other n i at k other) ∙ sym e ∙ placed-it n i at m same))
+    ]
     | inr other ↦ elim (cases_eq k n) [
-        | inl too ↦ absurd ((apart m y (was m y other em)).1 (sym (placed-other n i at m other) ∙ e ∙ placed-it n i at k too))
-        | inr others ↦ once m k y z (was m y other em) (was k z others ek) (sym (placed-other n i at m other) ∙ e ∙ placed-other n i at k others)
-      ]
+      | inl too ↦ absurd ((apart m y (was m y other em)).1 (sym (placed-other n i at m other) ∙ e ∙ placed-it n i at k too))
+      | inr others ↦ once m k y z (was m y other em) (was k z others ek) (sym (placed-other n i at m other) ∙ e ∙ placed-other n i at k others)
+    ]
   ]
 
   pub put : Holds new ys (placed n i at)

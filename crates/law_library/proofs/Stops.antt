@@ -33,15 +33,21 @@ torn-leaves a at n torn c firm elsewhere left = record {
 
 -- whatever a stop leaves of it, it might have left while the write was made
 torn-images : (area : Area) (at n : ℕ) (old new : Areas) → AreSound old → Tears area at n old new → LeavesNoMore new (while_written area at n old)
-torn-images Status at n old new sound tears = record { each = λ image left.
-    let l = subst (λ (a : Areas). LeavesImage a image) tears.areas left in
-    record { status = torn-leaves old.status at n _ image.status (sound Status).firm tears.torn.elsewhere l.status; heap = l.heap; archive = l.archive } }
-torn-images Heap at n old new sound tears = record { each = λ image left.
-    let l = subst (λ (a : Areas). LeavesImage a image) tears.areas left in
-    record { status = l.status; heap = torn-leaves old.heap at n _ image.heap (sound Heap).firm tears.torn.elsewhere l.heap; archive = l.archive } }
-torn-images Archive at n old new sound tears = record { each = λ image left.
-    let l = subst (λ (a : Areas). LeavesImage a image) tears.areas left in
-    record { status = l.status; heap = l.heap; archive = torn-leaves old.archive at n _ image.archive (sound Archive).firm tears.torn.elsewhere l.archive } }
+torn-images Status at n old new sound tears = record {
+  each = λ image left.
+      let l = subst (λ (a : Areas). LeavesImage a image) tears.areas left in
+      record { status = torn-leaves old.status at n _ image.status (sound Status).firm tears.torn.elsewhere l.status; heap = l.heap; archive = l.archive };
+}
+torn-images Heap at n old new sound tears = record {
+  each = λ image left.
+      let l = subst (λ (a : Areas). LeavesImage a image) tears.areas left in
+      record { status = l.status; heap = torn-leaves old.heap at n _ image.heap (sound Heap).firm tears.torn.elsewhere l.heap; archive = l.archive };
+}
+torn-images Archive at n old new sound tears = record {
+  each = λ image left.
+      let l = subst (λ (a : Areas). LeavesImage a image) tears.areas left in
+      record { status = l.status; heap = l.heap; archive = torn-leaves old.archive at n _ image.archive (sound Archive).firm tears.torn.elsewhere l.archive };
+}
 
 -- and so, where a call was refused, what a stop leaves is what it might have left within it
 pub refused-leaves : (call : HostCall) (old new : Areas) → AreSound old → IsRefusedIn call old new → (image : Image) → LeavesImage new image → LeavesWithin old (made call old) image
