@@ -349,6 +349,7 @@ static void test_two_stores(ts_file *file, const char *folder) {
     HOLDS(mkdir(path, 0777) == 0);
     CHECK(TS_OK, ts_file_format(path, 16));
     CHECK(TS_OK, ts_file_open(path, &other, &info));
+    test_told(other);
     ts *h2 = ts_file_store(other);
     uint64_t txn = begun(h), second = begun(h2);
     HOLDS(txn != second);
@@ -371,8 +372,8 @@ static void test_two_stores(ts_file *file, const char *folder) {
     ts_file_refuse(other, 1);
     CHECK(TS_FAILED, ts_file_flush(other));
     CHECK(TS_OK, ts_view(h2, &view));
-    CHECK(TS_NOT_YET, ts_recent(h2, view.a, 1, 7, 1, out, sizeof out, &info));
-    CHECK(TS_UNKNOWN, ts_recent(h, view.a, 1, 7, 1, out, sizeof out, &info));
+    CHECK(TS_NOT_YET, ts_recent(h2, view.a, 1, 7, 2, out, sizeof out, &info));
+    CHECK(TS_UNKNOWN, ts_recent(h, view.a, 1, 7, 2, out, sizeof out, &info));
     ts_file_close(other);
 }
 
@@ -474,7 +475,6 @@ int main(int argc, char **argv) {
     CHECK(TS_LOCKED, ts_file_open(argv[1], &second, &info));
     test_tour(file);
     test_pending(file);
-    test_told(file);
     test_two_stores(file, argv[1]);
     test_numbers(ts_file_store(file));
     test_places(ts_file_store(file));
