@@ -26,6 +26,7 @@ use Rattle.run.specs.declared.calls.Call.{Call}
 use Rattle.run.specs.declared.calls.Call.TheVariants as call
 use Rattle.run.specs.declared.calls.Answer.{Answer}
 use Rattle.run.specs.declared.calls.Answer.TheVariants as answer
+use Rattle.run.specs.declared.calls.SubmitOutcome.TheVariants as outcome
 use Rattle.run.specs.declared.held.Held.{Held}
 use Rattle.run.specs.declared.held.Held.TheVariants as held
 use Rattle.run.specs.Places.{Running}
@@ -63,16 +64,16 @@ use Rattle.law_library.proofs.Numbers as numbers
 -- ---- what stops a call
 
 module _ (e : Event) (m : HostMoment) (new : Host) (is : IsHostMoment m) (areas : new.areas ≡ m.host.areas) (silent : with_event e m.at.done ≡ m.at.done) where
-  old : Engine
+  abbrev pub old : Engine
   old = m.host.engine
 
-  after : Engine
+  abbrev pub after : Engine
   after = new.engine
 
-  xs : List Held
+  abbrev pub xs : List Held
   xs = is.held
 
-  place : ℕ → ℕ
+  abbrev pub place : ℕ → ℕ
   place = is.place
 
   -- the call was refused by how the engine stands
@@ -158,7 +159,7 @@ module _ (e : Event) (m : HostMoment) (new : Host) (is : IsHostMoment m) (areas 
       (numbers.rewritten n (Transaction x) (held.Transaction t) (held.Transaction x) old.places after.places xs place refl named_is names is.numbers) keeps areas silent
 
   -- what a write leaves of a transaction
-  abbrev LeavesWrites : (TxnValue → Result (Unit {0}) TxnFault → TxnValue → Type 0) → Type 0
+  abbrev pub LeavesWrites : (TxnValue → Result (Unit {0}) TxnFault → TxnValue → Type 0) → Type 0
   LeavesWrites Does = (t x : TxnValue) (o : Result (Unit {0}) TxnFault) → Does t o x → (ws : List (KeyWrite Value)) × (x ≡ record t { writes = ws })
 
   pub puts-leave : (key : Key) (bytes : List ℕ) → LeavesWrites (Puts key bytes)
@@ -199,16 +200,16 @@ module _ (e : Event) (m : HostMoment) (new : Host) (is : IsHostMoment m) (areas 
       by-answer : (t : TxnValue) (mid : Places) (o : Result Submitted SubmitFault) → held_as (named old.places n) ≡ Some (held.Transaction t) → IsTaken n old.places mid → AreTxnWrites t.state t.snapshot t.writes → SameDisk old after
           → stores.Submits old.store t label now o after.store → TellsSubmit o mid said info after.places → HostLink e m new
       by-answer t mid (Ok (submitted.ReadOnly time)) named_is taken are same subs tells =
-          spends n (held.Transaction t) (call.Submit (place n) label now) _ named_is (subst (λ (p : Places). IsTaken n old.places p) (sym tells.2) taken)
+          spends n (held.Transaction t) (call.Submit (place n) label now) (answer.Submit (Ok (outcome.ReadOnly time))) named_is (subst (λ (p : Places). IsTaken n old.places p) (sym tells.2) taken)
           (submit-goes true old.store after.store xs (place n) t label now (Ok (submitted.ReadOnly time)) (is.numbers.same n (held.Transaction t) named_is) are range subs) same
       by-answer t mid (Ok (submitted.Queued ticket)) named_is taken are same subs tells =
           let ys = slice_set xs (place n) held.Nothing in
           let out = numbers.taken n old.places mid xs place (held.Transaction t) held.Nothing taken.names named_is is.numbers in
-          by-call e m new is xs (ys ++ held.Ticket ticket ∷ []) is.is (numbers.placed info.a (length ys) place) (call.Submit (place n) label now) _
+          by-call e m new is xs (ys ++ held.Ticket ticket ∷ []) is.is (numbers.placed info.a (length ys) place) (call.Submit (place n) label now) (answer.Submit (Ok outcome.Queued))
           (submit-goes true old.store after.store xs (place n) t label now (Ok (submitted.Queued ticket)) (is.numbers.same n (held.Transaction t) named_is) are range subs)
           (numbers.kept info.a (Ticket ticket) (held.Ticket ticket) mid after.places ys place refl tells.1 out) same areas silent
       by-answer t mid (Err why) named_is taken are same subs tells =
-          spends n (held.Transaction t) (call.Submit (place n) label now) _ named_is (subst (λ (p : Places). IsTaken n old.places p) (sym tells.1) taken)
+          spends n (held.Transaction t) (call.Submit (place n) label now) (answer.Submit (Err why)) named_is (subst (λ (p : Places). IsTaken n old.places p) (sym tells.1) taken)
           (submit-goes true old.store after.store xs (place n) t label now (Err why) (is.numbers.same n (held.Transaction t) named_is) are range subs) same
 
       by-failed : (t : TxnValue) (mid : Places) → transaction_in (named old.places n) ≡ Some t → IsTaken n old.places mid → AreTxnWrites t.state t.snapshot t.writes → after.state ≡ old.state → after.before ≡ old.before → (b : Bool)

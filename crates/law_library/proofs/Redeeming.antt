@@ -54,16 +54,16 @@ of-front h more c rising has early = elim (Contains-append_cases h more c has) [
 ]
 
 module _ (n : ℕ) (r : Reply) (m : HostMoment) (new : Host) (is : IsHostMoment m) (areas : new.areas ≡ m.host.areas) where
-  event : Event
+  abbrev pub event : Event
   event = Calls (Redeem n) r
 
-  old : Engine
+  abbrev pub old : Engine
   old = m.host.engine
 
-  after : Engine
+  abbrev pub after : Engine
   after = new.engine
 
-  i : ℕ
+  abbrev pub i : ℕ
   i = is.place n
 
   -- such a code acknowledges nothing
@@ -72,28 +72,26 @@ module _ (n : ℕ) (r : Reply) (m : HostMoment) (new : Host) (is : IsHostMoment 
 
   -- ---- what is acknowledged
 
+  -- the moment with one commit more that is acknowledged
+  abbrev at-done : ℕ → World → Moment
+  at-done time w = record { store = after.store; world = w; done = time ∷ m.at.done }
+
   acknowledges : asks old.state ≡ false → (time : ℕ) (w : World) (place : ℕ → ℕ) (ys : List Held) → r.said ≡ code.Ok → r.info.a ≡ time → was_published old.state old.before time ≡ true → Does true m.at.world (call.Redeem i) (answer.Redeem (told.Done time)) w → Follows m.at.world.machine w.machine
       → IsWorld true after.store ys w → Holds after.places ys place → SameDisk old after → HostLink event m new
   acknowledges answered time w place ys said named_is was does follows world holds same = by-state old.state refl is.stage was
     where
-      done : List ℕ
-      done = time ∷ m.at.done
-
-      at : Moment
-      at = record { store = after.store; world = w; done = done }
-
       has : HasCommitAt w.machine.published time
       has = (call-acknowledges true m.at.world (call.Redeem i) (answer.Redeem (told.Done time)) w m.at.done does follows is.is.published).0
 
-      is-at : IsAtMoment true after.store ys at
+      is-at : IsAtMoment true after.store ys (at-done time w)
       is-at = record { store = refl; world = world; published = call-acknowledges true m.at.world (call.Redeem i) (answer.Redeem (told.Done time)) w m.at.done does follows is.is.published }
 
-      is-done : done ≡ with_event event m.at.done
+      is-done : time ∷ m.at.done ≡ with_event event m.at.done
       is-done = sym (ap (λ (x : Code). with_redeemed x r.info.a m.at.done) said ∙ ap (λ (t : ℕ). t ∷ m.at.done) named_is)
 
-      link : (before : Option Moment) → IsAtStage after.state (record { host = record { engine = after; areas = m.host.areas }; at = at; before = before }) → HostLink event m new
+      link : (before : Option Moment) → IsAtStage after.state (record { host = record { engine = after; areas = m.host.areas }; at = at-done time w; before = before }) → HostLink event m new
       link before st = record {
-        after = record { host = record { engine = after; areas = m.host.areas }; at = at; before = before };
+        after = record { host = record { engine = after; areas = m.host.areas }; at = at-done time w; before = before };
         host = λ k. record { engine = after; areas = sym areas k };
         done = is-done;
         follows = follows;
@@ -105,7 +103,7 @@ module _ (n : ℕ) (r : Reply) (m : HostMoment) (new : Host) (is : IsHostMoment 
       shown-early (Some p) h early same = subst (λ (k : ℕ). time ≤ k) same (leb-true time p.last early)
 
       by-state : (s : EngineState) → old.state ≡ s → IsAtStage s m → was_published s old.before time ≡ true → HostLink event m new
-      by-state Settled settled st was = link None (subst (λ (s : EngineState). IsAtStage s (record { host = record { engine = after; areas = m.host.areas }; at = at; before = None })) (sym (same.state ∙ settled))
+      by-state Settled settled st was = link None (subst (λ (s : EngineState). IsAtStage s (record { host = record { engine = after; areas = m.host.areas }; at = at-done time w; before = None })) (sym (same.state ∙ settled))
           (record { none = refl; areas = st.areas ∙ sym same.areas; sound = st.sound }))
       by-state (Asks step) asking st was = absurd (false≢true (sym answered ∙ ap asks asking))
       by-state Failed failed st was =
@@ -121,7 +119,7 @@ module _ (n : ℕ) (r : Reply) (m : HostMoment) (new : Host) (is : IsHostMoment 
             has.2,
           ) in
           let before : Moment = record b { done = time ∷ b.done } in
-          link (Some before) (subst (λ (s : EngineState). IsAtStage s (record { host = record { engine = after; areas = m.host.areas }; at = at; before = Some before })) (sym (same.state ∙ failed)) (record {
+          link (Some before) (subst (λ (s : EngineState). IsAtStage s (record { host = record { engine = after; areas = m.host.areas }; at = at-done time w; before = Some before })) (sym (same.state ∙ failed)) (record {
             before = before;
             was = record {
               is_before = refl;
@@ -163,17 +161,14 @@ module _ (n : ℕ) (r : Reply) (m : HostMoment) (new : Host) (is : IsHostMoment 
         same : SameDisk old after
         same = record { areas = ap (λ (d : DiskState). d.areas) redeems.rest.disk; state = state; before = before }
 
-        ys : List Held
-        ys = slice_set is.held i (held.Ticket back)
-
         by-failed : (b : Bool) → MatchBool b ((r.said ≡ code.InDoubt) × (after.places ≡ mid)) ((r.said ≡ code.Waiting) × IsKept (Ticket back) r.info.a mid after.places) → HostLink event m new
         by-failed true doubt =
-            by-call event m new is is.held (ys ++ held.Nothing ∷ []) is.is is.place (call.Redeem i) (answer.Redeem told.Waiting)
+            by-call event m new is is.held (slice_set is.held i (held.Ticket back) ++ held.Nothing ∷ []) is.is is.place (call.Redeem i) (answer.Redeem told.Waiting)
             (redeem-goes true old.store after.store is.held i t (redeemed.Waiting back) here redeems) (out (held.Ticket back) held.Nothing after.places doubt.1) same areas (silent code.InDoubt refl doubt.0)
         by-failed false kept =
             let place = numbers.placed r.info.a i is.place in
-            by-call event m new is is.held (ys ++ held.Nothing ∷ []) is.is place (call.Redeem i) (answer.Redeem told.Waiting) (redeem-goes true old.store after.store is.held i t (redeemed.Waiting back) here redeems)
-            (numbers.pushed after.places ys place held.Nothing
+            by-call event m new is is.held (slice_set is.held i (held.Ticket back) ++ held.Nothing ∷ []) is.is place (call.Redeem i) (answer.Redeem told.Waiting) (redeem-goes true old.store after.store is.held i t (redeemed.Waiting back) here redeems)
+            (numbers.pushed after.places (slice_set is.held i (held.Ticket back)) place held.Nothing
             (numbers.put-back n r.info.a (Ticket back) (held.Ticket t) (held.Ticket back) old.places mid after.places is.held is.place refl named_is taken.names kept.1 is.numbers)) same areas (silent code.Waiting refl kept.0)
     by-answer answered redeemed.InDoubt redeems state before tells =
         by-call event m new is is.held (slice_set is.held i held.Nothing ++ held.Nothing ∷ []) is.is is.place (call.Redeem i) (answer.Redeem told.InDoubt)

@@ -2,7 +2,7 @@
 use Rattle.std.proofs.Common.{◌≡◌, ℕ, ◌==◌, ◌+◌, Bool, true, false, List, [], ◌∷◌, Option, Some, None, Result, Ok, Err, MatchBool, MatchOption, refl, sym, ◌∙◌, ap, subst, inl, inr, arith}
 use Rattle.std.specs.Prelude.{is_some, slice_get}
 use Rattle.std.proofs.lemmas.Bool.{eqb-true}
-use Rattle.disk.specs.Calls.{DiskState, Counts, counted, top}
+use Rattle.disk.specs.Calls.{DiskState, Counts, counted, top, refused_answer}
 use Rattle.disk.specs.declared.area.DeviceFault.{DeviceFault}
 use Rattle.group.specs.declared.answers.Did.{Did}
 use Rattle.group.specs.declared.answers.PumpFault.{PumpFault}
@@ -42,6 +42,12 @@ nothing old new same is = ap (λ (v : StoreValue). v.disk.areas) same
 
 -- ---- a group
 
+abbrev pump_said : PumpFault → Result Did PumpFault
+pump_said why = Err why
+
+abbrev job_said : PumpFault → Result JobDid PumpFault
+job_said why = Err why
+
 step-same : (next : NextStep) (old new : StoreValue) (why : PumpFault) → TakesStep true next old (Err why) new → IfUncounted old new
 step-same step.Idle old new why takes = nothing old new takes.1
 step-same step.WriteExtent old new why takes = by-extent (next_extent old.transactions) takes
@@ -52,7 +58,7 @@ step-same step.WriteExtent old new why takes = by-extent (next_extent old.transa
 step-same step.SyncHeap old new why takes = uncounted _ old new takes.call.counts
 step-same step.BeginSlot old new why takes = by-job (is_some (turn_of old.job)) takes
   where
-    by-job : (b : Bool) → MatchBool b ((Err why ≡ Err fault.Busy) × (new ≡ old)) (MayBeginSlot true old (Err why) new) → IfUncounted old new
+    by-job : (b : Bool) → MatchBool b ((pump_said why ≡ pump_said fault.Busy) × (new ≡ old)) (MayBeginSlot true old (Err why) new) → IfUncounted old new
     by-job true busy = nothing old new busy.1
     by-job false (inl none) = nothing old new none.2
     by-job false (inr begins) = uncounted _ old new begins.turns.call.counts
@@ -61,12 +67,6 @@ step-same step.AdvanceSlot old new why takes = by-turn old.turn takes
     by-turn : (o : Option TurnState) → MatchOption o ⊥ (λ turn. TurnsSlot true turn old (Err why) new) → IfUncounted old new
     by-turn None never = absurd never
     by-turn (Some turn) turns = uncounted _ old new turns.call.counts
-
-abbrev pump_said : PumpFault → Result Did PumpFault
-pump_said why = Err why
-
-abbrev job_said : PumpFault → Result JobDid PumpFault
-job_said why = Err why
 
 pub pump-same : (old new : StoreValue) (why : PumpFault) → Pumps true old (Err why) new → IfUncounted old new
 pump-same old new why pumps = by-failed old.transactions.failed pumps
@@ -100,8 +100,7 @@ disk-ready (works.Grow g) v = refl
 slot-same : (j : Job) (old new : StoreValue) (why : PumpFault) → BeginsJobSlot true j old (Err why) new → IfUncounted old new
 slot-same j old new why (inl none) = nothing old new none.2
 slot-same j old new why (inr turns) =
-    let counts = subst (λ (d : DiskState). Counts _ d new.disk) (disk-ready j.work old) turns.call.counts in
-    uncounted _ old new counts
+    uncounted refused_answer old new (subst (λ (d : DiskState). Counts {T = Unit {0}} {E = DeviceFault} refused_answer d new.disk) (disk-ready j.work old) turns.call.counts)
 
 stage-same : (stage : JobStage) (j : Job) (old new : StoreValue) (why : PumpFault) → TakesJobStep true stage j old (Err why) new → IfUncounted old new
 stage-same stages.Writing j old new why takes = work-same j.work j old new why takes

@@ -68,13 +68,13 @@ use Rattle.law_library.proofs.Stops.{refused-leaves}
 -- ---- a step
 
 module _ (e : Event) (m : HostMoment) (new : Host) (is : IsHostMoment m) (areas : new.areas ≡ m.host.areas) (silent : with_event e m.at.done ≡ m.at.done) (settled : m.host.engine.state ≡ Settled) where
-  old : Engine
+  abbrev old : Engine
   old = m.host.engine
 
-  after : Engine
+  abbrev after : Engine
   after = new.engine
 
-  ys : List Held
+  abbrev ys : List Held
   ys = is.held ++ held.Nothing ∷ []
 
   stage : IsSettled m
@@ -85,7 +85,7 @@ module _ (e : Event) (m : HostMoment) (new : Host) (is : IsHostMoment m) (areas 
   as-before = stage.areas ∙ ap (λ (v : StoreValue). v.disk.areas) (sym is.is.store)
 
   -- the step's call is not made yet
-  step-moment : World → HostMoment
+  abbrev step-moment : World → HostMoment
   step-moment w = record { host = record { engine = after; areas = m.host.areas }; at = record { store = after.store; world = w; done = m.at.done }; before = Some m.at }
 
   shows-last : (o : Option Published) → MatchOption o ⊥ (WasPublished old.store) → MatchOption o ⊥ (λ (p : Published). p.last ≡ last m.at.world.machine.published)
@@ -176,30 +176,29 @@ module _ (e : Event) (m : HostMoment) (new : Host) (is : IsHostMoment m) (areas 
 abbrev NoneIsDone : Host → HostMoment → Type 0
 NoneIsDone new m = (new.engine ≡ m.host.engine) × (new.areas ≡ m.host.areas)
 
+-- the moment after a call that was made
+abbrev made-moment : HostMoment → Host → HostMoment
+made-moment m new = record { host = new; at = record { store = new.engine.store; world = m.at.world; done = m.at.done }; before = None }
+
+-- and after one that was refused
+abbrev refused-moment : HostMoment → Host → HostMoment
+refused-moment m new = record { host = new; at = record { store = new.engine.store; world = m.at.world; done = m.at.done }; before = m.before }
+
 pub makes : (r : Reply) (m : HostMoment) (new : Host) → IsHostMoment m → HostStep (Makes r) m.host new → HostLink (Makes r) m new
 makes r m new is step = by-state m.host.engine.state refl is.stage step.told step.done
   where
-    old : Engine
-    old = m.host.engine
-
-    after : Engine
-    after = new.engine
-
-    to : HostMoment
-    to = record { host = new; at = record { store = after.store; world = m.at.world; done = m.at.done }; before = None }
-
-    by-state : (s : EngineState) → old.state ≡ s → IsAtStage s m
-        → MatchOption (step_in s) ((r.said ≡ code.None) × (after ≡ old)) (λ taken. (after.store ≡ old.store) × (after.places ≡ old.places)
-        × ((r.said ≡ code.Ok) × (r.info ≡ told_step taken) × (after.state ≡ Settled) × (after.before ≡ None)))
-        → MatchOption (due_call (due_in s) old.store.disk.areas) (new.areas ≡ m.host.areas) (λ c. new.areas ≡ made c m.host.areas) → HostLink (Makes r) m new
+    by-state : (s : EngineState) → m.host.engine.state ≡ s → IsAtStage s m
+        → MatchOption (step_in s) ((r.said ≡ code.None) × (new.engine ≡ m.host.engine)) (λ taken. (new.engine.store ≡ m.host.engine.store) × (new.engine.places ≡ m.host.engine.places)
+        × ((r.said ≡ code.Ok) × (r.info ≡ told_step taken) × (new.engine.state ≡ Settled) × (new.engine.before ≡ None)))
+        → MatchOption (due_call (due_in s) m.host.engine.store.disk.areas) (new.areas ≡ m.host.areas) (λ c. new.areas ≡ made c m.host.areas) → HostLink (Makes r) m new
     by-state Settled same st told done = stays (Makes r) m new is told.1 done refl
     by-state Failed same st told done = stays (Makes r) m new is told.1 done refl
     by-state (Asks taken) same st told done =
-        let due : due_call (call_of taken) old.store.disk.areas ≡ Some st.call = ap (λ (s : EngineState). due_call (due_in s) old.store.disk.areas) (sym same) ∙ st.due in
+        let due : due_call (call_of taken) m.host.engine.store.disk.areas ≡ Some st.call = ap (λ (s : EngineState). due_call (due_in s) m.host.engine.store.disk.areas) (sym same) ∙ st.due in
         let is_made : new.areas ≡ made st.call m.host.areas = subst (λ (o : Option HostCall). MatchOption o (new.areas ≡ m.host.areas) (λ c. new.areas ≡ made c m.host.areas)) due done in
-        let now : new.areas ≡ after.store.disk.areas = is_made ∙ sym st.leads ∙ ap (λ (v : StoreValue). v.disk.areas) (sym told.0) in
+        let now : new.areas ≡ new.engine.store.disk.areas = is_made ∙ sym st.leads ∙ ap (λ (v : StoreValue). v.disk.areas) (sym told.0) in
         record {
-          after = to;
+          after = made-moment m new;
           host = refl;
           done = refl;
           follows = no-step m.at.world.machine;
@@ -208,7 +207,7 @@ makes r m new is step = by-state m.host.engine.state refl is.stage step.told ste
             is = record { store = refl; world = subst (λ (v : StoreValue). IsWorld true v is.held m.at.world) (sym told.0) is.is.world; published = is.is.published };
             place = is.place;
             numbers = subst (λ (p : Places). Holds p is.held is.place) (sym told.1) is.numbers;
-            stage = subst (λ (s : EngineState). IsAtStage s to) (sym told.4)
+            stage = subst (λ (s : EngineState). IsAtStage s (made-moment m new)) (sym told.2.2)
                 (record { none = refl; areas = now; sound = subst AreSound (ap (λ (v : StoreValue). v.disk.areas) (sym told.0) ∙ sym now) st.sound_after });
           };
         }
@@ -216,26 +215,17 @@ makes r m new is step = by-state m.host.engine.state refl is.stage step.told ste
 pub refuses : (r : Reply) (m : HostMoment) (new : Host) → IsHostMoment m → HostStep (Refuses r) m.host new → HostLink (Refuses r) m new
 refuses r m new is step = by-state m.host.engine.state refl is.stage step.told step.done
   where
-    old : Engine
-    old = m.host.engine
-
-    after : Engine
-    after = new.engine
-
-    to : HostMoment
-    to = record { host = new; at = record { store = after.store; world = m.at.world; done = m.at.done }; before = m.before }
-
-    by-state : (s : EngineState) → old.state ≡ s → IsAtStage s m
-        → MatchOption (step_in s) ((r.said ≡ code.None) × (after ≡ old)) (λ taken. (after.store ≡ old.store) × (after.places ≡ old.places) × ((r.said ≡ code.Failed) × (after.state ≡ Failed) × (after.before ≡ old.before)))
-        → MatchOption (due_call (due_in s) old.store.disk.areas) (new.areas ≡ m.host.areas) (λ c. IsRefusedIn c m.host.areas new.areas) → HostLink (Refuses r) m new
+    by-state : (s : EngineState) → m.host.engine.state ≡ s → IsAtStage s m
+        → MatchOption (step_in s) ((r.said ≡ code.None) × (new.engine ≡ m.host.engine)) (λ taken. (new.engine.store ≡ m.host.engine.store) × (new.engine.places ≡ m.host.engine.places) × ((r.said ≡ code.Failed) × (new.engine.state ≡ Failed) × (new.engine.before ≡ m.host.engine.before)))
+        → MatchOption (due_call (due_in s) m.host.engine.store.disk.areas) (new.areas ≡ m.host.areas) (λ c. IsRefusedIn c m.host.areas new.areas) → HostLink (Refuses r) m new
     by-state Settled same st told done = stays (Refuses r) m new is told.1 done refl
     by-state Failed same st told done = stays (Refuses r) m new is told.1 done refl
     by-state (Asks taken) same st told done =
-        let due : due_call (call_of taken) old.store.disk.areas ≡ Some st.call = ap (λ (s : EngineState). due_call (due_in s) old.store.disk.areas) (sym same) ∙ st.due in
+        let due : due_call (call_of taken) m.host.engine.store.disk.areas ≡ Some st.call = ap (λ (s : EngineState). due_call (due_in s) m.host.engine.store.disk.areas) (sym same) ∙ st.due in
         let in_part : IsRefusedIn st.call m.host.areas new.areas = subst (λ (o : Option HostCall). MatchOption o (new.areas ≡ m.host.areas) (λ c. IsRefusedIn c m.host.areas new.areas)) due done in
-        let store_areas : made st.call m.host.areas ≡ after.store.disk.areas = sym st.leads ∙ ap (λ (v : StoreValue). v.disk.areas) (sym told.0) in
+        let store_areas : made st.call m.host.areas ≡ new.engine.store.disk.areas = sym st.leads ∙ ap (λ (v : StoreValue). v.disk.areas) (sym told.0) in
         record {
-          after = to;
+          after = refused-moment m new;
           host = refl;
           done = refl;
           follows = no-step m.at.world.machine;
@@ -244,7 +234,7 @@ refuses r m new is step = by-state m.host.engine.state refl is.stage step.told s
             is = record { store = refl; world = subst (λ (v : StoreValue). IsWorld true v is.held m.at.world) (sym told.0) is.is.world; published = is.is.published };
             place = is.place;
             numbers = subst (λ (p : Places). Holds p is.held is.place) (sym told.1) is.numbers;
-            stage = subst (λ (s : EngineState). IsAtStage s to) (sym told.3) (record {
+            stage = subst (λ (s : EngineState). IsAtStage s (refused-moment m new)) (sym told.2.1) (record {
               before = st.before;
               was = record {
                 is_before = st.was.is_before;
@@ -253,7 +243,7 @@ refuses r m new is step = by-state m.host.engine.state refl is.stage step.told s
                 done = st.was.done;
                 more = st.was.more;
                 goes_on = st.was.goes_on;
-                shown = subst (λ (o : Option Published). MatchOption o ⊥ (λ (p : Published). p.last ≡ last st.before.world.machine.published)) (sym told.4) st.was.shown;
+                shown = subst (λ (o : Option Published). MatchOption o ⊥ (λ (p : Published). p.last ≡ last st.before.world.machine.published)) (sym told.2.2) st.was.shown;
               };
               left = λ image l. subst (λ (a : Areas). LeavesWithin st.before.store.disk.areas a image) store_areas
                   (subst (λ (a : Areas). LeavesWithin a (made st.call m.host.areas) image) st.areas (refused-leaves st.call m.host.areas new.areas st.sound in_part image l));

@@ -32,7 +32,7 @@ torn-leaves a at n torn c firm elsewhere left = record {
 }
 
 -- whatever a stop leaves of it, it might have left while the write was made
-torn-images : (area : Area) (at n : ℕ) (old new : Areas) → AreSound old → Tears area at n old new → LeavesNoMore new (while_written area at n old)
+torn-images : (area : Area) (at n : ℕ) (old new : Areas) → AreSound old → Tears area at n old new → LeavesNoMore (while_written area at n old) new
 torn-images Status at n old new sound tears = record {
   each = λ image left.
       let l = subst (λ (a : Areas). LeavesImage a image) tears.areas left in
